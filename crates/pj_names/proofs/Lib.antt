@@ -1,0 +1,5 @@
+pub mod Lists
+pub mod NameSets
+pub mod Oracles
+pub mod Parts
+pub mod WalkSteps

@@ -1,0 +1,56 @@
+//! Sets of class names.
+ghost use Rattle.std.specs.Prelude.{◌≡◌, IfOk, OnOk, OnErr, not};
+ghost use Rattle.std.specs.Bool.{OnFalse};
+ghost use Rattle.std.specs.FinSet as set;
+
+use crate::class_name::ClassName;
+use crate::memory::NoMemory;
+use std::alloc::Global;
+use std::collections::BTreeSet;
+use std::marker::Model;
+
+/// A set of class names in the order of their bytes, which contracts see as a finite set.
+#[derive(Debug, Drop)]
+pub struct ClassNameSet {
+    names: BTreeSet<ClassName>,
+}
+
+impl Model for ClassNameSet {
+    ghost use Rattle.std.specs.FinSet as set;
+    ghost use Rattle.std.specs.Coded.{coded_list, coded_ℕ};
+    ghost use Rattle.pj_names.specs.ClassName.{NameSet};
+
+    ghost Value = { NameSet };
+
+    ghost coded = { set.code (coded_list coded_ℕ) };
+
+    ghost view = { λ all. set.from_list all.names.keys };
+}
+
+impl ClassNameSet {
+    /// The empty set, which takes no memory.
+    pub fn new(alloc: Global) -> ClassNameSet
+        ensures { result ≡ set.empty }
+    {
+        ClassNameSet {
+            names: BTreeSet::new(alloc),
+        }
+    }
+
+    /// Whether the name is in the set.
+    pub fn contains(&self, name: &ClassName) -> bool
+        ensures { result ≡ set.contains self.now name.now }
+    {
+        self.names.contains(name)
+    }
+
+    /// Puts a name into the set, and says whether it is new there.
+    pub fn insert(&mut self, name: ClassName) -> Result<bool, NoMemory>
+        ensures ok { OnOk result (self.new ≡ set.insert self.old name) }
+        ensures added { IfOk result (λ added. added ≡ not (set.contains self.old name)) }
+        ensures held { IfOk result (λ added. OnFalse added (self.new ≡ self.old)) }
+        ensures err { OnErr result (self.new ≡ self.old) }
+    {
+        Ok(self.names.insert(name)?)
+    }
+}
