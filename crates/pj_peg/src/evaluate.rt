@@ -1,0 +1,82 @@
+ghost use Rattle.std.specs.Prelude.{◌≡◌, ◌+◌, ◌<◌, ◌≤◌, ◌↔◌, length, IsTrue, Some, slice_get};
+ghost use Rattle.pj_peg.specs.Program.{IsProgram, form_at, forms_in, rules_of};
+ghost use Rattle.pj_peg.specs.Ends.{Ends, AreTold, IsReady};
+
+use crate::program::{Node, Program};
+use crate::table::Table;
+
+// Whether a token of the kind stands at the place.
+fn is_kind_at(kinds: &[u16], place: u32, kind: u16) -> bool
+    ensures { IsTrue result ↔ (slice_get kinds.now place ≡ Some kind) }
+{
+    (place as usize) < kinds.len() && kinds[place as usize] == kind
+}
+
+// Where a node ends from a place on, by a table that has what it can call. A repetition takes one turn, and the table has
+// where it goes from there: its end is found in one step, however many turns it has.
+pub fn end_of(
+    program: &Program,
+    kinds: &[u16],
+    table: &Table,
+    root: usize,
+    from: u32,
+) -> Option<u32>
+    requires small { length kinds.now ≤ 200000 }
+    requires program { IsProgram program.now }
+    requires root { root < length program.now.nodes.items }
+    requires within { from ≤ length kinds.now }
+    requires later { AreTold program.now kinds.now table.now (from + 1) }
+    requires ready { IsReady program.now kinds.now table.now (form_at (forms_in program.now.nodes.items) root) from }
+    ensures { Ends (rules_of program.now) kinds.now (form_at (forms_in program.now.nodes.items) root) from result }
+{
+    let mut node = root;
+    let mut place = from;
+    loop {
+        match program.nodes[node] {
+            Node::Token(kind) => {
+                return if is_kind_at(kinds, place, kind) {
+                    Some(place + 1)
+                } else {
+                    None
+                };
+            }
+            Node::Any => {
+                return if (place as usize) < kinds.len() {
+                    Some(place + 1)
+                } else {
+                    None
+                };
+            }
+            Node::Rule(rule) => return table.end(place, rule as usize),
+            Node::Nothing => return Some(place),
+            Node::Never => return None,
+            Node::Seq(first, rest) => match end_of(program, kinds, table, first, place) {
+                None => return None,
+                Some(end) => {
+                    place = end;
+                    node = rest;
+                }
+            },
+            Node::Choice(first, others) => match end_of(program, kinds, table, first, place) {
+                Some(end) => return Some(end),
+                None => node = others,
+            },
+            Node::Star(part, star) => match end_of(program, kinds, table, part, place) {
+                None => return Some(place),
+                Some(end) => return table.end(end, program.roots.len() + star),
+            },
+            Node::Maybe(part) => match end_of(program, kinds, table, part, place) {
+                None => return Some(place),
+                Some(end) => return Some(end),
+            },
+            Node::And(part) => match end_of(program, kinds, table, part, place) {
+                None => return None,
+                Some(_) => return Some(place),
+            },
+            Node::Not(part) => match end_of(program, kinds, table, part, place) {
+                None => return Some(place),
+                Some(_) => return None,
+            },
+        }
+    }
+}

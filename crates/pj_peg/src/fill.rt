@@ -1,0 +1,109 @@
+ghost use Rattle.std.specs.Prelude.{◌≡◌, ℕ, ◌+◌, ◌<◌, ◌≤◌, length, IfOk, Some, slice_get};
+ghost use Rattle.pj_peg.specs.Form.{star as repetition};
+ghost use Rattle.pj_peg.specs.WellFormed.{IsWellFormed};
+ghost use Rattle.pj_peg.specs.Program.{IsProgram, form_at, forms_in, rules_of};
+ghost use Rattle.pj_peg.specs.Graph.{IsOrder};
+ghost use Rattle.pj_peg.specs.Ends.{Ends, AreTold, IsShaped};
+ghost use Rattle.pj_peg.specs.Filled.{AreRulesTold};
+
+use crate::NoMemory;
+use crate::evaluate::end_of;
+use crate::program::Program;
+use crate::table::Table;
+use std::alloc::Global;
+
+// A rule that took the tokens from a place up to another.
+#[derive(Clone, Copy)]
+pub struct Call {
+    pub rule: u16,
+    pub from: u32,
+    pub to: u32,
+}
+
+// Fills in where each rule ends from the place on. A rule stands in the order after those that it can call there.
+fn fill_rules(program: &Program, order: &[u16], kinds: &[u16], table: &mut Table, place: u32)
+    requires small { length kinds.now ≤ 200000 }
+    requires program { IsProgram program.now }
+    requires well_formed { IsWellFormed (rules_of program.now) }
+    requires order { IsOrder (rules_of program.now) order.now }
+    requires within { place ≤ length kinds.now }
+    requires shape { IsShaped program.now kinds.now table.old }
+    requires later { AreTold program.now kinds.now table.old (place + 1) }
+    ensures shape { IsShaped program.now kinds.now table.new }
+    ensures later { AreTold program.now kinds.now table.new (place + 1) }
+    ensures here { AreRulesTold program.now kinds.now table.new place }
+{
+    for rule in order {
+        let root = program.roots[*rule as usize];
+        let end = end_of(program, kinds, table, root, place);
+        table.set(place, *rule as usize, end);
+    }
+}
+
+// Where a repetition ends from the place on, by the rules' ends there.
+fn end_of_star(
+    program: &Program,
+    kinds: &[u16],
+    table: &Table,
+    star: usize,
+    place: u32,
+) -> Option<u32>
+    requires small { length kinds.now ≤ 200000 }
+    requires program { IsProgram program.now }
+    requires well_formed { IsWellFormed (rules_of program.now) }
+    requires there { star < length program.now.stars.items }
+    requires within { place ≤ length kinds.now }
+    requires later { AreTold program.now kinds.now table.now (place + 1) }
+    requires here { AreRulesTold program.now kinds.now table.now place }
+    ensures { (a : ℕ) → slice_get program.now.stars.items star ≡ Some a →
+        Ends (rules_of program.now) kinds.now (repetition (form_at (forms_in program.now.nodes.items) a)) place result }
+{
+    let part = program.stars[star];
+    match end_of(program, kinds, table, part, place) {
+        None => Some(place),
+        Some(turn) => table.end(turn, program.roots.len() + star),
+    }
+}
+
+// Fills in where each repetition ends from the place on, by the rules' ends there.
+fn fill_stars(program: &Program, kinds: &[u16], table: &mut Table, place: u32)
+    requires small { length kinds.now ≤ 200000 }
+    requires program { IsProgram program.now }
+    requires well_formed { IsWellFormed (rules_of program.now) }
+    requires within { place ≤ length kinds.now }
+    requires shape { IsShaped program.now kinds.now table.old }
+    requires later { AreTold program.now kinds.now table.old (place + 1) }
+    requires here { AreRulesTold program.now kinds.now table.old place }
+    ensures shape { IsShaped program.now kinds.now table.new }
+    ensures told { AreTold program.now kinds.now table.new place }
+{
+    for star in 0..program.stars.len() {
+        let end = end_of_star(program, kinds, table, star, place);
+        let column = program.roots.len() + star;
+        table.set(place, column, end);
+    }
+}
+
+// Where each rule and each repetition ends from each place on, filled in from the last place to the first.
+pub fn fill(
+    alloc: Global,
+    program: &Program,
+    order: &[u16],
+    kinds: &[u16],
+) -> Result<Table, NoMemory>
+    requires small { length kinds.now ≤ 200000 }
+    requires program { IsProgram program.now }
+    requires well_formed { IsWellFormed (rules_of program.now) }
+    requires order { IsOrder (rules_of program.now) order.now }
+    ensures { IfOk result (λ table. AreTold program.now kinds.now table 0) }
+{
+    let columns = program.roots.len() + program.stars.len();
+    let mut table = Table::new(alloc, kinds.len() + 1, columns)?;
+    let mut place = kinds.len() + 1;
+    while place > 0 {
+        place -= 1;
+        fill_rules(program, order, kinds, &mut table, place as u32);
+        fill_stars(program, kinds, &mut table, place as u32);
+    }
+    Ok(table)
+}
