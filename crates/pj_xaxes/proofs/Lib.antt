@@ -1,0 +1,6 @@
+pub mod Ancestry
+pub mod Ordered
+pub mod Picking
+pub mod Skips
+pub mod Unique
+pub mod Windows

@@ -1,0 +1,60 @@
+//! Document order.
+ghost use Rattle.std.specs.Prelude.{◌≡◌, map, true};
+ghost use Rattle.std.specs.List.{list_all};
+ghost use Rattle.std.specs.List.Sorted.{IsStrictlySortedBy};
+ghost use Rattle.std.specs.Ordering.{eq_by_cmp};
+ghost use Rattle.pj_xaxes.specs.Standing.{standing};
+ghost use Rattle.pj_xvalue.specs.Items.{ItemValue, value_of_item, values_of, is_node};
+ghost use Rattle.pj_xaxes.specs.Order.{position_of, document_order, ordered, is_among};
+
+use pj_xvalue::{Item, Sequence};
+use std::cmp::Ordering;
+
+/// Where a node, an attribute or the document stands: in document order, positions are in their own order.
+#[derive(Clone, Copy, Debug, PartialEq, Eq, PartialOrd, Ord, Drop)]
+struct Position {
+    /// The number of the node, of which the document has none.
+    node: Option<u32>,
+    /// The place of the attribute, where it is one.
+    attribute: Option<u32>,
+}
+
+fn order_position(item: &Item<'_>) -> Position
+    ensures { result ≡ standing (position_of (value_of_item item.now)) }
+{
+    match item {
+        Item::Node(n) => Position {
+            node: Some(n.0),
+            attribute: None,
+        },
+        Item::Attribute(n, place) => Position {
+            node: Some(n.0),
+            attribute: Some(*place),
+        },
+        _ => Position {
+            node: None,
+            attribute: None,
+        },
+    }
+}
+
+/// Whether both items stand at one position.
+fn is_at(item: &Item<'_>, other: &Item<'_>) -> bool
+    ensures { result ≡ eq_by_cmp document_order (value_of_item item.now) (value_of_item other.now) }
+{
+    order_position(item).cmp(&order_position(other)) == Ordering::Equal
+}
+
+/// The nodes, attributes and the document among the items in document order, each once (XPath 2.0, 2.4.1): the document,
+/// then each node, its attributes, and its children. It takes no memory.
+pub fn in_order(items: Sequence<'_>) -> Sequence<'_>
+    requires { list_all (λ item. is_node (value_of_item item)) items ≡ true }
+    ensures value { values_of result ≡ ordered (values_of items.entry) }
+    ensures ascending { IsStrictlySortedBy document_order (values_of result) }
+    ensures members { (x : ItemValue) → is_among (values_of result) x ≡ is_among (values_of items.entry) x }
+{
+    let mut held = items.into_vec();
+    held.sort_unstable_by_key(|item| order_position(item));
+    held.dedup_by(|item, last| is_at(item, last));
+    Sequence::from_vec(held)
+}
