@@ -1,0 +1,10 @@
+pub mod ReadingLaws
+pub mod FileLaws
+pub mod BuildingLaws
+pub mod ClassesLaws
+pub mod WholeLaws
+pub mod ColdLaws
+pub mod OutcomeLaws
+pub mod Texts
+pub mod OneLaws
+pub mod TokenLaws

@@ -1,0 +1,49 @@
+-- What a check of one file answers.
+use Rattle.std.specs.Prelude.{◌≡◌, ◌≤◌, ℕ, List, [], ◌∷◌, ◌++◌, length, codes, Option, Some, IsTrue}
+use Rattle.pj_outside.specs.Files.{Files, bytes_at, Bytes}
+use Rattle.pj_tree.specs.Tree.{Tree}
+use Rattle.pj_check.specs.FileTree.{HasTree}
+use Rattle.pj_check.specs.Query.{IsQuery}
+use Rattle.pj_check.specs.Report.{RuleRow, Report}
+use Rattle.pj_check.specs.Cold.{Rule, cold_report}
+
+-- the one rule of such a check
+abbrev pub query_rule : RuleRow
+query_rule = record { name = codes "query"; message = codes "found"; priority = 5; rule_set = [] }
+
+abbrev pub rules_for : Bytes → List Rule
+rules_for name = record { row = query_rule; query = name } ∷ []
+
+-- how many bytes a file may have: a mebibyte
+abbrev pub most_bytes : ℕ
+most_bytes = 1048576
+
+-- The words are `check`, a path and the query for a name.
+pub record IsJob (words : List Bytes) (path name : Bytes) : Type 0 where
+  pub query : Bytes
+  pub words_are : words ≡ codes "check" ∷ path ∷ query ∷ []
+  pub query_is : IsQuery query name
+
+-- The words are not of that form.
+abbrev pub IsNoJob : List Bytes → Type 0
+IsNoJob words = (path name : Bytes) → IsJob words path name → ⊥
+
+-- The file of the path is there, is not too long, and has this tree.
+pub record IsFile (files : Files) (path : Bytes) (tree : Tree) : Type 0 where
+  pub bytes : Bytes
+  pub found : bytes_at files path ≡ Some bytes
+  pub short : length bytes ≤ most_bytes
+  pub tree_is : HasTree bytes tree
+
+-- The words and the files have this cold report.
+pub record HasReport (words : List Bytes) (files : Files) (report : Report) : Type 0 where
+  pub path : Bytes
+  pub name : Bytes
+  pub tree : Tree
+  pub job : IsJob words path name
+  pub file : IsFile files path tree
+  pub report_is : report ≡ cold_report (rules_for name) ((path, tree) ∷ [])
+
+-- They have none: the words are no job, or the file is not there, too long, or has no tree.
+abbrev pub HasNoReport : List Bytes → Files → Type 0
+HasNoReport words files = (report : Report) → HasReport words files report → ⊥

@@ -1,0 +1,11 @@
+pub mod ClassFile
+pub mod Reading
+pub mod FileTree
+pub mod Query
+pub mod Report
+pub mod ReportText
+pub mod Cold
+pub mod CheckFile
+pub mod Lines
+pub mod Outcome
+pub mod Laws
