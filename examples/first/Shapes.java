@@ -1,0 +1,8 @@
+class Point {}
+class Circle { }
+class Square{
+}
+
+class Triangle
+{
+}
