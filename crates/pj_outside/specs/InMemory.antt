@@ -5,6 +5,7 @@ use Rattle.pj_outside.specs.declared.refused.Refused.TheVariants as refused
 use Rattle.pj_outside.specs.declared.refused.Failed.{Failed}
 use Rattle.pj_outside.specs.Faults.{next_count}
 use Rattle.pj_outside.specs.Files.{Files, Bytes}
+use Rattle.pj_outside.specs.Doors.{Folders}
 
 -- the numbers of the calls that are to fail, counted from 1, and how many calls were made and failed
 pub record FaultPlan : Type 0 where
@@ -47,3 +48,18 @@ pub record TreeHeld : Type 0 where
 pub record SinkHeld : Type 0 where
   pub bytes : Bytes
   pub plan : FaultPlan
+
+-- a door in memory; its plan counts the finds
+pub record DoorHeld : Type 0 where
+  pub folders : List Files
+  pub plan : FaultPlan
+
+-- a class path in memory: its folders, the plan of its calls of `open`, the pairs of a door and a find that are to fail,
+-- and the counts of doors given, doors taken and finds
+pub record ClassPathHeld : Type 0 where
+  pub folders : Folders
+  pub plan : FaultPlan
+  pub door_fail : List (ℕ × ℕ)
+  pub given : ℕ
+  pub taken : ℕ
+  pub finds : ℕ

@@ -1,4 +1,5 @@
 pub mod Faults
 pub mod Files
 pub mod Putting
+pub mod Doors
 pub mod InMemory

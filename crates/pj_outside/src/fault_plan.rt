@@ -36,6 +36,20 @@ impl FaultPlan {
         }
     }
 
+    /// How many calls were counted.
+    pub fn calls(&self) -> u64
+        ensures { result ≡ self.now.calls }
+    {
+        self.calls
+    }
+
+    /// How many faults were counted.
+    pub fn faults(&self) -> u64
+        ensures { result ≡ self.now.faults }
+    {
+        self.faults
+    }
+
     /// Whether the call of this number is to fail.
     fn is_to_fail(&self, call: u64) -> bool
         ensures { IsTrue result ↔ Contains self.now.fail call }

@@ -2,19 +2,16 @@
 ghost use Rattle.std.specs.Prelude.{◌≡◌, ◌≢◌, ◌↔◌, ◌++◌, ◌∷◌, [], ℕ, List, Some, IfSome, IfOk, IsErrOf, OnOk, OnErr, IsTrue, nat_eq, drop, length, filter, map};
 ghost use Rattle.std.specs.List.{starts_with};
 ghost use Rattle.pj_outside.specs.Faults.{CountsFaults};
-ghost use Rattle.pj_outside.specs.Files.{is_at_or_below, listed_at, bytes_at, read_at, HasPath, IsAtMost};
+ghost use Rattle.pj_outside.specs.Files.{is_at_or_below, listed_at, read_at, HasPath, IsAtMost};
 ghost use Rattle.pj_outside.specs.InMemory.{new_plan, IsDue, PlanAfter};
-ghost use Rattle.std.specs.Option.{option_copied};
 
 use crate::fault_plan::FaultPlan;
+use crate::files::{Files, find_bytes, read_bytes};
 use crate::refused::{Reading, Refused};
 use crate::tree::Tree;
-use pj_names::{Bytes, Copied, ListOf, Names, NoMemory, Numbers, Text};
+use pj_names::{Copied, Names, NoMemory, Numbers};
 use std::alloc::Global;
 use std::marker::Model;
-
-/// Pairs of a path and bytes. Where two have one path, the bytes of the first count.
-pub type Files = ListOf<(Text, Bytes)>;
 
 /// A tree over a list of files, with the numbers of the calls that are to fail. All calls are counted together,
 /// from 1.
@@ -43,17 +40,6 @@ impl MemTree {
             files,
             plan: FaultPlan::new(fail),
         }
-    }
-
-    fn find(&self, path: &str) -> Option<&Bytes>
-        ensures { option_copied result ≡ bytes_at self.now.files path.now }
-    {
-        for (file_path, bytes) in self.files.as_slice() {
-            if file_path.as_str() == path {
-                return Some(bytes);
-            }
-        }
-        None
     }
 
     fn paths_at(&self, at: &str) -> Result<Names, NoMemory>
@@ -124,15 +110,6 @@ impl Tree for MemTree {
         ensures steady { self.old.plan.fail ≡ [] → (self.new.plan.fail ≡ []) × (result ≢ Err Refused.Failed) }
     {
         self.plan.next_call()?;
-        match self.find(path) {
-            None => Ok(Reading::Absent),
-            Some(bytes) => {
-                if bytes.len() as u64 > most {
-                    Ok(Reading::Longer)
-                } else {
-                    Ok(Reading::Whole(bytes.copied()?))
-                }
-            }
-        }
+        Ok(read_bytes(find_bytes(&self.files, path.as_bytes()), most)?)
     }
 }
