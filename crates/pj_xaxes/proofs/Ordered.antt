@@ -1,5 +1,5 @@
 -- What `ordered` gives, and what a sort and a `dedup` give.
-use Rattle.std.proofs.Common.{◌≡◌, ℕ, ◌+◌, length, arith, Bool, true, false, ◌||◌, ◌&&◌, cond, List, [], ◌∷◌, map, refl, sym, ◌∙◌, ap, true≢false}
+use Rattle.std.proofs.Common.{◌≡◌, ℕ, ◌+◌, length, arith, Bool, true, false, ◌||◌, ◌&&◌, cond, List, [], ◌∷◌, map, refl, sym, ◌∙◌, ap, true≢false, IsTrue}
 use Rattle.std.specs.Prelude.{filter}
 use Rattle.std.specs.List.{list_all, AllByRecursion, dedup, dedup_from}
 use Rattle.std.specs.List.Sorted.{IsStrictlySortedBy, IsSorted, IsPermutation}
@@ -14,8 +14,8 @@ use Rattle.std.proofs.lemmas.List.Kept.{IsStrictlySortedBy-dedup, IsStrictlySort
 use Rattle.std.proofs.lemmas.List.Elements.{All-from_recursion, recursion_from_All}
 use Rattle.pj_xvalue.specs.declared.item.Item.{Item}
 use Rattle.pj_xvalue.specs.declared.item.Item.TheVariants as item
-use Rattle.pj_xvalue.specs.Items.{ItemValue, Document, Element, Attribute, String, Integer, Boolean, is_node, value_of_item}
-use Rattle.pj_xaxes.specs.Order.{document_order, put, put_by, ordered, is_among}
+use Rattle.pj_xvalue.specs.Items.{ItemValue, Document, Element, Attribute, String, Integer, Boolean, is_node, value_of_item, values_of, are_nodes}
+use Rattle.pj_xaxes.specs.Order.{document_order, put, put_by, ordered, has_item}
 use Rattle.pj_xaxes.proofs.Unique.{document_total, unique}
 
 -- putting an item
@@ -53,12 +53,12 @@ or_swap false b c = refl
 tied : (q x y : ItemValue) → document_order x y ≡ Equal → eq_by_cmp document_order q y ≡ eq_by_cmp document_order q x
 tied q x y e = ap is_eq (document_total.antisymm q y ∙ ap ordering_reverse (sym (document_total.congr x y q e)) ∙ sym (document_total.antisymm q x))
 
-is_among-put : (q x : ItemValue) (ys : List ItemValue) → is_among (put x ys) q ≡ (eq_by_cmp document_order q x || is_among ys q)
-is_among-put q x [] = refl
-is_among-put q x (y ∷ ys) = elim (document_order x y) as (λ r. document_order x y ≡ r → is_among (put_by r x y ys (put x ys)) q ≡ (eq_by_cmp document_order q x || (eq_by_cmp document_order q y || is_among ys q))) [
+has_item-put : (q x : ItemValue) (ys : List ItemValue) → has_item (put x ys) q ≡ (eq_by_cmp document_order q x || has_item ys q)
+has_item-put q x [] = refl
+has_item-put q x (y ∷ ys) = elim (document_order x y) as (λ r. document_order x y ≡ r → has_item (put_by r x y ys (put x ys)) q ≡ (eq_by_cmp document_order q x || (eq_by_cmp document_order q y || has_item ys q))) [
   | Less ↦ λ l. refl
-  | Equal ↦ λ e. ap (λ b. b || is_among ys q) (tied q x y e) ∙ or_again (eq_by_cmp document_order q x) (is_among ys q) ∙ ap (λ b. eq_by_cmp document_order q x || (b || is_among ys q)) (sym (tied q x y e))
-  | Greater ↦ λ g. ap (λ b. eq_by_cmp document_order q y || b) (is_among-put q x ys) ∙ or_swap (eq_by_cmp document_order q y) (eq_by_cmp document_order q x) (is_among ys q)
+  | Equal ↦ λ e. ap (λ b. b || has_item ys q) (tied q x y e) ∙ or_again (eq_by_cmp document_order q x) (has_item ys q) ∙ ap (λ b. eq_by_cmp document_order q x || (b || has_item ys q)) (sym (tied q x y e))
+  | Greater ↦ λ g. ap (λ b. eq_by_cmp document_order q y || b) (has_item-put q x ys) ∙ or_swap (eq_by_cmp document_order q y) (eq_by_cmp document_order q x) (has_item ys q)
 ] refl
 
 abbrev pub IsNode : ItemValue → Type 0
@@ -79,10 +79,10 @@ unfolding ordered IsStrictlySortedBy
 sorted-ordered [] = tt
 sorted-ordered (x ∷ xs) = sorted-put x (ordered xs) (sorted-ordered xs)
 
-pub is_among-ordered : (xs : List ItemValue) (q : ItemValue) → is_among (ordered xs) q ≡ is_among xs q
+pub has_item-ordered : (xs : List ItemValue) (q : ItemValue) → has_item (ordered xs) q ≡ has_item xs q
 unfolding ordered
-is_among-ordered [] q = refl
-is_among-ordered (x ∷ xs) q = is_among-put q x (ordered xs) ∙ ap (λ b. eq_by_cmp document_order q x || b) (is_among-ordered xs q)
+has_item-ordered [] q = refl
+has_item-ordered (x ∷ xs) q = has_item-put q x (ordered xs) ∙ ap (λ b. eq_by_cmp document_order q x || b) (has_item-ordered xs q)
 
 pub places-ordered : (xs : List ItemValue) → AllByRecursion IsNode xs → AllByRecursion IsNode (ordered xs)
 unfolding ordered
@@ -109,16 +109,16 @@ same_tied q x k e = elim (document_order x k) as (λ r. document_order x k ≡ r
   | Greater ↦ λ is f. absurd (true≢false (sym f))
 ] refl e
 
-is_among-dedup_from : (q k : ItemValue) (xs : List ItemValue) → is_among (dedup_from same k xs) q ≡ (same q k || is_among xs q)
-is_among-dedup_from q k [] = refl
-is_among-dedup_from q k (x ∷ xs) = elim (same x k) as (λ b. same x k ≡ b → is_among (cond b (dedup_from same k xs) (k ∷ dedup_from same x xs)) q ≡ (same q k || (same q x || is_among xs q))) [
-  | true ↦ λ e. is_among-dedup_from q k xs ∙ or_again (same q k) (is_among xs q) ∙ ap (λ b. same q k || (b || is_among xs q)) (sym (same_tied q x k e))
-  | false ↦ λ e. ap (λ b. same q k || b) (is_among-dedup_from q x xs)
+has_item-dedup_from : (q k : ItemValue) (xs : List ItemValue) → has_item (dedup_from same k xs) q ≡ (same q k || has_item xs q)
+has_item-dedup_from q k [] = refl
+has_item-dedup_from q k (x ∷ xs) = elim (same x k) as (λ b. same x k ≡ b → has_item (cond b (dedup_from same k xs) (k ∷ dedup_from same x xs)) q ≡ (same q k || (same q x || has_item xs q))) [
+  | true ↦ λ e. has_item-dedup_from q k xs ∙ or_again (same q k) (has_item xs q) ∙ ap (λ b. same q k || (b || has_item xs q)) (sym (same_tied q x k e))
+  | false ↦ λ e. ap (λ b. same q k || b) (has_item-dedup_from q x xs)
 ] refl
 
-is_among-dedup : (q : ItemValue) (xs : List ItemValue) → is_among (dedup same xs) q ≡ is_among xs q
-is_among-dedup q [] = refl
-is_among-dedup q (x ∷ xs) = is_among-dedup_from q x xs
+has_item-dedup : (q : ItemValue) (xs : List ItemValue) → has_item (dedup same xs) q ≡ has_item xs q
+has_item-dedup q [] = refl
+has_item-dedup q (x ∷ xs) = has_item-dedup_from q x xs
 
 places-dedup_from : (k : ItemValue) (xs : List ItemValue) → IsNode k → AllByRecursion IsNode xs → AllByRecursion IsNode (dedup_from same k xs)
 places-dedup_from k [] p h = (p, tt)
@@ -171,7 +171,7 @@ in_values xs s d moved up is all =
     let qs = recursion_from_All IsNode s (All-permutation IsNode xs s moved (All-from_recursion IsNode xs ps)) in
     is ∙ unique document_order document_total IsNode one_place (dedup same s) (ordered xs) (places-dedup s qs) (places-ordered xs ps)
     (IsStrictlySortedBy-dedup document_total (λ x y. refl) s up) (sorted-ordered xs)
-    (record { each = λ q. is_among-dedup q s ∙ sym (list_any-IsPermutation (eq_by_cmp document_order q) xs s moved) ∙ sym (is_among-ordered xs q) })
+    (record { each = λ q. has_item-dedup q s ∙ sym (list_any-IsPermutation (eq_by_cmp document_order q) xs s moved) ∙ sym (has_item-ordered xs q) })
 
 -- the same of items, by what they are as values
 
@@ -192,25 +192,21 @@ values_dedup : (s : List Item) → map value_of_item (dedup (λ x y. same (value
 values_dedup [] = refl
 values_dedup (x ∷ xs) = values_dedup_from x xs
 
-values_nodes : (xs : List Item) → list_all (λ i. is_node (value_of_item i)) xs ≡ list_all is_node (map value_of_item xs)
-values_nodes [] = refl
-values_nodes (x ∷ xs) = ap (λ b. is_node (value_of_item x) && b) (values_nodes xs)
-
-pub in_order-is : (xs s d : List Item) → IsPermutation xs s → IsSorted (on value_of_item document_order) s → d ≡ dedup (λ x y. same (value_of_item x) (value_of_item y)) s → list_all (λ i. is_node (value_of_item i)) xs ≡ true
+pub in_order-is : (xs s d : List Item) → IsPermutation xs s → IsSorted (on value_of_item document_order) s → d ≡ dedup (λ x y. same (value_of_item x) (value_of_item y)) s → IsTrue (are_nodes (values_of xs))
     → map value_of_item d ≡ ordered (map value_of_item xs)
 in_order-is xs s d moved up is all =
-    in_values (map value_of_item xs) (map value_of_item s) (map value_of_item d) (IsPermutation-map value_of_item xs s moved) (values_sorted s up) (ap (map value_of_item) is ∙ values_dedup s) (sym (values_nodes xs) ∙ all)
+    in_values (map value_of_item xs) (map value_of_item s) (map value_of_item d) (IsPermutation-map value_of_item xs s moved) (values_sorted s up) (ap (map value_of_item) is ∙ values_dedup s) all
 
--- the definition by a filter: of any list of places in strict order that has them all, those that are is_among xs
+-- the definition by a filter: of any list of places in strict order that has them all, those that are among its items
 
 equal : (r : Ordering) → is_eq r ≡ true → r ≡ Equal
 equal Less e = absurd (true≢false (sym e))
 equal Equal e = refl
 equal Greater e = absurd (true≢false (sym e))
 
-is_among_tied : (q k : ItemValue) (xs : List ItemValue) → eq_by_cmp document_order q k ≡ true → is_among xs k ≡ is_among xs q
-is_among_tied q k [] e = refl
-is_among_tied q k (x ∷ xs) e = (let h = ap is_eq (sym (document_total.congr q k x (equal (document_order q k) e))) in λ i. h i || is_among_tied q k xs e i)
+has_item_tied : (q k : ItemValue) (xs : List ItemValue) → eq_by_cmp document_order q k ≡ true → has_item xs k ≡ has_item xs q
+has_item_tied q k [] e = refl
+has_item_tied q k (x ∷ xs) e = (let h = ap is_eq (sym (document_total.congr q k x (equal (document_order q k) e))) in λ i. h i || has_item_tied q k xs e i)
 
 places-filter : (p : ItemValue → Bool) (xs : List ItemValue) → AllByRecursion IsNode xs → AllByRecursion IsNode (filter p xs)
 places-filter p [] h = tt
@@ -223,9 +219,9 @@ both_hold : (a b : Bool) → (a ≡ true → b ≡ true) → a ≡ (a && b)
 both_hold true b h = sym (h refl)
 both_hold false b h = refl
 
-pub ordered-filter : (xs whole : List ItemValue) → AllByRecursion IsNode xs → AllByRecursion IsNode whole → IsStrictlySortedBy document_order whole →
-    ((q : ItemValue) → is_among xs q ≡ true → is_among whole q ≡ true) → ordered xs ≡ filter (is_among xs) whole
-ordered-filter xs whole ps ws up inside =
-    unique document_order document_total IsNode one_place (ordered xs) (filter (is_among xs) whole) (places-ordered xs ps) (places-filter (is_among xs) whole ws)
-    (sorted-ordered xs) (IsStrictlySortedBy-filter document_order (is_among xs) whole up)
-    (record { each = λ q. is_among-ordered xs q ∙ both_hold (is_among xs q) (is_among whole q) (inside q) ∙ sym (any-filter_same (eq_by_cmp document_order q) (is_among xs) (is_among xs q) (λ k e. is_among_tied q k xs e) whole) })
+pub ordered-filter : (xs whole : List ItemValue) → IsTrue (are_nodes xs) → IsTrue (are_nodes whole) → IsStrictlySortedBy document_order whole →
+    ((q : ItemValue) → IsTrue (has_item xs q) → IsTrue (has_item whole q)) → ordered xs ≡ filter (has_item xs) whole
+ordered-filter xs whole all all_whole up inside =
+    unique document_order document_total IsNode one_place (ordered xs) (filter (has_item xs) whole) (places-ordered xs (places_from xs all)) (places-filter (has_item xs) whole (places_from whole all_whole))
+    (sorted-ordered xs) (IsStrictlySortedBy-filter document_order (has_item xs) whole up)
+    (record { each = λ q. has_item-ordered xs q ∙ both_hold (has_item xs q) (has_item whole q) (inside q) ∙ sym (any-filter_same (eq_by_cmp document_order q) (has_item xs) (has_item xs q) (λ k e. has_item_tied q k xs e) whole) })

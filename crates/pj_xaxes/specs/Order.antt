@@ -37,6 +37,6 @@ unfoldable pub ordered : List ItemValue → List ItemValue
 ordered [] = []
 ordered (x ∷ xs) = put x (ordered xs)
 
--- whether the item is one of these
-abbrev pub is_among : List ItemValue → ItemValue → Bool
-is_among xs x = list_any (eq_by_cmp document_order x) xs
+-- whether the item is one of them
+abbrev pub has_item : List ItemValue → ItemValue → Bool
+has_item xs x = list_any (eq_by_cmp document_order x) xs

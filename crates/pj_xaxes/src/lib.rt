@@ -1,11 +1,13 @@
 //! The axes of nodes, and document order.
 #![tactic(auto)]
 
+mod law;
 mod nodes;
 mod order;
 mod search;
 #[cfg(test)]
 mod tests;
 
+pub use law::ordered_is_a_filter;
 pub use nodes::{AxisNodes, axis};
 pub use order::in_order;

@@ -1,11 +1,10 @@
 //! Document order.
-ghost use Rattle.std.specs.Prelude.{◌≡◌, map, true};
-ghost use Rattle.std.specs.List.{list_all};
+ghost use Rattle.std.specs.Prelude.{◌≡◌, map, IsTrue};
 ghost use Rattle.std.specs.List.Sorted.{IsStrictlySortedBy};
 ghost use Rattle.std.specs.Ordering.{eq_by_cmp};
 ghost use Rattle.pj_xaxes.specs.Standing.{standing};
-ghost use Rattle.pj_xvalue.specs.Items.{ItemValue, value_of_item, values_of, is_node};
-ghost use Rattle.pj_xaxes.specs.Order.{position_of, document_order, ordered, is_among};
+ghost use Rattle.pj_xvalue.specs.Items.{ItemValue, value_of_item, values_of, are_nodes};
+ghost use Rattle.pj_xaxes.specs.Order.{position_of, document_order, ordered, has_item};
 
 use pj_xvalue::{Item, Sequence};
 use std::cmp::Ordering;
@@ -48,10 +47,10 @@ fn is_at(item: &Item<'_>, other: &Item<'_>) -> bool
 /// The nodes, attributes and the document among the items in document order, each once (XPath 2.0, 2.4.1): the document,
 /// then each node, its attributes, and its children. It takes no memory.
 pub fn in_order(items: Sequence<'_>) -> Sequence<'_>
-    requires { list_all (λ item. is_node (value_of_item item)) items ≡ true }
+    requires { IsTrue (are_nodes (values_of items)) }
     ensures value { values_of result ≡ ordered (values_of items.entry) }
     ensures ascending { IsStrictlySortedBy document_order (values_of result) }
-    ensures members { (x : ItemValue) → is_among (values_of result) x ≡ is_among (values_of items.entry) x }
+    ensures members { (x : ItemValue) → has_item (values_of result) x ≡ has_item (values_of items.entry) x }
 {
     let mut held = items.into_vec();
     held.sort_unstable_by_key(|item| order_position(item));

@@ -2,7 +2,7 @@
 
 ghost use Rattle.std.specs.Prelude.{◌≡◌, ◌<◌, length};
 ghost use Rattle.std.specs.List.{list_all};
-ghost use Rattle.pj_xvalue.specs.Items.{value_of_item, is_node};
+ghost use Rattle.pj_xvalue.specs.Items.{value_of_item, values_of, is_node, are_nodes};
 
 use super::*;
 use pj_tree::{Builder, Kind, Node, ShapeFault, SyntaxTree};
@@ -81,17 +81,24 @@ fn axes(rt: HostRuntime) -> Result<(), Fail> {
     Ok(())
 }
 
-/// Whether all items are nodes, as in each sequence of these tests.
-fn are_nodes(items: &Sequence<'_>) -> bool
+/// Whether each item is a node.
+fn is_each_node(items: &Sequence<'_>) -> bool
     ensures { result ≡ list_all (λ item. is_node (value_of_item item)) items.now }
 {
     items.as_slice().iter().all(|item| item.is_node())
 }
 
+/// Whether all items are nodes, as in each sequence of these tests.
+fn has_only_nodes(items: &Sequence<'_>) -> bool
+    ensures { result ≡ are_nodes (values_of items.now) }
+{
+    is_each_node(items)
+}
+
 /// The items in document order, as one text.
 fn in_order_text(alloc: Global, items: Sequence<'static>) -> Result<String, AllocError> {
     let mut text = String::new(alloc);
-    if are_nodes(&items) {
+    if has_only_nodes(&items) {
         let items = in_order(items);
         for item in items.as_slice() {
             match item {

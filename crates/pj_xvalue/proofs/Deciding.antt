@@ -11,7 +11,7 @@ decided-assoc (Ok true) b c = refl
 decided-assoc (Ok false) b c = refl
 decided-assoc (Err code) b c = refl
 
-first_deciding-append : (op : Compare) (xs ys : List (ItemValue × ItemValue)) → first_deciding op (xs ++ ys) ≡ decided (first_deciding op xs) (first_deciding op ys)
+pub first_deciding-append : (op : Compare) (xs ys : List (ItemValue × ItemValue)) → first_deciding op (xs ++ ys) ≡ decided (first_deciding op xs) (first_deciding op ys)
 first_deciding-append op [] ys = refl
 first_deciding-append op (x ∷ xs) ys = ap (decided (pair_compares op x.0 x.1)) (first_deciding-append op xs ys) ∙ sym (decided-assoc (pair_compares op x.0 x.1) (first_deciding op xs) (first_deciding op ys))
 

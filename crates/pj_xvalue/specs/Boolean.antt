@@ -1,20 +1,16 @@
 -- The effective boolean value of a sequence (XPath 2.0, 2.4.3).
-use Rattle.std.specs.Prelude.{ℕ, pos, Bool, true, false, not, List, [], ◌∷◌, Result, Ok, Err}
+use Rattle.std.specs.Prelude.{pos, Bool, true, false, not, ◌==◌, List, [], ◌∷◌, length, Result, Ok, Err}
 use Rattle.std.specs.Ordering.{int_eq}
 use Rattle.pj_xvalue.specs.declared.fault.XCode.{XCode}
 use Rattle.pj_xvalue.specs.declared.fault.XCode.TheVariants.{FORG0006}
 use Rattle.pj_xvalue.specs.Items.{ItemValue, Document, Element, Attribute, String, Integer, Boolean}
 
-abbrev pub is_empty : List ℕ → Bool
-is_empty [] = true
-is_empty (byte ∷ bytes) = false
-
--- the effective boolean value of one item: that of a number is false at zero, that of a string at the empty one, and a
--- node is true
+-- the effective boolean value of one item: that of a number is false at zero, that of a string where its length is zero,
+-- and a node is true
 abbrev pub atomic_boolean : ItemValue → Bool
 atomic_boolean (Boolean b) = b
 atomic_boolean (Integer z) = not (int_eq z (pos 0))
-atomic_boolean (String text) = not (is_empty text)
+atomic_boolean (String text) = not (length text == 0)
 atomic_boolean _ = true
 
 -- The empty sequence is false, one whose first item is a node is true, and one atomic value is judged by itself. No

@@ -1,5 +1,6 @@
 -- Items as values of the XPath data model: an owned and a borrowed string are one value.
-use Rattle.std.specs.Prelude.{ℕ, ℤ, Bool, true, false, List, map, Option, Some, None}
+use Rattle.std.specs.Prelude.{ℕ, ◌<◌, ℤ, Bool, true, false, not, List, map, Option, Some, None}
+use Rattle.std.specs.List.{list_all, All}
 use Rattle.pj_tree.specs.declared.node.Node.{Node}
 use Rattle.pj_xvalue.specs.declared.item.Item.{Item}
 use Rattle.pj_xvalue.specs.declared.item.Item.TheVariants as item
@@ -45,3 +46,27 @@ is_node (Boolean b) = false
 abbrev pub is_attribute : ItemValue → Bool
 is_attribute (Attribute n place) = true
 is_attribute _ = false
+
+-- ---- what is asked of the items of a sequence
+
+-- all are nodes: the document, elements or attributes
+abbrev pub are_nodes : List ItemValue → Bool
+are_nodes items = list_all is_node items
+
+-- all are atomic values
+abbrev pub are_atomic : List ItemValue → Bool
+are_atomic items = list_all (λ item. not (is_node item)) items
+
+-- none is an attribute
+abbrev pub have_no_attribute : List ItemValue → Bool
+have_no_attribute items = list_all (λ item. not (is_attribute item)) items
+
+-- an item of a tree with so many nodes
+abbrev pub IsOfTree : ℕ → ItemValue → Type 0
+IsOfTree nodes (Element n) = n.0 < nodes
+IsOfTree nodes (Attribute n place) = n.0 < nodes
+IsOfTree nodes _ = Unit {0}
+
+-- all are of such a tree
+abbrev pub AreOfTree : ℕ → List ItemValue → Type 0
+AreOfTree nodes items = All (IsOfTree nodes) items

@@ -1,6 +1,8 @@
 pub mod Attributes
 pub mod Boolean
 pub mod Comparison
+pub mod Deciding
+pub mod Expressions
 pub mod Functions
 pub mod Items
 pub mod Modifiers

@@ -1,13 +1,12 @@
 -- What the functions of PMD may be given and may answer.
-use Rattle.std.specs.Prelude.{ℕ, ◌<◌, Bool, true, false, not, List, [], ◌∷◌, if◌then◌else◌, Result, Ok, Err}
-use Rattle.std.specs.List.{list_all}
+use Rattle.std.specs.Prelude.{Bool, true, false, not, List, [], ◌∷◌, if◌then◌else◌, Result, Ok, Err}
 use Rattle.pj_names.specs.declared.oracle.AskFault.{AskFault}
 use Rattle.pj_xvalue.specs.declared.fault.XCode.{XCode}
 use Rattle.pj_xvalue.specs.declared.fault.XFault.{XFault}
 use Rattle.pj_xvalue.specs.declared.fault.XFault.TheVariants as fault
 use Rattle.pj_xvalue.specs.declared.pmd_function.PmdFunction.{PmdFunction}
 use Rattle.pj_xvalue.specs.declared.pmd_function.PmdFunction.TheVariants as pmd
-use Rattle.pj_xvalue.specs.Items.{ItemValue, Element, Attribute, String, Boolean, is_node}
+use Rattle.pj_xvalue.specs.Items.{ItemValue, String, Boolean, are_atomic}
 
 -- What a call that may ask classes returned, where a code of XPath is a value of what is meant: it is given for the same
 -- reasons on each run. What is no value is that a class could not be asked for, or that memory was wanting.
@@ -15,16 +14,6 @@ abbrev pub outcome : {A B : Type 0} → (A → B) → Result A XFault → Result
 outcome view (Ok value) = Ok (Ok (view value))
 outcome view (Err (fault.Code code)) = Ok (Err code)
 outcome view (Err (fault.Ask asked)) = Err asked
-
--- an item of a tree with so many nodes
-abbrev pub IsOfTree : ℕ → ItemValue → Type 0
-IsOfTree nodes (Element n) = n.0 < nodes
-IsOfTree nodes (Attribute n place) = n.0 < nodes
-IsOfTree nodes _ = Unit {0}
-
--- whether all items are atomic values: no node, no attribute, no document
-abbrev pub are_atomic : List ItemValue → Bool
-are_atomic items = list_all (λ item. not (is_node item)) items
 
 abbrev pub is_one_boolean : List ItemValue → Bool
 is_one_boolean (Boolean b ∷ []) = true

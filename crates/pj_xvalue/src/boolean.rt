@@ -1,6 +1,6 @@
 //! The effective boolean value.
-ghost use Rattle.std.specs.Prelude.{◌≡◌, map};
-ghost use Rattle.pj_xvalue.specs.Items.{value_of_item};
+ghost use Rattle.std.specs.Prelude.{◌≡◌};
+ghost use Rattle.pj_xvalue.specs.Items.{value_of_item, values_of};
 ghost use Rattle.pj_xvalue.specs.Boolean.{effective_boolean, atomic_boolean};
 
 use crate::fault::XCode;
@@ -8,7 +8,7 @@ use crate::item::{Item, Sequence};
 
 /// The effective boolean value of a sequence, or FORG0006 where it has none (XPath 2.0, 2.4.3).
 pub fn boolean_value(items: &Sequence<'_>) -> Result<bool, XCode>
-    ensures { result ≡ effective_boolean (map value_of_item items.now) }
+    ensures { result ≡ effective_boolean (values_of items.now) }
 {
     match items.as_slice() {
         [] => Ok(false),

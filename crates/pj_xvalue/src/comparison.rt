@@ -1,7 +1,6 @@
 //! General comparisons.
-ghost use Rattle.std.specs.Prelude.{◌≡◌, map, not, true};
-ghost use Rattle.std.specs.List.{list_all};
-ghost use Rattle.pj_xvalue.specs.Items.{value_of_item, is_attribute};
+ghost use Rattle.std.specs.Prelude.{◌≡◌, map, IsTrue};
+ghost use Rattle.pj_xvalue.specs.Items.{value_of_item, values_of, have_no_attribute};
 ghost use Rattle.pj_xvalue.specs.Comparison.{holds, pair_compares, first_deciding, general_comparison};
 
 use crate::fault::XCode;
@@ -15,9 +14,9 @@ use std::cmp::Ordering;
 /// it true, and the first that is an error is the answer: FOTY0012 where one of the two is an element or the document,
 /// else XPTY0004 where they are values of two types. In the place of an attribute its value has been put before.
 pub fn compare(op: Compare, left: &Sequence<'_>, right: &Sequence<'_>) -> Result<bool, XCode>
-    requires no_attribute_left { list_all (λ item. not (is_attribute (value_of_item item))) left.now ≡ true }
-    requires no_attribute_right { list_all (λ item. not (is_attribute (value_of_item item))) right.now ≡ true }
-    ensures { result ≡ general_comparison op (map value_of_item left.now) (map value_of_item right.now) }
+    requires no_attribute_left { IsTrue (have_no_attribute (values_of left.now)) }
+    requires no_attribute_right { IsTrue (have_no_attribute (values_of right.now)) }
+    ensures { result ≡ general_comparison op (values_of left.now) (values_of right.now) }
 {
     for item in left.as_slice() {
         if compare_item(op, item, right.as_slice())? {
@@ -29,7 +28,7 @@ pub fn compare(op: Compare, left: &Sequence<'_>, right: &Sequence<'_>) -> Result
 
 /// Whether the item and some right one are as the operator says.
 fn compare_item(op: Compare, item: &Item<'_>, right: &[Item<'_>]) -> Result<bool, XCode>
-    ensures { result ≡ first_deciding op (map (λ other. (value_of_item item.now, other)) (map value_of_item right.now)) }
+    ensures { result ≡ first_deciding op (map (λ other. (value_of_item item.now, other)) (values_of right.now)) }
 {
     for other in right {
         if compare_pair(op, item, other)? {

@@ -16,9 +16,13 @@ pub enum Item<'t> {
     Attribute(Node, u32),
     /// The document, which is the parent of the tree's root.
     Document,
+    /// A string (`xs:string`) that the item owns.
     Str(Text),
+    /// An integer (`xs:integer`) of 64 bits.
     Int(i64),
+    /// A boolean (`xs:boolean`).
     Bool(bool),
+    /// A string that is lent, as a part of the tree's text.
     Borrowed(&'t str),
 }
 

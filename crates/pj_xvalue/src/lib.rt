@@ -12,11 +12,14 @@ mod expr;
 mod fault;
 mod function;
 mod item;
+mod law;
 mod modifiers;
 mod operator;
 mod pmd_function;
 #[cfg(test)]
 mod tests;
+#[cfg(test)]
+mod tests_expr;
 mod value;
 
 pub use axis::Axis;
@@ -27,6 +30,7 @@ pub use expr::{Additive, Expr, Multiplicative, NodeTest, Quantifier, SetOperator
 pub use fault::{XCode, XFault};
 pub use function::Function;
 pub use item::{Arguments, BoundVars, Item, Sequence};
+pub use law::pairs_decide;
 pub use modifiers::{Modifier, Modifiers};
 pub use operator::Compare;
 pub use pmd_function::PmdFunction;

@@ -2,7 +2,7 @@
 ghost use Rattle.std.specs.Prelude.{◌≡◌, ◌<◌, ◌≤◌, ◌==◌, ◌||◌, false, ℕ};
 ghost use Rattle.std.specs.Int.{bit_at};
 ghost use Rattle.pj_xvalue.specs.declared.modifiers.Modifier.{Modifier};
-ghost use Rattle.pj_xvalue.specs.Modifiers.{place_of, has};
+ghost use Rattle.pj_xvalue.specs.Modifiers.{bit_of, has};
 
 /// A modifier of Java (JLS 8.1.1, 8.3.1, 8.4.3, 9.4), in the byte order of the words.
 #[derive(Clone, Copy, Debug, PartialEq, Eq)]
@@ -24,15 +24,15 @@ pub enum Modifier {
     Volatile,
 }
 
-/// A set of modifiers: a number whose bit at a modifier's place, counted from 0 at the lowest bit, is 1 where the set
-/// has it.
+/// A set of modifiers: a number with a bit for each modifier, in their order from the lowest bit on, which is 1 where
+/// the set has it.
 #[derive(Clone, Copy, Debug, PartialEq, Eq)]
 pub struct Modifiers(pub u16);
 
 impl Modifier {
-    /// The modifier's place among all, counted from 0.
-    fn place(self) -> u32
-        ensures value { result ≡ place_of self }
+    /// The bit of a set that says whether the modifier is in it, counted from 0.
+    fn bit(self) -> u32
+        ensures value { result ≡ bit_of self }
         ensures few { result < 14 }
     {
         match self {
@@ -67,15 +67,15 @@ impl Modifiers {
     pub fn contains(self, modifier: Modifier) -> bool
         ensures { result ≡ has self modifier }
     {
-        (self.0 >> modifier.place()) & 1 == 1
+        (self.0 >> modifier.bit()) & 1 == 1
     }
 
     /// The set with the modifier.
     pub fn with(self, modifier: Modifier) -> Modifiers
         ensures others { (k : ℕ) → 14 ≤ k → bit_at result.0 k ≡ bit_at self.0 k }
-        ensures members { (other : Modifier) → has result other ≡ ((place_of modifier == place_of other) || has self other) }
+        ensures members { (other : Modifier) → has result other ≡ ((bit_of modifier == bit_of other) || has self other) }
     {
-        let bit = 1 << modifier.place();
-        Modifiers(self.0 | bit)
+        let member = 1 << modifier.bit();
+        Modifiers(self.0 | member)
     }
 }

@@ -2,7 +2,7 @@
 
 ghost use Rattle.std.specs.Prelude.{◌≡◌, not};
 ghost use Rattle.std.specs.List.{list_all};
-ghost use Rattle.pj_xvalue.specs.Items.{value_of_item, is_attribute};
+ghost use Rattle.pj_xvalue.specs.Items.{value_of_item, values_of, is_attribute, have_no_attribute};
 
 use super::*;
 use pj_names::{NoMemory, Text};
@@ -45,11 +45,18 @@ fn sequence(alloc: Global, cases: [Case; 2]) -> Result<Sequence<'static>, NoMemo
     Ok(items)
 }
 
-/// Whether no item is an attribute, as in each sequence of these tests.
-fn is_without_attributes(items: &Sequence<'_>) -> bool
+/// Whether each item is no attribute.
+fn is_each_no_attribute(items: &Sequence<'_>) -> bool
     ensures { result ≡ list_all (λ item. not (is_attribute (value_of_item item))) items.now }
 {
     items.as_slice().iter().all(|item| !item.is_attribute())
+}
+
+/// Whether no item is an attribute, as in each sequence of these tests.
+fn is_without_attributes(items: &Sequence<'_>) -> bool
+    ensures { result ≡ have_no_attribute (values_of items.now) }
+{
+    is_each_no_attribute(items)
 }
 
 /// The comparison of sequences without attributes.

@@ -1,13 +1,12 @@
 use Rattle.std.proofs.Common.{◌≡◌, sym, subst, ◌∙◌, ap, List, rules}
-use Rattle.std.specs.List.{list_all}
 use Rattle.std.proofs.lemmas.Fn.{always_returns_same, dedup_same}
 use Rattle.std.specs.Ordering.{eq_by_cmp}
 use Rattle.pj_xvalue.specs.declared.item.Item.{Item}
-use Rattle.pj_xvalue.specs.Items.{value_of_item, values_of, is_node}
-use Rattle.pj_xaxes.specs.Order.{position_of, document_order, ordered, is_among}
+use Rattle.pj_xvalue.specs.Items.{value_of_item, values_of, are_nodes}
+use Rattle.pj_xaxes.specs.Order.{position_of, document_order, ordered, has_item}
 use Rattle.pj_xaxes.specs.Standing.{standing}
 use Rattle.std.specs.List.Sorted.{IsStrictlySortedBy}
-use Rattle.pj_xaxes.proofs.Ordered.{in_order-is, sorted-ordered, is_among-ordered}
+use Rattle.pj_xaxes.proofs.Ordered.{in_order-is, sorted-ordered, has_item-ordered}
 use Rattle.pj_xaxes.proofs.order.in_order.Goals as goal
 
 in_order_value : (c : goal.After-from_vec) → values_of c.from_vec.result ≡ ordered (values_of c.args.items)
@@ -17,7 +16,7 @@ in_order_value c =
     let one = dedup_same _ (λ (x k : Item). eq_by_cmp document_order (value_of_item x) (value_of_item k)) _ (λ x y b f' x' y' k. search rules) _ _ c.dedup_by.ensures.filtered in
     ap values_of c.from_vec.ensures
     ∙ in_order-is c.into_vec-held.result.items c.sort_unstable_by_key.new.self.items c.dedup_by.new.self.items c.sort_unstable_by_key.ensures.permutation up one
-    (ap (list_all (λ (i : Item). is_node (value_of_item i))) into ∙ c.requires)
+    (ap (λ (xs : List Item). are_nodes (values_of xs)) into ∙ c.requires)
     ∙ ap (λ (xs : List Item). ordered (values_of xs)) into
 
 pub returns-clause-value : goal.returns-clause-value
@@ -27,4 +26,4 @@ pub returns-clause-ascending : goal.returns-clause-ascending
 returns-clause-ascending c = subst (λ xs. IsStrictlySortedBy document_order xs) (sym (in_order_value c)) (sorted-ordered (values_of c.args.items))
 
 pub returns-clause-members : goal.returns-clause-members
-returns-clause-members c = λ x. ap (λ xs. is_among xs x) (in_order_value c) ∙ is_among-ordered (values_of c.args.items) x
+returns-clause-members c = λ x. ap (λ xs. has_item xs x) (in_order_value c) ∙ has_item-ordered (values_of c.args.items) x

@@ -2,7 +2,7 @@ use Rattle.std.proofs.Common.{◌≡◌, ◌<◌, ◌==◌, ◌||◌, ◌^◌, �
 use Rattle.std.specs.Int.{bit_at}
 use Rattle.std.proofs.lemmas.Bool.{cases_eq, eq-eqb, ne_eqb}
 use Rattle.std.proofs.lemmas.Nat.Bits.{bit_at_set_same, bit_at_set_other}
-use Rattle.pj_xvalue.specs.Modifiers.{place_of}
+use Rattle.pj_xvalue.specs.Modifiers.{bit_of}
 use Rattle.pj_xvalue.proofs.modifiers.Modifiers.with.Goals as goal
 
 -- a number with one more bit
@@ -13,7 +13,7 @@ with_bit n k i small = elim (cases_eq k i) [
 ]
 
 pub returns-clause-others : goal.returns-clause-others
-returns-clause-others c = λ k far. bit_at_set_other w16 c.args.self.0 c.place.result (omega (arith, c.place.ensures.few)) k (λ e. omega (arith, c.place.ensures.few, e))
+returns-clause-others c = λ k far. bit_at_set_other w16 c.args.self.0 c.bit.result (omega (arith, c.bit.ensures.few)) k (λ e. omega (arith, c.bit.ensures.few, e))
 
 pub returns-clause-members : goal.returns-clause-members
-returns-clause-members c = λ other. rw (← c.place.ensures.value) (with_bit c.args.self.0 c.place.result (place_of other) (omega (arith, c.place.ensures.few)))
+returns-clause-members c = λ other. rw (← c.bit.ensures.value) (with_bit c.args.self.0 c.bit.result (bit_of other) (omega (arith, c.bit.ensures.few)))
