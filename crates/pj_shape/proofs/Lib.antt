@@ -1,0 +1,15 @@
+pub mod Flattening
+pub mod Places
+pub mod Turning
+pub mod PutTurns
+pub mod Backward
+pub mod Ranges
+pub mod Opening
+pub mod Names
+pub mod Marking
+pub mod WriteNodes
+pub mod WriteTurns
+pub mod Laying
+pub mod Spanning
+pub mod TreeShaping
+pub mod TestTokens
