@@ -1,0 +1,5 @@
+pub mod Places
+pub mod IsWellFormed
+pub mod SameTable
+pub mod Numbers
+pub mod Words

@@ -1,0 +1,4 @@
+-- the terminals, the notation and the grammar
+pub mod Terminal
+pub mod Notation
+pub mod Java17
