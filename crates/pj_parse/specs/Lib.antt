@@ -1,0 +1,5 @@
+pub mod Words
+pub mod Parses
+pub mod Laws
+-- private clauses alone cite these
+pub mod Faults
