@@ -5,7 +5,7 @@ set -eu
 top=$(cd "$(dirname "$0")/.." && pwd)
 folder=$(mktemp -d)
 trap 'rm -rf "$folder"' EXIT
-"$top/pmd" check "$top/examples/first/Shapes.java" //ClassBody >/dev/null || [ $? -eq 4 ]
+"$top/pmd" check "$top/examples/first/Cart.java" //ClassBody >/dev/null || [ $? -eq 4 ]
 program=$top/crates/pmd/out/pmd
 
 # A file of this many bytes: classes on a line each, and spaces to fill it.

@@ -1,35 +1,34 @@
 -- The text of the cold report of one query is the lines of the nodes that it denotes.
-use Rattle.std.proofs.Common.{◌≡◌, ◌<◌, ℕ, zero, suc, ◌+◌, List, [], ◌∷◌, ◌++◌, Bool, true, false, flat_map, if◌then◌else◌, None, Some, slice_get, length, take, refl, sym, ◌∙◌, ap, subst, arith, append_assoc}
+use Rattle.std.proofs.Common.{◌≡◌, ◌<◌, ℕ, zero, suc, ◌+◌, List, [], ◌∷◌, ◌++◌, true, false, flat_map, if◌then◌else◌, Some, slice_get, length, take, refl, sym, ◌∙◌, ap, subst, arith, append_assoc}
 use Rattle.std.proofs.lemmas.Grind.{flat_map-append}
 use Rattle.std.proofs.lemmas.List.{append-nil}
 use Rattle.std.specs.List.{enumerate_from}
-use Rattle.pj_tree.specs.Tree.{TreeNode, Tree}
+use Rattle.pj_tree.specs.Tree.{TreeNode}
+use Rattle.pj_check.specs.FileTree.{SourceTree}
 use Rattle.pj_outside.specs.Files.{Bytes}
 use Rattle.pj_check.specs.Query.{denotes}
-use Rattle.pj_check.specs.Report.{Report, Finding}
 use Rattle.pj_check.specs.ReportText.{finding_line, finding_text, report_text}
-use Rattle.pj_check.specs.Cold.{found_by, cold_report, finding}
-use Rattle.pj_tree.specs.Places.{place_at}
+use Rattle.pj_check.specs.Cold.{found_by, cold_report, finding, place_in}
 use Rattle.pj_check.specs.CheckFile.{query_rule, rules_for}
 use Rattle.pj_check.specs.Lines.{node_line, lines_of}
 
-node_lines : (path name : Bytes) (tree : Tree) (n : ℕ) (x : TreeNode) →
-    flat_map (finding_text (cold_report (rules_for name) ((path, tree) ∷ [])) path) (found_by tree.text 0 (rules_for name) n x) ≡ node_line path name tree.text x
-node_lines path name tree n x =
-    let line : Bytes = finding_line path (place_at tree.text x.span.from).line query_rule in
-    elim (denotes name x) as (λ t. flat_map (finding_text (cold_report (rules_for name) ((path, tree) ∷ [])) path) ((if t then finding tree.text 0 n x ∷ [] else []) ++ []) ≡ (if t then line else []))
+node_lines : (path name : Bytes) (file : SourceTree) (n : ℕ) (x : TreeNode) →
+    flat_map (finding_text (cold_report (rules_for name) ((path, file) ∷ [])) path) (found_by file.source.places 0 (rules_for name) n x) ≡ node_line path name file.source.places x
+node_lines path name file n x =
+    let line : Bytes = finding_line path (place_in file.source.places x.span.from).line query_rule in
+    elim (denotes name x) as (λ t. flat_map (finding_text (cold_report (rules_for name) ((path, file) ∷ [])) path) ((if t then finding file.source.places 0 n x ∷ [] else []) ++ []) ≡ (if t then line else []))
     [ true ↦ append-nil line | false ↦ refl ]
 
-numbered_lines : (path name : Bytes) (tree : Tree) (n : ℕ) (nodes : List TreeNode) →
-    flat_map (finding_text (cold_report (rules_for name) ((path, tree) ∷ [])) path) (flat_map (λ p. found_by tree.text 0 (rules_for name) p.0 p.1) (enumerate_from n nodes)) ≡ lines_of path name tree.text nodes
-numbered_lines path name tree n [] = refl
-numbered_lines path name tree n (x ∷ xs) =
-    flat_map-append (finding_text (cold_report (rules_for name) ((path, tree) ∷ [])) path) (found_by tree.text 0 (rules_for name) n x) (flat_map (λ p. found_by tree.text 0 (rules_for name) p.0 p.1) (enumerate_from (n + 1) xs))
-    ∙ (λ i. node_lines path name tree n x i ++ numbered_lines path name tree (n + 1) xs i)
+numbered_lines : (path name : Bytes) (file : SourceTree) (n : ℕ) (nodes : List TreeNode) →
+    flat_map (finding_text (cold_report (rules_for name) ((path, file) ∷ [])) path) (flat_map (λ p. found_by file.source.places 0 (rules_for name) p.0 p.1) (enumerate_from n nodes)) ≡ lines_of path name file.source.places nodes
+numbered_lines path name file n [] = refl
+numbered_lines path name file n (x ∷ xs) =
+    flat_map-append (finding_text (cold_report (rules_for name) ((path, file) ∷ [])) path) (found_by file.source.places 0 (rules_for name) n x) (flat_map (λ p. found_by file.source.places 0 (rules_for name) p.0 p.1) (enumerate_from (n + 1) xs))
+    ∙ (λ i. node_lines path name file n x i ++ numbered_lines path name file (n + 1) xs i)
 
-pub report_text-cold : (path name : Bytes) (tree : Tree) → report_text (cold_report (rules_for name) ((path, tree) ∷ [])) ≡ lines_of path name tree.text tree.nodes
-report_text-cold path name tree =
-    append-nil _ ∙ append-nil _ ∙ numbered_lines path name tree 0 tree.nodes
+pub report_text-cold : (path name : Bytes) (file : SourceTree) → report_text (cold_report (rules_for name) ((path, file) ∷ [])) ≡ lines_of path name file.source.places file.tree.nodes
+report_text-cold path name file =
+    append-nil _ ∙ append-nil _ ∙ numbered_lines path name file 0 file.tree.nodes
 
 -- ---- one node more
 

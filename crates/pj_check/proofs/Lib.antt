@@ -1,10 +1,6 @@
-pub mod ReadingLaws
-pub mod FileLaws
-pub mod BuildingLaws
-pub mod ClassesLaws
-pub mod WholeLaws
 pub mod ColdLaws
 pub mod OutcomeLaws
 pub mod Texts
+pub mod TakenLaws
+pub mod LackLaws
 pub mod OneLaws
-pub mod TokenLaws

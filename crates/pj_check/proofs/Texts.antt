@@ -1,7 +1,10 @@
 -- Texts and short lists.
-use Rattle.std.proofs.Common.{◌≡◌, ◌<◌, ◌≤◌, ℕ, List, [], ◌∷◌, Bool, true, false, ◌&&◌, nat_eq, length, get_or, refl, ap, arith}
+use Rattle.std.proofs.Common.{◌≡◌, ◌<◌, ◌≤◌, ℕ, List, [], ◌∷◌, Bool, true, false, ◌&&◌, nat_eq, length, get_or, refl, arith}
 use Rattle.std.specs.Cmp.Lexicographic.{pointwise}
-use Rattle.pj_check.proofs.ReadingLaws.{both_true}
+
+both_true : (a b : Bool) → (a && b) ≡ true → (a ≡ true) × (b ≡ true)
+both_true true b e = (refl, e)
+both_true false b e = absurd (cc)
 
 -- texts that compare equal are equal
 pub same_bytes : (a b : List ℕ) → pointwise nat_eq a b ≡ true → a ≡ b

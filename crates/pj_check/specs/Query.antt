@@ -1,12 +1,22 @@
 -- The queries that are taken: `//` and the name of a kind of node. They denote each node of that kind, in document
 -- order (XPath 2.0, 3.2.4).
-use Rattle.std.specs.Prelude.{◌≡◌, ℕ, List, [], ◌∷◌, ◌++◌, Bool, true, false, ◌&&◌, nat_eq, IsTrue, codes}
+use Rattle.std.specs.Prelude.{◌≡◌, ℕ, [], ◌∷◌, ◌++◌, Bool, false, ◌&&◌, ◌||◌, nat_eq, nat_le, IsTrue, codes}
 use Rattle.std.specs.List.{list_all}
 use Rattle.std.specs.Cmp.Lexicographic.{pointwise}
 use Rattle.pj_tree.specs.Kind.{name_of}
 use Rattle.pj_tree.specs.Tree.{TreeNode}
 use Rattle.pj_outside.specs.Files.{Bytes}
-use Rattle.pj_check.specs.ClassFile.{is_letter, is_letter_or_digit}
+
+abbrev pub is_between : ℕ → ℕ → ℕ → Bool
+is_between low high c = nat_le low c && nat_le c high
+
+-- `A` to `Z` and `a` to `z`
+abbrev pub is_letter : ℕ → Bool
+is_letter c = is_between 65 90 c || is_between 97 122 c
+
+-- and `0` to `9`
+abbrev pub is_letter_or_digit : ℕ → Bool
+is_letter_or_digit c = is_letter c || is_between 48 57 c
 
 -- an ASCII letter, and then ASCII letters and digits
 abbrev pub is_query_name : Bytes → Bool

@@ -1,9 +1,9 @@
 -- The text of a report: a line for each finding that is not suppressed, then one for each error of a file, then one for
 -- each configuration error.
-use Rattle.std.specs.Prelude.{ℕ, List, [], ◌∷◌, ◌++◌, Option, None, Some, codes, decimal, flat_map}
+use Rattle.std.specs.Prelude.{ℕ, [], ◌∷◌, Option, None, Some, codes, decimal, flat_map}
 use Rattle.std.specs.List.{concat}
 use Rattle.pj_outside.specs.Files.{Bytes}
-use Rattle.pj_check.specs.Report.{RuleRow, Reason, Finding, FileError, FileRows, ConfigError, Report, rule_of}
+use Rattle.pj_check.specs.Report.{RuleRow, Reason, Finding, FileRows, Report, rule_of}
 
 -- PATH:LINE:, a tab, RULE:, a tab, the message and a line feed
 abbrev pub finding_line : Bytes → ℕ → RuleRow → Bytes

@@ -12,10 +12,10 @@ use pj_outside::{Reading, Refused, Sink, Tree};
 use std::alloc::Global;
 
 /// How many bytes a file may have.
-const MOST_BYTES: u64 = 1_048_576;
+pub const MOST_BYTES: u64 = 1_048_576;
 
 /// The path and the name that the words ask for, or `None` where they are not `check`, a path and a query.
-fn read_job(words: &Words) -> Option<(&str, &[u8])>
+pub fn read_job(words: &Words) -> Option<(&str, &[u8])>
     ensures { MatchOption result (IsNoJob words.now) (λ job. IsJob words.now job.0.now job.1.now) }
 {
     match words.as_slice() {
@@ -71,9 +71,10 @@ fn check_bytes<S: Sink>(
 /// Checks one file, by the words `check`, a path and a query, and puts the text of its report: a line for each node
 /// that the query denotes.
 ///
-/// The words and the query are tested first, then the file is read, then its form is tested, and then the report is put.
+/// The words and the query are tested first, then the file is read, then its tree is made, and then the report is put.
 /// `NotBuilt` comes exactly where the words are not these three, the query is not `//` and a name, or the file is absent,
-/// longer than 1,048,576 bytes, or no list of empty classes. But for `Clean`, `Violations` and `SinkFault` nothing is put.
+/// longer than 1,048,576 bytes, has no tree, or has a text, with its Unicode escapes translated, in which `NOPMD` or
+/// `SuppressWarnings` stands. But for `Clean`, `Violations` and `SinkFault` nothing is put.
 pub fn check_file<T: Tree, S: Sink>(
     alloc: Global,
     words: &Words,

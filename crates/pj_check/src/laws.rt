@@ -1,17 +1,26 @@
-//! Laws of the definitions, each the contract of a function that does nothing.
-ghost use Rattle.pj_check.specs.Laws.{OneTree, OneReport, SpellsTokens};
+//! Laws of the definitions.
+ghost use Rattle.std.specs.Prelude.{◌≤◌, length, OnOk};
+ghost use Rattle.pj_check.specs.Laws.{HasOneTree, HasOneReport};
 
-/// The bytes of a file have one tree.
-pub fn one_tree()
-    ensures { OneTree }
-{}
+use pj_lex::{Source, SourceFault};
+use pj_names::NoMemory;
+use pj_parse::text_has_one_outcome;
+use std::alloc::Global;
 
-/// The words and the files have one report: an outcome that speaks of a report speaks of this one.
-pub fn one_report()
-    ensures { OneReport }
-{}
-
-/// The own tokens of a tree are the words of the file: `class` and the name of each class, and its braces.
-pub fn spells_tokens()
-    ensures { SpellsTokens }
-{}
+/// A file of these bytes has one tree at most, and words and files that ask for it have one report at most. The call reads
+/// the bytes as a text, for which it may want memory; what it promises else is the law.
+pub fn one_report(alloc: Global, bytes: &[u8]) -> Result<(), NoMemory>
+    requires { length bytes.now ≤ 1048576 }
+    ensures tree { OnOk result (HasOneTree bytes.now) }
+    ensures report { OnOk result (HasOneReport bytes.now) }
+{
+    match Source::read(alloc, bytes) {
+        Ok(source) => {
+            text_has_one_outcome(source.text());
+            Ok(())
+        }
+        Err(SourceFault::Memory) => Err(NoMemory),
+        Err(SourceFault::NotUtf8(_)) => Ok(()),
+        Err(SourceFault::Escape(_)) => Ok(()),
+    }
+}

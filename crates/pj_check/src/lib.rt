@@ -2,14 +2,14 @@
 #![tactic(auto)]
 
 mod check;
-mod classes;
-mod file_tree;
+mod lack;
 mod laws;
 mod lines;
 mod outcome;
 mod query;
-mod scan;
+mod suppression;
 
 pub use check::check_file;
-pub use laws::{one_report, one_tree, spells_tokens};
+pub use lack::{Lack, lack_of};
+pub use laws::one_report;
 pub use outcome::FileOutcome;

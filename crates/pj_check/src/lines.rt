@@ -1,15 +1,16 @@
 //! The lines of a report.
-ghost use Rattle.std.specs.Prelude.{◌≡◌, ◌++◌, ◌<◌, ◌≤◌, ◌+◌, length, slice_get, Some, OnOk, IfOk, MatchOption, string_bytes};
-ghost use Rattle.pj_tree.specs.Places.{places_of};
+ghost use Rattle.std.specs.Prelude.{◌≡◌, ◌++◌, ◌<◌, ◌≤◌, length, slice_get, Some, OnOk, IfOk, MatchOption, string_bytes};
 ghost use Rattle.pj_check.specs.ReportText.{finding_line};
 ghost use Rattle.pj_check.specs.CheckFile.{query_rule};
-ghost use Rattle.pj_check.specs.Lines.{node_line, lines_of, HasNoTree, IsReportText};
+ghost use Rattle.pj_check.specs.FileTree.{IsNotTaken};
+ghost use Rattle.pj_check.specs.Lines.{node_line, lines_of, HasNoTree, AreLinesOf, IsReportText, is_memory};
 ghost use Rattle.pj_tree.specs.Tree.{TreeNode};
 
-use crate::classes::read_classes;
-use crate::file_tree::build_tree;
+use crate::suppression::may_suppress;
+use pj_lex::{Source, SourceFault};
 use pj_names::NoMemory;
-use pj_tree::{LineMap, Node, SyntaxTree};
+use pj_parse::{ParseFault, parse, text_has_one_outcome};
+use pj_tree::{Node, SyntaxTree};
 use std::alloc::Global;
 
 /// Puts the line of a finding behind the text.
@@ -25,19 +26,18 @@ fn push_node(
     lines: &mut String,
     path: &str,
     name: &[u8],
+    source: &Source,
     tree: &SyntaxTree<'_>,
-    places: &LineMap,
     node: Node,
 ) -> Result<(), NoMemory>
     requires within { node.0 < length tree.now.nodes }
-    requires places { places.now ≡ places_of tree.now.text }
-    requires len { length places.now ≡ length tree.now.text + 1 }
-    ensures { (x : TreeNode) → slice_get tree.now.nodes node.0 ≡ Some x → OnOk result (string_bytes lines.new ≡ string_bytes lines.old ++ node_line path.now name.now tree.now.text x) }
+    requires text { tree.now.text ≡ source.now.text }
+    ensures { (x : TreeNode) → slice_get tree.now.nodes node.0 ≡ Some x → OnOk result (string_bytes lines.new ≡ string_bytes lines.old ++ node_line path.now name.now source.now.places x) }
 {
     if tree.kind(node).name().as_bytes() != name {
         return Ok(());
     }
-    let place = places.place(tree.span(node).from);
+    let place = source.place(tree.span(node).from);
     push_line(lines, path, place.line)
 }
 
@@ -46,21 +46,52 @@ fn tree_lines(
     alloc: Global,
     path: &str,
     name: &[u8],
+    source: &Source,
     tree: &SyntaxTree<'_>,
-    places: &LineMap,
 ) -> Result<String, NoMemory>
-    requires places { places.now ≡ places_of tree.now.text }
-    requires len { length places.now ≡ length tree.now.text + 1 }
-    ensures { IfOk result (λ lines. string_bytes lines ≡ lines_of path.now name.now tree.now.text tree.now.nodes) }
+    requires text { tree.now.text ≡ source.now.text }
+    ensures { IfOk result (λ lines. string_bytes lines ≡ lines_of path.now name.now source.now.places tree.now.nodes) }
 {
     let mut lines = String::new(alloc);
     for n in 0..tree.len() {
-        push_node(&mut lines, path, name, tree, places, Node(n))?;
+        push_node(&mut lines, path, name, source, tree, Node(n))?;
     }
     Ok(lines)
 }
 
-/// The text of the report of the query for a name in a file of these bytes, or `None` where the bytes have no tree.
+/// Whether memory was wanting.
+fn is_memory(fault: ParseFault) -> bool
+    ensures { result ≡ is_memory fault }
+{
+    match fault {
+        ParseFault::Memory => true,
+        _ => false,
+    }
+}
+
+/// The text of the report of the query for a name in a file of this text, or `None` where that has no tree.
+fn source_lines(
+    alloc: Global,
+    path: &str,
+    name: &[u8],
+    source: &Source,
+) -> Result<Option<String>, NoMemory>
+    ensures { IfOk result (λ found. MatchOption found (HasNoTree source.now) (λ lines. AreLinesOf path.now name.now source.now (string_bytes lines))) }
+{
+    text_has_one_outcome(source.text());
+    match parse(alloc, source) {
+        Ok(parsed) => Ok(Some(tree_lines(alloc, path, name, source, &parsed.tree)?)),
+        Err(fault) => {
+            if is_memory(fault) {
+                Err(NoMemory)
+            } else {
+                Ok(None)
+            }
+        }
+    }
+}
+
+/// The text of the report of the query for a name in a file of these bytes, or `None` where a check does not take the file.
 pub fn report_lines(
     alloc: Global,
     path: &str,
@@ -68,19 +99,17 @@ pub fn report_lines(
     bytes: &[u8],
 ) -> Result<Option<String>, NoMemory>
     requires { length bytes.now ≤ 1048576 }
-    ensures { IfOk result (λ found. MatchOption found (HasNoTree bytes.now) (λ lines. IsReportText path.now name.now bytes.now (string_bytes lines))) }
+    ensures { IfOk result (λ found. MatchOption found (IsNotTaken bytes.now) (λ lines. IsReportText path.now name.now bytes.now (string_bytes lines))) }
 {
-    let Some(list) = read_classes(alloc, bytes)? else {
-        return Ok(None);
-    };
-    let Ok(text) = str::from_utf8(bytes) else {
-        unreachable!()
-    };
-    let Ok(tree) = build_tree(alloc, text, &list) else {
-        return Err(NoMemory);
-    };
-    let Ok(places) = LineMap::new(alloc, text) else {
-        return Err(NoMemory);
-    };
-    Ok(Some(tree_lines(alloc, path, name, &tree, &places)?))
+    match Source::read(alloc, bytes) {
+        Ok(source) => {
+            if may_suppress(source.text()) {
+                return Ok(None);
+            }
+            source_lines(alloc, path, name, &source)
+        }
+        Err(SourceFault::Memory) => Err(NoMemory),
+        Err(SourceFault::NotUtf8(_)) => Ok(None),
+        Err(SourceFault::Escape(_)) => Ok(None),
+    }
 }

@@ -10,8 +10,8 @@ pub enum FileOutcome {
     Clean,
     /// The report was written, and has findings.
     Violations,
-    /// The words, the query or the file are not of the form that this version takes, or the file is absent or longer than
-    /// 1,048,576 bytes. Nothing was written.
+    /// The words or the query are not of the form that this version takes, or the file is absent, longer than 1,048,576
+    /// bytes, has no syntax tree, or may suppress findings. Nothing was written.
     NotBuilt,
     /// The tree of sources failed. Nothing was written.
     TreeFault,

@@ -1,10 +1,15 @@
 //! Queries.
 ghost use Rattle.std.specs.Prelude.{◌≡◌, MatchOption};
 ghost use Rattle.std.specs.List.{list_all};
-ghost use Rattle.pj_check.specs.ClassFile.{is_letter_or_digit};
-ghost use Rattle.pj_check.specs.Query.{is_query_name, IsNoQuery, IsQuery};
+ghost use Rattle.std.specs.Option.{option_copied};
+ghost use Rattle.pj_check.specs.Query.{is_letter_or_digit, is_query_name, IsNoQuery, IsQuery};
+ghost use Rattle.pj_check.specs.Words.{behind_word};
 
-use crate::scan::{behind, is_letter_or_digit_byte};
+fn is_letter_or_digit_byte(byte: u8) -> bool
+    ensures { result ≡ is_letter_or_digit byte }
+{
+    byte.is_ascii_alphanumeric()
+}
 
 /// Whether the bytes are letters and digits, of ASCII.
 fn is_word(bytes: &[u8]) -> bool
@@ -21,6 +26,25 @@ fn is_name(bytes: &[u8]) -> bool
         [] => false,
         [first, rest @ ..] => { first.is_ascii_alphabetic() && is_word(rest) }
     }
+}
+
+/// What stands behind the word.
+fn behind<'a>(bytes: &'a [u8], word: &[u8]) -> Option<&'a [u8]>
+    ensures { option_copied result ≡ behind_word word.now bytes.now }
+{
+    let mut rest = bytes;
+    for letter in word {
+        match rest {
+            [] => return None,
+            [first, others @ ..] => {
+                if first != letter {
+                    return None;
+                }
+                rest = others;
+            }
+        }
+    }
+    Some(rest)
 }
 
 /// The name that a query asks for, or `None` where the text is not `//` and a name: an ASCII letter, and then ASCII

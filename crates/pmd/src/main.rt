@@ -12,7 +12,7 @@ mod real_tree;
 mod tests;
 
 use notes::note_of;
-use pj_check::{FileOutcome, check_file};
+use pj_check::{FileOutcome, Lack, check_file, lack_of};
 use pj_names::{Text, Words};
 use pj_outside::{Sink, Tree};
 use real_sink::RealSink;
@@ -50,10 +50,26 @@ fn read_words(rt: &(impl Env + AllocGlobal)) -> Result<Words, FileOutcome> {
     Ok(words)
 }
 
-/// Says on standard error why there is no report. A fault there changes nothing else.
-fn say(rt: &impl Eprint, outcome: FileOutcome) {
-    if let Some(note) = note_of(outcome) {
+/// Says on standard error why there is no report, and where a file has a fault that has a place. A fault there changes
+/// nothing else.
+fn say(rt: &impl Eprint, outcome: FileOutcome, lack: Option<Lack>) {
+    if let Some(lack) = lack {
+        let _ = eprintln!(rt; "pmd: {lack}");
+    } else if let Some(note) = note_of(outcome) {
         let _ = eprintln!(rt; "pmd: {note}");
+    }
+}
+
+/// What the words or their file lack where the outcome is `NotBuilt`, for the note on standard error alone.
+fn lack_at<T: Tree>(
+    alloc: Global,
+    words: &Words,
+    tree: &mut T,
+    outcome: FileOutcome,
+) -> Option<Lack> {
+    match outcome {
+        FileOutcome::NotBuilt => lack_of(alloc, words, tree),
+        _ => None,
     }
 }
 
@@ -61,13 +77,14 @@ fn main(rt: HostRuntime) -> ExitCode {
     let words = match read_words(&rt) {
         Ok(words) => words,
         Err(outcome) => {
-            say(&rt, outcome);
+            say(&rt, outcome, None);
             return ExitCode::from(outcome.status());
         }
     };
     let mut tree = RealTree::new(rt);
     let mut out = RealSink::new(io::writer(&rt));
     let outcome = run(rt.alloc(), &words, &mut tree, &mut out);
-    say(&rt, outcome);
+    let lack = lack_at(rt.alloc(), &words, &mut tree, outcome);
+    say(&rt, outcome, lack);
     ExitCode::from(outcome.status())
 }

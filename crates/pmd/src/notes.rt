@@ -5,9 +5,7 @@ use pj_check::FileOutcome;
 pub fn note_of(outcome: FileOutcome) -> Option<&'static str> {
     match outcome {
         FileOutcome::Clean | FileOutcome::Violations => None,
-        FileOutcome::NotBuilt => Some(
-            "wanted are the words check FILE //NAME, with a FILE of at most 1,048,576 bytes that is a list of empty classes",
-        ),
+        FileOutcome::NotBuilt => Some("the words or the file cannot be taken"),
         FileOutcome::TreeFault => Some("the file cannot be read"),
         FileOutcome::SinkFault => Some("the report cannot be written"),
         FileOutcome::Memory => Some("out of memory"),

@@ -67,7 +67,10 @@ fn holds(alloc: Global, example: &Example) -> Result<bool, Fail> {
 
 const TWO_CLASSES: &str = "class A {}\nclass B { }\n";
 
-static EXAMPLES: [Example; 10] = [
+const SIXTY_PARENTHESES: &str =
+    "class A { int x = ((((((((((((((((((((((((((((((((((((((((((((((((((((((((((((1)))))))))))))))))))))))))))))))))))))))))))))))))))))))))))); }";
+
+static EXAMPLES: [Example; 15] = [
     Example {
         bytes: TWO_CLASSES,
         path: "src/A.java",
@@ -101,8 +104,53 @@ static EXAMPLES: [Example; 10] = [
         query: "//ClassBody",
         tree_fails: false,
         sink_fails: false,
+        outcome: FileOutcome::Violations,
+        lines: "src/A.java:1:\tquery:\tfound\n",
+    },
+    Example {
+        bytes: "class A { int f(int a) { return a+a+a; } }",
+        path: "src/A.java",
+        query: "//InfixExpression",
+        tree_fails: false,
+        sink_fails: false,
+        outcome: FileOutcome::Violations,
+        lines: "src/A.java:1:\tquery:\tfound\nsrc/A.java:1:\tquery:\tfound\n",
+    },
+    Example {
+        bytes: "class A { int # }",
+        path: "src/A.java",
+        query: "//ClassBody",
+        tree_fails: false,
+        sink_fails: false,
         outcome: FileOutcome::NotBuilt,
         lines: "",
+    },
+    Example {
+        bytes: SIXTY_PARENTHESES,
+        path: "src/A.java",
+        query: "//NumericLiteral",
+        tree_fails: false,
+        sink_fails: false,
+        outcome: FileOutcome::Violations,
+        lines: "src/A.java:1:\tquery:\tfound\n",
+    },
+    Example {
+        bytes: "class A {}\n// NOPMD",
+        path: "src/A.java",
+        query: "//ClassBody",
+        tree_fails: false,
+        sink_fails: false,
+        outcome: FileOutcome::NotBuilt,
+        lines: "",
+    },
+    Example {
+        bytes: "class A {\n String s\\u0041 = \"\\\\u0041\"; }",
+        path: "src/A.java",
+        query: "//VariableId",
+        tree_fails: false,
+        sink_fails: false,
+        outcome: FileOutcome::Violations,
+        lines: "src/A.java:2:\tquery:\tfound\n",
     },
     Example {
         bytes: TWO_CLASSES,

@@ -1,5 +1,5 @@
-use Rattle.std.proofs.Common.{◌≡◌, subst, string_bytes}
-use Rattle.pj_check.specs.Lines.{IsReportText, SaysOfLines, SaysOfBytes}
+use Rattle.std.proofs.Common.{subst, string_bytes}
+use Rattle.pj_check.specs.Lines.{IsReportText, SaysOfLines}
 use Rattle.pj_check.proofs.OutcomeLaws.{bytes_says}
 use Rattle.pj_check.proofs.check.check_bytes.Goals as goal
 

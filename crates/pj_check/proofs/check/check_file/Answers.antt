@@ -1,5 +1,4 @@
-use Rattle.std.proofs.Common.{◌≡◌, refl, sym, ◌∙◌, ap, subst}
-use Rattle.pj_outside.specs.declared.refused.Reading.TheVariants.{Absent, Longer, Whole}
+use Rattle.std.proofs.Common.{◌≡◌, refl, sym, ◌∙◌, subst}
 use Rattle.pj_outside.specs.Files.{read_at}
 use Rattle.pj_check.specs.CheckFile.{HasNoReport, most_bytes}
 use Rattle.pj_check.specs.Outcome.{Says}

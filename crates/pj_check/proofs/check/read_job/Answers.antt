@@ -1,7 +1,5 @@
-use Rattle.std.proofs.Common.{◌≡◌, ◌∷◌, [], List, ℕ, Bool, true, false, not, length, codes, nat_eq, get_or, ap, sym, ◌∙◌, subst}
-use Rattle.std.specs.Cmp.Lexicographic.{pointwise}
+use Rattle.std.proofs.Common.{◌≡◌, ◌∷◌, [], Bool, true, false, not, codes, ap, sym, ◌∙◌, subst}
 use Rattle.pj_check.specs.Query.{IsQuery}
-use Rattle.pj_check.specs.CheckFile.{IsJob}
 use Rattle.pj_check.proofs.Texts.{same_bytes, three_members}
 use Rattle.pj_check.proofs.check.read_job.Goals as goal
 

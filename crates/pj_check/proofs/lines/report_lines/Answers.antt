@@ -1,19 +1,24 @@
-use Rattle.std.proofs.Common.{◌≡◌, sym, ◌∙◌, subst, string_bytes}
-use Rattle.std.proofs.lemmas.Str.{IsUtf8-from_ascii}
-use Rattle.pj_check.specs.FileTree.{HasTree}
-use Rattle.pj_check.specs.Reading.{ReadsFile}
-use Rattle.pj_check.proofs.WholeLaws.{ascii_spelled}
-use Rattle.pj_check.proofs.ColdLaws.{report_text-cold}
+use Rattle.std.proofs.Common.{MatchOption, string_bytes, sym, ◌∙◌, ap}
+use Rattle.std.proofs.lemmas.Result.{IfOk-weaker}
+use Rattle.pj_check.specs.FileTree.{IsNotTaken, may_suppress}
+use Rattle.pj_check.specs.Lines.{HasNoTree, AreLinesOf, IsReportText}
+use Rattle.pj_check.proofs.TakenLaws.{not_read, not_plain, of_bytes}
 use Rattle.pj_check.proofs.lines.report_lines.Goals as goal
 
-pub unreachable-requires : goal.unreachable-requires
-unreachable-requires c =
-    let r : ReadsFile c.args.bytes.now c.in-Some.list.lead c.in-Some.list.classes.items = rw c.in-Some.is at c.in_ok-list.ensures in
-    c.in_default-from_utf8.ensures.cases.0 (IsUtf8-from_ascii c.args.bytes.now (ascii_spelled c.args.bytes.now r.blanks r.classes r.spells))
+pub returns-then-may_suppress : goal.returns-then-may_suppress
+returns-then-may_suppress c =
+    not_plain c.args.bytes.now c.in-Ok.source c.may_suppress.result c.in-Ok.ensures.one c.in-Ok.ensures.read (c.may_suppress.ensures ∙ ap may_suppress c.text.ensures.value) c.if-may_suppress.true
 
-pub returns : goal.returns
-returns c = record {
-  tree = c.in-Ok-build_tree.tree;
-  has = subst (λ text. HasTree text c.in-Ok-build_tree.tree) c.in-Ok.ensures.cases.0 c.in-Ok-build_tree.ensures;
-  text_is = c.in_ok-tree_lines.ensures ∙ sym (report_text-cold c.args.path.now c.args.name.now c.in-Ok-build_tree.tree);
-}
+pub returns-else-may_suppress : goal.returns-else-may_suppress
+returns-else-may_suppress c =
+    IfOk-weaker c.source_lines.result
+    (λ found. MatchOption found (HasNoTree c.in-Ok.source) (λ lines. AreLinesOf c.args.path.now c.args.name.now c.in-Ok.source (string_bytes lines)))
+    (λ found. MatchOption found (IsNotTaken c.args.bytes.now) (λ lines. IsReportText c.args.path.now c.args.name.now c.args.bytes.now (string_bytes lines)))
+    (of_bytes string_bytes c.args.path.now c.args.name.now c.args.bytes.now c.in-Ok.source c.in-Ok.ensures.one c.in-Ok.ensures.read (sym (c.may_suppress.ensures ∙ ap may_suppress c.text.ensures.value) ∙ c.if-may_suppress.false))
+    c.source_lines.ensures
+
+pub returns-in-Err-NotUtf8 : goal.returns-in-Err-NotUtf8
+returns-in-Err-NotUtf8 c = not_read c.args.bytes.now c.in-Err-NotUtf8.field-0 c.in-Err-NotUtf8.ensures.one c.in-Err-NotUtf8.ensures.read (λ e. let f = c.in-Err-NotUtf8.field-0-is in cc)
+
+pub returns-in-Err-Escape : goal.returns-in-Err-Escape
+returns-in-Err-Escape c = not_read c.args.bytes.now c.in-Err-Escape.field-0 c.in-Err-Escape.ensures.one c.in-Err-Escape.ensures.read (λ e. let f = c.in-Err-Escape.field-0-is in cc)

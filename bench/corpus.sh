@@ -1,0 +1,185 @@
+#!/usr/bin/env bash
+# Real Java sources: which files of a folder have a syntax tree, why the others have none, and what parsing costs.
+#
+#   bench/corpus.sh FOLDER      as the module java.base of Debian's package openjdk-17-source, unpacked
+#
+# It makes a scratch repository of the libraries and of a small program, proves them (which takes minutes where nothing of them
+# is kept on this machine), and runs the program: check_file with //CompilationUnit over each file of the folder that ends in
+# .java, module-info.java left out. This version takes no file that contains NOPMD or SuppressWarnings, so in copies of the files
+# these two words are replaced by others of their length. For each file without a tree it prints the reason, then the counts,
+# tokens (comments among them) and bytes of a second of processor time, and the peak of resident memory.
+set -euo pipefail
+here=$(cd "$(dirname "$0")/.." && pwd)
+folder=$(cd "$1" && pwd)
+scratch=$(mktemp -d)
+trap 'rm -rf "$scratch"' EXIT
+libraries="pj_names pj_tree pj_peg pj_outside pj_lex pj_pieces pj_shape pj_grammar pj_parse pj_check"
+for crate in $libraries; do
+    mkdir -p "$scratch/crates/$crate"
+    cp -r "$here/crates/$crate/src" "$here/crates/$crate/specs" "$here/crates/$crate/proofs" "$scratch/crates/$crate/"
+    grep -E "^$crate:" "$here/crates.txt" >> "$scratch/crates.txt"
+done
+mkdir -p "$scratch/crates/corpus_bench/src" "$scratch/crates/corpus_bench/specs" "$scratch/crates/corpus_bench/proofs"
+echo 'corpus_bench: anyhow pj_check pj_lex pj_names pj_outside' >> "$scratch/crates.txt"
+: > "$scratch/crates/corpus_bench/specs/Lib.antt"
+: > "$scratch/crates/corpus_bench/proofs/Lib.antt"
+cat > "$scratch/crates/corpus_bench/src/main.rt" <<'PROGRAM'
+// Checks of many files, each in memory.
+#![tactic(auto)]
+
+use pj_check::{FileOutcome, check_file, lack_of};
+use pj_lex::{Source, tokens};
+use pj_names::{Bytes, Numbers, Text, Words};
+use pj_outside::{Files, MemSink, MemTree};
+use std::alloc::Global;
+use std::time::CpuClock;
+use std::{env, fs};
+
+// What was checked. Times are in microseconds.
+#[derive(Clone, Copy)]
+struct Sums {
+    files: u64,
+    trees: u64,
+    bytes: u64,
+    tokens: u64,
+    checking: u64,
+    slowest: u64,
+}
+
+fn now(rt: &HostRuntime) -> anyhow::Result<u64> {
+    Ok((rt.process_cpu_time()?.as_micros() % (1 << 60)) as u64)
+}
+
+// The tokens of a source, up to its end or a fault.
+fn count_tokens(source: &Source) -> u64 {
+    let mut count = 0u64;
+    let mut lexer = tokens(source);
+    for _ in 0..1_000_000_000u64 {
+        match lexer.next_token() {
+            Some(Ok(_)) => count = count.saturating_add(1),
+            _ => return count,
+        }
+    }
+    count
+}
+
+fn tokens_in(alloc: Global, bytes: &[u8]) -> u64 {
+    if bytes.len() > 4_000_000_000 {
+        return 0;
+    }
+    match Source::read(alloc, bytes) {
+        Ok(source) => count_tokens(&source),
+        Err(_) => 0,
+    }
+}
+
+fn words_for(alloc: Global, path: &str) -> anyhow::Result<Words> {
+    let mut words = Words::new(alloc);
+    for word in ["check", path, "//CompilationUnit"] {
+        words.push(Text::from_str(alloc, word)?)?;
+    }
+    Ok(words)
+}
+
+fn tree_of(alloc: Global, path: &str, bytes: Vec<u8>) -> anyhow::Result<MemTree> {
+    let mut files = Files::new(alloc);
+    files.push((Text::from_str(alloc, path)?, Bytes::from_vec(bytes)))?;
+    Ok(MemTree::new(alloc, files, Numbers::new(alloc)))
+}
+
+// Why there is no report.
+fn say_why(rt: &HostRuntime, path: &str, words: &Words, tree: &mut MemTree) -> anyhow::Result<()> {
+    match lack_of(rt.alloc(), words, tree) {
+        Some(lack) => println!(rt; "{path}: {lack}")?,
+        None => println!(rt; "{path}: out of memory")?,
+    }
+    Ok(())
+}
+
+fn add_file(rt: &HostRuntime, path: &str, sums: Sums) -> anyhow::Result<Sums> {
+    let alloc = rt.alloc();
+    let bytes = fs::read(rt, path)?;
+    let count = bytes.len() as u64;
+    let tokens = tokens_in(alloc, &bytes);
+    let words = words_for(alloc, path)?;
+    let mut tree = tree_of(alloc, path, bytes)?;
+    let mut sink = MemSink::new(alloc, Numbers::new(alloc));
+    let start = now(rt)?;
+    let outcome = check_file(alloc, &words, &mut tree, &mut sink);
+    let took = now(rt)?.saturating_sub(start);
+    let has_tree = outcome == FileOutcome::Violations;
+    if !has_tree {
+        say_why(rt, path, &words, &mut tree)?;
+    }
+    Ok(Sums {
+        files: sums.files.saturating_add(1),
+        trees: sums.trees.saturating_add(u64::from(has_tree)),
+        bytes: sums.bytes.saturating_add(count),
+        tokens: sums.tokens.saturating_add(tokens),
+        checking: sums.checking.saturating_add(took),
+        slowest: sums.slowest.max(took),
+    })
+}
+
+fn peak(rt: &HostRuntime) -> anyhow::Result<String> {
+    let status = fs::read_to_string(rt, "/proc/self/status")?;
+    for line in status.as_str().lines() {
+        if line.starts_with("VmHWM:") {
+            return Ok(String::from_str(rt.alloc(), line)?);
+        }
+    }
+    Ok(String::new(rt.alloc()))
+}
+
+// Counts in a thousandth of a second, which is thousands in a second.
+fn rate(count: u64, micros: u64) -> u64 {
+    count.saturating_mul(1000) / micros.max(1)
+}
+
+fn check_all(rt: &HostRuntime, list: &str) -> anyhow::Result<()> {
+    let mut sums = Sums {
+        files: 0,
+        trees: 0,
+        bytes: 0,
+        tokens: 0,
+        checking: 0,
+        slowest: 0,
+    };
+    let names = fs::read_to_string(rt, list)?;
+    for name in names.as_str().lines() {
+        sums = add_file(rt, name, sums)?;
+    }
+    let Sums { files, trees, bytes, tokens, checking, slowest } = sums;
+    let (tokens_rate, bytes_rate) = (rate(tokens, checking), rate(bytes, checking));
+    let (all, longest) = (checking / 1000, slowest / 1000);
+    let peak = peak(rt)?;
+    println!(rt; "{trees} of {files} files have a tree; {bytes} bytes, {tokens} tokens, {all} ms")?;
+    println!(rt; "{tokens_rate} thousand tokens/s, {bytes_rate} KB/s, slowest file {longest} ms, {peak}")?;
+    Ok(())
+}
+
+fn main(rt: HostRuntime) -> anyhow::Result<()> {
+    for word in env::args(&rt)?.skip(1) {
+        check_all(&rt, word.as_str())?;
+    }
+    Ok(())
+}
+PROGRAM
+python3 - "$folder" "$scratch" <<'PY'
+import os, sys
+folder, scratch = sys.argv[1:3]
+paths = []
+for at, folders, names in sorted(os.walk(folder)):
+    for name in sorted(names):
+        if name.endswith(".java") and name != "module-info.java":
+            path = os.path.join(at, name)
+            copy = os.path.join(scratch, "sources", os.path.relpath(path, folder))
+            os.makedirs(os.path.dirname(copy), exist_ok=True)
+            data = open(path, "rb").read()
+            data = data.replace(b"NOPMD", b"nopmd").replace(b"SuppressWarnings", b"suppressWarnings")
+            open(copy, "wb").write(data)
+            paths.append(copy)
+open(os.path.join(scratch, "list"), "w").write("".join(p + "\n" for p in paths))
+PY
+cd "$scratch/crates/corpus_bench"
+rt run -- "$scratch/list" | grep -E '^/| of .* files have a tree|tokens/s' | sed "s|^$scratch/sources/||"

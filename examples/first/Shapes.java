@@ -1,8 +1,0 @@
-class Point {}
-class Circle { }
-class Square{
-}
-
-class Triangle
-{
-}
