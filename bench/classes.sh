@@ -1,0 +1,213 @@
+#!/usr/bin/env bash
+# Reads every class of this machine's JDK, and compares some with what javap says.
+#
+# It extracts the JDK's image, makes a scratch repository of the libraries and of a small program, proves both (which takes
+# minutes where nothing of them is kept on this machine), and runs the program. The first part prints how many class files
+# are classes, every refusal with its fault, and the time. The files module-info.class are no classes: they have no
+# superclass, which is fault 5. The second part takes some 240 classes, spread over the list, and compares name, flags,
+# signature, and each field and method with flags, name and signature, with what `javap -v -p` prints: the signatures where
+# they are written, else the superclass and the interfaces, or the descriptor. It prints each class that differs, and how
+# many are the same. It wants jimage, javap and python3.
+set -euo pipefail
+here=$(cd "$(dirname "$0")/.." && pwd)
+scratch=$(mktemp -d)
+trap 'rm -rf "$scratch"' EXIT
+home=$(dirname "$(dirname "$(readlink -f "$(command -v javap)")")")
+jimage extract --dir "$scratch/jdk" "$home/lib/modules"
+find "$scratch/jdk" -name '*.class' | LC_ALL=C sort > "$scratch/all"
+grep -v '/module-info.class$' "$scratch/all" > "$scratch/classes"
+step=$(($(wc -l < "$scratch/classes") / 240))
+awk -v step="$step" 'NR % step == 0' "$scratch/classes" > "$scratch/some"
+crates="pj_names pj_format pj_outside pj_signatures pj_classfile"
+for crate in $crates; do
+    mkdir -p "$scratch/crates/$crate"
+    for part in src specs proofs; do
+        if [ -d "$here/crates/$crate/$part" ]; then cp -r "$here/crates/$crate/$part" "$scratch/crates/$crate/"; fi
+    done
+    grep "^$crate:" "$here/crates.txt" >> "$scratch/crates.txt"
+done
+echo 'classes_bench: pj_classfile pj_names' >> "$scratch/crates.txt"
+mkdir -p "$scratch/crates/classes_bench/src"
+cat > "$scratch/crates/classes_bench/src/main.rt" <<'PROGRAM'
+// Class files, one for each path of a list: a line for each, and the counts.
+#![tactic(auto)]
+
+use pj_classfile::{ClassRefused, parse};
+use pj_names::{ClassInfo, Members};
+use std::alloc::{AllocError, Global};
+use std::{env, fs, io};
+
+fn push_members(alloc: Global, line: &mut String, kind: &str, members: &Members) -> Result<(), AllocError> {
+    for member in members.as_slice() {
+        line.push_str("\n  ")?;
+        line.push_str(kind)?;
+        line.push_str(format!(in alloc; " {} ", member.flags)?.as_str())?;
+        line.push_str(member.name.as_str())?;
+        line.push_str(" ")?;
+        line.push_str(member.signature.as_str())?;
+    }
+    Ok(())
+}
+
+fn shown(alloc: Global, class: &ClassInfo) -> Result<String, AllocError> {
+    let mut line = String::from_str(alloc, "class ")?;
+    line.push_str(class.name.as_str())?;
+    line.push_str(format!(in alloc; " {} ", class.flags)?.as_str())?;
+    line.push_str(class.signature.as_str())?;
+    push_members(alloc, &mut line, "field", &class.fields)?;
+    push_members(alloc, &mut line, "method", &class.methods)?;
+    Ok(line)
+}
+
+// What is said of a class file, and whether it is a class.
+fn judged(alloc: Global, bytes: &[u8], whole: bool) -> Result<(String, bool), AllocError> {
+    if bytes.len() > 4_294_967_294 {
+        return Ok((String::from_str(alloc, "too long")?, false));
+    }
+    match parse(alloc, bytes) {
+        Ok(class) => {
+            if whole {
+                Ok((shown(alloc, &class)?, true))
+            } else {
+                Ok((String::new(alloc), true))
+            }
+        }
+        Err(ClassRefused::Fault(fault)) => {
+            Ok((format!(in alloc; "fault {} at {}", fault.kind, fault.offset)?, false))
+        }
+        Err(ClassRefused::Memory) => Ok((String::from_str(alloc, "no memory")?, false)),
+    }
+}
+
+fn read_all(rt: &HostRuntime, list: &str, whole: bool) -> io::Result<()> {
+    let paths = fs::read_to_string(rt, list)?;
+    let mut found = 0u32;
+    let mut refused = 0u32;
+    for path in paths.as_str().lines() {
+        let bytes = fs::read(rt, path)?;
+        let (line, is_class) = judged(rt.alloc(), &bytes, whole)?;
+        if is_class {
+            found = found.saturating_add(1);
+        } else {
+            refused = refused.saturating_add(1);
+            println!(rt; "{path}: refused")?;
+        }
+        if whole || !is_class {
+            println!(rt; "{line}")?;
+        }
+    }
+    println!(rt; "found {found}, refused {refused}")
+}
+
+fn main(rt: HostRuntime) -> io::Result<()> {
+    let mut whole = false;
+    for word in env::args(&rt)? {
+        if word.as_str() == "--whole" {
+            whole = true;
+        } else if let Some(list) = word.as_str().strip_prefix("list=") {
+            read_all(&rt, list, whole)?;
+        }
+    }
+    Ok(())
+}
+PROGRAM
+cat > "$scratch/compare.py" <<'COMPARE'
+import re, sys
+
+def fresh(path):
+    return {"path": path, "flags": None, "name": None, "super": None, "head": "", "signature": None, "members": []}
+
+def member_name(line, name):
+    if line == "static {};":
+        return "<clinit>"
+    found = re.match(r"[^(]*?([^\s(]+)\(", line)
+    if found:
+        return "<init>" if found.group(1) == name else found.group(1)
+    return line.rstrip(";").split()[-1]
+
+def made(c):
+    if c["signature"]:
+        return c["signature"]
+    head = c["head"]
+    is_interface = re.search(r"(^|\s)interface\s", head)
+    words = " extends " if is_interface else " implements "
+    names = head.split(words, 1)[1].split(",") if words in head else []
+    superclass = c["super"] or "java/lang/Object"
+    return "".join("L%s;" % n.strip().replace(".", "/") for n in [superclass] + names)
+
+def lines_of(c):
+    out = ["class %s %d %s" % (c["name"], c["flags"], made(c))]
+    for m in c["members"]:
+        kind = "method" if m["descriptor"].startswith("(") else "field"
+        out.append("  %s %d %s %s" % (kind, m["flags"], m["name"], m["signature"] or m["descriptor"]))
+    return out
+
+def by_javap(path):
+    classes, c, inside, in_pool, member = [], None, False, False, None
+    for line in open(path, encoding="utf-8"):
+        line = line.rstrip("\n")
+        if line.startswith("Classfile "):
+            c, inside, in_pool, member = fresh(line[10:]), False, False, None
+            classes.append(c)
+        elif line.startswith("Constant pool:"):
+            in_pool = True
+        elif line == "{":
+            inside, in_pool = True, False
+        elif line == "}":
+            inside, member = False, None
+        elif in_pool:
+            continue
+        elif not inside:
+            if line.startswith("  flags: (0x"):
+                c["flags"] = int(line[12:16], 16)
+            elif line.startswith("  this_class: "):
+                c["name"] = line.split("// ", 1)[1].strip('"').replace("/", ".")
+            elif line.startswith("  super_class: ") and "// " in line:
+                c["super"] = line.split("// ", 1)[1].strip('"')
+            elif line.startswith("Signature: #"):
+                c["signature"] = line.split("// ", 1)[1]
+            elif c["flags"] is None and line and not line.startswith(" "):
+                c["head"] = line
+        elif line.startswith("  ") and not line.startswith("   ") and line.endswith(";"):
+            member = {"name": member_name(line.strip(), c["name"]), "flags": None, "descriptor": None, "signature": None}
+            c["members"].append(member)
+        elif line.startswith("    descriptor: "):
+            member["descriptor"] = line[16:]
+        elif line.startswith("    flags: (0x"):
+            member["flags"] = int(line[14:18], 16)
+        elif line.startswith("    Signature: #"):
+            member["signature"] = line.split("// ", 1)[1]
+    return classes
+
+def by_reader(path):
+    classes = []
+    for line in open(path, encoding="utf-8"):
+        line = line.rstrip("\n")
+        if line.startswith("class "):
+            classes.append([line])
+        elif line.startswith("  field ") or line.startswith("  method "):
+            classes[-1].append(line)
+    return classes
+
+theirs = {}
+for c in by_javap(sys.argv[2]):
+    theirs[c["name"]] = lines_of(c)
+ours = by_reader(sys.argv[1])
+same = 0
+for a in ours:
+    b = theirs.get(a[0].split()[1], [])
+    if a == b:
+        same += 1
+    else:
+        print("differs:", a[0])
+        for x in a:
+            if x not in b: print("  read  ", x)
+        for x in b:
+            if x not in a: print("  javap ", x)
+print("read %d, by javap %d, the same %d" % (len(ours), len(theirs), same))
+COMPARE
+cd "$scratch/crates/classes_bench"
+time rt run -- "list=$scratch/all" | tail -n 20
+rt run -- --whole "list=$scratch/some" > "$scratch/ours"
+xargs javap -v -p < "$scratch/some" > "$scratch/theirs"
+python3 "$scratch/compare.py" "$scratch/ours" "$scratch/theirs"

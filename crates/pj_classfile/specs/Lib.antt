@@ -1,0 +1,4 @@
+pub mod ModifiedUtf8
+pub mod Texts
+pub mod ClassFile
+pub mod ClassOf
