@@ -6,6 +6,8 @@ mod laws;
 mod parsing;
 #[cfg(test)]
 mod tests;
+#[cfg(test)]
+mod tests_rows;
 mod tokens;
 mod words;
 

@@ -2,6 +2,9 @@
 //! that have none are texts that it refuses; the nodes are those of a model of the grammar that was written apart from this.
 
 use super::*;
+use crate::tests_rows::{
+    FURTHER_STATEMENTS, MORE_EXPRESSIONS, MORE_FILES_AND_MEMBERS, MORE_REFUSED, MORE_STATEMENTS,
+};
 use pj_lex::Source;
 use pj_tree::{Node, SyntaxTree};
 use std::alloc::{AllocError, Global};
@@ -107,8 +110,36 @@ fn expressions(rt: HostRuntime) -> Result<(), Fail> {
 }
 
 #[test]
+fn more_files_and_members(rt: HostRuntime) -> Result<(), Fail> {
+    check(&rt, rt.alloc(), &MORE_FILES_AND_MEMBERS)
+}
+
+#[test]
+fn more_statements(rt: HostRuntime) -> Result<(), Fail> {
+    check(&rt, rt.alloc(), &MORE_STATEMENTS)
+}
+
+#[test]
+fn further_statements(rt: HostRuntime) -> Result<(), Fail> {
+    check(&rt, rt.alloc(), &FURTHER_STATEMENTS)
+}
+
+#[test]
+fn more_expressions(rt: HostRuntime) -> Result<(), Fail> {
+    check(&rt, rt.alloc(), &MORE_EXPRESSIONS)
+}
+
+#[test]
 fn refused_texts(rt: HostRuntime) -> Result<(), Fail> {
     for text in REFUSED {
+        assert!(rt; ends_so(rt.alloc(), text, "Syntax")?, "of {text}");
+    }
+    Ok(())
+}
+
+#[test]
+fn more_refused_texts(rt: HostRuntime) -> Result<(), Fail> {
+    for text in MORE_REFUSED {
         assert!(rt; ends_so(rt.alloc(), text, "Syntax")?, "of {text}");
     }
     Ok(())
