@@ -1,5 +1,5 @@
 #!/usr/bin/env bash
-# Time and peak memory of a check of one file against its size: empty classes, //ClassBody, at 1/4, 1/2 and 1 MiB.
+# Time and peak memory of a check of one file against its size: classes with a comment in each, //ClassBody, at 1/4, 1/2 and 1 MiB.
 # Time and memory in proportion to the file show as ratios near 2.
 set -eu
 top=$(cd "$(dirname "$0")/.." && pwd)
@@ -13,7 +13,7 @@ make_file() {
     python3 - "$1" "$2" <<'PY'
 import sys
 size, path = int(sys.argv[1]), sys.argv[2]
-line = "class A {}\n"
+line = "class Shape { /* a comment, of no use but to take some room */ }\n"
 text = line * (size // len(line))
 open(path, "w").write(text + " " * (size - len(text)))
 PY
