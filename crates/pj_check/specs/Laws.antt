@@ -6,9 +6,9 @@ use Rattle.pj_check.specs.Report.{Report}
 use Rattle.pj_check.specs.CheckFile.{HasReport}
 
 -- The bytes of a file have one tree at most.
-abbrev pub HasOneTree : Bytes → Type 0
-HasOneTree bytes = (f g : SourceTree) → HasTree bytes f → HasTree bytes g → f ≡ g
+abbrev pub OneTree : Type 0
+OneTree = (bytes : Bytes) (f g : SourceTree) → HasTree bytes f → HasTree bytes g → f ≡ g
 
--- Words and files have one report at most, where the file that they ask for has these bytes.
-abbrev pub HasOneReport : Bytes → Type 0
-HasOneReport bytes = (words : List Bytes) (files : Files) (r s : Report) (h : HasReport words files r) → h.is_file.bytes ≡ bytes → HasReport words files s → r ≡ s
+-- The words and the files have one report at most.
+abbrev pub OneReport : Type 0
+OneReport = (words : List Bytes) (files : Files) (r s : Report) → HasReport words files r → HasReport words files s → r ≡ s

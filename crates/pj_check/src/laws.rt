@@ -1,26 +1,20 @@
-//! Laws of the definitions.
-ghost use Rattle.std.specs.Prelude.{◌≤◌, length, OnOk};
-ghost use Rattle.pj_check.specs.Laws.{HasOneTree, HasOneReport};
+//! Laws of the definitions, each the contract of a function that does nothing.
+ghost use Rattle.pj_check.specs.Laws.{OneTree, OneReport};
 
-use pj_lex::{Source, SourceFault};
-use pj_names::NoMemory;
+use pj_lex::files_are_read;
 use pj_parse::text_has_one_outcome;
-use std::alloc::Global;
 
-/// A file of these bytes has one tree at most, and words and files that ask for it have one report at most. The call reads
-/// the bytes as a text, for which it may want memory; what it promises else is the law.
-pub fn one_report(alloc: Global, bytes: &[u8]) -> Result<(), NoMemory>
-    requires { length bytes.now ≤ 1048576 }
-    ensures tree { OnOk result (HasOneTree bytes.now) }
-    ensures report { OnOk result (HasOneReport bytes.now) }
+/// The bytes of a file have one tree at most.
+pub fn one_tree()
+    ensures { OneTree }
 {
-    match Source::read(alloc, bytes) {
-        Ok(source) => {
-            text_has_one_outcome(source.text());
-            Ok(())
-        }
-        Err(SourceFault::Memory) => Err(NoMemory),
-        Err(SourceFault::NotUtf8(_)) => Ok(()),
-        Err(SourceFault::Escape(_)) => Ok(()),
-    }
+    files_are_read();
+    text_has_one_outcome();
+}
+
+/// The words and the files have one report at most: an outcome that speaks of a report speaks of this one.
+pub fn one_report()
+    ensures { OneReport }
+{
+    one_tree();
 }

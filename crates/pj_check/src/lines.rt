@@ -78,7 +78,7 @@ fn source_lines(
 ) -> Result<Option<String>, NoMemory>
     ensures { IfOk result (λ found. MatchOption found (HasNoTree source.now) (λ lines. AreLinesOf path.now name.now source.now (string_bytes lines))) }
 {
-    text_has_one_outcome(source.text());
+    text_has_one_outcome();
     match parse(alloc, source) {
         Ok(parsed) => Ok(Some(tree_lines(alloc, path, name, source, &parsed.tree)?)),
         Err(fault) => {

@@ -10,7 +10,7 @@ use Rattle.pj_lex.specs.Translating.{BeginsWithNoDigit, BeginsWithNoDigits}
 -- ---- digits
 
 -- the text, digit by digit
-digits_at : (text w rest : List ℕ) (v : ℕ) → text ≡ w ++ rest → (ds : AreDigits w v) → text ≡ ds.a ∷ (ds.b ∷ (ds.c ∷ (ds.d ∷ rest)))
+pub digits_at : (text w rest : List ℕ) (v : ℕ) → text ≡ w ++ rest → (ds : AreDigits w v) → text ≡ ds.a ∷ (ds.b ∷ (ds.c ∷ (ds.d ∷ rest)))
 digits_at text w rest v split ds = split ∙ ap (λ (xs : List ℕ). xs ++ rest) ds.are
 
 pub no_second : (text t1 : List ℕ) (c1 : ℕ) → text ≡ c1 ∷ t1 → BeginsWithNoDigit t1 → BeginsWithNoDigits text

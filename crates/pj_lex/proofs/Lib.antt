@@ -5,6 +5,8 @@ pub mod Ends
 pub mod EscapeLaws
 pub mod Exists
 pub mod FaultKinds
+pub mod FaultsTakeNothing
+pub mod FileExists
 pub mod FloatMeaning
 pub mod Follows
 pub mod HexMeaning

@@ -1,5 +1,5 @@
 -- The lexical grammar of Java 17: what a word spells.
-use Rattle.std.specs.Prelude.{ℕ, ◌≡◌, ◌⊎◌, Bool, false, ◌==◌, ◌||◌, if◌then◌else◌, List, [], ◌∷◌, map, Result, Ok, Err}
+use Rattle.std.specs.Prelude.{ℕ, ◌≡◌, ◌⊎◌, Bool, true, false, ◌==◌, ◌||◌, if◌then◌else◌, List, [], ◌∷◌, map, Result, Ok, Err}
 use Rattle.pj_lex.specs.Characters.{JavaLetter, JavaLetterOrDigit, continues_name}
 use Rattle.pj_lex.specs.Pattern.{Pattern, One, Then, Many, Matches, character, word}
 use Rattle.pj_lex.specs.Words.{Entry, signs, name_kind}
@@ -87,3 +87,12 @@ pub record Spells (behind : List ℕ) (l : Outcome) (w : List ℕ) : Type 0 wher
   pub category : Category
   pub first : FirstOf rules w category
   pub is : l ≡ outcome category w behind
+
+abbrev pub is_fault : Category → Bool
+is_fault (Fault f) = true
+is_fault s = false
+
+-- the rules for tokens, without those for faults
+abbrev pub token_rules : List Rule → List Rule
+token_rules [] = []
+token_rules (r ∷ rs) = if is_fault r.category then token_rules rs else r ∷ token_rules rs

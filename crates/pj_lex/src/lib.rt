@@ -27,7 +27,7 @@ mod text;
 mod text_block;
 mod token;
 
-pub use laws::tokens_are_one;
+pub use laws::{all_texts_have_tokens, faults_take_nothing, files_are_read, tokens_are_one};
 pub use lexer::{Lexer, tokens};
 pub use source::{Source, SourceFault};
 pub use token::{LexFault, Token, TokenKind};
