@@ -29,7 +29,7 @@ cat > "$scratch/crates/corpus_bench/src/main.rt" <<'PROGRAM'
 
 use pj_check::{FileOutcome, check_file, lack_of};
 use pj_lex::{Source, tokens};
-use pj_names::{Bytes, Numbers, Text, Words};
+use pj_names::{Bytes, NoMemory, Numbers, Text, Words};
 use pj_outside::{Files, MemSink, MemTree};
 use std::alloc::Global;
 use std::time::CpuClock;
@@ -73,7 +73,7 @@ fn tokens_in(alloc: Global, bytes: &[u8]) -> u64 {
     }
 }
 
-fn words_for(alloc: Global, path: &str) -> anyhow::Result<Words> {
+fn words_for(alloc: Global, path: &str) -> Result<Words, NoMemory> {
     let mut words = Words::new(alloc);
     for word in ["check", path, "//CompilationUnit"] {
         words.push(Text::from_str(alloc, word)?)?;
@@ -81,7 +81,7 @@ fn words_for(alloc: Global, path: &str) -> anyhow::Result<Words> {
     Ok(words)
 }
 
-fn tree_of(alloc: Global, path: &str, bytes: Vec<u8>) -> anyhow::Result<MemTree> {
+fn tree_of(alloc: Global, path: &str, bytes: Vec<u8>) -> Result<MemTree, NoMemory> {
     let mut files = Files::new(alloc);
     files.push((Text::from_str(alloc, path)?, Bytes::from_vec(bytes)))?;
     Ok(MemTree::new(alloc, files, Numbers::new(alloc)))
@@ -101,8 +101,9 @@ fn add_file(rt: &HostRuntime, path: &str, sums: Sums) -> anyhow::Result<Sums> {
     let bytes = fs::read(rt, path)?;
     let count = bytes.len() as u64;
     let tokens = tokens_in(alloc, &bytes);
-    let words = words_for(alloc, path)?;
-    let mut tree = tree_of(alloc, path, bytes)?;
+    let (Ok(words), Ok(mut tree)) = (words_for(alloc, path), tree_of(alloc, path, bytes)) else {
+        return Ok(sums);
+    };
     let mut sink = MemSink::new(alloc, Numbers::new(alloc));
     let start = now(rt)?;
     let outcome = check_file(alloc, &words, &mut tree, &mut sink);
