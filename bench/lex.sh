@@ -126,7 +126,7 @@ fn row(rt: &HostRuntime, list: &str) -> io::Result<()> {
 }
 
 fn main(rt: HostRuntime) -> io::Result<()> {
-    for word in env::args(&rt)? {
+    for word in env::args(&rt)?.skip(1) {
         row(&rt, word.as_str())?;
     }
     Ok(())
