@@ -9,26 +9,15 @@
 # they are written, else the superclass and the interfaces, or the descriptor. It prints each class that differs, and how
 # many are the same. It wants jimage, javap and python3.
 set -euo pipefail
-here=$(cd "$(dirname "$0")/.." && pwd)
-scratch=$(mktemp -d)
-trap 'rm -rf "$scratch"' EXIT
+. "$(dirname "$0")/scratch.sh"
+scratch_repository classes_bench 'pj_classfile pj_names' pj_names pj_format pj_outside pj_signatures pj_classfile
 home=$(dirname "$(dirname "$(readlink -f "$(command -v javap)")")")
 jimage extract --dir "$scratch/jdk" "$home/lib/modules"
 find "$scratch/jdk" -name '*.class' | LC_ALL=C sort > "$scratch/all"
 grep -v '/module-info.class$' "$scratch/all" > "$scratch/classes"
 step=$(($(wc -l < "$scratch/classes") / 240))
 awk -v step="$step" 'NR % step == 0' "$scratch/classes" > "$scratch/some"
-crates="pj_names pj_format pj_outside pj_signatures pj_classfile"
-for crate in $crates; do
-    mkdir -p "$scratch/crates/$crate"
-    for part in src specs proofs; do
-        if [ -d "$here/crates/$crate/$part" ]; then cp -r "$here/crates/$crate/$part" "$scratch/crates/$crate/"; fi
-    done
-    grep "^$crate:" "$here/crates.txt" >> "$scratch/crates.txt"
-done
-echo 'classes_bench: pj_classfile pj_names' >> "$scratch/crates.txt"
-mkdir -p "$scratch/crates/classes_bench/src"
-cat > "$scratch/crates/classes_bench/src/main.rt" <<'PROGRAM'
+cat > "$bench/src/main.rt" <<'PROGRAM'
 // Class files, one for each path of a list: a line for each, and the counts.
 #![tactic(auto)]
 
@@ -206,7 +195,7 @@ for a in ours:
             if x not in a: print("  javap ", x)
 print("read %d, by javap %d, the same %d" % (len(ours), len(theirs), same))
 COMPARE
-cd "$scratch/crates/classes_bench"
+cd "$bench"
 time rt run -- "list=$scratch/all" | tail -n 20
 rt run -- --whole "list=$scratch/some" > "$scratch/ours"
 xargs javap -v -p < "$scratch/some" > "$scratch/theirs"

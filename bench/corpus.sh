@@ -9,21 +9,11 @@
 # these two words are replaced by others of their length. For each file without a tree it prints the reason, then the counts,
 # tokens (comments among them) and bytes of a second of processor time, and the peak of resident memory.
 set -euo pipefail
-here=$(cd "$(dirname "$0")/.." && pwd)
 folder=$(cd "$1" && pwd)
-scratch=$(mktemp -d)
-trap 'rm -rf "$scratch"' EXIT
-libraries="pj_names pj_tree pj_peg pj_outside pj_lex pj_pieces pj_shape pj_grammar pj_parse pj_check"
-for crate in $libraries; do
-    mkdir -p "$scratch/crates/$crate"
-    cp -r "$here/crates/$crate/src" "$here/crates/$crate/specs" "$here/crates/$crate/proofs" "$scratch/crates/$crate/"
-    grep -E "^$crate:" "$here/crates.txt" >> "$scratch/crates.txt"
-done
-mkdir -p "$scratch/crates/corpus_bench/src" "$scratch/crates/corpus_bench/specs" "$scratch/crates/corpus_bench/proofs"
-echo 'corpus_bench: anyhow pj_check pj_lex pj_names pj_outside' >> "$scratch/crates.txt"
-: > "$scratch/crates/corpus_bench/specs/Lib.antt"
-: > "$scratch/crates/corpus_bench/proofs/Lib.antt"
-cat > "$scratch/crates/corpus_bench/src/main.rt" <<'PROGRAM'
+. "$(dirname "$0")/scratch.sh"
+scratch_repository corpus_bench 'anyhow pj_check pj_lex pj_names pj_outside' \
+    pj_names pj_tree pj_peg pj_outside pj_lex pj_pieces pj_shape pj_grammar pj_parse pj_check
+cat > "$bench/src/main.rt" <<'PROGRAM'
 // Checks of many files, each in memory.
 #![tactic(auto)]
 
@@ -182,5 +172,5 @@ for at, folders, names in sorted(os.walk(folder)):
             paths.append(copy)
 open(os.path.join(scratch, "list"), "w").write("".join(p + "\n" for p in paths))
 PY
-cd "$scratch/crates/corpus_bench"
+cd "$bench"
 rt run -- "$scratch/list" | grep -E '^/| of .* files have a tree|tokens/s' | sed "s|^$scratch/sources/||"

@@ -7,18 +7,9 @@
 # and bytes of a second of scanning, and the peak of resident memory. Twice the text should take twice the time. That scanning
 # allocates nothing for a token needs no measure: next_token takes no allocator, and nothing in Rattle allocates without one.
 set -euo pipefail
-here=$(cd "$(dirname "$0")/.." && pwd)
-scratch=$(mktemp -d)
-trap 'rm -rf "$scratch"' EXIT
-for crate in pj_tree pj_lex; do
-    mkdir -p "$scratch/crates/$crate"
-    cp -r "$here/crates/$crate/src" "$here/crates/$crate/specs" "$here/crates/$crate/proofs" "$scratch/crates/$crate/"
-done
-mkdir -p "$scratch/crates/lex_bench/src" "$scratch/crates/lex_bench/specs" "$scratch/crates/lex_bench/proofs"
-printf 'pj_tree:\npj_lex: pj_tree unicode_ident\nlex_bench: pj_lex\n' > "$scratch/crates.txt"
-: > "$scratch/crates/lex_bench/specs/Lib.antt"
-: > "$scratch/crates/lex_bench/proofs/Lib.antt"
-cat > "$scratch/crates/lex_bench/src/main.rt" <<'PROGRAM'
+. "$(dirname "$0")/scratch.sh"
+scratch_repository lex_bench 'pj_lex' pj_tree pj_lex
+cat > "$bench/src/main.rt" <<'PROGRAM'
 // Rows of time and memory.
 #![tactic(auto)]
 
@@ -171,7 +162,7 @@ for i in range(2000):
 for count in (500, 1000, 2000):
     write(f"small{count}", small[:count])
 PY
-cd "$scratch/crates/lex_bench"
+cd "$bench"
 for series in large2 large4 large8 small500 small1000 small2000; do
     rt run -- "$scratch/$series" | grep ' files, '
 done

@@ -7,16 +7,9 @@
 # memory should rise in proportion to rules times kinds: the table takes four bytes for each place and each rule or
 # repetition. The third series is the test of grammars, over chains of rules that can take nothing, where it is quadratic.
 set -euo pipefail
-here=$(cd "$(dirname "$0")/.." && pwd)
-scratch=$(mktemp -d)
-trap 'rm -rf "$scratch"' EXIT
-mkdir -p "$scratch/crates/peg_bench/src" "$scratch/crates/peg_bench/specs" "$scratch/crates/peg_bench/proofs"
-mkdir -p "$scratch/crates/pj_peg"
-cp -r "$here/crates/pj_peg/src" "$here/crates/pj_peg/specs" "$here/crates/pj_peg/proofs" "$scratch/crates/pj_peg/"
-printf 'pj_peg:\npeg_bench: pj_peg\n' > "$scratch/crates.txt"
-: > "$scratch/crates/peg_bench/specs/Lib.antt"
-: > "$scratch/crates/peg_bench/proofs/Lib.antt"
-cat > "$scratch/crates/peg_bench/src/main.rt" <<'PROGRAM'
+. "$(dirname "$0")/scratch.sh"
+scratch_repository peg_bench 'pj_peg' pj_peg
+cat > "$bench/src/main.rt" <<'PROGRAM'
 // Rows of time and memory.
 #![tactic(auto)]
 
@@ -126,7 +119,7 @@ fn main(rt: HostRuntime) -> io::Result<()> {
     Ok(())
 }
 PROGRAM
-cd "$scratch/crates/peg_bench"
+cd "$bench"
 for series in kinds rules checked; do
     rt run -- "$series"
 done
