@@ -43,8 +43,8 @@ owned_seen text rows tokens current n t is owner_is h =
 
 -- ---- the end
 
-pub greatest_depth-seen : (rows : List Row) (tokens : List OwnToken) (current : Option Node) (depth deepest : ℕ) → IsBuilding rows tokens current depth deepest → greatest_depth (nodes_seen rows tokens) ≡ deepest
-greatest_depth-seen rows tokens current depth deepest s = rw (parents-nodes_seen rows tokens) (sym s.deepest_is)
+pub greatest_depth-seen : (rows : List Row) (tokens : List OwnToken) (current : Option Node) (depth deepest last_child : ℕ) → IsBuilding rows tokens current depth deepest last_child → greatest_depth (nodes_seen rows tokens) ≡ deepest
+greatest_depth-seen rows tokens current depth deepest last_child s = rw (parents-nodes_seen rows tokens) (sym s.deepest_is)
 
 pub finished-deep : (b : Building) (d : ℕ) → greatest_depth b.nodes ≡ d → 1000 < d → finished b ≡ Err (TooDeep d)
 finished-deep b d e h = rw (e, lt-ltb 1000 d h) refl

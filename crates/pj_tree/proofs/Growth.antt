@@ -4,7 +4,7 @@ use Rattle.std.specs.List.{fold}
 use Rattle.std.proofs.lemmas.Bool.{cases_eq, cases_lt}
 use Rattle.std.proofs.lemmas.List.{length-map, length-set, get_or-set_same, get_or-set_other, get_or_append_left, get_or_push, length_push, map_push, map-set, set-get_or, get_or-map}
 use Rattle.pj_tree.specs.Tree.{ancestors, ancestors_by}
-use Rattle.pj_tree.specs.Rows.{IsBuilding, Unlinked, depth_in, row_parents, row_at, end_at, above, above_at, no_row, beyond}
+use Rattle.pj_tree.specs.Rows.{IsBuilding, IsLastBelow, LeadsBack, Unlinked, depth_in, row_parents, row_at, end_at, above, above_at, no_row, beyond}
 use Rattle.pj_tree.specs.declared.node.Node.{Node}
 use Rattle.pj_tree.specs.declared.row.Row.{Row}
 use Rattle.pj_tree.specs.declared.row.OwnToken.{OwnToken}
@@ -25,7 +25,7 @@ depths-nil : depths [] ≡ 0
 unfolding ancestors
 depths-nil = refl
 
-pub started_is : IsBuilding [] [] None 0 0
+pub started_is : IsBuilding [] [] None 0 0 beyond
 started_is = record {
   few = lit< tt;
   few_tokens = lit< tt;
@@ -39,6 +39,8 @@ started_is = record {
   ended = λ n h. absurd (omega arith);
   current_below = omega arith;
   current_open = λ n e. absurd (omega arith);
+  siblings = λ n h. absurd (omega arith);
+  last_child_is = record { is = λ h. absurd (omega arith); none = λ k h. absurd (omega arith) };
   owners = λ k h. absurd (omega arith);
   unlinked = λ n h. absurd (omega arith);
   depth_is = refl;
@@ -67,10 +69,20 @@ depth_in-push ps q n e =
     ∙ (ap (λ (up : List Node). length up + 1) (get_or_push (ancestors ps) (ancestors_by (ancestors ps) q) [] n (omega (arith, length-ancestors ps)))
     ∙ depth_of_child ps q)
 
-pub opened_is : (rows : List Row) (tokens : List OwnToken) (current : Option Node) (depth deepest : ℕ) (r : Row)
-    → IsBuilding rows tokens current depth deepest → length rows < 4294967294 → r.parent ≡ current → r.end ≡ beyond → r.first_own ≡ beyond
-    → IsBuilding (rows ++ r ∷ []) tokens (Some (record { 0 = length rows })) (depth + 1) (max deepest (depth + 1))
-opened_is rows tokens current depth deepest r s room parent_is end_is first_is = record {
+-- rows behind change no last one
+last_below-push : (rows : List Row) (r : Row) (parent i j : ℕ) → i ≤ length rows → IsLastBelow rows parent i j → IsLastBelow (rows ++ r ∷ []) parent i j
+last_below-push rows r parent i j within s = record {
+  is = λ h. old j (omega arith) ∙ s.is h;
+  none = λ k h past e. s.none k h past (sym (old k (omega arith)) ∙ e);
+}
+  where
+    old : (k : ℕ) → k < length rows → above_at (rows ++ r ∷ []) k ≡ above_at rows k
+    old k h = ap (λ (x : Row). above x.parent) (get_or_append_left rows (r ∷ []) no_row k h)
+
+pub opened_is : (rows : List Row) (tokens : List OwnToken) (current : Option Node) (depth deepest last_child : ℕ) (r : Row)
+    → IsBuilding rows tokens current depth deepest last_child → length rows < 4294967294 → r.parent ≡ current → r.end ≡ beyond → r.sibling_before ≡ last_child → r.first_own ≡ beyond
+    → IsBuilding (rows ++ r ∷ []) tokens (Some (record { 0 = length rows })) (depth + 1) (max deepest (depth + 1)) beyond
+opened_is rows tokens current depth deepest last_child r s room parent_is end_is sibling_is first_is = record {
   few = omega (arith, len);
   few_tokens = s.few_tokens;
   ends = record {
@@ -83,6 +95,11 @@ opened_is rows tokens current depth deepest r s room parent_is end_is first_is =
   ended = ended;
   current_below = omega (arith, len);
   current_open = λ n e. ap (end_at (rows ++ r ∷ [])) (omega arith) ∙ new_end;
+  siblings = siblings;
+  last_child_is = record {
+    is = λ h. absurd (omega (arith, len));
+    none = λ k h past e. absurd (omega (arith, len, above_below k h));
+  };
   owners = λ k h. omega (arith, s.owners k h, len);
   unlinked = unlinked;
   depth_is = ap (λ (d : ℕ). d + 1) s.depth_is ∙ (sym (depth_in-push (row_parents rows) current (length rows) (sym (length-map rows (λ (x : Row). x.parent)))) ∙ ap (λ (ps : List (Option Node)). depth_in ps (Some (record { 0 = length rows }))) (sym parents_are));
@@ -105,6 +122,9 @@ opened_is rows tokens current depth deepest r s room parent_is end_is first_is =
 
     new_above : above_at (rows ++ r ∷ []) (length rows) ≡ above current
     new_above = ap (λ (x : Row). above x.parent) new ∙ ap above parent_is
+
+    new_sibling : (row_at (rows ++ r ∷ []) (length rows)).sibling_before ≡ last_child
+    new_sibling = ap (λ (x : Row). x.sibling_before) new ∙ sibling_is
 
     old_end : (k : ℕ) → k < length rows → end_at (rows ++ r ∷ []) k ≡ end_at rows k
     old_end k h = ap (λ (x : Row). x.end) (old k h)
@@ -167,6 +187,12 @@ opened_is rows tokens current depth deepest r s room parent_is end_is first_is =
       | inr behind ↦ (rw (at_new n h behind) new_end, omega (arith, len))
     ]
 
+    siblings : LeadsBack (rows ++ r ∷ [])
+    siblings n h = elim (cases_lt n (length rows)) [
+      | inl below ↦ rw (old n below) (last_below-push rows r (above_at rows n) n (row_at rows n).sibling_before (omega arith) (s.siblings n below))
+      | inr behind ↦ rw (at_new n h behind, new_above, new_sibling) (last_below-push rows r (above current) (length rows) last_child (omega arith) s.last_child_is)
+    ]
+
     unlinked : Unlinked (rows ++ r ∷ [])
     unlinked n h = elim (cases_lt n (length rows)) [
       | inl below ↦ ap (λ (x : Row). x.first_own) (old n below) ∙ s.unlinked n below
@@ -179,10 +205,17 @@ depth_of_parent : (ps : List (Option Node)) (q : Option Node) (depth : ℕ) → 
 depth_of_parent ps None depth e = omega arith
 depth_of_parent ps (Some p) depth e = omega arith
 
-pub closed_is : (rows : List Row) (tokens : List OwnToken) (n : Node) (depth deepest to : ℕ)
-    → IsBuilding rows tokens (Some n) depth deepest
-    → IsBuilding (set rows n.0 (ended_row (row_at rows n.0) to (length rows))) tokens (row_at rows n.0).parent (depth - 1) deepest
-closed_is rows tokens n depth deepest to s = record {
+-- rows with the same parents have the same last ones
+last_below-same : (old new : List Row) (parent i j : ℕ) → ((k : ℕ) → above_at new k ≡ above_at old k) → IsLastBelow old parent i j → IsLastBelow new parent i j
+last_below-same old new parent i j same s = record {
+  is = λ h. same j ∙ s.is h;
+  none = λ k h past e. s.none k h past (sym (same k) ∙ e);
+}
+
+pub closed_is : (rows : List Row) (tokens : List OwnToken) (n : Node) (depth deepest last_child to : ℕ)
+    → IsBuilding rows tokens (Some n) depth deepest last_child
+    → IsBuilding (set rows n.0 (ended_row (row_at rows n.0) to (length rows))) tokens (row_at rows n.0).parent (depth - 1) deepest n.0
+closed_is rows tokens n depth deepest last_child to s = record {
   few = omega (arith, len);
   few_tokens = s.few_tokens;
   ends = record {
@@ -195,6 +228,11 @@ closed_is rows tokens n depth deepest to s = record {
   ended = ended;
   current_below = omega (arith, len, s.ends.above_below c in_rows);
   current_open = current_open;
+  siblings = λ k h. rw (same_above k, same_before k) (last_below-same rows rows' (above_at rows k) k (row_at rows k).sibling_before same_above (s.siblings k (omega (arith, len))));
+  last_child_is = record {
+    is = λ h. same_above c;
+    none = λ k h past e. absurd (omega (arith, same_above k, e, s.ends.above_below c in_rows, s.ends.inside c k (past (omega (arith, len))) (omega (arith, len)) (omega (arith, was_open, s.few, len))));
+  };
   owners = λ k h. omega (arith, s.owners k h, len);
   unlinked = unlinked;
   depth_is = rw same_parents (depth_of_parent (row_parents rows) (row_at rows c).parent depth
@@ -238,6 +276,12 @@ closed_is rows tokens n depth deepest to s = record {
     same_above k = elim (cases_eq k c) [
       | inl at ↦ rw at (ap (λ (x : Row). above x.parent) here)
       | inr other ↦ ap (λ (x : Row). above x.parent) (else' k other)
+    ]
+
+    same_before : (k : ℕ) → (row_at rows' k).sibling_before ≡ (row_at rows k).sibling_before
+    same_before k = elim (cases_eq k c) [
+      | inl at ↦ rw at (ap (λ (x : Row). x.sibling_before) here)
+      | inr other ↦ ap (λ (x : Row). x.sibling_before) (else' k other)
     ]
 
     same_parents : row_parents rows' ≡ row_parents rows

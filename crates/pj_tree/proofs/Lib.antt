@@ -10,5 +10,6 @@ pub mod PlaceLaws
 pub mod ReadRows
 pub mod RunPlaces
 pub mod Seen
+pub mod Siblings
 pub mod TokenLists
 pub mod TreeLaws

@@ -132,7 +132,7 @@ amended_by change old new tokens after n len h here else' =
 
 -- a row that ends
 abbrev pub ended_row : Row → ℕ → ℕ → Row
-ended_row r to end = record { kind = r.kind; parent = r.parent; span = record { from = r.span.from; to = to }; end = end; first_own = r.first_own }
+ended_row r to end = record { kind = r.kind; parent = r.parent; span = record { from = r.span.from; to = to }; end = end; sibling_before = r.sibling_before; first_own = r.first_own }
 
 pub nodes_seen-set : (rows : List Row) (tokens : List OwnToken) (n to end : ℕ) → n < length rows
     → nodes_seen (set rows n (ended_row (row_at rows n) to end)) tokens ≡ amended (ends_at to) (nodes_seen rows tokens) n

@@ -17,7 +17,7 @@ abbrev pub no_span : Span
 no_span = record { from = 0; to = 0 }
 
 abbrev pub no_row : Row
-no_row = record { kind = CompilationUnit; parent = None; span = no_span; end = 0; first_own = 0 }
+no_row = record { kind = CompilationUnit; parent = None; span = no_span; end = 0; sibling_before = 0; first_own = 0 }
 
 abbrev pub no_token : OwnToken
 no_token = record { owner = record { 0 = 0 }; span = no_span; next = 0 }
@@ -78,6 +78,17 @@ pub record HasEnds (rows : List Row) : Type 0 where
 abbrev pub AllEnded : List Row → Type 0
 AllEnded rows = (n : ℕ) → n < length rows → end_at rows n ≤ length rows
 
+-- ---- siblings
+
+-- j is the last row before i that stands below this parent, or is not before i where none does; the parent is given by one more than its number
+pub record IsLastBelow (rows : List Row) (parent i j : ℕ) : Type 0 where
+  pub is : j < i → above_at rows j ≡ parent
+  pub none : (k : ℕ) → k < i → (j < i → j < k) → above_at rows k ≢ parent
+
+-- each row leads to the sibling before
+abbrev pub LeadsBack : List Row → Type 0
+LeadsBack rows = (n : ℕ) → n < length rows → IsLastBelow rows (above_at rows n) n (row_at rows n).sibling_before
+
 -- ---- own tokens
 
 -- no token from i up to but not including j is one of n
@@ -110,7 +121,7 @@ Unlinked rows = (n : ℕ) → n < length rows → (row_at rows n).first_own ≡ 
 
 -- a row and a token but for what they lead to
 abbrev pub bare_row : Row → Row
-bare_row r = record { kind = r.kind; parent = r.parent; span = r.span; end = r.end; first_own = 0 }
+bare_row r = record { kind = r.kind; parent = r.parent; span = r.span; end = r.end; sibling_before = r.sibling_before; first_own = 0 }
 
 abbrev pub bare_token : OwnToken → OwnToken
 bare_token t = record { owner = t.owner; span = t.span; next = 0 }
@@ -133,7 +144,7 @@ depth_in ps None = 0
 depth_in ps (Some n) = length (slice_index_or (ancestors ps) n.0 []) + 1
 
 -- of a builder
-pub record IsBuilding (rows : List Row) (tokens : List OwnToken) (current : Option Node) (depth deepest : ℕ) : Type 0 where
+pub record IsBuilding (rows : List Row) (tokens : List OwnToken) (current : Option Node) (depth deepest last_child : ℕ) : Type 0 where
   pub few : length rows < beyond
   pub few_tokens : length tokens < beyond
   pub ends : HasEnds rows
@@ -141,6 +152,8 @@ pub record IsBuilding (rows : List Row) (tokens : List OwnToken) (current : Opti
   pub ended : (n : ℕ) → n < length rows → length rows < end_at rows n → (end_at rows n ≡ beyond) × (n < above current)
   pub current_below : above current ≤ length rows
   pub current_open : (n : ℕ) → above current ≡ n + 1 → end_at rows n ≡ beyond
+  pub siblings : LeadsBack rows
+  pub last_child_is : IsLastBelow rows (above current) (length rows) last_child
   pub owners : OwnersAre rows tokens
   pub unlinked : Unlinked rows
   pub depth_is : depth ≡ depth_in (row_parents rows) current
@@ -156,6 +169,7 @@ pub record IsTree (text : List ℕ) (rows : List Row) (tokens : List OwnToken) :
   pub rooted : 0 < length rows
   pub ends : HasEnds rows
   pub ended : AllEnded rows
+  pub siblings : LeadsBack rows
   pub one_root : (n : ℕ) → 0 < n → n < length rows → 0 < above_at rows n
   pub spans : (n : ℕ) → n < length rows → IsSpanOf text (row_at rows n).span
   pub leads_on : LeadsOn tokens 0

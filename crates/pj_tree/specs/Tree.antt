@@ -1,7 +1,7 @@
 -- A syntax tree as contracts see it: a text, and the list of its nodes in preorder.
 -- All that is said of a tree is said by this list alone.
 use Rattle.std.specs.Str.{IsCharBoundary}
-use Rattle.std.specs.Prelude.{ℕ, ◌+◌, ◌≡◌, ◌<◌, ◌≤◌, ◌==◌, Bool, false, IsTrue, max, Option, None, Some, List, [], ◌∷◌, ◌++◌, length, map, filter, fold, slice_index_or}
+use Rattle.std.specs.Prelude.{ℕ, ◌+◌, ◌≡◌, ◌≢◌, ◌<◌, ◌≤◌, ◌==◌, Bool, false, IsTrue, max, Option, None, Some, List, [], ◌∷◌, ◌++◌, length, map, filter, fold, slice_index_or}
 use Rattle.std.specs.List.{slice_get, slice_range, list_any, enumerate_from, All}
 use Rattle.std.specs.Option.{option_map, option_map_or, MatchOption, IsSomeAnd}
 use Rattle.pj_tree.specs.declared.kind.Kind.{Kind}
@@ -69,6 +69,20 @@ children_in ps n = map node_numbered (filter (λ p. is_parent n p.1) (enumerate_
 
 abbrev pub children_of : Tree → Node → List Node
 children_of t n = children_in (parents t.nodes) n
+
+-- no node from this number on and before n has the parent that n has
+abbrev pub NoSiblingBetween : List (Option Node) → ℕ → Node → Type 0
+NoSiblingBetween ps from n = (k : Node) → from ≤ k.0 → k.0 < n.0 → parent_in ps k ≢ parent_in ps n
+
+-- m is the sibling before n: it stands before n, has the parent that n has, and no node between them has it
+pub record IsSiblingBefore (ps : List (Option Node)) (n m : Node) : Type 0 where
+  pub before : m.0 < n.0
+  pub same_parent : parent_in ps m ≡ parent_in ps n
+  pub none_between : NoSiblingBetween ps (m.0 + 1) n
+
+-- the sibling before n, where one of the nodes before n has its parent
+abbrev pub IsPrecedingSibling : Tree → Node → Option Node → Type 0
+IsPrecedingSibling t n sibling = MatchOption sibling (NoSiblingBetween (parents t.nodes) 0 n) (IsSiblingBefore (parents t.nodes) n)
 
 -- the ancestors of a node that has this parent: the parent, and the parent's ancestors; `known` has those of each earlier node, and a parent comes earlier
 abbrev pub ancestors_by : List (List Node) → Option Node → List Node

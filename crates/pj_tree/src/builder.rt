@@ -30,6 +30,9 @@ pub struct Builder<'s> {
     tokens: Vec<OwnToken>,
     /// The innermost open node.
     current: Option<Node>,
+    /// The number of the innermost open node's last child so far, or of the last root where no node is open, and `BEYOND`
+    /// where there is none.
+    last_child: u32,
     /// The depth of the innermost open node, and 0 where none is open.
     depth: u32,
     /// The depth of the deepest node so far.
@@ -44,7 +47,7 @@ impl<'s> Model for Builder<'s> {
 
     ghost view = { λ b. record { text = b.text.now; nodes = nodes_seen b.rows.items b.tokens.items; current = b.current } };
 
-    ghost invariant = { λ b. IsBuilding b.rows.items b.tokens.items b.current b.depth b.deepest };
+    ghost invariant = { λ b. IsBuilding b.rows.items b.tokens.items b.current b.depth b.deepest b.last_child };
 }
 
 impl<'s> Builder<'s> {
@@ -60,6 +63,7 @@ impl<'s> Builder<'s> {
             rows: Vec::new(alloc),
             tokens: Vec::new(alloc),
             current: None,
+            last_child: BEYOND,
             depth: 0,
             deepest: 0,
         }
@@ -80,9 +84,11 @@ impl<'s> Builder<'s> {
             parent: self.current,
             span: Span { from, to: from },
             end: BEYOND,
+            sibling_before: self.last_child,
             first_own: BEYOND,
         })?;
         self.current = Some(Node(number as u32));
+        self.last_child = BEYOND;
         self.depth += 1;
         self.deepest = self.deepest.max(self.depth);
         Ok(())
@@ -99,6 +105,7 @@ impl<'s> Builder<'s> {
             row.span.to = to;
             row.end = end;
             self.current = row.parent;
+            self.last_child = node.0;
             self.depth -= 1;
         }
     }

@@ -17,6 +17,8 @@ pub struct Row {
     pub span: Span,
     /// The number past the last node of the subtree, and `BEYOND` while the node is open.
     pub end: u32,
+    /// The number of the sibling before, or `BEYOND`.
+    pub sibling_before: u32,
     /// The index of the node's first own token, or `BEYOND`.
     pub first_own: u32,
 }

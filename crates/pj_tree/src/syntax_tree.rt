@@ -3,8 +3,8 @@
 ghost use Rattle.std.specs.Prelude.{◌≡◌, ◌+◌, ◌<◌, ◌≤◌, ◌↔◌, ℕ, length, Some, IsTrue, IfSome, IsNone};
 ghost use Rattle.std.specs.List.{All};
 ghost use Rattle.pj_tree.specs.declared.node.Node.{Node};
-ghost use Rattle.pj_tree.specs.Tree.{kind_of, parent_of, span_of, text_of, own_of, children_of, is_descendant, greatest_depth_in, IsSyntaxTree, IsSpanOf};
-ghost use Rattle.pj_tree.specs.Rows.{nodes_seen, HasEnds, AllEnded, OwnersAre, Unlinked, TokenSpans, above_at, row_at, row_parents};
+ghost use Rattle.pj_tree.specs.Tree.{kind_of, parent_of, span_of, text_of, own_of, children_of, is_descendant, greatest_depth_in, IsPrecedingSibling, IsSyntaxTree, IsSpanOf};
+ghost use Rattle.pj_tree.specs.Rows.{nodes_seen, HasEnds, AllEnded, LeadsBack, OwnersAre, Unlinked, TokenSpans, above_at, row_at, row_parents};
 
 use crate::children::Children;
 use crate::kind::Kind;
@@ -82,6 +82,20 @@ impl<'s> SyntaxTree<'s> {
         Children::new(self.rows.as_slice(), n)
     }
 
+    /// The sibling before the node: the last node before it with the same parent, or `None` where it is the first child or
+    /// the root.
+    pub fn preceding_sibling(&self, n: Node) -> Option<Node>
+        requires inside { n.0 < length self.now.nodes }
+        ensures value { IsPrecedingSibling self.now n result }
+    {
+        let sibling = self.rows[n.0 as usize].sibling_before;
+        if sibling < n.0 {
+            Some(Node(sibling))
+        } else {
+            None
+        }
+    }
+
     /// The stretch of the text that the node spans.
     pub fn span(&self, n: Node) -> Span
         requires inside { n.0 < length self.now.nodes }
@@ -127,6 +141,7 @@ impl<'s> SyntaxTree<'s> {
         requires rooted { 0 < length rows.items }
         requires ends { HasEnds rows.items }
         requires ended { AllEnded rows.items }
+        requires siblings { LeadsBack rows.items }
         requires one_root { (n : ℕ) → 0 < n → n < length rows.items → 0 < above_at rows.items n }
         requires spans { (n : ℕ) → n < length rows.items → IsSpanOf text.now (row_at rows.items n).span }
         requires owners { OwnersAre rows.items tokens.items }

@@ -115,6 +115,7 @@ fn described(alloc: Global, tree: &SyntaxTree<'_>, n: Node) -> Result<String, Al
     for child in tree.children(n) {
         write!(text, " {}", child.0)?;
     }
+    write!(text, " behind {:?}", tree.preceding_sibling(n))?;
     write!(text, " own")?;
     for token in tree.own(n) {
         write!(text, " {token}")?;
@@ -126,10 +127,10 @@ fn described(alloc: Global, tree: &SyntaxTree<'_>, n: Node) -> Result<String, Al
 fn reads(rt: HostRuntime) -> Result<(), Fail> {
     let tree = class(rt.alloc())?;
     let table = [
-        "CompilationUnit None Span { from: 0, to: 10 } \"class A {}\" to Node(4) children 1 own",
-        "ClassDeclaration Some(Node(0)) Span { from: 0, to: 10 } \"class A {}\" to Node(4) children 2 3 own class A",
-        "ModifierList Some(Node(1)) Span { from: 6, to: 6 } \"\" to Node(3) children own",
-        "ClassBody Some(Node(1)) Span { from: 8, to: 10 } \"{}\" to Node(4) children own { }",
+        "CompilationUnit None Span { from: 0, to: 10 } \"class A {}\" to Node(4) children 1 behind None own",
+        "ClassDeclaration Some(Node(0)) Span { from: 0, to: 10 } \"class A {}\" to Node(4) children 2 3 behind None own class A",
+        "ModifierList Some(Node(1)) Span { from: 6, to: 6 } \"\" to Node(3) children behind None own",
+        "ClassBody Some(Node(1)) Span { from: 8, to: 10 } \"{}\" to Node(4) children behind Some(Node(2)) own { }",
     ];
     assert_eq!(rt; tree.len(), 4);
     for (n, wanted) in table.into_iter().enumerate() {

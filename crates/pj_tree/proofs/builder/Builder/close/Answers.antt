@@ -11,17 +11,17 @@ use Rattle.pj_tree.proofs.Seen.{ended_row}
 
 pub invariant_of-self : goal.invariant_of-self
 invariant_of-self c =
-    let s : IsBuilding c.self.inside.rows.items c.self.inside.tokens.items (Some c.in-Some.node) c.self.inside.depth c.self.inside.deepest
-    = subst (λ (o : Option Node). IsBuilding c.self.inside.rows.items c.self.inside.tokens.items o c.self.inside.depth c.self.inside.deepest) c.in-Some.is c.self.invariant in
+    let s : IsBuilding c.self.inside.rows.items c.self.inside.tokens.items (Some c.in-Some.node) c.self.inside.depth c.self.inside.deepest c.self.inside.last_child
+    = subst (λ (o : Option Node). IsBuilding c.self.inside.rows.items c.self.inside.tokens.items o c.self.inside.depth c.self.inside.deepest c.self.inside.last_child) c.in-Some.is c.self.invariant in
     let in_rows : c.in-Some.node.0 < length c.self.inside.rows.items = omega (arith, s.current_below) in
     let len : c.len-end.result ≡ length c.self.inside.rows.items = omega (arith, c.len-end.ensures) in
     let row : c.index_mut-row.result.now ≡ row_at c.self.inside.rows.items c.in-Some.node.0 = get_or_read c.self.inside.rows.items c.in-Some.node.0 c.index_mut-row.result.now in_rows c.index_mut-row.ensures.value no_row in
-    rw (row, len) (closed_is c.self.inside.rows.items c.self.inside.tokens.items c.in-Some.node c.self.inside.depth c.self.inside.deepest c.args.to s)
+    rw (row, len) (closed_is c.self.inside.rows.items c.self.inside.tokens.items c.in-Some.node c.self.inside.depth c.self.inside.deepest c.self.inside.last_child c.args.to s)
 
 pub returns-in-Some : goal.returns-in-Some
 returns-in-Some c =
-    let s : IsBuilding c.self.inside.rows.items c.self.inside.tokens.items (Some c.in-Some.node) c.self.inside.depth c.self.inside.deepest
-    = subst (λ (o : Option Node). IsBuilding c.self.inside.rows.items c.self.inside.tokens.items o c.self.inside.depth c.self.inside.deepest) c.in-Some.is c.self.invariant in
+    let s : IsBuilding c.self.inside.rows.items c.self.inside.tokens.items (Some c.in-Some.node) c.self.inside.depth c.self.inside.deepest c.self.inside.last_child
+    = subst (λ (o : Option Node). IsBuilding c.self.inside.rows.items c.self.inside.tokens.items o c.self.inside.depth c.self.inside.deepest c.self.inside.last_child) c.in-Some.is c.self.invariant in
     let in_rows : c.in-Some.node.0 < length c.self.inside.rows.items = omega (arith, s.current_below) in
     let row : c.index_mut-row.result.now ≡ row_at c.self.inside.rows.items c.in-Some.node.0 = get_or_read c.self.inside.rows.items c.in-Some.node.0 c.index_mut-row.result.now in_rows c.index_mut-row.ensures.value no_row in
     record {

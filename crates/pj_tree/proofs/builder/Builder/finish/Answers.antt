@@ -12,7 +12,7 @@ tree text nodes = record { text = text; nodes = nodes }
 pub returns-then-self-gt-MAX_DEPTH : goal.returns-then-self-gt-MAX_DEPTH
 returns-then-self-gt-MAX_DEPTH c =
     let deep : greatest_depth c.args.self.nodes ≡ c.self.inside.deepest
-    = ap (λ (b : Building). greatest_depth b.nodes) (sym c.self.view_is) ∙ greatest_depth-seen c.self.inside.rows.items c.self.inside.tokens.items c.self.inside.current c.self.inside.depth c.self.inside.deepest c.self.invariant in
+    = ap (λ (b : Building). greatest_depth b.nodes) (sym c.self.view_is) ∙ greatest_depth-seen c.self.inside.rows.items c.self.inside.tokens.items c.self.inside.current c.self.inside.depth c.self.inside.deepest c.self.inside.last_child c.self.invariant in
     let len : length c.args.self.nodes ≡ length c.self.inside.rows.items
     = ap (λ (b : Building). length b.nodes) (sym c.self.view_is) ∙ length-nodes_seen c.self.inside.rows.items c.self.inside.tokens.items in
     record { value = sym (finished-deep c.args.self c.self.inside.deepest deep c.if-self-gt-MAX_DEPTH.true) }
@@ -20,7 +20,7 @@ returns-then-self-gt-MAX_DEPTH c =
 pub returns-then-len-gt-MAX_NODES : goal.returns-then-len-gt-MAX_NODES
 returns-then-len-gt-MAX_NODES c =
     let deep : greatest_depth c.args.self.nodes ≡ c.self.inside.deepest
-    = ap (λ (b : Building). greatest_depth b.nodes) (sym c.self.view_is) ∙ greatest_depth-seen c.self.inside.rows.items c.self.inside.tokens.items c.self.inside.current c.self.inside.depth c.self.inside.deepest c.self.invariant in
+    = ap (λ (b : Building). greatest_depth b.nodes) (sym c.self.view_is) ∙ greatest_depth-seen c.self.inside.rows.items c.self.inside.tokens.items c.self.inside.current c.self.inside.depth c.self.inside.deepest c.self.inside.last_child c.self.invariant in
     let len : length c.args.self.nodes ≡ length c.self.inside.rows.items
     = ap (λ (b : Building). length b.nodes) (sym c.self.view_is) ∙ length-nodes_seen c.self.inside.rows.items c.self.inside.tokens.items in
     record { value = sym (finished-many c.args.self c.self.inside.deepest c.len-then-len-gt-MAX_NODES.result deep c.if-self-gt-MAX_DEPTH.false (omega (arith, len, c.len-then-len-gt-MAX_NODES.ensures)) (omega (arith, c.if-len-gt-MAX_NODES.true, c.len.ensures, c.len-then-len-gt-MAX_NODES.ensures))) }
@@ -46,7 +46,7 @@ linked-requires-clause-token_spans c =
 pub returns : goal.returns
 returns c =
     let deep : greatest_depth c.args.self.nodes ≡ c.self.inside.deepest
-    = ap (λ (b : Building). greatest_depth b.nodes) (sym c.self.view_is) ∙ greatest_depth-seen c.self.inside.rows.items c.self.inside.tokens.items c.self.inside.current c.self.inside.depth c.self.inside.deepest c.self.invariant in
+    = ap (λ (b : Building). greatest_depth b.nodes) (sym c.self.view_is) ∙ greatest_depth-seen c.self.inside.rows.items c.self.inside.tokens.items c.self.inside.current c.self.inside.depth c.self.inside.deepest c.self.inside.last_child c.self.invariant in
     let len : length c.args.self.nodes ≡ length c.self.inside.rows.items
     = ap (λ (b : Building). length b.nodes) (sym c.self.view_is) ∙ length-nodes_seen c.self.inside.rows.items c.self.inside.tokens.items in
     let tree : c.linked.result ≡ tree_of c.args.self

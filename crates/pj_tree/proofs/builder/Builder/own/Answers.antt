@@ -8,8 +8,8 @@ use Rattle.pj_tree.proofs.Calls.{building_seen, owned_seen}
 
 pub returns-in_ok-push-clause-ok : goal.returns-in_ok-push-clause-ok
 returns-in_ok-push-clause-ok c =
-    let s : IsBuilding c.self.inside.rows.items c.self.inside.tokens.items (Some c.in-Some.owner) c.self.inside.depth c.self.inside.deepest
-    = subst (λ (o : Option Node). IsBuilding c.self.inside.rows.items c.self.inside.tokens.items o c.self.inside.depth c.self.inside.deepest) c.in-Some.is c.self.invariant in
+    let s : IsBuilding c.self.inside.rows.items c.self.inside.tokens.items (Some c.in-Some.owner) c.self.inside.depth c.self.inside.deepest c.self.inside.last_child
+    = subst (λ (o : Option Node). IsBuilding c.self.inside.rows.items c.self.inside.tokens.items o c.self.inside.depth c.self.inside.deepest c.self.inside.last_child) c.in-Some.is c.self.invariant in
     let t : OwnToken = record { owner = c.in-Some.owner; span = c.args.token; next = beyond } in
     let items : c.push.new.self.items ≡ c.self.inside.tokens.items ++ t ∷ [] = c.in_ok-push.ensures.items in
     ap (λ (ts : List OwnToken). building_seen c.self.inside.text.now c.self.inside.rows.items ts c.self.inside.current) items
