@@ -6,20 +6,11 @@
 # two shapes: the root with chains of 2 nodes below it (wide), and with chains of 900 (deep). It goes over each axis from a node
 # at which the axis is long, often enough to be given some millions of nodes, and prints a row: the shape, the number of nodes,
 # the axis, how many nodes it gives, and nanoseconds of processor time for each of them. That should stay the same whatever the
-# size of the tree. On preceding-sibling it is larger in the deep shape, since the code climbs from the last node of the sibling
-# before to that sibling: a sibling costs the depth of its subtree, whatever the number of nodes.
+# size of the tree, and on the sibling axes also whatever the depth of the siblings' subtrees.
 set -euo pipefail
-here=$(cd "$(dirname "$0")/.." && pwd)
-scratch=$(mktemp -d)
-trap 'rm -rf "$scratch"' EXIT
-for crate in pj_names pj_tree pj_xvalue pj_xaxes; do
-    mkdir -p "$scratch/crates/$crate"
-    cp -r "$here/crates/$crate/src" "$here/crates/$crate/specs" "$here/crates/$crate/proofs" "$scratch/crates/$crate/"
-done
-grep -E '^pj_(names|tree|xvalue|xaxes):' "$here/crates.txt" > "$scratch/crates.txt"
-echo 'axes_bench: pj_names pj_tree pj_xvalue pj_xaxes' >> "$scratch/crates.txt"
-bench=$scratch/crates/axes_bench
-mkdir -p "$bench/src" "$bench/specs" "$bench/proofs/+add_chain" "$bench/proofs/tree"
+. "$(dirname "$0")/scratch.sh"
+scratch_repository axes_bench 'pj_names pj_tree pj_xvalue pj_xaxes' pj_names pj_tree pj_xvalue pj_xaxes
+mkdir -p "$bench/proofs/+add_chain" "$bench/proofs/tree"
 cat > "$bench/specs/Lib.antt" <<'ANTT'
 pub mod Shapes
 ANTT

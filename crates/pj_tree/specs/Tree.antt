@@ -80,7 +80,7 @@ pub record IsSiblingBefore (ps : List (Option Node)) (n m : Node) : Type 0 where
   pub same_parent : parent_in ps m ≡ parent_in ps n
   pub none_between : NoSiblingBetween ps (m.0 + 1) n
 
--- the sibling before n, where one of the nodes before n has its parent
+-- the sibling before n, and none where no node before n has the parent that n has: where n is the first child, or the root
 abbrev pub IsPrecedingSibling : Tree → Node → Option Node → Type 0
 IsPrecedingSibling t n sibling = MatchOption sibling (NoSiblingBetween (parents t.nodes) 0 n) (IsSiblingBefore (parents t.nodes) n)
 

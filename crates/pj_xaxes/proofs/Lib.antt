@@ -1,6 +1,7 @@
 pub mod Ancestry
 pub mod Ordered
 pub mod Picking
+pub mod Siblings
 pub mod Skips
 pub mod Unique
 pub mod Windows

@@ -1,14 +1,14 @@
 -- What may be left out on an axis.
-use Rattle.std.proofs.Common.{◌≡◌, ℕ, ◌+◌, ◌<◌, ◌≤◌, Bool, true, false, not, ◌&&◌, IsTrue, ◌↔◌, length, nat_eq, nat_lt, Option, None, Some, refl, sym, ◌∙◌, subst, inl, inr, arith}
+use Rattle.std.proofs.Common.{◌≡◌, ℕ, ◌+◌, ◌<◌, ◌≤◌, true, false, IsTrue, ◌↔◌, length, nat_eq, nat_lt, Option, None, Some, refl, subst, inl, inr, ◌⊎◌, arith}
 use Rattle.std.specs.Option.{MatchOption}
-use Rattle.std.proofs.lemmas.Bool.{false≢true, and_right, or_from, ne_eqb, eq-eqb, lt-ltb, false_from_ne_true, not-true, cases_lt}
+use Rattle.std.proofs.lemmas.Bool.{false≢true, and_right, or_from, ne_eqb, false_from_ne_true}
 use Rattle.pj_tree.specs.declared.node.Node.{Node}
 use Rattle.pj_tree.specs.Tree.{Tree, IsSyntaxTree, parent_of, is_parent, is_descendant}
 use Rattle.pj_xvalue.specs.declared.axis.Axis.{Axis}
 use Rattle.pj_xvalue.specs.declared.axis.Axis.TheVariants.{Child, Descendant, SelfNode, DescendantOrSelf, FollowingSibling, Following, Parent, Ancestor, PrecedingSibling, Preceding, AncestorOrSelf}
 use Rattle.pj_xaxes.specs.Axes.{node, on_axis, same_parent}
-use Rattle.pj_xaxes.specs.Search.{is_over, is_climb, least, reach, IsPastParent, NoneFrom}
-use Rattle.pj_xaxes.proofs.Ancestry.{parent-before, has_parent, parent-from, child-below, below-between}
+use Rattle.pj_xaxes.specs.Search.{is_over, least, reach, IsPastParent, NoneFrom}
+use Rattle.pj_xaxes.proofs.Ancestry.{parent-before, has_parent, parent-from, below-between}
 
 -- a parent from a number on is no node before it
 other_parent : (o : Option Node) (n : Node) (a : ℕ) → ((q : Node) → o ≡ Some q → a ≤ q.0) → n.0 < a → is_parent n o ≡ false
@@ -61,56 +61,18 @@ module _ (t : Tree) (s : IsSyntaxTree t) where
       let past_it : p.parent.0 < k = past_from k m r p.parent past p.is from in
       omega arith)
 
-  -- between a node, which is no sibling, and its parent none is a sibling
-  no_sibling : (n m : Node) (r k : ℕ) → n.0 < length t.nodes → m.0 < n.0 → same_parent (parent_of t m) (parent_of t n) ≡ false → IsPastParent (parent_of t m) r → r ≤ k → k < m.0
-      → same_parent (parent_of t (node k)) (parent_of t n) ≡ false
-  no_sibling n m r k inside low other past from to = elim (parent_of t n) as (λ o. parent_of t n ≡ o → same_parent (parent_of t m) o ≡ false → same_parent (parent_of t (node k)) o ≡ false) [
-    | None ↦ λ none is. no_second (parent_of t (node k))
-    | Some p ↦ λ some is. elim (cases_lt p.0 m.0) [
-      | inl behind ↦
-          let m_up : is_descendant t m p ≡ true = below-between t s n.0 m.0 p.0 inside behind (omega arith) (child-below t s n.0 p inside some) in
-          let q = has_parent t s m.0 p.0 (omega arith) m_up in
-          let p_low : p.0 ≤ q.parent.0 = parent-from t s m.0 p.0 q.parent (omega arith) m_up q.is in
-          let differ : q.parent.0 ≡ p.0 → ⊥ = λ e. false≢true (sym (subst (λ (o : Option Node). same_parent o (Some p) ≡ false) q.is is) ∙ eq_same q.parent.0 p.0 e) in
-          let past_q : q.parent.0 < k = past_from k m r q.parent past q.is from in
-          let k_up : is_descendant t (node k) q.parent ≡ true = below-between t s m.0 k q.parent.0 (omega arith) past_q (omega arith) (child-below t s m.0 q.parent (omega arith) q.is) in
-          other_same (parent_of t (node k)) (Some p) q.parent.0 (λ x at. parent-from t s k q.parent.0 x (omega arith) k_up at) (λ x at. subst (λ (y : Node). y.0 < q.parent.0) (some_is at) (omega (arith, differ)))
-      | inr before ↦ other_lower (parent_of t (node k)) p (λ x at. (let b = parent-before t s k x (omega arith) at in omega arith))
-    ]
-  ] refl other
-    where
-      no_second : (o : Option Node) → same_parent o None ≡ false
-      no_second None = refl
-      no_second (Some x) = refl
-
-      eq_same : (a b : ℕ) → a ≡ b → nat_eq a b ≡ true
-      eq_same a b e = eq-eqb a b e
-
-      some_is : {x y : Node} → Some x ≡ Some y → x ≡ y
-      some_is e = cc
-
-      other_lower : (o : Option Node) (p : Node) → ((x : Node) → o ≡ Some x → x.0 < p.0) → same_parent o (Some p) ≡ false
-      other_lower None p low = refl
-      other_lower (Some x) p low = (let l = low x refl in ne_eqb x.0 p.0 (λ e. omega arith))
-
-  -- climbing to the parent
-  pub climbed : (axis : Axis) (n m : Node) (r : ℕ) → n.0 < length t.nodes → m.0 < reach axis n → IsPastParent (parent_of t m) r → is_climb axis (on_axis t axis n m) ≡ true
+  -- from an ancestor to its parent
+  pub to_parent : (axis : Axis) (n m : Node) (r : ℕ) → n.0 < length t.nodes → m.0 < reach axis n → IsPastParent (parent_of t m) r → (axis ≡ Ancestor) ⊎ (axis ≡ AncestorOrSelf)
       → NoneFrom (on_axis t axis n) r m.0
-  climbed Ancestor n m r inside low past climb = record { each = λ k from to. no_ancestor n m r k inside (omega arith) past from to }
-  climbed AncestorOrSelf n m r inside low past climb = record {
-    each = λ k from to. or_from (nat_eq k n.0) (is_descendant t n (node k)) (ne_eqb k n.0 (λ e. omega arith)) (no_ancestor n m r k inside (omega arith) past from to);
-  }
-  climbed PrecedingSibling n m r inside low past climb = record {
-    each = λ k from to. and_right (nat_lt k n.0) (same_parent (parent_of t (node k)) (parent_of t n)) (no_sibling n m r k inside low (other_part climb) past from to);
-  }
+  to_parent axis n m r inside low past is = elim is [
+    | inl e ↦ rw e (record { each = λ k from to. no_ancestor n m r k inside (before e) past from to })
+    | inr e ↦ rw e (record {
+      each = λ k from to. or_from (nat_eq k n.0) (is_descendant t n (node k)) (ne_eqb k n.0 (λ same. omega (arith, before_self e))) (no_ancestor n m r k inside (before_self e) past from to);
+    })
+  ]
     where
-      other_part : not (nat_lt m.0 n.0 && same_parent (parent_of t m) (parent_of t n)) ≡ true → same_parent (parent_of t m) (parent_of t n) ≡ false
-      other_part c = subst (λ (b : Bool). not (b && same_parent (parent_of t m) (parent_of t n)) ≡ true → same_parent (parent_of t m) (parent_of t n) ≡ false) (sym (lt-ltb m.0 n.0 low)) (not-true (same_parent (parent_of t m) (parent_of t n))) c
-  climbed Child n m r inside low past climb = absurd (false≢true climb)
-  climbed Descendant n m r inside low past climb = absurd (false≢true climb)
-  climbed SelfNode n m r inside low past climb = absurd (false≢true climb)
-  climbed DescendantOrSelf n m r inside low past climb = absurd (false≢true climb)
-  climbed FollowingSibling n m r inside low past climb = absurd (false≢true climb)
-  climbed Following n m r inside low past climb = absurd (false≢true climb)
-  climbed Parent n m r inside low past climb = absurd (false≢true climb)
-  climbed Preceding n m r inside low past climb = absurd (false≢true climb)
+      before : axis ≡ Ancestor → m.0 ≤ n.0
+      before e = (let l : m.0 < reach Ancestor n = subst (λ (a : Axis). m.0 < reach a n) e low in omega arith)
+
+      before_self : axis ≡ AncestorOrSelf → m.0 ≤ n.0
+      before_self e = (let l : m.0 < reach AncestorOrSelf n = subst (λ (a : Axis). m.0 < reach a n) e low in omega arith)

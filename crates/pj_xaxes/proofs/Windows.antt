@@ -1,5 +1,5 @@
 -- Between which numbers the nodes of each axis stand.
-use Rattle.std.proofs.Common.{◌≡◌, ℕ, ◌+◌, ◌-◌, ◌<◌, ◌≤◌, Bool, true, false, not, ◌||◌, IsTrue, ◌↔◌, length, nat_eq, nat_lt, Option, None, Some, refl, sym, ◌∙◌, ap, subst, inl, inr, arith}
+use Rattle.std.proofs.Common.{◌≡◌, ℕ, ◌+◌, ◌-◌, ◌<◌, ◌≤◌, Bool, true, false, not, ◌||◌, IsTrue, ◌↔◌, length, nat_eq, nat_lt, Option, None, Some, sym, ◌∙◌, ap, subst, inl, inr, arith}
 use Rattle.std.specs.Option.{MatchOption}
 use Rattle.std.proofs.lemmas.Bool.{false≢true, and_parts, or_cases, eqb-true, ltb-true, false_from_ne_true, not-true}
 use Rattle.pj_tree.specs.declared.node.Node.{Node}
@@ -8,25 +8,15 @@ use Rattle.pj_xvalue.specs.declared.axis.Axis.{Axis}
 use Rattle.pj_xvalue.specs.declared.axis.Axis.TheVariants.{Child, Descendant, SelfNode, DescendantOrSelf, FollowingSibling, Following, Parent, Ancestor, PrecedingSibling, Preceding, AncestorOrSelf}
 use Rattle.pj_xaxes.specs.Axes.{node, on_axis, same_parent, is_reverse, axis_nodes, turned}
 use Rattle.pj_xaxes.specs.Search.{picked, axis_between}
-use Rattle.pj_xaxes.specs.Search.{IsPastParent, IsPastSiblings, NoneFrom, IsWindow}
+use Rattle.pj_xaxes.specs.Search.{IsPastParent, IsPastSiblingBefore, IsPastSiblings, NoneFrom, IsWindow}
 use Rattle.pj_xaxes.proofs.Ancestry.{parent-before, has_parent, ancestor-before, parent-from, child-below}
 use Rattle.pj_xaxes.proofs.Picking.{skipped, cut, picked-is}
+use Rattle.pj_xaxes.proofs.Siblings.{one_parent}
 
 -- a parent that is this node
 parent_is : (o : Option Node) (n : Node) → is_parent n o ≡ true → o ≡ Some n
 parent_is None n is = absurd (false≢true is)
 parent_is (Some p) n is = (let e : p.0 ≡ n.0 = eqb-true p.0 n.0 is in ap (λ (x : ℕ). Some (node x)) e)
-
-record OneParent (o p : Option Node) : Type 0 where
-  pub parent : Node
-  pub first : o ≡ Some parent
-  pub second : p ≡ Some parent
-
-one_parent : (o p : Option Node) → same_parent o p ≡ true → OneParent o p
-one_parent None None is = absurd (false≢true is)
-one_parent None (Some q) is = absurd (false≢true is)
-one_parent (Some q) None is = absurd (false≢true is)
-one_parent (Some p) (Some q) is = record { parent = p; first = refl; second = (let e : q.0 ≡ p.0 = sym (eqb-true p.0 q.0 is) in ap (λ (x : ℕ). Some (node x)) e) }
 
 off : {b : Bool} → (b ≡ true → ⊥) → b ≡ false
 off {b} h = false_from_ne_true b h
@@ -155,9 +145,9 @@ module _ (t : Tree) (s : IsSyntaxTree t) (n : Node) (inside : n.0 < length t.nod
     to_reach = λ is. low;
   }
 
-  pub window_preceding_sibling : (r : ℕ) → r ≤ n.0 → IsPastParent (parent_of t n) r → IsWindow t PrecedingSibling n r n.0
-  window_preceding_sibling r low past = record {
-    within = omega arith;
+  pub window_preceding_sibling : (r l : ℕ) → r ≤ n.0 → IsPastParent (parent_of t n) r → IsPastSiblingBefore t n l → IsWindow t PrecedingSibling n r l
+  window_preceding_sibling r l low past last = record {
+    within = omega (arith, last.before);
     before = record {
       each = λ k from to. off (λ is. (let both = and_parts (nat_lt k n.0) (same_parent (parent_of t (node k)) (parent_of t n)) is in
           let p = one_parent (parent_of t (node k)) (parent_of t n) both.1 in
@@ -167,10 +157,10 @@ module _ (t : Tree) (s : IsSyntaxTree t) (n : Node) (inside : n.0 < length t.nod
     };
     behind = record {
       each = λ k from to. off (λ is. (let both = and_parts (nat_lt k n.0) (same_parent (parent_of t (node k)) (parent_of t n)) is in
-          let l = ltb-true k n.0 both.0 in omega arith));
+          false≢true (sym (last.none.each k from (ltb-true k n.0 both.0)) ∙ both.1)));
     };
     from_least = omega arith;
-    to_reach = λ is. omega arith;
+    to_reach = λ is. last.before;
   }
 
   pub window_preceding : IsWindow t Preceding n 0 n.0

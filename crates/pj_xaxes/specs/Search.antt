@@ -1,11 +1,11 @@
 -- What the search for the nodes of an axis keeps to.
-use Rattle.std.specs.Prelude.{ℕ, ◌+◌, ◌-◌, map, filter, ◌≡◌, ◌≤◌, ◌<◌, Bool, true, false, not, List, Option, MatchOption, IsTrue, ◌↔◌, length}
+use Rattle.std.specs.Prelude.{ℕ, ◌+◌, ◌-◌, map, filter, ◌≡◌, ◌≤◌, ◌<◌, Bool, true, false, List, Option, MatchOption, IsTrue, ◌↔◌, length}
 use Rattle.pj_tree.specs.declared.node.Node.{Node}
 use Rattle.pj_xvalue.specs.declared.axis.Axis.{Axis}
-use Rattle.pj_xvalue.specs.declared.axis.Axis.TheVariants.{Child, FollowingSibling, Ancestor, PrecedingSibling, AncestorOrSelf}
-use Rattle.pj_tree.specs.Tree.{Tree, is_descendant}
+use Rattle.pj_xvalue.specs.declared.axis.Axis.TheVariants.{Child, FollowingSibling, AncestorOrSelf}
+use Rattle.pj_tree.specs.Tree.{Tree, parent_of, is_descendant}
 use Rattle.std.specs.List.{range_with_len}
-use Rattle.pj_xaxes.specs.Axes.{on_axis, is_reverse, node, turned}
+use Rattle.pj_xaxes.specs.Axes.{on_axis, is_reverse, same_parent, node, turned}
 
 -- of so many numbers, from one on, the nodes that pass a test
 unfoldable pub picked : (Node → Bool) → ℕ → ℕ → List Node
@@ -21,20 +21,13 @@ is_over Child = true
 is_over FollowingSibling = true
 is_over _ = false
 
--- whether from a node, that is on the axis or not, one goes to its parent
-abbrev pub is_climb : Axis → Bool → Bool
-is_climb Ancestor is_on = is_on
-is_climb AncestorOrSelf is_on = is_on
-is_climb PrecedingSibling is_on = not is_on
-is_climb _ is_on = false
-
 -- the number from which on subtrees may be stepped over
 abbrev pub least : Axis → Node → ℕ
 least Child n = n.0 + 1
 least FollowingSibling n = n.0 + 1
 least _ n = 0
 
--- the number below which one may climb
+-- the number below which nodes of a reverse axis stand
 abbrev pub reach : Axis → Node → ℕ
 reach AncestorOrSelf n = n.0 + 1
 reach _ n = n.0
@@ -50,6 +43,12 @@ pub record NoneFrom (test : Node → Bool) (from to : ℕ) : Type 0 where
 -- the number past all that is below the parent, and 0 where there is none
 abbrev pub IsPastSiblings : Tree → Option Node → ℕ → Type 0
 IsPastSiblings t parent number = MatchOption parent (number ≡ 0) (λ p. (k : Node) → IsTrue (is_descendant t k p) ↔ ((p.0 < k.0) × (k.0 < number)))
+
+-- the number past the sibling before n, and 0 where there is none
+pub record IsPastSiblingBefore (t : Tree) (n : Node) (number : ℕ) : Type 0 where
+  pub before : number ≤ n.0
+  pub sibling : 0 < number → parent_of t (node (number - 1)) ≡ parent_of t n
+  pub none : NoneFrom (λ k. same_parent (parent_of t k) (parent_of t n)) number n.0
 
 -- all nodes on the axis of n stand from one number on and below another
 pub record IsWindow (t : Tree) (axis : Axis) (n : Node) (low high : ℕ) : Type 0 where

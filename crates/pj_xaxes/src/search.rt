@@ -1,11 +1,11 @@
 //! Where the nodes of an axis stand: a test for one, the numbers between which all stand, and how far to go from one.
 //!
-//! Each takes a bounded number of reads of the tree, by the ends of subtrees.
+//! Each takes a bounded number of reads of the tree: of the ends of subtrees, of parents and of siblings before.
 ghost use Rattle.std.specs.Prelude.{◌≡◌, ◌+◌, ◌<◌, ◌≤◌, length, MatchOption, true, [], ◌∷◌, ◌-◌, reverse};
 ghost use Rattle.pj_tree.specs.Tree.{parent_of, is_parent, is_descendant};
 ghost use Rattle.pj_xaxes.specs.Axes.{on_axis, is_reverse, same_parent};
 ghost use Rattle.pj_xaxes.specs.Search.{picked};
-ghost use Rattle.pj_xaxes.specs.Search.{is_over, is_climb, least, reach, IsPastParent, NoneFrom, IsWindow, IsPastSiblings};
+ghost use Rattle.pj_xaxes.specs.Search.{is_over, least, reach, IsPastParent, NoneFrom, IsWindow, IsPastSiblingBefore, IsPastSiblings};
 
 use pj_tree::{Node, SyntaxTree};
 use pj_xvalue::Axis;
@@ -105,17 +105,6 @@ pub fn next_number(tree: &SyntaxTree<'_>, axis: Axis, n: Node, m: Node) -> u32
     }
 }
 
-/// Whether from a node, that is on the axis or not, one goes to its parent.
-fn climbs(axis: Axis, is_on: bool) -> bool
-    ensures { result ≡ is_climb axis is_on }
-{
-    match axis {
-        Axis::Ancestor | Axis::AncestorOrSelf => is_on,
-        Axis::PrecedingSibling => !is_on,
-        _ => false,
-    }
-}
-
 /// The number past the node's parent, or 0 for the root.
 fn past_parent(tree: &SyntaxTree<'_>, m: Node) -> u32
     requires inside { m.0 < length tree.now.nodes }
@@ -128,8 +117,19 @@ fn past_parent(tree: &SyntaxTree<'_>, m: Node) -> u32
     }
 }
 
+/// The number past the sibling before the node, or 0 where it is the first child or the root.
+fn past_sibling_before(tree: &SyntaxTree<'_>, n: Node) -> u32
+    requires inside { n.0 < length tree.now.nodes }
+    ensures { IsPastSiblingBefore tree.now n result }
+{
+    match tree.preceding_sibling(n) {
+        Some(m) => m.0 + 1,
+        None => 0,
+    }
+}
+
 /// The number below which to go on from the node `m`, backwards: no node from it on and before `m` is on the axis of the
-/// node `n`. From an ancestor one goes to its parent, and likewise from what is no sibling.
+/// node `n`. From an ancestor one goes to its parent, and from a sibling to the sibling before it.
 pub fn last_number(tree: &SyntaxTree<'_>, axis: Axis, n: Node, m: Node, is_on: bool) -> u32
     requires inside_n { n.0 < length tree.now.nodes }
     requires inside_m { m.0 < length tree.now.nodes }
@@ -140,10 +140,13 @@ pub fn last_number(tree: &SyntaxTree<'_>, axis: Axis, n: Node, m: Node, is_on: b
 {
     let count = tree.len();
     prove!(m.0 < count);
-    if climbs(axis, is_on) {
-        past_parent(tree, m)
-    } else {
-        m.0
+    if !is_on {
+        return m.0;
+    }
+    match axis {
+        Axis::Ancestor | Axis::AncestorOrSelf => past_parent(tree, m),
+        Axis::PrecedingSibling => past_sibling_before(tree, m),
+        _ => m.0,
     }
 }
 
@@ -176,7 +179,7 @@ pub fn window(tree: &SyntaxTree<'_>, axis: Axis, n: Node) -> (u32, u32)
         Axis::Following => (end, count),
         Axis::Parent => (past.saturating_sub(1), past),
         Axis::Ancestor => (0, past),
-        Axis::PrecedingSibling => (past, n.0),
+        Axis::PrecedingSibling => (past, past_sibling_before(tree, n)),
         Axis::Preceding => (0, n.0),
         Axis::AncestorOrSelf => (0, n.0 + 1),
     }

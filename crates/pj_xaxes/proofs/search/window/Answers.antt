@@ -30,7 +30,7 @@ returns-in-Ancestor c =
 pub returns-in-PrecedingSibling : goal.returns-in-PrecedingSibling
 returns-in-PrecedingSibling c =
     rw c.in-PrecedingSibling.is (window_preceding_sibling c.args.tree.now c.len-count.ensures.tree c.args.n c.requires.inside c.subtree_end-end.result.0 c.subtree_end-end.ensures.within c.subtree_end-end.ensures.past c.subtree_end-end.ensures.descendants
-    c.past_parent-past.result c.past_parent-past.ensures.before c.past_parent-past.ensures.past)
+    c.past_parent-past.result c.past_sibling_before.result c.past_parent-past.ensures.before c.past_parent-past.ensures.past c.past_sibling_before.ensures)
 
 pub returns-in-AncestorOrSelf : goal.returns-in-AncestorOrSelf
 returns-in-AncestorOrSelf c =
