@@ -1,0 +1,4 @@
+pub mod Pairs
+pub mod Classes
+pub mod Steps
+pub mod Loops

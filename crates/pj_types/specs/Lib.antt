@@ -1,0 +1,12 @@
+pub mod Substitution
+pub mod DepthFirst
+pub mod DepthFirstLaws
+pub mod Supertypes
+pub mod WalkLaws
+pub mod Subtyping
+pub mod Seen
+pub mod Visited
+pub mod Standing
+pub mod Listing
+pub mod ListingLaws
+pub mod Limits

@@ -1,0 +1,16 @@
+// Types of the Java language: substitution, erasure, supertypes and subtyping.
+#![tactic(auto)]
+
+pub mod hierarchy;
+pub mod laws;
+mod listed;
+pub mod substitution;
+pub mod subtyping;
+#[cfg(test)]
+mod tests;
+pub mod walk;
+
+pub use hierarchy::supertypes;
+pub use substitution::{erase, substitute};
+pub use subtyping::is_subtype;
+pub use walk::Walk;
