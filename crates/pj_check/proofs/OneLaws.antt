@@ -1,5 +1,5 @@
 -- Bytes have one tree at most, and words and files one report.
-use Rattle.std.proofs.Common.{◌≡◌, ℕ, List, [], ◌∷◌, Result, Ok, Err, Some, sym, ◌∙◌, ap, subst}
+use Rattle.std.proofs.Common.{◌≡◌, ℕ, List, [], ◌∷◌, Result, Ok, Some, sym, ◌∙◌, ap, subst}
 use Rattle.pj_outside.specs.Files.{Bytes, bytes_at}
 use Rattle.pj_lex.specs.SourceText.{SourceText, IsRead}
 use Rattle.pj_lex.specs.declared.source.fault.SourceFault.{SourceFault}
@@ -13,10 +13,10 @@ use Rattle.pj_check.specs.Cold.{cold_report}
 use Rattle.pj_check.specs.CheckFile.{rules_for}
 use Rattle.pj_check.specs.Laws.{OneTree, OneReport}
 
-abbrev OneReading : Type 0
+abbrev pub OneReading : Type 0
 OneReading = (bytes : List ℕ) (o p : Result SourceText SourceFault) → IsRead bytes o → IsRead bytes p → o ≡ p
 
-abbrev OneOutcome : Type 0
+abbrev pub OneOutcome : Type 0
 OneOutcome = (text : List ℕ) → HasOneOutcome text
 
 abbrev file_of : Tree → List TokenSeen → FileParsed

@@ -69,7 +69,7 @@ bytes_says Memory path name bytes lines old new r says = absurd says
 -- ---- from bytes to files
 
 -- words name one path and one query
-same_job : (words : List Bytes) (p q n m : Bytes) → IsJob words p n → IsJob words q m → p ≡ q
+pub same_job : (words : List Bytes) (p q n m : Bytes) → IsJob words p n → IsJob words q m → p ≡ q
 same_job words p q n m a b = let e = sym a.words_are ∙ b.words_are in cc
 
 pub no_report_without_job : (words : List Bytes) (files : Files) → IsNoJob words → HasNoReport words files

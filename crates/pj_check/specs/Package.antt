@@ -1,7 +1,7 @@
 -- The package of a file.
 use Rattle.std.specs.Prelude.{Bool, true, false, List, [], ◌∷◌, map, if◌then◌else◌}
-use Rattle.std.specs.List.{concat}
 use Rattle.pj_outside.specs.Files.{Bytes}
+use Rattle.pj_pool.specs.Names.{identifiers, dotted}
 use Rattle.pj_tree.specs.Tree.{TreeNode, Tree, slice_at}
 use Rattle.pj_tree.specs.declared.kind.Kind.{Kind}
 use Rattle.pj_tree.specs.declared.kind.Kind.TheVariants.{PackageDeclaration}
@@ -10,19 +10,9 @@ abbrev pub is_package_declaration : Kind → Bool
 is_package_declaration PackageDeclaration = true
 is_package_declaration other = false
 
--- a list without its first and its last member
-abbrev pub without_last : {A : Type 0} → List A → List A
-without_last [] = []
-without_last (x ∷ []) = []
-without_last (x ∷ y ∷ ys) = x ∷ without_last (y ∷ ys)
-
-abbrev pub between : {A : Type 0} → List A → List A
-between [] = []
-between (x ∷ xs) = without_last xs
-
--- JLS 7.4.1: what stands between `package` and `;`, its words and dots side by side
+-- JLS 7.4.1: the identifiers of the declaration with dots between
 abbrev pub declared_name : Bytes → TreeNode → Bytes
-declared_name text x = concat (map (slice_at text) (between x.own))
+declared_name text x = dotted (identifiers (map (slice_at text) x.own))
 
 -- the name of the first package that one of the nodes declares, and the empty one where there is none
 abbrev pub package_among : Bytes → List TreeNode → Bytes

@@ -2,7 +2,7 @@
 
 ghost use Rattle.std.specs.Prelude.{◌≡◌, IfOk};
 ghost use Rattle.std.specs.Str.{chars, encode_utf8_all};
-ghost use Rattle.pj_literals.specs.StringValue.{IsQuoted, string_value, between_delimiters};
+ghost use Rattle.pj_literals.specs.StringValue.{string_value, between_delimiters};
 
 use crate::block::text_block;
 use crate::escape::interpreted;
@@ -10,16 +10,9 @@ use pj_names::{NoMemory, Text};
 use std::alloc::Global;
 
 /// The characters that a character literal, a string literal or a text block stands for (JLS 3.10.4 to 3.10.7): its escapes are interpreted,
-/// and a text block has lost its incidental white space.
+/// and a text block has lost its incidental white space. Any other text is read as if it were one: as a text block where three quotes open it,
+/// and else without its first and its last character.
 pub fn string_value(alloc: Global, text: &str) -> Result<Text, NoMemory>
-    requires spelling { IsQuoted (chars text.now) }
-    ensures value { IfOk result (λ made. made ≡ encode_utf8_all (string_value (chars text.now))) }
-{
-    characters(alloc, text)
-}
-
-/// The same, of any text.
-pub fn characters(alloc: Global, text: &str) -> Result<Text, NoMemory>
     ensures value { IfOk result (λ made. made ≡ encode_utf8_all (string_value (chars text.now))) }
 {
     let word: Vec<char> = text.chars().collect(alloc)?;

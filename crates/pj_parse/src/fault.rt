@@ -1,6 +1,7 @@
 //! Why a source file has no syntax tree.
 
 use pj_lex::LexFault;
+use pj_names::NoMemory;
 use pj_tree::ShapeFault;
 use std::alloc::{AllocError, AllocFailed};
 
@@ -39,6 +40,17 @@ impl<T: Drop> From<AllocFailed<T>> for ParseFault {
     ghost from_gives = { λ _ fault. fault ≡ Memory };
 
     fn from(_: AllocFailed<T>) -> Self {
+        ParseFault::Memory
+    }
+}
+
+impl From<NoMemory> for ParseFault {
+    ghost use Rattle.std.specs.Prelude.{◌≡◌};
+    ghost use Rattle.pj_parse.specs.declared.fault.ParseFault.TheVariants.{Memory};
+
+    ghost from_gives = { λ _ fault. fault ≡ Memory };
+
+    fn from(_: NoMemory) -> Self {
         ParseFault::Memory
     }
 }

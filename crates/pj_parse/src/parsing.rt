@@ -6,6 +6,7 @@ ghost use Rattle.pj_peg.specs.Derives.{DerivesSteps, FailsAtStart};
 ghost use Rattle.pj_grammar.specs.Java17.{java_17_forms, java_17_shapes};
 ghost use Rattle.pj_shape.specs.Shaped.{shape_of};
 ghost use Rattle.pj_shape.specs.ShapedTree.{MakesNode};
+ghost use Rattle.pj_pool.specs.PoolText.{IsPoolOf};
 ghost use Rattle.pj_parse.specs.Parses.{Parses, file_parsed};
 
 use crate::fault::ParseFault;
@@ -14,6 +15,7 @@ use crate::words::{word_spans, word_terminals};
 use pj_grammar::{java_17, rules_have_their_numbers, shapes};
 use pj_lex::{Source, Token};
 use pj_peg::{Derivation, WellFormed, run};
+use pj_pool::Pool;
 use pj_shape::{Shape, shape_derivation};
 use pj_tree::SyntaxTree;
 use std::alloc::Global;
@@ -28,6 +30,8 @@ pub struct Parsed<'s> {
     pub tree: SyntaxTree<'s>,
     /// All tokens in the order of the text, comments included.
     pub tokens: Vec<Token<'s>>,
+    /// The texts of the tree's nodes that are no stretches of the text: values of literals, and joined names.
+    pub pool: Pool,
 }
 
 /// What the rules make. The first one makes the root.
@@ -53,7 +57,7 @@ fn derive(alloc: Global, grammar: &WellFormed, terminals: &[u16]) -> Result<Deri
     }
 }
 
-/// The syntax tree and the tokens of a source file, by a grammar that the caller keeps for many files.
+/// The syntax tree, the tokens and the pool of a source file, by a grammar that the caller keeps for many files.
 pub fn parse_by<'s>(
     alloc: Global,
     grammar: &WellFormed,
@@ -62,6 +66,7 @@ pub fn parse_by<'s>(
     requires grammar { forms_of grammar.now ≡ java_17_forms }
     ensures parses { MatchResult result (λ p. Parses source.now.text (Ok (file_parsed p))) (λ fault. (fault ≡ ParseFault.Memory) ⊎ Parses source.now.text (Err fault)) }
     ensures text { IfOk result (λ p. p.tree.text ≡ source.now.text) }
+    ensures pool { IfOk result (λ p. IsPoolOf p.tree p.pool) }
 {
     let tokens = collect_tokens(alloc, source)?;
     let spans = word_spans(alloc, tokens.as_slice())?;
@@ -77,15 +82,19 @@ pub fn parse_by<'s>(
         java_shapes(),
         &derivation,
     ) {
-        Ok(tree) => Ok(Parsed { tree, tokens }),
+        Ok(tree) => {
+            let pool = Pool::of(alloc, &tree)?;
+            Ok(Parsed { tree, tokens, pool })
+        }
         Err(fault) => Err(ParseFault::from(fault)),
     }
 }
 
-/// The syntax tree and the tokens of a source file.
+/// The syntax tree, the tokens and the pool of a source file.
 pub fn parse<'s>(alloc: Global, source: &'s Source) -> Result<Parsed<'s>, ParseFault>
     ensures parses { MatchResult result (λ p. Parses source.now.text (Ok (file_parsed p))) (λ fault. (fault ≡ ParseFault.Memory) ⊎ Parses source.now.text (Err fault)) }
     ensures text { IfOk result (λ p. p.tree.text ≡ source.now.text) }
+    ensures pool { IfOk result (λ p. IsPoolOf p.tree p.pool) }
 {
     match java_17(alloc) {
         Ok(grammar) => parse_by(alloc, &grammar, source),

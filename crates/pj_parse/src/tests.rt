@@ -4,6 +4,7 @@
 use super::*;
 use crate::tests_rows::{
     FURTHER_STATEMENTS, MORE_EXPRESSIONS, MORE_FILES_AND_MEMBERS, MORE_REFUSED, MORE_STATEMENTS,
+    POOL_TEXTS,
 };
 use pj_lex::Source;
 use pj_tree::{Node, SyntaxTree};
@@ -85,6 +86,42 @@ fn spans_in(alloc: Global, text: &str, name: &str) -> Result<String, Fail> {
         Ok(parsed) => Ok(spans_of(alloc, &parsed.tree, name)?),
         Err(_) => Ok(String::new(alloc)),
     }
+}
+
+/// The texts of the pool, in the order of their nodes, each in brackets behind its node.
+fn texts_of(alloc: Global, parsed: &Parsed<'_>) -> Result<String, AllocError> {
+    let mut found = String::new(alloc);
+    for n in 0..parsed.tree.len() {
+        if let Some(text) = parsed.pool.text(Node(n)) {
+            let name = parsed.tree.kind(Node(n)).name();
+            write!(found, "{name}[{text}] ")?;
+        }
+    }
+    Ok(found)
+}
+
+/// The texts of the pool of a text.
+fn texts_in(alloc: Global, text: &str) -> Result<String, Fail> {
+    if text.len() > 1_000_000 {
+        return Ok(String::new(alloc));
+    }
+    let source = match Source::read(alloc, text.as_bytes()) {
+        Ok(source) => source,
+        Err(_) => return Ok(String::new(alloc)),
+    };
+    match parse(alloc, &source) {
+        Ok(parsed) => Ok(texts_of(alloc, &parsed)?),
+        Err(_) => Ok(String::from_str(alloc, "refused")?),
+    }
+}
+
+#[test]
+fn texts_of_pools(rt: HostRuntime) -> Result<(), Fail> {
+    for (text, wanted) in &POOL_TEXTS {
+        let found = texts_in(rt.alloc(), text)?;
+        assert_eq!(rt; found.as_str(), *wanted, "of {text}");
+    }
+    Ok(())
 }
 
 fn check(rt: &impl Abort, alloc: Global, table: &[(&str, &str)]) -> Result<(), Fail> {

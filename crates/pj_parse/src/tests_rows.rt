@@ -415,3 +415,62 @@ pub static MORE_REFUSED: [&str; 42] = [
     "import a; class B { } import c;",
     "int f() { }",
 ];
+
+/// Texts, and those of their nodes of which one is kept, in the order of the nodes.
+pub static POOL_TEXTS: [(&str, &str); 22] = [
+    ("package a.b;", "PackageDeclaration[a.b] "),
+    (
+        "@A package a . /* c */ b\n. c;",
+        "PackageDeclaration[a.b.c] ",
+    ),
+    (
+        "import java . util /* c */ . List;",
+        "ImportDeclaration[java.util.List] ",
+    ),
+    ("import static a.b.C.*;", "ImportDeclaration[a.b.C] "),
+    (
+        "import a.*; import static b.C;",
+        "ImportDeclaration[a] ImportDeclaration[b.C] ",
+    ),
+    (
+        "import non.sealed.record.C;",
+        "ImportDeclaration[non.sealed.record.C] ",
+    ),
+    ("class C { String s = \"a\\tb\"; }", "StringLiteral[a\tb] "),
+    (
+        "class C { String s = (\"\") + /* \"c\" */ \"b\"; }",
+        "StringLiteral[] StringLiteral[b] ",
+    ),
+    (
+        "class C { String s = \"\"\"\n    a\n      b\\n\n    \"\"\"; }",
+        "StringLiteral[a\n  b\n\n] ",
+    ),
+    (
+        "class C { char c = '\\u0041', d = '\\\\'; }",
+        "CharLiteral[A] CharLiteral[\\] ",
+    ),
+    (
+        "class C { int i = 1; boolean b = true; Object o = null; }",
+        "",
+    ),
+    ("class C extends D implements E { F f; }", ""),
+    (
+        "class C { java.util.Map.Entry<K, V> e; }",
+        "ClassType[java.util] ",
+    ),
+    (
+        "class C { java . util /* c */ .Map<java.lang.String, a.B> m; }",
+        "ClassType[java.util] ClassType[java.lang] ClassType[a] ",
+    ),
+    ("class C { @A java.util.List l; }", "ClassType[java.util] "),
+    ("class C { java.util.@A List l; }", "ClassType[java.util] "),
+    ("class C { List<@A java.util.List> l; }", ""),
+    ("class C { A.b.C c; }", ""),
+    ("class C { java.util u; }", "ClassType[java] "),
+    ("@a.b.C class D { }", "ClassType[a.b] "),
+    (
+        "class C { int i = java.util.List.of().size(); }",
+        "ClassType[java.util] ",
+    ),
+    ("class C { int i = java.util.list.of; }", ""),
+];

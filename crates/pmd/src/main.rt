@@ -68,7 +68,10 @@ fn lack_at<T: Tree>(
     outcome: FileOutcome,
 ) -> Option<Lack> {
     match outcome {
-        FileOutcome::NotBuilt => lack_of(alloc, words, tree),
+        FileOutcome::NotBuilt => match lack_of(alloc, words, tree) {
+            Ok(lack) => lack,
+            Err(_) => None,
+        },
         _ => None,
     }
 }

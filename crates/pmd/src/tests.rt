@@ -5,7 +5,7 @@ ghost use Rattle.pj_check.specs.Outcome.{Says};
 use crate::real_sink::RealSink;
 use crate::real_tree::RealTree;
 use crate::run;
-use pj_check::FileOutcome;
+use pj_check::{FileOutcome, lack_of};
 use pj_names::{Bytes, Numbers, Text, Words};
 use pj_outside::{Files, MemSink, MemTree, Reading, Refused, Sink, Tree};
 use std::alloc::Global;
@@ -251,4 +251,61 @@ fn the_real_sink_writes_what_is_put(rt: HostRuntime) {
     assert_eq!(rt; sink.put(b"ab"), Ok(()));
     assert_eq!(rt; sink.put(b"c"), Ok(()));
     assert_eq!(rt; sink.written().as_slice(), b"abc".as_slice());
+}
+
+/// What is said of a check of a path where `src/A.java` has these bytes, and nothing where it has a report.
+fn lacking(alloc: Global, bytes: &[u8], path: &str, query: &str) -> Result<String, Fail> {
+    let mut files = Files::new(alloc);
+    let bytes = Bytes::from_vec(Vec::from_slice(alloc, bytes)?);
+    files.push((Text::from_str(alloc, "src/A.java")?, bytes))?;
+    let mut tree = MemTree::new(alloc, files, Numbers::new(alloc));
+    let words = words(alloc, path, query)?;
+    match lack_of(alloc, &words, &mut tree)? {
+        Some(lack) => Ok(format!(in alloc; "{lack}")?),
+        None => Ok(String::new(alloc)),
+    }
+}
+
+#[test]
+fn the_first_thing_that_lacks_is_named(rt: HostRuntime) -> Result<(), Fail> {
+    let table: [(&[u8], &str, &str, &str); 8] = [
+        (b"class A { }", "src/A.java", "//A", ""),
+        (
+            b"#",
+            "src/B.java",
+            "/A",
+            "wanted are the words check FILE //NAME",
+        ),
+        (b"#", "src/B.java", "//A", "no such file"),
+        (
+            b"\\u NOPMD \xff",
+            "src/A.java",
+            "//A",
+            "not UTF-8 at byte 9",
+        ),
+        (
+            b"#\n '\\u00' NOPMD",
+            "src/A.java",
+            "//A",
+            "bad unicode escape at 2:3",
+        ),
+        (
+            b"class {\n # NOPMD",
+            "src/A.java",
+            "//A",
+            "lexical fault 1 at 2:2",
+        ),
+        (b"class { // NOPMD", "src/A.java", "//A", "syntax fault"),
+        (
+            b"class A { } // NOPMD",
+            "src/A.java",
+            "//A",
+            "the file speaks of NOPMD or SuppressWarnings",
+        ),
+    ];
+    for (bytes, path, query, wanted) in table {
+        let found = lacking(rt.alloc(), bytes, path, query)?;
+        assert_eq!(rt; found.as_str(), wanted, "of {path} and {query}");
+    }
+    Ok(())
 }

@@ -4,7 +4,7 @@ use Rattle.std.proofs.lemmas.Str.{chars_from_encodes}
 use Rattle.pj_literals.specs.Escapes.{interpreted}
 use Rattle.pj_literals.specs.TextBlock.{text_block}
 use Rattle.pj_literals.specs.StringValue.{is_text_block, between_delimiters, string_value}
-use Rattle.pj_literals.proofs.string.characters.Goals as goal
+use Rattle.pj_literals.proofs.string.string_value.Goals as goal
 
 pub returns-then-starts_with : goal.returns-then-starts_with
 returns-then-starts_with c =
