@@ -3,8 +3,8 @@
 #
 # It extracts the JDK's image, makes a scratch repository of the libraries and of a small program, proves both (which takes
 # minutes where nothing of them is kept on this machine), and runs the program. The first part prints how many class files
-# are classes, every refusal with its fault, and the time. The files module-info.class are no classes: they have no
-# superclass, which is fault 5. The second part takes some 240 classes, spread over the list, and compares name, flags,
+# are classes, every refusal with its fault, and the time; then how many files module-info.class are: these are no classes, since
+# they have no superclass, which is fault 5. The second part takes some 240 classes, spread over the list, and compares name, flags,
 # signature, and each field and method with flags, name and signature, with what `javap -v -p` prints: the signatures where
 # they are written, else the superclass and the interfaces, or the descriptor. It prints each class that differs, and how
 # many are the same. It wants jimage, javap and python3.
@@ -15,6 +15,7 @@ home=$(dirname "$(dirname "$(readlink -f "$(command -v javap)")")")
 jimage extract --dir "$scratch/jdk" "$home/lib/modules"
 find "$scratch/jdk" -name '*.class' | LC_ALL=C sort > "$scratch/all"
 grep -v '/module-info.class$' "$scratch/all" > "$scratch/classes"
+grep '/module-info.class$' "$scratch/all" > "$scratch/modules"
 step=$(($(wc -l < "$scratch/classes") / 240))
 awk -v step="$step" 'NR % step == 0' "$scratch/classes" > "$scratch/some"
 cat > "$bench/src/main.rt" <<'PROGRAM'
@@ -196,7 +197,12 @@ for a in ours:
 print("read %d, by javap %d, the same %d" % (len(ours), len(theirs), same))
 COMPARE
 cd "$bench"
-time rt run -- "list=$scratch/all" | tail -n 20
-rt run -- --whole "list=$scratch/some" > "$scratch/ours"
+rt run > /dev/null
+program=out/classes_bench
+echo 'classes:'
+time $program "list=$scratch/classes"
+echo 'module-info.class:'
+$program "list=$scratch/modules" | tail -n 1
+$program --whole "list=$scratch/some" > "$scratch/ours"
 xargs javap -v -p < "$scratch/some" > "$scratch/theirs"
 python3 "$scratch/compare.py" "$scratch/ours" "$scratch/theirs"
