@@ -1,4 +1,5 @@
 pub mod Substitution
+pub mod SubstitutionLaws
 pub mod DepthFirst
 pub mod DepthFirstLaws
 pub mod Supertypes
@@ -10,3 +11,4 @@ pub mod Standing
 pub mod Listing
 pub mod ListingLaws
 pub mod Limits
+pub mod SubtypingLaws

@@ -88,9 +88,9 @@ module _ (w : Name → Answer) where
       = subst (λ l. IsDistinct (pointwise nat_eq) l) (sym (map-append name_of visited (class ∷ []))) (IsDistinct-push nat_list_eq_equiv (map name_of visited) class.name distinct (not_seen (map name_of visited) class.name new)) in
       leads-distinct below rest list leads (leads-distinct (visited ++ class ∷ []) (value_of w (direct class)) below here more)
 
-  names_given : (list : List Listed) → map class_name (map given_type list) ≡ map name_of list
-  names_given [] = refl
-  names_given (x ∷ xs) = ap (λ l. x.name ∷ l) (names_given xs)
+  pub names-given : (list : List Listed) → map class_name (map given_type list) ≡ map name_of list
+  names-given [] = refl
+  names-given (x ∷ xs) = ap (λ l. x.name ∷ l) (names-given xs)
 
   none_twice : IsDistinct (pointwise nat_eq) (map name_of [])
   unfolding IsDistinct
@@ -98,4 +98,4 @@ module _ (w : Name → Answer) where
 
   pub names-once : (name : Name) (types : List JavaType) → AreSupertypes w name types → IsDistinct (pointwise nat_eq) (map class_name types)
   names-once name types are =
-      subst (λ l. IsDistinct (pointwise nat_eq) l) (sym (names_given are.0) ∙ ap (λ l. map class_name l) are.2) (leads-distinct [] (first_listed name ∷ []) are.0 are.1 none_twice)
+      subst (λ l. IsDistinct (pointwise nat_eq) l) (sym (names-given are.0) ∙ ap (λ l. map class_name l) are.2) (leads-distinct [] (first_listed name ∷ []) are.0 are.1 none_twice)

@@ -1,7 +1,4 @@
 //! Worked rows by hand, and each public call once with ample memory.
-ghost use Rattle.std.specs.FinSet as set;
-ghost use Rattle.pj_names.specs.AnswerList.{list_world};
-
 use crate::*;
 use pj_names::{
     Answer, Answers, AskFault, Bindings, ClassInfo, ClassName, Copied, MapOracle, Members,
