@@ -12,7 +12,7 @@ set -euo pipefail
 folder=$(cd "$1" && pwd)
 . "$(dirname "$0")/scratch.sh"
 scratch_repository corpus_bench 'anyhow pj_check pj_lex pj_names pj_outside' \
-    pj_names pj_tree pj_peg pj_outside pj_lex pj_pieces pj_shape pj_grammar pj_parse pj_check
+    pj_names pj_tree pj_peg pj_outside pj_lex pj_pieces pj_shape pj_grammar pj_literals pj_pool pj_parse pj_check
 cat > "$bench/src/main.rt" <<'PROGRAM'
 // Checks of many files, each in memory.
 #![tactic(auto)]
