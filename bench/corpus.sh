@@ -80,8 +80,8 @@ fn tree_of(alloc: Global, path: &str, bytes: Vec<u8>) -> Result<MemTree, NoMemor
 // Why there is no report.
 fn say_why(rt: &HostRuntime, path: &str, words: &Words, tree: &mut MemTree) -> anyhow::Result<()> {
     match lack_of(rt.alloc(), words, tree) {
-        Some(lack) => println!(rt; "{path}: {lack}")?,
-        None => println!(rt; "{path}: out of memory")?,
+        Ok(Some(lack)) => println!(rt; "{path}: {lack}")?,
+        Ok(None) | Err(_) => println!(rt; "{path}: out of memory")?,
     }
     Ok(())
 }
