@@ -1,0 +1,33 @@
+//! The expressions that derivations spell.
+#![tactic(auto)]
+
+mod action;
+mod beginning;
+mod change;
+mod clause;
+mod expression;
+mod form;
+mod front;
+mod laws;
+mod leaf;
+mod literal;
+mod made;
+mod name;
+mod operation;
+mod part;
+mod parts;
+#[cfg(test)]
+mod printed;
+mod rest;
+mod step;
+mod table;
+#[cfg(test)]
+mod tests;
+
+pub use action::{Action, Binder, Chain, Change, Kind, Leaf, Operation, Rest, Single, Step};
+pub use beginning::{Begun, beginnings};
+pub use expression::meaning;
+pub use front::Front;
+pub use laws::actions_fit_the_grammar;
+pub use name::{Callee, axis_named, function_named};
+pub use part::Part;
