@@ -3,6 +3,7 @@ pub mod Endings
 pub mod Lifting
 pub mod Numbers
 pub mod OneOutcome
+pub mod OneRun
 pub mod Outcomes
 pub mod Reading
 pub mod RuleFacts

@@ -143,7 +143,7 @@ some_outcome ts = of_end (end_of (numbers ts)).0 (end_of (numbers ts)).1
 
 -- ---- a derivation
 
-derives_one : (terminals ps qs : List ℕ) → Derives xpath_grammar terminals ps → Derives xpath_grammar terminals qs → ps ≡ qs
+pub derives_one : (terminals ps qs : List ℕ) → Derives xpath_grammar terminals ps → Derives xpath_grammar terminals qs → ps ≡ qs
 derives_one terminals ps qs =
     subst (λ g. Derives g terminals ps → Derives g terminals qs → ps ≡ qs) table_is
     (λ d e. (unique xpath_facts (entries_of PIECES) is_predictive qs [] None d e (start_stack xpath_facts (entries_of PIECES) is_predictive) refl refl).0)

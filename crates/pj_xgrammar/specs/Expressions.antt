@@ -3,6 +3,7 @@
 -- A place is a number of tokens, from 0: that of the token there, and the number of all tokens for the end.
 use Rattle.std.specs.Prelude.{◌≡◌, ℕ, ◌+◌, ◌<◌, ◌≤◌, List, ◌++◌, length, take}
 use Rattle.pj_ll.specs.Leads.{Derives, IsSentence}
+use Rattle.pj_ll.specs.Outcome as terminals
 use Rattle.pj_ll.specs.Outcome.{IsLeftOutAt, IsTooDeepAt, AreClearBelow, LeadBehind}
 use Rattle.pj_ll.specs.declared.parser.End.{End}
 use Rattle.pj_ll.specs.declared.parser.End.TheVariants as ends
@@ -81,3 +82,10 @@ LeadTo tokens productions ends.Whole = AreDerived tokens productions
 LeadTo tokens productions (ends.Stops i) = (k : ℕ) × (k ≤ i) × (i ≤ k + 1) × LeadBehindFirst tokens k productions
 LeadTo tokens productions (ends.LeftOut i) = LeadBehindFirst tokens i productions
 LeadTo tokens productions (ends.TooDeep i) = LeadBehindFirst tokens i productions
+
+-- The productions are those that derive the tokens as far as their terminals go: all tokens, or those before the first terminal
+-- that cannot follow, is left out, or stands where too much is open. No other productions are.
+pub record IsRun (tokens : List Lexed) (productions : List ℕ) : Type 0 where
+  pub end : End
+  pub ends : terminals.IsEnd xpath_grammar (numbers tokens) greatest_nesting end
+  pub leads : terminals.LeadTo xpath_grammar (numbers tokens) productions end

@@ -3,7 +3,7 @@
 ghost use Rattle.std.specs.Prelude.{◌≡◌, ◌<◌, ◌≤◌, ◌^◌, IfOk, IsTrue, IsFalse, length, map};
 ghost use Rattle.pj_ll.specs.Outcome as ll;
 ghost use Rattle.pj_xtokens.specs.Answer.{lexed_of};
-ghost use Rattle.pj_xgrammar.specs.Expressions.{IsOutcome, LeadTo, greatest_nesting};
+ghost use Rattle.pj_xgrammar.specs.Expressions.{IsOutcome, IsRun, LeadTo, greatest_nesting};
 ghost use Rattle.pj_xgrammar.specs.Following.{CouldFollow, IsReadAt, is_past, terminals_with_last};
 ghost use Rattle.pj_xgrammar.specs.Terminals.{numbers};
 ghost use Rattle.pj_xgrammar.specs.XPath.{xpath_grammar};
@@ -93,6 +93,7 @@ pub fn derivation(alloc: Global, tokens: &[Token<'_>]) -> Result<Run, NoMemory>
     requires few { length tokens.now < 2 ^ 32 }
     ensures outcome { IfOk result (λ run. IsOutcome (map lexed_of tokens.now) run.end) }
     ensures leads { IfOk result (λ run. LeadTo (map lexed_of tokens.now) run.productions.items run.end) }
+    ensures run { IfOk result (λ run. IsRun (map lexed_of tokens.now) run.productions.items) }
 {
     let terminals = terminals_of(alloc, tokens)?;
     let run = run_over(alloc, terminals.as_slice())?;

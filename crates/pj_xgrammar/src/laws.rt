@@ -7,7 +7,7 @@ ghost use Rattle.pj_ll.specs.Predictive.{RuleFacts, IsPredictive};
 ghost use Rattle.pj_xtokens.specs.Tokens.{Lexed};
 ghost use Rattle.pj_xgrammar.specs.declared.rule.Rule.{Rule};
 ghost use Rattle.pj_xgrammar.specs.declared.terminal.Terminal.{Terminal};
-ghost use Rattle.pj_xgrammar.specs.Expressions.{AreDerived, IsOutcome};
+ghost use Rattle.pj_xgrammar.specs.Expressions.{AreDerived, IsOutcome, IsRun};
 ghost use Rattle.pj_xgrammar.specs.Notation.{rule_number};
 ghost use Rattle.pj_xgrammar.specs.Terminals.{terminal_number};
 ghost use Rattle.pj_xgrammar.specs.XPath.{rules, xpath_grammar};
@@ -21,6 +21,11 @@ pub fn one_outcome()
 /// The tokens of an expression have one leftmost derivation: the grammar is not ambiguous.
 pub fn one_derivation()
     ensures { (tokens : List Lexed) (ps qs : List ℕ) → AreDerived tokens ps → AreDerived tokens qs → ps ≡ qs }
+{}
+
+/// The tokens have one list of productions that derive them as far as their terminals go.
+pub fn one_run()
+    ensures { (tokens : List Lexed) (ps qs : List ℕ) → IsRun tokens ps → IsRun tokens qs → ps ≡ qs }
 {}
 
 /// The grammar is LL(1): with some select sets its predictive parser is exact.

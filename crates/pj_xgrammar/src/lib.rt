@@ -19,7 +19,7 @@ mod word;
 pub use derive::derivation;
 pub use grammar::productions;
 pub use laws::{
-    grammar_is_predictive, one_derivation, one_outcome, rules_have_their_numbers,
+    grammar_is_predictive, one_derivation, one_outcome, one_run, rules_have_their_numbers,
     terminals_have_their_numbers,
 };
 pub use rule::Rule;

@@ -9,6 +9,7 @@ use Rattle.pj_xgrammar.specs.Terminals.{numbers}
 use Rattle.pj_xgrammar.specs.Expressions.{IsOutcome}
 use Rattle.pj_xgrammar.specs.Following.{CouldFollow, IsReadAt}
 use Rattle.pj_xgrammar.proofs.Outcomes.{length_numbers, not_stopped, stops_at_end, stopped_here, stopped_behind, read_at, mapped_at, same_leads}
+use Rattle.pj_xgrammar.proofs.OneRun.{run_is}
 use Rattle.pj_xgrammar.proofs.derive.derivation.Goals as goal
 
 pub run_over-requires : goal.run_over-requires
@@ -26,6 +27,7 @@ returns-in_default c =
       outcome = not_stopped tokens c.in_ok-run.run'.end c.in_default.not-Stops (subst (λ l. ll.IsEnd xpath_grammar l 200 c.in_ok-run.run'.end) is c.in_ok-run.ensures.ends);
       leads = same_leads tokens c.in_ok-run.run'.productions.items c.in_ok-run.run'.end
           (subst (λ l. ll.LeadTo xpath_grammar l c.in_ok-run.run'.productions.items c.in_ok-run.run'.end) is c.in_ok-run.ensures.leads);
+      run = run_is tokens c.as_slice.result.now c.in_ok-run.run'.productions.items c.in_ok-run.run'.end is c.in_ok-run.ensures.ends c.in_ok-run.ensures.leads;
     }
 
 pub returns-in_default-get-clause-outcome : goal.returns-in_default-get-clause-outcome
@@ -84,3 +86,18 @@ returns-clause-outcome c =
     let x = lexed_of c.in-Some.token.now in
     let at = mapped_at lexed_of c.args.tokens.now c.in-Stops.place c.in-Some.token.now here.0 it in
     stopped_behind tokens c.in-Stops.place x at stops (subst (λ l. CouldFollow l c.in-Stops.place x) same (c.in_ok-could_follow.ensures.could c.if-not-branch.false))
+
+pub returns-in_default-get-clause-run : goal.returns-in_default-get-clause-run
+returns-in_default-get-clause-run c =
+    run_is (map lexed_of c.args.tokens.now) c.as_slice.result.now c.in_ok-run.run'.productions.items c.in_ok-run.run'.end
+        (c.as_slice.ensures.value ∙ c.in_ok-terminals.ensures) c.in_ok-run.ensures.ends c.in_ok-run.ensures.leads
+
+pub returns-then-not-branch-clause-run : goal.returns-then-not-branch-clause-run
+returns-then-not-branch-clause-run c =
+    run_is (map lexed_of c.args.tokens.now) c.as_slice.result.now c.in_ok-run.run'.productions.items c.in_ok-run.run'.end
+        (c.as_slice.ensures.value ∙ c.in_ok-terminals.ensures) c.in_ok-run.ensures.ends c.in_ok-run.ensures.leads
+
+pub returns-clause-run : goal.returns-clause-run
+returns-clause-run c =
+    run_is (map lexed_of c.args.tokens.now) c.as_slice.result.now c.in_ok-run.run'.productions.items c.in_ok-run.run'.end
+        (c.as_slice.ensures.value ∙ c.in_ok-terminals.ensures) c.in_ok-run.ensures.ends c.in_ok-run.ensures.leads
