@@ -14,11 +14,11 @@ use std::marker::Model;
 
 /// A production of a derivation.
 #[derive(Clone, Copy)]
-pub struct Begun<'t> {
+pub struct Begun<'a, 't> {
     /// Its number.
     pub production: u16,
     /// The tokens from the one on at which it begins.
-    pub from: &'t [Token<'t>],
+    pub from: &'a [Token<'t>],
 }
 
 // The tokens and rules of productions that are still to come, which contracts see from the next one on.
@@ -38,7 +38,7 @@ impl Model for Ahead {
 }
 
 // The tokens behind the first one.
-fn behind_first<'t>(tokens: &'t [Token<'t>]) -> &'t [Token<'t>]
+fn behind_first<'a, 't>(tokens: &'a [Token<'t>]) -> &'a [Token<'t>]
     ensures { map lexed_of result.now ≡ behind_first (map lexed_of tokens.now) }
 {
     match tokens {
@@ -65,7 +65,7 @@ impl Ahead {
     }
 
     // Takes all off up to the next rule, with the tokens that they take.
-    fn to_rule<'t>(&mut self, tokens: &'t [Token<'t>]) -> &'t [Token<'t>]
+    fn to_rule<'a, 't>(&mut self, tokens: &'a [Token<'t>]) -> &'a [Token<'t>]
         ensures slots { self.new ≡ (to_rule self.old (map lexed_of tokens.now)).slots }
         ensures tokens { map lexed_of result.now ≡ (to_rule self.old (map lexed_of tokens.now)).tokens }
     {
@@ -101,11 +101,11 @@ impl Ahead {
 }
 
 /// The productions of a leftmost derivation, each with the tokens from the one on at which it begins.
-pub fn beginnings<'t>(
+pub fn beginnings<'a, 't>(
     alloc: Global,
     numbers: &[u16],
-    tokens: &'t [Token<'t>],
-) -> Result<Vec<Begun<'t>>, NoMemory>
+    tokens: &'a [Token<'t>],
+) -> Result<Vec<Begun<'a, 't>>, NoMemory>
     ensures { IfOk result (λ all. map beginning_of all.items ≡ beginnings numbers.now (Rule ∷ []) (map lexed_of tokens.now)) }
 {
     let mut ahead = Ahead::new(alloc)?;

@@ -29,5 +29,7 @@ pub use beginning::{Begun, beginnings};
 pub use expression::meaning;
 pub use front::Front;
 pub use laws::actions_fit_the_grammar;
+pub use literal::string_value;
+pub use made::action_of;
 pub use name::{Callee, axis_named, function_named};
 pub use part::Part;

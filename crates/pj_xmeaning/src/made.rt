@@ -15,7 +15,7 @@ fn actions() -> &'static [Action]
     &ACTIONS
 }
 
-// What a production makes, by its number; no value, where there is no production with the number.
+/// What a production makes, by its number; no value, where there is no production with the number.
 pub fn action_of(production: u16) -> Action
     ensures { result ≡ action_of production }
 {
