@@ -1,7 +1,7 @@
 -- Trees that have a spelling: their names are names by the grammar of tokens, their strings are texts, and their integers are values of
 -- digits.
 use Rattle.std.specs.Prelude.{◌≡◌, ℕ, ◌^◌, ◌<◌, ℤ, pos, negsuc, ⊤, List, [], ◌∷◌, Option, Some, None}
-use Rattle.std.specs.Str.{chars, encode_utf8_all}
+use Rattle.std.specs.Str.{IsUtf8, chars}
 use Rattle.pj_xvalue.specs.declared.expr.NodeTest.{NodeTest}
 use Rattle.pj_xvalue.specs.declared.expr.NodeTest.TheVariants as test
 use Rattle.pj_xtokens.specs.Rules.{Spells}
@@ -11,7 +11,7 @@ use Rattle.pj_xmeaning.specs.Trees.{Tree, Trees, Construct, Node, NoMore, More}
 
 -- the bytes are those of characters in UTF-8
 abbrev pub IsText : List ℕ → Type 0
-IsText bytes = encode_utf8_all (chars bytes) ≡ bytes
+IsText bytes = IsUtf8 bytes
 
 -- the bytes are those of a name (Namespaces in XML 1.0, 4)
 abbrev pub IsName : List ℕ → Type 0
