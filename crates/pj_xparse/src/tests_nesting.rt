@@ -93,15 +93,19 @@ fn order_at_one_place(rt: HostRuntime) -> Result<(), Fail> {
 #[test]
 fn chains_do_not_nest(rt: HostRuntime) -> Result<(), Fail> {
     let alloc = rt.alloc();
-    for front in ["1 + ", "a/", "a, ", "a or "] {
-        let text = nested(alloc, 20_000, front, "a", "")?;
+    for front in ["1 + ", "a/"] {
+        let text = nested(alloc, 100_000, front, "a", "")?;
         assert!(rt; is_taken(alloc, text.as_str()), "of {front:?}");
     }
-    let bindings = nested(alloc, 20_000, "$x in a, ", "$x in a", "")?;
+    for front in ["a, ", "a or ", "1 ! ", "a | "] {
+        let text = nested(alloc, 10_000, front, "a", "")?;
+        assert!(rt; is_taken(alloc, text.as_str()), "of {front:?}");
+    }
+    let bindings = nested(alloc, 10_000, "$x in a, ", "$x in a", "")?;
     let bindings = bindings.as_str();
     let text = format!(in alloc; "for {bindings} return 1")?;
     assert!(rt; is_taken(alloc, text.as_str()));
-    let predicates = nested(alloc, 20_000, "", "a", "[1]")?;
+    let predicates = nested(alloc, 10_000, "", "a", "[1]")?;
     assert!(rt; is_taken(alloc, predicates.as_str()));
     Ok(())
 }
