@@ -90,14 +90,14 @@ returns-clause-outcome c =
 pub returns-in_default-get-clause-run : goal.returns-in_default-get-clause-run
 returns-in_default-get-clause-run c =
     run_is (map lexed_of c.args.tokens.now) c.as_slice.result.now c.in_ok-run.run'.productions.items c.in_ok-run.run'.end
-        (c.as_slice.ensures.value ∙ c.in_ok-terminals.ensures) c.in_ok-run.ensures.ends c.in_ok-run.ensures.leads
+    (c.as_slice.ensures.value ∙ c.in_ok-terminals.ensures) c.in_ok-run.ensures.ends c.in_ok-run.ensures.leads
 
 pub returns-then-not-branch-clause-run : goal.returns-then-not-branch-clause-run
 returns-then-not-branch-clause-run c =
     run_is (map lexed_of c.args.tokens.now) c.as_slice.result.now c.in_ok-run.run'.productions.items c.in_ok-run.run'.end
-        (c.as_slice.ensures.value ∙ c.in_ok-terminals.ensures) c.in_ok-run.ensures.ends c.in_ok-run.ensures.leads
+    (c.as_slice.ensures.value ∙ c.in_ok-terminals.ensures) c.in_ok-run.ensures.ends c.in_ok-run.ensures.leads
 
 pub returns-clause-run : goal.returns-clause-run
 returns-clause-run c =
     run_is (map lexed_of c.args.tokens.now) c.as_slice.result.now c.in_ok-run.run'.productions.items c.in_ok-run.run'.end
-        (c.as_slice.ensures.value ∙ c.in_ok-terminals.ensures) c.in_ok-run.ensures.ends c.in_ok-run.ensures.leads
+    (c.as_slice.ensures.value ∙ c.in_ok-terminals.ensures) c.in_ok-run.ensures.ends c.in_ok-run.ensures.leads
