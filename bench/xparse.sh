@@ -8,7 +8,8 @@
 # byte, the best of three. They should stay the same whatever the size.
 set -euo pipefail
 . "$(dirname "$0")/scratch.sh"
-scratch_repository xparse_bench 'pj_names pj_xparse' pj_ll pj_names pj_tree pj_xvalue pj_xtokens pj_xgrammar pj_xmeaning pj_xnames pj_xparse
+scratch_repository xparse_bench 'pj_names pj_xparse' pj_ll pj_names pj_tree pj_xvalue pj_xtokens pj_xgrammar pj_xmeaning pj_xshape \
+    pj_xnames pj_xderived pj_xkinds pj_xparse
 cat > "$bench/src/main.rt" <<'PROGRAM'
 // Rows of time.
 #![tactic(auto)]

@@ -109,6 +109,25 @@ fn expressions_2(rt: HostRuntime) -> Result<(), Fail> {
     )
 }
 
+/// Comments may stand in each gap between two tokens, and before and behind all of them.
+#[test]
+fn comments(rt: HostRuntime) -> Result<(), Fail> {
+    check(
+        &rt,
+        rt.alloc(),
+        &[
+            (
+                "(::)if(::)((::)1(::))(::)then(::)-(::)2(::)[(::)3(::)](::)else(::)concat(::)((::)4(::),(::).(::))(::)",
+                "If(Integer(Some(1)), Unary(Minus, Filter(Integer(Some(2)), [Integer(Some(3))])), Call(Concat, [Integer(Some(4)), ContextItem]))",
+            ),
+            (
+                "(:(::):)/(::)self(::)::(::)*(::)/(::)@(::)*(::)",
+                "Path([Root, Step(SelfNode, AnyName, []), AttributeStep(AnyName, [])])",
+            ),
+        ],
+    )
+}
+
 /// Names in expressions, variables that are bound around their place, and arguments that are written as the functions want them.
 #[test]
 fn names_that_are_there(rt: HostRuntime) -> Result<(), Fail> {
