@@ -1,10 +1,10 @@
 -- The productions of a run are one list.
-use Rattle.std.proofs.Common.{◌≡◌, ℕ, ◌≤◌, List, [], take, sym, ap, subst, ◌∙◌, refl, Some, None}
+use Rattle.std.proofs.Common.{◌≡◌, ℕ, List, take, subst}
 use Rattle.pj_ll.specs.declared.parser.End.{End}
 use Rattle.pj_ll.specs.declared.parser.End.TheVariants.{Whole, Stops, LeftOut, TooDeep}
 use Rattle.pj_ll.specs.declared.grammar.Symbol.{Symbol}
-use Rattle.pj_ll.specs.Grammar.{entries_of, grammar_of}
-use Rattle.pj_ll.specs.Leads.{Behind, Derives}
+use Rattle.pj_ll.specs.Grammar.{entries_of}
+use Rattle.pj_ll.specs.Leads.{Behind}
 use Rattle.pj_ll.specs.Outcome as ll
 use Rattle.pj_ll.proofs.Moving.{one_behind}
 use Rattle.pj_ll.proofs.OneEnd.{one_end}
