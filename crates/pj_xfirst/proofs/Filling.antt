@@ -9,7 +9,8 @@ use Rattle.pj_xmeaning.specs.declared.action.Action.{Action}
 use Rattle.pj_xmeaning.specs.declared.action.Action.TheVariants as action
 use Rattle.pj_xnames.specs.Namings.{Naming, first_from, top, behind, acted}
 use Rattle.pj_xfirst.proofs.Placed.{Grade, is_solid, Placed}
-use Rattle.pj_xfirst.proofs.Making.{Rows, no_rules, one_rule, two_rules, three_rules, fits, fits_change, fits_rest, head, implies, implied, made_at}
+use Rattle.pj_xfirst.proofs.Fitting.{Rows, no_rules, one_rule, two_rules, three_rules, fits, fits_change, fits_rest, head, implies, implied}
+use Rattle.pj_xfirst.proofs.Making.{made_at}
 
 -- a symbol: one that takes a token, a rule of a grade, or something that is left out
 pub data Part : Type 0 where

@@ -1,6 +1,7 @@
 pub mod Ordered
 pub mod Placed
 pub mod Calling
+pub mod Fitting
 pub mod Making
 pub mod Filling
 pub mod Grades
