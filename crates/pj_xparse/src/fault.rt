@@ -2,7 +2,6 @@
 ghost use Rattle.std.specs.Prelude.{◌≡◌};
 
 use pj_names::{NoMemory, Text};
-use std::alloc::{AllocError, AllocFailed};
 use std::fmt;
 use std::fmt::{Display, Formatter, Write};
 
@@ -70,26 +69,6 @@ impl From<pj_ll::NoMemory> for XSyntax {
     ghost from_gives = { λ _ fault. fault ≡ Memory };
 
     fn from(_: pj_ll::NoMemory) -> Self {
-        XSyntax::Memory
-    }
-}
-
-impl From<AllocError> for XSyntax {
-    ghost use Rattle.pj_xparse.specs.declared.fault.XSyntax.TheVariants.{Memory};
-
-    ghost from_gives = { λ _ fault. fault ≡ Memory };
-
-    fn from(_: AllocError) -> Self {
-        XSyntax::Memory
-    }
-}
-
-impl<T: Drop> From<AllocFailed<T>> for XSyntax {
-    ghost use Rattle.pj_xparse.specs.declared.fault.XSyntax.TheVariants.{Memory};
-
-    ghost from_gives = { λ _ fault. fault ≡ Memory };
-
-    fn from(_: AllocFailed<T>) -> Self {
         XSyntax::Memory
     }
 }
