@@ -65,7 +65,7 @@ impl<T> ListOf<T> {
     }
 
     /// The allocator that the list keeps, for a list that is made beside it.
-    pub(crate) fn allocator(&self) -> Global {
+    pub fn allocator(&self) -> Global {
         *self.held.allocator()
     }
 
@@ -115,6 +115,18 @@ impl<T> ListOf<T> {
         ensures err { OnErr result (self.new ≡ self.old) }
     {
         self.held.push(member)?;
+        Ok(())
+    }
+
+    /// Puts the members of another list at the end.
+    pub fn append(&mut self, more: ListOf<T>) -> Result<(), NoMemory>
+    where
+        T: Drop,
+        ensures ok { OnOk result (self.new ≡ self.old ++ more) }
+        ensures err { OnErr result (self.new ≡ self.old) }
+    {
+        let mut more = more.into_vec();
+        self.held.append(&mut more)?;
         Ok(())
     }
 

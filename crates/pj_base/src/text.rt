@@ -1,5 +1,6 @@
 //! Texts.
 ghost use Rattle.std.specs.Prelude.{◌≡◌, ◌==◌, ◌++◌, [], List, ℕ, IfOk, OnOk, OnErr, length, string_bytes};
+ghost use Rattle.std.specs.Char.{encode_utf8};
 
 use crate::copied::Copied;
 use crate::exact::Exact;
@@ -7,6 +8,8 @@ use crate::memory::NoMemory;
 use std::alloc::Global;
 use std::cmp::Ordering;
 use std::convert::AsStr;
+use std::fmt;
+use std::fmt::{Display, Formatter, Write};
 use std::hash::{Hash, Hasher};
 use std::marker::Model;
 
@@ -86,6 +89,25 @@ impl Text {
     {
         self.held.push_str(more)?;
         Ok(())
+    }
+
+    /// Puts a character at the end.
+    pub fn push(&mut self, character: char) -> Result<(), NoMemory>
+        ensures ok { OnOk result (self.new ≡ self.old ++ encode_utf8 character) }
+        ensures err { OnErr result (self.new ≡ self.old) }
+    {
+        self.held.push(character)?;
+        Ok(())
+    }
+}
+
+impl Display for Text {
+    ghost use Rattle.std.specs.Prelude.{Some};
+
+    ghost output = { λ text. Some text };
+
+    fn fmt<W: Write>(&self, f: &mut Formatter<W>) -> fmt::Result {
+        f.write_str(self.held.as_str())
     }
 }
 

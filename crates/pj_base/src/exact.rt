@@ -11,8 +11,26 @@ pub trait Exact {
         ensures { IsTrue result ↔ (self.now ≡ other.now) };
 }
 
+impl Exact for bool {
+    fn is(&self, other: &bool) -> bool {
+        *self == *other
+    }
+}
+
+impl Exact for char {
+    fn is(&self, other: &char) -> bool {
+        *self == *other
+    }
+}
+
 impl Exact for u8 {
     fn is(&self, other: &u8) -> bool {
+        *self == *other
+    }
+}
+
+impl Exact for u16 {
+    fn is(&self, other: &u16) -> bool {
         *self == *other
     }
 }
@@ -20,6 +38,28 @@ impl Exact for u8 {
 impl Exact for u32 {
     fn is(&self, other: &u32) -> bool {
         *self == *other
+    }
+}
+
+impl Exact for u64 {
+    fn is(&self, other: &u64) -> bool {
+        *self == *other
+    }
+}
+
+impl Exact for i64 {
+    fn is(&self, other: &i64) -> bool {
+        *self == *other
+    }
+}
+
+impl<T: Exact> Exact for Option<T> {
+    fn is(&self, other: &Option<T>) -> bool {
+        match (self, other) {
+            (Some(ours), Some(theirs)) => ours.is(theirs),
+            (None, None) => true,
+            _ => false,
+        }
     }
 }
 

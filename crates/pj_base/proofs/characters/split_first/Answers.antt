@@ -3,7 +3,7 @@ use Rattle.std.specs.Str.{chars}
 use Rattle.std.proofs.lemmas.List.{nil_from_length}
 use Rattle.std.proofs.lemmas.Str.{chars_past_char, chars-nil, length-encode}
 use lib.Utf8.{encode}
-use Rattle.pj_lex.proofs.source.characters.split_first.Goals as goal
+use Rattle.pj_base.proofs.characters.split_first.Goals as goal
 
 pub returns-in-Some-clause-chars : goal.returns-in-Some-clause-chars
 returns-in-Some-clause-chars c =
