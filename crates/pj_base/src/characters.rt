@@ -1,5 +1,5 @@
 //! A text, character by character from its front on.
-ghost use Rattle.std.specs.Prelude.{◌≡◌, ◌+◌, ◌∷◌, [], false, length, MatchOption};
+ghost use Rattle.std.specs.Prelude.{◌≡◌, ◌+◌, ◌<◌, ◌∷◌, [], false, length, IfSome, MatchOption};
 ghost use Rattle.std.specs.Char.{len_utf8};
 ghost use Rattle.std.specs.Str.{chars};
 ghost use Rattle.pj_base.specs.Front.{starts_with};
@@ -8,6 +8,7 @@ ghost use Rattle.pj_base.specs.Front.{starts_with};
 pub fn split_first<'s>(text: &'s str) -> Option<(char, &'s str)>
     ensures chars { MatchOption result (chars text.now ≡ []) (λ p. chars text.now ≡ p.0 ∷ chars p.1.now) }
     ensures len { MatchOption result (length text.now ≡ 0) (λ p. length text.now ≡ len_utf8 p.0 + length p.1.now) }
+    ensures shorter { IfSome result (λ p. length p.1.now < length text.now) }
 {
     let mut all = text.chars();
     match all.next() {
