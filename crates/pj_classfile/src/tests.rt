@@ -1,6 +1,7 @@
 //! Class files by hand: cut, changed at each byte, and with one fault each.
 use crate::{ClassRefused, answer_of, parse};
-use pj_names::{Answer, Broken, Bytes, ClassName};
+use pj_base::Bytes;
+use pj_names::{Answer, Broken, ClassName};
 use pj_outside::Reading;
 use std::alloc::{AllocError, Global};
 use std::test::Fail;

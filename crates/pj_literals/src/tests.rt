@@ -2,7 +2,7 @@
 
 use crate::integer::value;
 use crate::{integer_value, string_value};
-use pj_names::NoMemory;
+use pj_base::NoMemory;
 use std::alloc::Global;
 use std::process::Abort;
 use std::test::Fail;

@@ -1,7 +1,8 @@
 ghost use Rattle.std.specs.Prelude.{◌^◌, ◌<◌, length};
 
 use crate::Piece::{AtEnd, Close, LeftOut, On, Production, Rule, Terminal};
-use crate::{End, NoMemory, Piece, Table, parse};
+use crate::{End, Piece, Table, parse};
+use pj_base::NoMemory;
 use std::alloc::Global;
 use std::test::Fail;
 

@@ -7,9 +7,8 @@ ghost use Rattle.pj_names.specs.Told.{Asks, seen, shared_answer};
 use crate::answer::{Answer, ClassInfo, Members};
 use crate::asking::{ClassNames, Next, first_present, reached};
 use crate::class_name::ClassName;
-use crate::copied::Copied;
-use crate::memory::NoMemory;
 use crate::oracle::{AskFault, Oracle};
+use pj_base::{Copied, NoMemory};
 use std::alloc::Global;
 use std::sync::Arc;
 

@@ -11,10 +11,8 @@ use crate::answer::Answer;
 use crate::answers::Answers;
 use crate::class_name::ClassName;
 use crate::class_name_set::ClassNameSet;
-use crate::copied::Copied;
-use crate::list::ListOf;
-use crate::memory::NoMemory;
 use crate::oracle::{AskFault, Oracle};
+use pj_base::{Copied, ListOf, NoMemory};
 use std::alloc::Global;
 use std::sync::Arc;
 

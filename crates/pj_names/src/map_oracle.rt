@@ -7,8 +7,8 @@ use crate::answer::Answer;
 use crate::answers::Answers;
 use crate::class_name::ClassName;
 use crate::class_name_set::ClassNameSet;
-use crate::copied::Copied;
 use crate::oracle::{AskFault, Oracle};
+use pj_base::Copied;
 use std::alloc::Global;
 use std::sync::Arc;
 

@@ -6,7 +6,7 @@ ghost use Rattle.pj_names.specs.Told.{Told, Asks, seen, shared_answer};
 
 use crate::answer::Answer;
 use crate::class_name::ClassName;
-use crate::memory::NoMemory;
+use pj_base::NoMemory;
 use std::alloc::{AllocError, AllocFailed};
 use std::sync::Arc;
 

@@ -6,6 +6,7 @@ ghost use Rattle.std.specs.Ordering.{nat_cmp};
 ghost use Rattle.pj_names.specs.ClassName.{is_class_name};
 
 use crate::*;
+use pj_base::{Bytes, Copied, Exact, NoMemory, Numbers, Text, Words};
 use std::alloc::{AllocFailed, Global};
 use std::cmp::Ordering;
 use std::collections::BTreeMap;
@@ -142,10 +143,10 @@ fn types(rt: HostRuntime) -> Result<(), Fail> {
     let mut list = TyList::new(alloc);
     list.push(Ty::Void)?;
     list.push(Ty::Null)?;
-    assert!(rt; list.copied()?.is(&list));
+    assert!(rt; same_types(&copied_types(&list)?, &list));
     let mut bindings = Bindings::new(alloc);
     bindings.push((text(alloc, "T")?, Ty::Null))?;
-    assert_eq!(rt; bindings.copied()?.len(), 1);
+    assert_eq!(rt; copied_bindings(&bindings)?.len(), 1);
     Ok(())
 }
 

@@ -10,7 +10,7 @@ use crate::fault_plan::FaultPlan;
 use crate::files::Files;
 use crate::mem_door::MemDoor;
 use crate::refused::Refused;
-use pj_names::{ListOf, Names, NoMemory, Numbers, Text};
+use pj_base::{ListOf, Names, NoMemory, Numbers, Text};
 use std::alloc::Global;
 use std::marker::Model;
 use std::sync::Arc;

@@ -4,8 +4,8 @@ ghost use Rattle.pj_peg.specs.Form.{Form};
 ghost use Rattle.pj_peg.specs.Program.{AreNodes, PartsBelow, IsProgram, node_form, forms_in, rules_of};
 ghost use Rattle.pj_peg.specs.Analysis.{facts_by, is_set, unset, root_bit, AreNullableRules, AddsRules};
 
-use crate::NoMemory;
 use crate::program::{Node, Program};
+use pj_base::NoMemory;
 use std::alloc::Global;
 
 // What is to be known of a node: whether it can take nothing, whether it names only rules that are there, and whether no

@@ -8,10 +8,10 @@ ghost use Rattle.pj_peg.specs.Ends.{Ends, AreTold, IsReady, IsShaped};
 ghost use Rattle.pj_peg.specs.Filled.{AreRulesTold};
 ghost use Rattle.pj_peg.specs.Firsts.{AreGoing, IsRuledOut};
 
-use crate::NoMemory;
 use crate::evaluate::end_of;
 use crate::program::Program;
 use crate::table::Table;
+use pj_base::NoMemory;
 use std::alloc::Global;
 
 // A rule that took the tokens from a place up to another.

@@ -10,7 +10,8 @@ use crate::compile::compile;
 use crate::firsts::goings;
 use crate::graph::{Placing, calls, fault_of, place_rules};
 use crate::program::Program;
-use crate::{Item, Items, NoMemory};
+use crate::{Item, Items};
+use pj_base::NoMemory;
 use std::alloc::Global;
 use std::marker::Model;
 

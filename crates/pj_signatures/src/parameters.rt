@@ -8,7 +8,8 @@ ghost use Rattle.pj_signatures.specs.Seen.{seen_option, seen_type, seen_types, s
 use crate::names::identifier_at;
 use crate::scan::{begins, begins_reference, behind, split_run};
 use crate::types::{Declared, object, reference_inside, type_inside};
-use pj_names::{Bindings, NoMemory, Text, Ty, TyList};
+use pj_base::{NoMemory, Text};
+use pj_names::{Bindings, Ty, TyList};
 use std::alloc::Global;
 
 /// The first of the bounds of a type parameter, and else `java.lang.Object`.

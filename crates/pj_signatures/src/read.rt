@@ -10,7 +10,8 @@ use crate::parameters::parameters_at;
 use crate::scan::{begins, behind};
 use crate::signature::{ClassSig, MethodSig};
 use crate::types::{Declared, type_at};
-use pj_names::{Bindings, NoMemory, Ty, TyList};
+use pj_base::NoMemory;
+use pj_names::{Bindings, Ty, TyList};
 use std::alloc::Global;
 
 /// The most signs `[` and `<` that are open at one place.

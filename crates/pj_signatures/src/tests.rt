@@ -1,6 +1,7 @@
 //! Worked rows of the standard, and signatures that javac 17 writes.
 use crate::*;
-use pj_names::{Bindings, ClassName, Prim, Text, Ty, TyList, Types};
+use pj_base::Text;
+use pj_names::{Bindings, ClassName, Prim, Ty, TyList, Types};
 use std::alloc::Global;
 use std::test::Fail;
 

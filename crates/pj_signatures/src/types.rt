@@ -12,7 +12,8 @@ ghost use Rattle.pj_signatures.specs.Seen.{declared_of, seen_bound, seen_type, s
 
 use crate::names::{add_member, class_name, identifier_at, name_of_path, path_at};
 use crate::scan::{begins, begins_reference, behind, primitive_at};
-use pj_names::{NoMemory, Text, Ty, TyList, Types};
+use pj_base::{NoMemory, Text};
+use pj_names::{Ty, TyList, Types};
 use std::alloc::Global;
 
 /// The type variables that are declared where a type stands, with their bounds: those of its own signature, and then

@@ -6,7 +6,8 @@ ghost use Rattle.pj_names.specs.Told.{Asks};
 ghost use Rattle.pj_types.specs.Supertypes.{class_name, supertypes_of};
 
 use crate::walk::Walk;
-use pj_names::{AskFault, ClassName, Names, Oracle, Text, Ty};
+use pj_base::{Names, Text};
+use pj_names::{AskFault, ClassName, Oracle, Ty};
 use std::alloc::Global;
 
 /// The most classes that a walk is followed: a list has no more members.

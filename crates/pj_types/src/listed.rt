@@ -7,9 +7,8 @@ ghost use Rattle.pj_types.specs.Supertypes.{classes_by, direct, given_type, of_a
 ghost use Rattle.pj_types.specs.Seen.{listed, seen_arguments, seen_bindings, written_by, all_listed};
 
 use crate::substitution::{erase, substitute};
-use pj_names::{
-    Answer, AskFault, Bindings, ClassName, Copied, ListOf, NoMemory, Oracle, Ty, Types, look_up,
-};
+use pj_base::{Copied, ListOf, NoMemory};
+use pj_names::{Answer, AskFault, Bindings, ClassName, Oracle, Ty, Types, look_up};
 use pj_signatures::{ClassSig, class_signature};
 use std::alloc::Global;
 

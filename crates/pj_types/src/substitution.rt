@@ -4,7 +4,8 @@ ghost use Rattle.pj_names.specs.JavaType.{JavaType, java_type, java_types, bound
 ghost use Rattle.pj_signatures.specs.Types.{bound_or};
 ghost use Rattle.pj_types.specs.Substitution.{substituted, substituted_arguments, erased, seen_binding};
 
-use pj_names::{Bindings, Copied, NoMemory, Text, Ty, Types};
+use pj_base::{Copied, NoMemory, Text};
+use pj_names::{Bindings, Ty, Types};
 use std::alloc::Global;
 
 /// The type of the first pair of a name.

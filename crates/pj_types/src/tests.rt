@@ -1,8 +1,9 @@
 //! Worked rows by hand, and each public call once with ample memory.
 use crate::*;
+use pj_base::{Copied, NoMemory, Text};
 use pj_names::{
-    Answer, Answers, AskFault, Bindings, ClassInfo, ClassName, Copied, MapOracle, Members,
-    NoMemory, Oracle, Text, Ty, Types,
+    Answer, Answers, AskFault, Bindings, ClassInfo, ClassName, MapOracle, Members, Oracle, Ty,
+    Types,
 };
 use pj_signatures::field_signature;
 use std::alloc::Global;

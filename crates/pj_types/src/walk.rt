@@ -10,7 +10,8 @@ ghost use Rattle.pj_types.specs.Seen.{all_listed, listed};
 ghost use Rattle.pj_types.specs.Standing.{standing, after_step, given_types};
 
 use crate::listed::{ListedClass, ListedClasses, direct_supertypes};
-use pj_names::{AskFault, ClassName, ClassNameSet, Copied, NoMemory, Oracle, Ty};
+use pj_base::{Copied, NoMemory};
+use pj_names::{AskFault, ClassName, ClassNameSet, Oracle, Ty};
 use std::alloc::Global;
 use std::marker::Model;
 

@@ -1,6 +1,6 @@
 //! Expressions as texts in which each operator has its parentheses.
 
-use pj_names::Text;
+use pj_base::Text;
 use pj_xvalue::{
     Additive, Axis, Compare, Expr, Function, Multiplicative, NodeTest, PmdFunction, Quantifier,
     SetOperator, Sign,

@@ -2,7 +2,7 @@
 //! variable `p`.
 
 use crate::fault::{NameFault, first_fault};
-use pj_names::{Names, Text};
+use pj_base::{Names, Text};
 use pj_xgrammar::derivation;
 use pj_xtokens::tokens;
 use std::alloc::Global;

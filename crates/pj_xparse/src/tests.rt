@@ -2,7 +2,7 @@
 
 use crate::expression::parse;
 use crate::fault::XSyntax;
-use pj_names::{Names, Text};
+use pj_base::{Names, Text};
 use std::alloc::Global;
 use std::process::Abort;
 use std::test::Fail;

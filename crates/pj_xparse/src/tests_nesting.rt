@@ -2,7 +2,7 @@
 
 use crate::expression::parse;
 use crate::tests::read;
-use pj_names::Names;
+use pj_base::Names;
 use std::alloc::Global;
 use std::test::Fail;
 

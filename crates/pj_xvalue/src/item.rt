@@ -2,7 +2,7 @@
 ghost use Rattle.std.specs.Prelude.{◌≡◌, MatchOption};
 ghost use Rattle.pj_xvalue.specs.Items.{value_of_item, string_in, is_node, is_attribute};
 
-use pj_names::{ListOf, Text};
+use pj_base::{ListOf, Text};
 use pj_tree::Node;
 
 /// An item: a node or an atomic value (XPath 2.0, 2).
