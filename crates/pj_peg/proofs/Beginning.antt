@@ -1,6 +1,6 @@
 -- What takes tokens is among what can begin with the first of them.
-use Rattle.std.proofs.Common.{◌≡◌, ℕ, ◌<◌, ◌≤◌, Bool, true, false, zero, suc, List, [], ◌∷◌, length, map, Some, refl, sym, ◌∙◌, subst, ap, inl, inr, ⊎_elim, arith}
-use Rattle.std.specs.Prelude.{slice_get, nat_eq, ◌&&◌, ◌||◌, ◌++◌, ◌⊎◌, Vec}
+use Rattle.std.proofs.Common.{◌≡◌, ℕ, ◌<◌, ◌≤◌, Bool, true, zero, suc, List, [], ◌∷◌, length, map, Some, refl, sym, ◌∙◌, subst, ap, inl, inr, ⊎_elim, arith}
+use Rattle.std.specs.Prelude.{slice_get, nat_eq, ◌||◌, ◌++◌, ◌⊎◌, Vec}
 use Rattle.std.specs.Global.{Global}
 use Rattle.pj_peg.specs.declared.firsts.Beginning.{Beginning}
 use Rattle.pj_peg.specs.declared.program.Program.{Program}

@@ -5,9 +5,9 @@ ghost use Rattle.pj_peg.specs.Program.{PartsBelow, IsProgram, node_form, forms_i
 ghost use Rattle.pj_peg.specs.Analysis.{is_set, AreNullableRules};
 ghost use Rattle.pj_peg.specs.Firsts.{beginning_by, RulesOut, AreGoing};
 
-use crate::NoMemory;
 use crate::analysis::{add_rules, has};
 use crate::program::{Node, Program};
+use pj_base::NoMemory;
 use std::alloc::Global;
 
 /// Whether a node can take nothing, and whether it can take tokens of which the first is of a certain kind.

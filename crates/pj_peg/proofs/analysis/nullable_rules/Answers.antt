@@ -1,7 +1,6 @@
-use Rattle.std.proofs.Common.{◌≡◌, ◌∙◌, ap, sym, subst, length, true, ⊎_elim, arith, map}
+use Rattle.std.proofs.Common.{◌≡◌, ◌∙◌, ap, sym, subst, length, true, ⊎_elim, arith}
 use Rattle.std.proofs.lemmas.List.{length-map}
 use Rattle.std.specs.Prelude.{slice_get}
-use Rattle.pj_peg.specs.declared.analysis.Facts.{Facts}
 use Rattle.pj_peg.specs.Analysis.{is_set, root_bit, nullable_by, AreNullableRules}
 use Rattle.pj_peg.specs.Program.{forms_in, form_at, rules_of}
 use Rattle.pj_peg.proofs.Nodes.{length-forms_in}

@@ -1,9 +1,4 @@
-use Rattle.std.proofs.Common.{◌≡◌, ◌+◌, ◌≤◌, length, arith}
-use Rattle.pj_peg.specs.Derives.{Outcome, To, Fails}
-use Rattle.pj_peg.specs.Form.{Form}
-use Rattle.pj_peg.specs.WellFormed.{IsWellFormed}
-use Rattle.pj_peg.specs.Program.{form_at, forms_in, rules_of}
-use Rattle.pj_peg.specs.Firsts.{IsRuledOut}
+use Rattle.pj_peg.specs.Program.{form_at, forms_in}
 use Rattle.pj_peg.proofs.Beginning.{fails_ruled_out}
 use Rattle.pj_peg.proofs.fill.end_at.Goals as goal
 

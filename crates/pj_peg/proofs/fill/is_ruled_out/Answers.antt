@@ -1,6 +1,5 @@
-use Rattle.std.proofs.Common.{◌≡◌, ◌<◌, ◌∙◌, ℕ, Bool, length, ap, refl, sym, true, false, not, arith}
+use Rattle.std.proofs.Common.{◌≡◌, ◌<◌, ◌∙◌, Bool, length, refl, true, false, not, arith}
 use Rattle.std.proofs.lemmas.Option.{slice_get_read}
-use Rattle.pj_peg.specs.Derivation.{Forest}
 use Rattle.pj_peg.specs.Program.{form_at, forms_in, rules_of}
 use Rattle.pj_peg.specs.Firsts.{IsRuledOut}
 use Rattle.pj_peg.proofs.Sets.{on_true, bit_at}

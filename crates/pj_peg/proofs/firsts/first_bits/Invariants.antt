@@ -1,4 +1,4 @@
-use Rattle.std.proofs.Common.{◌≡◌, ◌||◌, map, take}
+use Rattle.std.proofs.Common.{◌≡◌, map, take}
 use Rattle.pj_peg.specs.declared.firsts.Beginning.{Beginning}
 use Rattle.pj_peg.proofs.firsts.first_bits.Given as goal
 

@@ -1,9 +1,8 @@
-use Rattle.std.proofs.Common.{◌≡◌, ◌∙◌, ap, sym, length, arith, map}
+use Rattle.std.proofs.Common.{◌∙◌, ap, sym, length, arith}
 use Rattle.std.specs.Prelude.{slice_get, ◌||◌}
 use Rattle.std.proofs.lemmas.List.{length-map}
 use Rattle.pj_peg.specs.declared.firsts.Beginning.{Beginning}
-use Rattle.pj_peg.specs.Form.{Form}
-use Rattle.pj_peg.specs.Analysis.{is_set, nullable_by}
+use Rattle.pj_peg.specs.Analysis.{is_set}
 use Rattle.pj_peg.specs.Firsts.{first_by}
 use Rattle.pj_peg.specs.Program.{forms_in}
 use Rattle.pj_peg.proofs.Nodes.{length-forms_in}
