@@ -1,10 +1,14 @@
 //! Sets of class names.
 ghost use Rattle.std.specs.Prelude.{◌≡◌, IfOk, OnOk, OnErr, not};
 ghost use Rattle.std.specs.Bool.{OnFalse};
+ghost use Rattle.std.specs.Cmp.Lexicographic.{slice_cmp};
 ghost use Rattle.std.specs.FinSet as set;
+ghost use Rattle.std.specs.List.Sorted.{IsStrictlySortedBy};
+ghost use Rattle.std.specs.Ordering.{nat_cmp};
 
+use crate::asking::ClassNames;
 use crate::class_name::ClassName;
-use pj_base::NoMemory;
+use pj_base::{Copied, NoMemory};
 use std::alloc::Global;
 use std::collections::BTreeSet;
 use std::marker::Model;
@@ -52,5 +56,17 @@ impl ClassNameSet {
         ensures err { OnErr result (self.new ≡ self.old) }
     {
         Ok(self.names.insert(name)?)
+    }
+
+    /// The names in the order of their bytes, each once.
+    pub fn names(&self, alloc: Global) -> Result<ClassNames, NoMemory>
+        ensures ascending { IfOk result (λ names. IsStrictlySortedBy (slice_cmp nat_cmp) names) }
+        ensures members { IfOk result (λ names. set.from_list names ≡ self.now) }
+    {
+        let mut names = ClassNames::new(alloc);
+        for name in &self.names {
+            names.push(name.copied()?)?;
+        }
+        Ok(names)
     }
 }

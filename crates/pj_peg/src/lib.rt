@@ -24,8 +24,6 @@ mod law;
 mod program;
 mod runner;
 mod table;
-#[cfg(test)]
-mod tests;
 
 pub use derivation::{Derivation, Step};
 pub use grammar::{Grammar, GrammarFault, WellFormed};

@@ -6,8 +6,8 @@ use Rattle.pj_tree.specs.Nested.{Parts, NoMore, Child, calls_of, AreSpansOf}
 use Rattle.pj_tree.specs.Tree.{IsSpanOf}
 use Rattle.pj_tree.specs.declared.kind.Kind.TheVariants.{CompilationUnit}
 use Rattle.pj_tree.proofs.NestedLaws.{parts-written, after_calls}
-use Rattle.pj_tree.proofs.tests.+nest.Goals as goal
-use Rattle.pj_tree.proofs.tests.+nest.Goals.{then-depth-gt1+in_ok-nest, else-depth-gt1}
+use Rattle.tests_java.proofs.tree.+nest.Goals as goal
+use Rattle.tests_java.proofs.tree.+nest.Goals.{then-depth-gt1+in_ok-nest, else-depth-gt1}
 
 -- some parts with no text were written behind a building
 abbrev Written : Building → Building → Type 0

@@ -1,4 +1,4 @@
-use Rattle.pj_tree.proofs.tests.+nest.Given as goal
+use Rattle.tests_java.proofs.tree.+nest.Given as goal
 
 abbrev pub decreases-nest : goal.decreases-nest
 decreases-nest l = l.depth

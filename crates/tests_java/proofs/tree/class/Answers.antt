@@ -8,7 +8,7 @@ use Rattle.pj_tree.specs.Nested.{Parts, NoMore, Token, Child, AreSpansOf}
 use Rattle.pj_tree.specs.Tree.{IsSpanOf}
 use Rattle.pj_tree.specs.declared.kind.Kind.TheVariants.{CompilationUnit, ClassDeclaration, ModifierList, ClassBody}
 use Rattle.pj_tree.specs.declared.node.Span.{Span}
-use Rattle.pj_tree.proofs.tests.class.Goals as goal
+use Rattle.tests_java.proofs.tree.class.Goals as goal
 
 abbrev text : List ℕ
 text = codes "class A {}"

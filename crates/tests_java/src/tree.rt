@@ -1,4 +1,4 @@
-//! Worked examples. Their values were found by hand.
+//! Trees and the places of texts. The values were found by hand.
 
 ghost use Rattle.std.specs.Prelude.{◌≡◌, ◌<◌, [], IfOk, length};
 ghost use Rattle.std.specs.List.{fold};
@@ -6,7 +6,8 @@ ghost use Rattle.pj_tree.specs.Building.{after_call};
 ghost use Rattle.pj_tree.specs.Nested.{Parts, NoMore, Child, calls_of, AreSpansOf};
 ghost use Rattle.pj_tree.specs.declared.kind.Kind.TheVariants.{CompilationUnit};
 
-use super::*;
+use pj_base::NoMemory;
+use pj_tree::{Builder, Kind, LineMap, Node, ShapeFault, Span, SyntaxTree};
 use std::alloc::{AllocError, Global};
 use std::fmt::Write;
 use std::test::Fail;
@@ -24,34 +25,36 @@ fn places(alloc: Global, text: &str) -> Result<Vec<(u32, u32)>, NoMemory> {
     Ok(places)
 }
 
+/// Texts with the places of their offsets.
+static PLACES: [(&str, &[(u32, u32)]); 8] = [
+    ("", &[(1, 1)]),
+    ("ab", &[(1, 1), (1, 2), (1, 3)]),
+    ("a\r\nb", &[(1, 1), (1, 2), (1, 3), (2, 1), (2, 2)]),
+    ("\r\r\n\n", &[(1, 1), (2, 1), (2, 2), (3, 1), (4, 1)]),
+    ("\n\r", &[(1, 1), (2, 1), (3, 1)]),
+    ("\u{e9}\tx", &[(1, 1), (1, 1), (1, 2), (1, 3), (1, 4)]),
+    ("\u{feff}a", &[(1, 1), (1, 1), (1, 1), (1, 2), (1, 3)]),
+    (
+        "a\u{2028}\u{1f600}",
+        &[
+            (1, 1),
+            (1, 2),
+            (1, 2),
+            (1, 2),
+            (1, 3),
+            (1, 3),
+            (1, 3),
+            (1, 3),
+            (1, 4),
+        ],
+    ),
+];
+
 #[test]
 fn places_of_texts(rt: HostRuntime) -> Result<(), Fail> {
-    let table: [(&str, &[(u32, u32)]); 8] = [
-        ("", &[(1, 1)]),
-        ("ab", &[(1, 1), (1, 2), (1, 3)]),
-        ("a\r\nb", &[(1, 1), (1, 2), (1, 3), (2, 1), (2, 2)]),
-        ("\r\r\n\n", &[(1, 1), (2, 1), (2, 2), (3, 1), (4, 1)]),
-        ("\n\r", &[(1, 1), (2, 1), (3, 1)]),
-        ("\u{e9}\tx", &[(1, 1), (1, 1), (1, 2), (1, 3), (1, 4)]),
-        ("\u{feff}a", &[(1, 1), (1, 1), (1, 1), (1, 2), (1, 3)]),
-        (
-            "a\u{2028}\u{1f600}",
-            &[
-                (1, 1),
-                (1, 2),
-                (1, 2),
-                (1, 2),
-                (1, 3),
-                (1, 3),
-                (1, 3),
-                (1, 3),
-                (1, 4),
-            ],
-        ),
-    ];
-    for (text, wanted) in table {
+    for (text, wanted) in &PLACES {
         let found = places(rt.alloc(), text)?;
-        assert_eq!(rt; found.as_slice(), wanted, "of {text:?}");
+        assert_eq!(rt; found.as_slice(), *wanted, "of {text:?}");
     }
     Ok(())
 }

@@ -1,4 +1,6 @@
-use crate::{ContextualWord, Terminal, java_17, shapes};
+//! The grammar of Java 17 and its terminals.
+
+use pj_grammar::{ContextualWord, Terminal, java_17, shapes};
 use pj_lex::TokenKind;
 use std::test::Fail;
 

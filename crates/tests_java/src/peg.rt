@@ -1,4 +1,6 @@
-use crate::{Derivation, Grammar, GrammarFault, Item, Items, Step, WellFormed, run};
+//! Grammars of a few rules: their faults, and the derivations of texts of token kinds, found by hand.
+
+use pj_peg::{Derivation, Grammar, GrammarFault, Item, Items, Step, WellFormed, run};
 use std::alloc::Global;
 use std::test::Fail;
 
