@@ -3,3 +3,4 @@ pub mod IsWellFormed
 pub mod SameTable
 pub mod Numbers
 pub mod Words
+pub mod Shut

@@ -16,6 +16,7 @@ use Rattle.pj_grammar.specs.Java17.{java_17_forms, java_17_shapes}
 use Rattle.pj_shape.specs.ShapedTree.{shaped_tree, parts_of_derivation}
 use Rattle.pj_parse.specs.declared.fault.ParseFault.{ParseFault}
 use Rattle.pj_parse.specs.declared.fault.ParseFault.TheVariants.{Lex, TooManyTokens, Syntax, TooDeep, TooMany}
+use Rattle.pj_parse.specs.declared.fault.ParseFault.TheVariants as unparsed
 use Rattle.pj_parse.specs.Words.{TokenSeen, as_lexed, AreTokens, EndsInFault, words, spans, terminals}
 use Rattle.pj_parse.specs.Faults.{of_shape}
 use Rattle.pj_parse.specs.Laws.{HasOneOutcome}
@@ -197,4 +198,23 @@ ends_in_fault text f p = from_cases (cases text (Err (Lex f)) p)
     from_cases : Cases text (Err (Lex f)) → EndsInFault text f
     from_cases (inl (g, (ends, e))) = (let same : g ≡ f = cc in subst (EndsInFault text) same ends)
     from_cases (inr (ts, (t, inl (m, e)))) = absurd (cc)
+    from_cases (inr (ts, (t, inr (m, (q, d, e))))) = from_outcome ts q e
+
+-- want of memory is no outcome of a text
+pub never_memory_of_text : (text : List ℕ) → Parses text (Err unparsed.Memory) → ⊥
+never_memory_of_text text p = from_cases (cases text (Err unparsed.Memory) p)
+  where
+    from_tree : (ts : List TokenSeen) (d : Forest) (r : Result Tree ShapeFault) → tree_by text ts d ≡ r → Err unparsed.Memory ≡ of_tree ts r → ⊥
+    from_tree ts d (Ok tree) is e = cc
+    from_tree ts d (Err (shape.TooDeep depth)) is e = cc
+    from_tree ts d (Err (shape.TooMany count)) is e = cc
+    from_tree ts d (Err shape.Memory) is e = never_memory (record { text = text; nodes = preorder None 0 (parts_of_derivation text (spans (words ts)) java_17_shapes d); current = None }) is
+
+    from_outcome : (ts : List TokenSeen) (q : Outcome) → Err unparsed.Memory ≡ by_outcome text ts q → ⊥
+    from_outcome ts Fails e = cc
+    from_outcome ts (To j d) e = from_tree ts d (tree_by text ts d) refl e
+
+    from_cases : Cases text (Err unparsed.Memory) → ⊥
+    from_cases (inl (g, (ends, e))) = cc
+    from_cases (inr (ts, (t, inl (m, e)))) = cc
     from_cases (inr (ts, (t, inr (m, (q, d, e))))) = from_outcome ts q e

@@ -1,13 +1,23 @@
-//! What holds of every text.
-ghost use Rattle.std.specs.Prelude.{◌≤◌, ℕ, List, length, Err};
+//! What holds of every file and every text.
+ghost use Rattle.std.specs.Prelude.{◌≡◌, ◌≤◌, ℕ, List, length, Err, Result};
 ghost use Rattle.pj_lex.specs.declared.token.LexFault.{LexFault};
 ghost use Rattle.pj_parse.specs.declared.fault.ParseFault.{ParseFault};
+ghost use Rattle.pj_parse.specs.declared.file_fault.FileFault.{FileFault};
+ghost use Rattle.pj_parse.specs.FileOutcome.{outcome_of};
+ghost use Rattle.pj_parse.specs.JavaFile.{JavaFile, IsJavaFile};
 ghost use Rattle.pj_parse.specs.Laws.{HasOneOutcome};
 ghost use Rattle.pj_parse.specs.Parses.{Parses};
 
 use pj_grammar::{grammar_is_well_formed, rules_have_their_numbers};
 use pj_lex::all_texts_have_tokens;
 use pj_peg::one_outcome;
+
+/// One outcome comes of the bytes of each file, and `outcome_of` is it: a text with its tokens, syntax tree and pool, or
+/// the first fault. The call does nothing: its contract is the law.
+pub fn file_has_one_outcome()
+    ensures comes { (bytes : List ℕ) → IsJavaFile bytes (outcome_of bytes) }
+    ensures one { (bytes : List ℕ) (o : Result JavaFile FileFault) → IsJavaFile bytes o → o ≡ outcome_of bytes }
+{}
 
 /// One outcome comes of each text: its syntax tree and its tokens, or one fault. The call does nothing: its contract is
 /// the law.

@@ -6,7 +6,7 @@ ghost use Rattle.pj_peg.specs.Derives.{DerivesSteps, FailsAtStart};
 ghost use Rattle.pj_grammar.specs.Java17.{java_17_forms, java_17_shapes};
 ghost use Rattle.pj_shape.specs.Shaped.{shape_of};
 ghost use Rattle.pj_shape.specs.ShapedTree.{MakesNode};
-ghost use Rattle.pj_pool.specs.PoolText.{IsPoolOf};
+ghost use Rattle.pj_pool.specs.PoolText.{pool_of, IsPoolOf};
 ghost use Rattle.pj_parse.specs.Parses.{Parses, file_parsed};
 
 use crate::fault::ParseFault;
@@ -66,7 +66,8 @@ pub fn parse_by<'s>(
     requires grammar { forms_of grammar.now ≡ java_17_forms }
     ensures parses { MatchResult result (λ p. Parses source.now.text (Ok (file_parsed p))) (λ fault. (fault ≡ ParseFault.Memory) ⊎ Parses source.now.text (Err fault)) }
     ensures text { IfOk result (λ p. p.tree.text ≡ source.now.text) }
-    ensures pool { IfOk result (λ p. IsPoolOf p.tree p.pool) }
+    ensures pool { IfOk result (λ p. p.pool ≡ pool_of p.tree) }
+    ensures pool_texts { IfOk result (λ p. IsPoolOf p.tree p.pool) }
 {
     let tokens = collect_tokens(alloc, source)?;
     let spans = word_spans(alloc, tokens.as_slice())?;
@@ -94,7 +95,8 @@ pub fn parse_by<'s>(
 pub fn parse<'s>(alloc: Global, source: &'s Source) -> Result<Parsed<'s>, ParseFault>
     ensures parses { MatchResult result (λ p. Parses source.now.text (Ok (file_parsed p))) (λ fault. (fault ≡ ParseFault.Memory) ⊎ Parses source.now.text (Err fault)) }
     ensures text { IfOk result (λ p. p.tree.text ≡ source.now.text) }
-    ensures pool { IfOk result (λ p. IsPoolOf p.tree p.pool) }
+    ensures pool { IfOk result (λ p. p.pool ≡ pool_of p.tree) }
+    ensures pool_texts { IfOk result (λ p. IsPoolOf p.tree p.pool) }
 {
     match java_17(alloc) {
         Ok(grammar) => parse_by(alloc, &grammar, source),

@@ -8,8 +8,8 @@ use Rattle.std.proofs.lemmas.Bool.{eq-eqb, ne_eqb, ltb-true}
 use Rattle.std.proofs.lemmas.List.{drop_all}
 use Rattle.pj_tree.specs.Tree.{TreeNode, Tree}
 use Rattle.pj_tree.specs.declared.node.Node.{Node}
-use Rattle.pj_pool.specs.Entries.{IsRisingFrom, entry_of, entries_from}
-use Rattle.pj_pool.specs.PoolText.{kept_text, pool_text, text_in, IsPoolOf}
+use Rattle.pj_pool.specs.Entries.{IsRisingFrom}
+use Rattle.pj_pool.specs.PoolText.{kept_text, pool_text, entry_of, entries_from, text_in, IsPoolOf}
 use Rattle.pj_pool.specs.declared.entry.Entry.{Entry}
 
 abbrev node_numbered : ℕ → Node

@@ -1,5 +1,5 @@
 -- The texts of a tree that are no stretches of its text.
-use Rattle.std.specs.Prelude.{ℕ, ◌≡◌, ◌==◌, if◌then◌else◌, Option, None, Some, List, [], ◌∷◌, map}
+use Rattle.std.specs.Prelude.{ℕ, ◌+◌, ◌≡◌, ◌==◌, if◌then◌else◌, Option, None, Some, List, [], ◌∷◌, ◌++◌, map}
 use Rattle.std.specs.Option.{option_and_then}
 use Rattle.pj_tree.specs.Tree.{TreeNode, Tree, node_of, slice_at}
 use Rattle.pj_tree.specs.declared.kind.Kind.{Kind}
@@ -39,6 +39,19 @@ pool_text t n = option_and_then (kept_text t.text) (node_of t n)
 abbrev pub text_in : List Entry → Node → Option (List ℕ)
 text_in [] n = None
 text_in (e ∷ es) n = if e.node.0 == n.0 then Some e.text else text_in es n
+
+abbrev pub entry_of : ℕ → Option (List ℕ) → List Entry
+entry_of n None = []
+entry_of n (Some text) = record { node = record { 0 = n }; text = text } ∷ []
+
+-- the entries of nodes, the first of which has this number
+abbrev pub entries_from : List ℕ → ℕ → List TreeNode → List Entry
+entries_from text n [] = []
+entries_from text n (x ∷ xs) = entry_of n (kept_text text x) ++ entries_from text (n + 1) xs
+
+-- the pool of a tree: an entry for each node of which a text is kept, in the order of the nodes
+abbrev pub pool_of : Tree → List Entry
+pool_of t = entries_from t.text 0 t.nodes
 
 -- The pool has the texts of the tree, and no other.
 abbrev pub IsPoolOf : Tree → List Entry → Type 0

@@ -2,8 +2,7 @@
 
 ghost use Rattle.std.specs.Prelude.{◌≡◌, ◌++◌, IfOk, OnOk};
 ghost use Rattle.std.specs.Option.{option_copied};
-ghost use Rattle.pj_pool.specs.Entries.{entry_of};
-ghost use Rattle.pj_pool.specs.PoolText.{text_in, IsPoolOf};
+ghost use Rattle.pj_pool.specs.PoolText.{entry_of, text_in, pool_of, IsPoolOf};
 
 use crate::entry::{Entry, kept_text};
 use pj_base::{NoMemory, Text};
@@ -44,7 +43,8 @@ fn put_text(entries: &mut Vec<Entry>, node: Node, text: Option<Text>) -> Result<
 impl Pool {
     /// The pool of a tree. It takes the tokens of each node once.
     pub fn of(alloc: Global, tree: &SyntaxTree<'_>) -> Result<Pool, NoMemory>
-        ensures { IfOk result (IsPoolOf tree.now) }
+        ensures value { IfOk result (λ pool. pool ≡ pool_of tree.now) }
+        ensures texts { IfOk result (IsPoolOf tree.now) }
     {
         let mut entries = Vec::new(alloc);
         for n in 0..tree.len() {

@@ -13,7 +13,7 @@ use Rattle.pj_parse.proofs.parsing.parse_by.Goals as goal
 pub returns-in_err-tokens : goal.returns-in_err-tokens
 returns-in_err-tokens c =
     let p = err_from_is_err_and c.from_residual.result c.from_residual.ensures.1 in
-    rw (p.1, p.2) (record { text = tt; pool = tt; parses = fault_of_tokens c.args.source.now.text c.in_err-tokens.field-0.0 c.in_err-tokens.ensures.tokens })
+    rw (p.1, p.2) (record { text = tt; pool = tt; pool_texts = tt; parses = fault_of_tokens c.args.source.now.text c.in_err-tokens.field-0.0 c.in_err-tokens.ensures.tokens })
 
 pub returns-then-len-gt-MOST_WORDS : goal.returns-then-len-gt-MOST_WORDS
 returns-then-len-gt-MOST_WORDS c =
@@ -22,6 +22,7 @@ returns-then-len-gt-MOST_WORDS c =
     record {
       text = tt;
       pool = tt;
+      pool_texts = tt;
       parses = many_tokens c.args.source.now.text ts c.in_ok-spans.spans.items c.in_ok-tokens.ensures.tokens places c.len-then-len-gt-MOST_WORDS.result (omega arith) (omega arith);
     }
 
@@ -32,7 +33,7 @@ returns-in_err-derivation c =
     let places = c.in_ok-spans.ensures.spans ∙ ap (λ l. spans (words (map seen l))) c.as_slice.ensures.value in
     let kinds = c.as_slice-3.ensures.value ∙ c.in_ok-terminals.ensures ∙ ap (λ l. terminals (words (map seen l))) c.as_slice-2.ensures.value in
     let has = has_words c.args.source.now.text ts c.in_ok-spans.spans.items c.in_ok-tokens.ensures.tokens places (omega arith) in
-    rw (p.1, p.2) (record { text = tt; pool = tt; parses = not_derived c.args.source.now.text ts c.as_slice-3.result.now c.in_err-derivation.field-0.0 has kinds c.in_err-derivation.ensures.fails })
+    rw (p.1, p.2) (record { text = tt; pool = tt; pool_texts = tt; parses = not_derived c.args.source.now.text ts c.as_slice-3.result.now c.in_err-derivation.field-0.0 has kinds c.in_err-derivation.ensures.fails })
 
 pub shape_derivation-requires-clause-tokens : goal.shape_derivation-requires-clause-tokens
 shape_derivation-requires-clause-tokens c =
@@ -49,7 +50,7 @@ returns-in-Ok c =
     let d : DerivesSteps java_17_forms c.as_slice-3.result.now c.in_ok-derivation.derivation = c.in_ok-derivation.ensures.derives in
     let derivation = derivation_of c.args.source.now.text ts c.as_slice-3.result.now c.in_ok-derivation.derivation has kinds d in
     let tree : shaped_tree c.text.result.now c.as_slice-4.result.now c.java_shapes.result.now d.1 ≡ Ok c.in-Ok.tree = c.in-Ok.ensures.value d.1 d.3 in
-    record { pool = c.in_ok-pool-in-Ok.ensures; text = tree_text c.text.result.now c.as_slice-4.result.now c.java_shapes.result.now d.1 c.in-Ok.tree tree ∙ c.text.ensures.value; parses = tree_parsed c.args.source.now.text ts c.as_slice-4.result.now d.1 c.in-Ok.tree derivation places (rw (← c.text.ensures.value, ← c.java_shapes.ensures.shapes) tree) }
+    record { pool = c.in_ok-pool-in-Ok.ensures.value; pool_texts = c.in_ok-pool-in-Ok.ensures.texts; text = tree_text c.text.result.now c.as_slice-4.result.now c.java_shapes.result.now d.1 c.in-Ok.tree tree ∙ c.text.ensures.value; parses = tree_parsed c.args.source.now.text ts c.as_slice-4.result.now d.1 c.in-Ok.tree derivation places (rw (← c.text.ensures.value, ← c.java_shapes.ensures.shapes) tree) }
 
 pub returns : goal.returns
 returns c =
@@ -60,4 +61,4 @@ returns c =
     let d : DerivesSteps java_17_forms c.as_slice-3.result.now c.in_ok-derivation.derivation = c.in_ok-derivation.ensures.derives in
     let derivation = derivation_of c.args.source.now.text ts c.as_slice-3.result.now c.in_ok-derivation.derivation has kinds d in
     let faulty : (c.in-Err.fault ≡ Memory) ⊎ (shaped_tree c.text.result.now c.as_slice-4.result.now c.java_shapes.result.now d.1 ≡ Err c.in-Err.fault) = c.in-Err.ensures.value d.1 d.3 in
-    record { text = tt; pool = tt; parses = tree_faulty c.args.source.now.text ts c.as_slice-4.result.now d.1 c.in-Err.fault c.from.result derivation places c.from.ensures (rw (← c.text.ensures.value, ← c.java_shapes.ensures.shapes) faulty) }
+    record { text = tt; pool = tt; pool_texts = tt; parses = tree_faulty c.args.source.now.text ts c.as_slice-4.result.now d.1 c.in-Err.fault c.from.result derivation places c.from.ensures (rw (← c.text.ensures.value, ← c.java_shapes.ensures.shapes) faulty) }

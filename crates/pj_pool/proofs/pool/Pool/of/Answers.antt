@@ -1,6 +1,6 @@
 use Rattle.std.proofs.Common.{◌≡◌, ◌+◌, ◌++◌, drop, arith, ap, ◌∙◌, subst, sym, List}
-use Rattle.pj_pool.specs.Entries.{IsRisingFrom, entry_of, entries_from}
-use Rattle.pj_pool.specs.PoolText.{IsPoolOf}
+use Rattle.pj_pool.specs.Entries.{IsRisingFrom}
+use Rattle.pj_pool.specs.PoolText.{entry_of, entries_from, IsPoolOf}
 use Rattle.pj_pool.specs.declared.entry.Entry.{Entry}
 use Rattle.pj_pool.proofs.EntryLaws.{entries_more, entries_done, entries_are_pool, entries_rise_from_zero}
 use Rattle.pj_pool.proofs.pool.Pool.of.Goals as goal
@@ -25,4 +25,4 @@ pub returns : goal.returns
 returns c =
     let t = c.args.tree.now in
     let all : c.loop-n.entries.items ≡ entries_from t.text 0 t.nodes = entries_done t c.loop-n.entries.items (entries_from t.text 0 t.nodes) c.loop-n.n (omega (arith, c.loop-n-test.false, c.len-n-end.ensures.value)) c.loop-n.invariant in
-    subst (IsPoolOf t) (sym all) (entries_are_pool t)
+    record { value = all; texts = subst (IsPoolOf t) (sym all) (entries_are_pool t) }

@@ -1,5 +1,5 @@
 use Rattle.std.proofs.Common.{◌≡◌, ◌++◌, drop}
-use Rattle.pj_pool.specs.Entries.{entries_from}
+use Rattle.pj_pool.specs.PoolText.{entries_from}
 use Rattle.pj_pool.proofs.pool.Pool.of.Given as goal
 
 abbrev pub invariant-loop-n : goal.invariant-loop-n
