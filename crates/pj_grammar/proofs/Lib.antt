@@ -4,3 +4,4 @@ pub mod SameTable
 pub mod Numbers
 pub mod Words
 pub mod Shut
+mod Stack

@@ -2,3 +2,5 @@
 pub mod Terminal
 pub mod Notation
 pub mod Java17
+-- what a table of pieces stands for
+pub mod Piece

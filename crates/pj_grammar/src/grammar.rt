@@ -3,13 +3,14 @@
 ghost use Rattle.std.specs.Prelude.{◌≡◌, ◌^◌, ◌<◌, ◌≤◌, length, IfOk};
 ghost use Rattle.pj_peg.specs.Form.{forms_of};
 ghost use Rattle.pj_peg.specs.WellFormed.{IsWellFormed};
-ghost use Rattle.pj_pieces.specs.Piece.{decoded};
+ghost use Rattle.pj_grammar.specs.Piece.{decoded};
 ghost use Rattle.pj_grammar.specs.Java17.{java_17_forms, java_17_shapes};
 
 use crate::table::{PIECES, SHAPES};
 use pj_base::NoMemory;
 use pj_peg::WellFormed;
-use pj_pieces::{Piece, items_of};
+use crate::decoder::items_of;
+use crate::piece::Piece;
 use pj_shape::Shape;
 use std::alloc::Global;
 

@@ -9,6 +9,7 @@ use Rattle.pj_lex.specs.Rules.{Spells}
 use Rattle.pj_lex.specs.Size.{size}
 use Rattle.pj_lex.specs.Tokens.{Lexed, Begins, Tokens, longest, nothing, ended, token, fault, fault_of}
 use Rattle.pj_lex.specs.declared.token.TokenKind.{TokenKind}
+use Rattle.pj_lex.proofs.FileTexts.{text_placed}
 use Rattle.pj_lex.proofs.Unique.{spells_empty}
 use Rattle.pj_grammar.specs.Java17.{java_17_forms, java_17_shapes}
 use Rattle.pj_grammar.specs.Terminal.{terminal_of, terminal_number}
@@ -31,6 +32,7 @@ use Rattle.pj_shape.specs.Typed.{with_types}
 use Rattle.pj_shape.specs.Words.{AreTokens, is_small}
 use Rattle.pj_shape.proofs.Derived.{HaveEachToken, derived_parts}
 use Rattle.pj_shape.proofs.Laying.{lies}
+use Rattle.pj_parse.specs.JavaFile.{JavaFile, IsJavaFile, file}
 use Rattle.pj_parse.specs.OwnTokens.{HasEachWord, HasOwnTokens}
 use Rattle.pj_parse.specs.Parses.{Parses, FileParsed, HasDerivation, parsed}
 use Rattle.pj_parse.specs.Words.{TokenSeen, as_lexed, words, spans, terminals, is_comment}
@@ -128,3 +130,11 @@ some_words text _ (parsed ts d tree h e) s c =
 
 pub tokens_owned : (text : List ℕ) (p : FileParsed) → IsUtf8 text → Parses text (Ok p) → HasOwnTokens p.tree (spans (words p.tokens))
 tokens_owned text p u h = own_tokens p.tree (spans (words p.tokens)) (each_word text p u h) (some_words text p h)
+
+-- ---- files
+
+pub file_words : (bytes : List ℕ) (f : JavaFile) → IsJavaFile bytes (Ok f) → HasEachWord f.tree (spans (words f.tokens))
+file_words bytes _ (file s p r q) = each_word s.text p (text_placed bytes s r).utf8 q
+
+pub file_tokens : (bytes : List ℕ) (f : JavaFile) → IsJavaFile bytes (Ok f) → HasOwnTokens f.tree (spans (words f.tokens))
+file_tokens bytes _ (file s p r q) = tokens_owned s.text p (text_placed bytes s r).utf8 q

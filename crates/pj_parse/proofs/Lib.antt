@@ -5,3 +5,9 @@ pub mod One
 pub mod FileCases
 pub mod FileThere
 pub mod Refusals
+pub mod EntryLaws
+pub mod NameLaws
+pub mod NodeOrder
+pub mod TokenOwners
+pub mod Owners
+pub mod FileWords

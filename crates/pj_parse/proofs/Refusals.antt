@@ -3,8 +3,8 @@ use Rattle.std.proofs.Common.{◌≡◌, ℕ, List, map, Ok, Err, Option, None, 
 use Rattle.pj_lex.specs.SourceText.{SourceText, IsRead}
 use Rattle.pj_lex.specs.declared.source.fault.SourceFault.{SourceFault}
 use Rattle.pj_lex.specs.declared.source.fault.SourceFault.TheVariants as unread
-use Rattle.pj_pool.specs.PoolText.{pool_of}
-use Rattle.pj_pool.specs.declared.entry.Entry.{Entry}
+use Rattle.pj_parse.specs.PoolText.{pool_of}
+use Rattle.pj_parse.specs.declared.entry.Entry.{Entry}
 use Rattle.pj_parse.specs.JavaFile.{JavaFile, IsJavaFile, file}
 use Rattle.pj_parse.specs.Parses.{Parses, file_parsed}
 use Rattle.pj_parse.specs.Refused.{IsRefused, file_seen, fault_unread, fault_unparsed, refused_by}

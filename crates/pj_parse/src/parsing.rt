@@ -6,7 +6,7 @@ ghost use Rattle.pj_peg.specs.Derives.{DerivesSteps, FailsAtStart};
 ghost use Rattle.pj_grammar.specs.Java17.{java_17_forms, java_17_shapes};
 ghost use Rattle.pj_shape.specs.Shaped.{shape_of};
 ghost use Rattle.pj_shape.specs.ShapedTree.{MakesNode};
-ghost use Rattle.pj_pool.specs.PoolText.{pool_of, IsPoolOf};
+ghost use Rattle.pj_parse.specs.PoolText.{pool_of, IsPoolOf};
 ghost use Rattle.pj_parse.specs.Parses.{Parses, file_parsed};
 
 use crate::fault::ParseFault;
@@ -15,7 +15,7 @@ use crate::words::{word_spans, word_terminals};
 use pj_grammar::{java_17, rules_have_their_numbers, shapes};
 use pj_lex::{Source, Token};
 use pj_peg::{Derivation, WellFormed, run};
-use pj_pool::Pool;
+use crate::pool::Pool;
 use pj_shape::{Shape, shape_derivation};
 use pj_tree::SyntaxTree;
 use std::alloc::Global;
