@@ -8,8 +8,8 @@ ghost use Rattle.pj_check.specs.Lines.{node_line, lines_of, IsNoFile, AreLinesOf
 ghost use Rattle.pj_tree.specs.Tree.{TreeNode};
 
 use crate::suppression::may_suppress;
-use pj_lex::Source;
 use pj_base::NoMemory;
+use pj_lex::Source;
 use pj_parse::{FileRefused, file_has_one_outcome, parse_file, read_file};
 use pj_tree::{Node, SyntaxTree};
 use std::alloc::Global;

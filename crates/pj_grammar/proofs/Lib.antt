@@ -5,3 +5,5 @@ pub mod Numbers
 pub mod Words
 pub mod Shut
 mod Stack
+pub mod Stretches
+pub mod Shaping

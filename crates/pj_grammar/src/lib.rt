@@ -11,8 +11,10 @@ mod grammar;
 mod laws;
 mod piece;
 mod rule;
+mod shaping;
 mod table;
 mod terminal;
+mod words;
 
 pub use decoder::items_of;
 pub use grammar::{java_17, shapes};
@@ -22,4 +24,6 @@ pub use laws::{
 };
 pub use piece::Piece;
 pub use rule::Rule;
+pub use shaping::shape;
 pub use terminal::{ContextualWord, Terminal};
+pub use words::word_terminals;

@@ -27,7 +27,7 @@ use Rattle.pj_parse.specs.declared.fault.ParseFault.TheVariants as unparsed
 use Rattle.pj_parse.specs.declared.file_fault.FileFault.{FileFault}
 use Rattle.pj_parse.specs.declared.file_fault.FileFault.TheVariants.{NotUtf8, Escape, Lexical, TooManyTokens, Syntax, TooDeep, TooManyNodes}
 use Rattle.pj_parse.proofs.One.{one_of_text, ends_in_fault, never_memory_of_text}
-use Rattle.pj_parse.proofs.Stretches.{fault_stands}
+use Rattle.pj_grammar.proofs.Stretches.{fault_stands}
 
 -- one outcome comes of each text
 pub text_outcome : (text : List ℕ) → HasOneOutcome text

@@ -35,9 +35,9 @@ use Rattle.pj_shape.proofs.Laying.{lies}
 use Rattle.pj_parse.specs.JavaFile.{JavaFile, IsJavaFile, file}
 use Rattle.pj_parse.specs.OwnTokens.{HasEachWord, HasOwnTokens}
 use Rattle.pj_parse.specs.Parses.{Parses, FileParsed, HasDerivation, parsed}
-use Rattle.pj_parse.specs.Words.{TokenSeen, as_lexed, words, spans, terminals, is_comment}
+use Rattle.pj_grammar.specs.Words.{TokenSeen, as_lexed, words, spans, terminals, is_comment}
 use Rattle.pj_parse.proofs.Owners.{own_tokens}
-use Rattle.pj_parse.proofs.Stretches.{words_are_tokens}
+use Rattle.pj_grammar.proofs.Stretches.{words_are_tokens}
 use Rattle.pj_parse.proofs.TokenOwners.{Among, among_contains}
 
 -- ---- words are not empty

@@ -1,5 +1,4 @@
 pub mod Going
-pub mod Stretches
 pub mod Outcomes
 pub mod One
 pub mod FileCases

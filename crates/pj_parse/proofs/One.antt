@@ -17,7 +17,7 @@ use Rattle.pj_shape.specs.ShapedTree.{shaped_tree, parts_of_derivation}
 use Rattle.pj_parse.specs.declared.fault.ParseFault.{ParseFault}
 use Rattle.pj_parse.specs.declared.fault.ParseFault.TheVariants.{Lex, TooManyTokens, Syntax, TooDeep, TooMany}
 use Rattle.pj_parse.specs.declared.fault.ParseFault.TheVariants as unparsed
-use Rattle.pj_parse.specs.Words.{TokenSeen, as_lexed, AreTokens, EndsInFault, words, spans, terminals}
+use Rattle.pj_grammar.specs.Words.{TokenSeen, as_lexed, AreTokens, EndsInFault, words, spans, terminals}
 use Rattle.pj_parse.specs.Faults.{of_shape}
 use Rattle.pj_parse.specs.Laws.{HasOneOutcome}
 use Rattle.pj_parse.specs.Parses.{Parses, FileParsed, HasWords, HasDerivation, most_words, lexical_fault, too_many_tokens, syntax_fault, too_deep, too_many, parsed}

@@ -8,7 +8,7 @@ use Rattle.pj_parse.specs.declared.entry.Entry.{Entry}
 use Rattle.pj_parse.specs.JavaFile.{JavaFile, IsJavaFile, file}
 use Rattle.pj_parse.specs.Parses.{Parses, file_parsed}
 use Rattle.pj_parse.specs.Refused.{IsRefused, file_seen, fault_unread, fault_unparsed, refused_by}
-use Rattle.pj_parse.specs.Words.{seen}
+use Rattle.pj_grammar.specs.Words.{seen}
 use Rattle.pj_parse.specs.declared.fault.ParseFault.{ParseFault}
 use Rattle.pj_parse.specs.declared.fault.ParseFault.TheVariants as unparsed
 use Rattle.pj_parse.specs.declared.file_fault.FileFault.{FileFault}
@@ -34,5 +34,5 @@ refused_text bytes s f r read (inr h) e = subst (IsRefused bytes) (sym e) (by_fa
 
 pub parsed_file : (bytes : List ℕ) (s : SourceText) (p : Parsed) → IsRead bytes (Ok s) → Parses s.text (Ok (file_parsed p)) → p.pool ≡ pool_of p.tree → IsJavaFile bytes (Ok (file_seen s p))
 parsed_file bytes s p read h e =
-    let made : List Entry → JavaFile = λ pool. record { source = s; tokens = map seen p.tokens.items; tree = p.tree; pool = pool } in
+    let made : List Entry → JavaFile = λ pool. record { source = s; tokens = map seen p.tokens; tree = p.tree; pool = pool } in
     subst (λ (pool : List Entry). IsJavaFile bytes (Ok (made pool))) (sym e) (file s (file_parsed p) read h)

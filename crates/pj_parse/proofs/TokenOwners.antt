@@ -125,13 +125,13 @@ owner_of parent number (Token token rest) s (inr h) = elim (owner_of parent numb
 ]
 owner_of parent number (Child kind begin within end rest) s h = elim (among_cases (all_tokens within) (all_tokens rest) s h) [
   | inl a ↦ elim (owner_of (Some (numbered number)) (number + 1) within s a) [
-      | inl mine ↦ inr (record { n = number; x = written kind parent begin end within; inside = within; has = inl (refl, refl, refl); own = mine })
-      | inr o ↦ inr (record { n = o.n; x = o.x; inside = o.inside; has = inr (inl o.has); own = o.own })
-    ]
+    | inl mine ↦ inr (record { n = number; x = written kind parent begin end within; inside = within; has = inl (refl, refl, refl); own = mine })
+    | inr o ↦ inr (record { n = o.n; x = o.x; inside = o.inside; has = inr (inl o.has); own = o.own })
+  ]
   | inr b ↦ elim (owner_of parent (number + 1 + node_count within) rest s b) [
-      | inl outer ↦ inl outer
-      | inr o ↦ inr (record { n = o.n; x = o.x; inside = o.inside; has = inr (inr o.has); own = o.own })
-    ]
+    | inl outer ↦ inl outer
+    | inr o ↦ inr (record { n = o.n; x = o.x; inside = o.inside; has = inr (inr o.has); own = o.own })
+  ]
 ]
 
 -- where an owned token lies

@@ -7,7 +7,7 @@ use Rattle.pj_lex.specs.declared.source.fault.SourceFault.TheVariants as unread
 use Rattle.pj_lex.specs.declared.token.LexFault.{LexFault}
 use Rattle.pj_parse.specs.PoolText.{pool_of}
 use Rattle.pj_parse.specs.declared.entry.Entry.{Entry}
-use Rattle.pj_parse.specs.Words.{TokenSeen}
+use Rattle.pj_grammar.specs.Words.{TokenSeen}
 use Rattle.pj_parse.specs.Parses.{Parses, FileParsed}
 use Rattle.pj_parse.specs.declared.fault.ParseFault.TheVariants as unparsed
 use Rattle.pj_parse.specs.declared.file_fault.FileFault.{FileFault}

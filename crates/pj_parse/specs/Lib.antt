@@ -1,5 +1,4 @@
 -- what comes of a text, and of the bytes of a file
-pub mod Words
 pub mod Parses
 pub mod Names
 pub mod PoolText

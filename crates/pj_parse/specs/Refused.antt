@@ -6,7 +6,7 @@ use Rattle.pj_lex.specs.declared.token.LexFault.{LexFault}
 use Rattle.pj_lex.specs.declared.source.fault.SourceFault.{SourceFault}
 use Rattle.pj_lex.specs.declared.source.fault.SourceFault.TheVariants as unread
 use Rattle.pj_parse.specs.JavaFile.{JavaFile, IsJavaFile}
-use Rattle.pj_parse.specs.Words.{seen}
+use Rattle.pj_grammar.specs.Words.{seen}
 use Rattle.pj_parse.specs.declared.parsing.Parsed.{Parsed}
 use Rattle.pj_parse.specs.declared.fault.ParseFault.{ParseFault}
 use Rattle.pj_parse.specs.declared.fault.ParseFault.TheVariants as unparsed
@@ -22,7 +22,7 @@ IsRefused bytes Memory = Unit {0}
 
 -- what a file of the program is that was read and parsed
 abbrev pub file_seen : SourceText → Parsed → JavaFile
-file_seen s p = record { source = s; tokens = map seen p.tokens.items; tree = p.tree; pool = p.pool }
+file_seen s p = record { source = s; tokens = map seen p.tokens; tree = p.tree; pool = p.pool }
 
 -- ---- for the private clauses
 

@@ -8,7 +8,7 @@ ghost use Rattle.pj_parse.specs.JavaFile.{JavaFile, IsJavaFile};
 ghost use Rattle.pj_parse.specs.Laws.{HasOneOutcome};
 ghost use Rattle.pj_parse.specs.OwnTokens.{HasEachWord, HasOwnTokens};
 ghost use Rattle.pj_parse.specs.Parses.{Parses};
-ghost use Rattle.pj_parse.specs.Words.{spans, words};
+ghost use Rattle.pj_grammar.specs.Words.{spans, words};
 
 use pj_grammar::{grammar_is_well_formed, rules_have_their_numbers};
 use pj_lex::all_texts_have_tokens;

@@ -15,7 +15,6 @@ mod names;
 mod parsing;
 mod pool;
 mod tokens;
-mod words;
 
 pub use fault::ParseFault;
 pub use file::{parse_file, parse_file_by, read_file};

@@ -1,3 +1,5 @@
+//! Grammars written as tables of pieces.
+
 use pj_grammar::{Piece, items_of};
 use pj_peg::{Derivation, Grammar, run};
 use std::alloc::Global;

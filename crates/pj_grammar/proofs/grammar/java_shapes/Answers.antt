@@ -4,7 +4,7 @@ use Rattle.pj_grammar.specs.declared.rule.Rule.TheVariants.{Unit}
 use Rattle.pj_shape.specs.declared.shape.Shape.{Shape}
 use Rattle.pj_shape.specs.Shaped.{shape_of}
 use Rattle.pj_shape.specs.ShapedTree.{MakesNode}
-use Rattle.pj_parse.proofs.parsing.java_shapes.Goals as goal
+use Rattle.pj_grammar.proofs.grammar.java_shapes.Goals as goal
 
 first_shape : (shapes : List Shape) (s : Shape) → slice_get shapes 0 ≡ Some s → shape_of shapes 0 ≡ s
 first_shape [] s e = absurd (cc)

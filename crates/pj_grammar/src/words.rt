@@ -1,12 +1,13 @@
-//! The words of a source: its tokens without comments.
+//! The words of a source: its tokens without comments, which the grammar sees.
 
 ghost use Rattle.std.specs.Prelude.{◌≡◌, ◌≤◌, length, map, not, IfOk};
-ghost use Rattle.pj_parse.specs.Words.{is_comment, seen, words, spans, terminals};
+ghost use Rattle.pj_grammar.specs.Words.{is_comment, seen, words, spans, terminals};
 
-use pj_grammar::Terminal;
+use crate::terminal::Terminal;
+use pj_base::NoMemory;
 use pj_lex::{Token, TokenKind};
 use pj_tree::Span;
-use std::alloc::{AllocError, Global};
+use std::alloc::Global;
 
 /// Whether the grammar sees a token.
 fn is_word(token: &Token<'_>) -> bool
@@ -16,9 +17,8 @@ fn is_word(token: &Token<'_>) -> bool
 }
 
 /// Where the words stand.
-pub fn word_spans(alloc: Global, tokens: &[Token<'_>]) -> Result<Vec<Span>, AllocError>
-    ensures spans { IfOk result (λ found. found.items ≡ spans (words (map seen tokens.now))) }
-    ensures few { IfOk result (λ found. length found.items ≤ length tokens.now) }
+pub fn word_spans(alloc: Global, tokens: &[Token<'_>]) -> Result<Vec<Span>, NoMemory>
+    ensures { IfOk result (λ found. found.items ≡ spans (words (map seen tokens.now))) }
 {
     let mut found = Vec::new(alloc);
     for token in tokens {
@@ -30,8 +30,9 @@ pub fn word_spans(alloc: Global, tokens: &[Token<'_>]) -> Result<Vec<Span>, Allo
 }
 
 /// What the words are in the grammar.
-pub fn word_terminals(alloc: Global, tokens: &[Token<'_>]) -> Result<Vec<u16>, AllocError>
-    ensures { IfOk result (λ found. found.items ≡ terminals (words (map seen tokens.now))) }
+pub fn word_terminals(alloc: Global, tokens: &[Token<'_>]) -> Result<Vec<u16>, NoMemory>
+    ensures terminals { IfOk result (λ found. found.items ≡ terminals (words (map seen tokens.now))) }
+    ensures few { IfOk result (λ found. length found.items ≤ length tokens.now) }
 {
     let mut found = Vec::new(alloc);
     for token in tokens {

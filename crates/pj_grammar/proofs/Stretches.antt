@@ -12,7 +12,7 @@ use Rattle.pj_lex.specs.declared.token.LexFault.{LexFault}
 use Rattle.pj_tree.specs.Tree.{IsSpanOf}
 use Rattle.pj_tree.specs.declared.node.Span.{Span}
 use Rattle.pj_shape.specs.Words.{AreInOrder, AreTokens}
-use Rattle.pj_parse.specs.Words.{TokenSeen, as_lexed, EndsInFault, words, spans, is_comment}
+use Rattle.pj_grammar.specs.Words.{TokenSeen, as_lexed, EndsInFault, words, spans, is_comment}
 
 abbrev span_at : ℕ → ℕ → Span
 span_at from to = record { from = from; to = to }
