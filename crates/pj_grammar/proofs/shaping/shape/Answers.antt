@@ -1,7 +1,7 @@
 use Rattle.std.proofs.Common.{◌≡◌, List, map, ◌∙◌, ap, subst}
 use Rattle.std.specs.Str.{IsUtf8}
 use Rattle.pj_grammar.specs.Words.{TokenSeen, seen, words, spans}
-use Rattle.pj_grammar.proofs.Shaping.{is_derived, gives_same}
+use Rattle.pj_grammar.proofs.TreeOfWords.{is_derived, gives_same}
 use Rattle.pj_grammar.proofs.Stretches.{words_are_tokens}
 use Rattle.pj_grammar.proofs.shaping.shape.Goals as goal
 
