@@ -5,7 +5,9 @@ use Rattle.pj_lex.specs.SourceText.{SourceText, IsRead}
 use Rattle.pj_lex.specs.declared.source.fault.SourceFault.{SourceFault}
 use Rattle.pj_lex.proofs.SourceLaws.{same_reading}
 use Rattle.pj_parse.specs.JavaFile.{JavaFile, IsJavaFile}
-use Rattle.pj_parse.specs.declared.file_fault.FileFault.{FileFault}
+use Rattle.pj_parse.specs.Refused.{IsRefused}
+use Rattle.pj_parse.specs.declared.file_fault.FileRefused.{FileRefused}
+use Rattle.pj_parse.specs.declared.file_fault.FileRefused.TheVariants.{Fault, Memory}
 use Rattle.pj_parse.proofs.FileCases.{read_of_file}
 use Rattle.pj_check.specs.FileTree.{IsTaken, IsNotTaken, may_suppress}
 use Rattle.pj_check.specs.Lines.{IsNoFile, AreLinesOf, IsReportText}
@@ -22,11 +24,13 @@ same_source s t e = cc
 pub source_of_file : (bytes : Bytes) (s : SourceText) (file : JavaFile) → IsRead bytes (Ok s) → IsJavaFile bytes (Ok file) → file.source ≡ s
 source_of_file bytes s file r is = same_source file.source s (same_reading bytes (Ok file.source) (Ok s) (read_of_file bytes file is) r)
 
-pub no_file : OneOutcome → (bytes : Bytes) (f : FileFault) → IsJavaFile bytes (Err f) → IsNoFile bytes
-no_file one bytes f is file it = not_both one bytes f file is it
+-- bytes that are refused, and not for want of memory, are no Java file
+pub no_file : OneOutcome → (bytes : Bytes) (r : FileRefused) → IsRefused bytes r → (r ≡ Memory → ⊥) → IsNoFile bytes
+no_file one bytes (Fault f) is differs file it = not_both one bytes f file is it
+no_file one bytes Memory is differs file it = differs refl
 
-pub not_taken : OneOutcome → (bytes : Bytes) (f : FileFault) → IsJavaFile bytes (Err f) → IsNotTaken bytes
-not_taken one bytes f is file taken = not_both one bytes f file is taken.is_file
+pub not_taken : OneOutcome → (bytes : Bytes) (r : FileRefused) → IsRefused bytes r → (r ≡ Memory → ⊥) → IsNotTaken bytes
+not_taken one bytes r is differs file taken = no_file one bytes r is differs file taken.is_file
 
 pub not_plain : (bytes : Bytes) (s : SourceText) (b : Bool) → IsRead bytes (Ok s) → b ≡ may_suppress s.text → b ≡ true → IsNotTaken bytes
 not_plain bytes s b r e t file taken =

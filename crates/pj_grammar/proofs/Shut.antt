@@ -78,7 +78,7 @@ or_cases true b h = inl refl
 or_cases false b h = inr h
 
 ends : {rules : List Form} {kinds : List ℕ} {f : Form} {i : ℕ} {o : Outcome} → Derives rules kinds f i o → ends_all f ≡ true → IsAfter (length kinds) o
-ends {kinds = kinds} (seq_to {a} {b} {i} {j} {k} {d} {f} x y) h = elim (or_cases (ends_all b) (is_nothing b && ends_all a) h) [
+ends {kinds = kinds} (seq_to {a} {b} {i} {j} {k} x y) h = elim (or_cases (ends_all b) (is_nothing b && ends_all a) h) [
   | inl e ↦ ends y e
   | inr e ↦
       let both = and_parts (is_nothing b) (ends_all a) e in

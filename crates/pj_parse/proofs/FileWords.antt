@@ -78,12 +78,12 @@ lexed_some _ _ _ (fault at text gap behind rest c f p h n b) = (λ k is. absurd 
 
 words_some : (ts : List TokenSeen) → AreSome (map as_lexed ts) → (s : Span) → Among (spans (words ts)) s → s.from < s.to
 words_some [] all s h = absurd h
-words_some (t ∷ ts) all s h = by_test (not (is_comment t.kind)) h
+words_some (t ∷ ts) all s h = by_test (not (is_comment t.kind)) (words_some ts all.1 s) h
   where
-    by_test : (b : Bool) → Among (spans (cond b (t ∷ words ts) (words ts))) s → s.from < s.to
-    by_test true (inl e) = (let some = all.0 t.kind refl in subst (λ (x : Span). x.from < x.to) e some)
-    by_test true (inr g) = words_some ts all.1 s g
-    by_test false g = words_some ts all.1 s g
+    by_test : (b : Bool) → (Among (spans (words ts)) s → s.from < s.to) → Among (spans (cond b (t ∷ words ts) (words ts))) s → s.from < s.to
+    by_test true later (inl e) = (let some = all.0 t.kind refl in subst (λ (x : Span). x.from < x.to) e some)
+    by_test true later (inr g) = later g
+    by_test false later g = later g
 
 -- ---- the tree
 

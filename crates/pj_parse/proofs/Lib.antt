@@ -1,8 +1,6 @@
 pub mod Going
 pub mod Outcomes
-pub mod One
 pub mod FileCases
-pub mod FileThere
 pub mod Refusals
 pub mod EntryLaws
 pub mod NameLaws

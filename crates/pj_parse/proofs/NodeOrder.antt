@@ -115,7 +115,7 @@ pub record IsSeated (parent : Option Node) (number from to n : ℕ) (x : TreeNod
   pub ends : x.span.to ≤ to
   pub in_order : StandInOrder x.span.from x.span.to inside
   pub own_are : x.own ≡ tokens_of inside
-  pub under : (x.parent ≡ parent) ⊎ ((q : ℕ) × (x.parent ≡ Some (numbered q)) × (number ≤ q) × (q < n))
+  pub under : (x.parent ≡ parent) ⊎ ((q : ℕ) × ((x.parent ≡ Some (numbered q)) × (number ≤ q) × (q < n)))
 
 pub seated : (parent : Option Node) (number from to : ℕ) (parts : Parts) (n : ℕ) (x : TreeNode) (inside : Parts) → StandInOrder from to parts → Has parent number parts n x inside → IsSeated parent number from to n x inside
 seated parent number from to NoMore n x inside s h = absurd h
@@ -138,8 +138,8 @@ seated parent number from to (Child kind begin within end rest) n x inside s (in
       in_order = r.in_order;
       own_are = r.own_are;
       under = elim r.under [
-        | inl e ↦ inr (number, e, (let z : number ≤ number = omega arith in z), omega arith)
-        | inr (q, u) ↦ inr (q, u.0, (let z = u.1 in omega arith), u.2)
+        | inl e ↦ inr (number, (e, (let z : number ≤ number = omega arith in z), omega arith))
+        | inr (q, u) ↦ inr (q, (u.0, (let z = u.1 in omega arith), u.2))
       ];
     }
 seated parent number from to (Child kind begin within end rest) n x inside s (inr (inr h)) =
@@ -150,7 +150,7 @@ seated parent number from to (Child kind begin within end rest) n x inside s (in
       ends = r.ends;
       in_order = r.in_order;
       own_are = r.own_are;
-      under = elim r.under [ inl e ↦ inl e | inr (q, u) ↦ inr (q, u.0, (let z = u.1 in omega arith), u.2) ];
+      under = elim r.under [ inl e ↦ inl e | inr (q, u) ↦ inr (q, (u.0, (let z = u.1 in omega arith), u.2)) ];
     }
 
 -- ---- two nodes

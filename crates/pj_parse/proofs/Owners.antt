@@ -53,7 +53,7 @@ module _ (t : Tree) (ws : List Span) (each : HasEachWord t ws) (some : (s : Span
       let e : o.n - 0 ≡ o.n = omega arith in
       let get : node_of t (numbered o.n) ≡ Some o.x = ap (λ (l : List TreeNode). slice_get l o.n) each.nodes_are ∙ ap (slice_get (preorder None 0 parts)) (sym e) ∙ get_of None 0 parts o.n o.x o.inside o.has in
       let seat = seated None 0 0 end parts o.n o.x o.inside each.in_order o.has in
-      (numbered o.n, o.x, get, subst (λ (l : List Span). Contains l s) (sym seat.own_are) (contains_among (tokens_of o.inside) s o.own))
+      (numbered o.n, (o.x, get, subst (λ (l : List Span). Contains l s) (sym seat.own_are) (contains_among (tokens_of o.inside) s o.own)))
 
   one : (s : Span) → Contains ws s → HasOneOwner t s
   one s c =

@@ -1,5 +1,5 @@
 -- What a call on a file says of its bytes.
-use Rattle.std.proofs.Common.{◌≡◌, ℕ, List, map, Ok, Err, Option, None, Some, ◌⊎◌, inl, inr, refl, sym, ◌∙◌, ap, subst}
+use Rattle.std.proofs.Common.{◌≡◌, ◌≤◌, ℕ, List, length, map, Ok, Err, Option, None, Some, ◌⊎◌, inl, inr, refl, sym, ◌∙◌, ap, subst}
 use Rattle.pj_lex.specs.SourceText.{SourceText, IsRead}
 use Rattle.pj_lex.specs.declared.source.fault.SourceFault.{SourceFault}
 use Rattle.pj_lex.specs.declared.source.fault.SourceFault.TheVariants as unread
@@ -7,7 +7,8 @@ use Rattle.pj_parse.specs.PoolText.{pool_of}
 use Rattle.pj_parse.specs.declared.entry.Entry.{Entry}
 use Rattle.pj_parse.specs.JavaFile.{JavaFile, IsJavaFile, file}
 use Rattle.pj_parse.specs.Parses.{Parses, file_parsed}
-use Rattle.pj_parse.specs.Refused.{IsRefused, file_seen, fault_unread, fault_unparsed, refused_by}
+use Rattle.pj_lex.specs.declared.token.LexFault.{LexFault}
+use Rattle.pj_parse.specs.Refused.{IsRefused, StandsIn, file_seen, fault_unread, fault_unparsed, refused_by}
 use Rattle.pj_grammar.specs.Words.{seen}
 use Rattle.pj_parse.specs.declared.fault.ParseFault.{ParseFault}
 use Rattle.pj_parse.specs.declared.fault.ParseFault.TheVariants as unparsed
@@ -36,3 +37,11 @@ pub parsed_file : (bytes : List ℕ) (s : SourceText) (p : Parsed) → IsRead by
 parsed_file bytes s p read h e =
     let made : List Entry → JavaFile = λ pool. record { source = s; tokens = map seen p.tokens; tree = p.tree; pool = pool } in
     subst (λ (pool : List Entry). IsJavaFile bytes (Ok (made pool))) (sym e) (file s (file_parsed p) read h)
+
+-- a fault of a text, if it is one among its tokens, stands in the text
+pub stands_in : (s : SourceText) (t : List ℕ) (f : ParseFault) → t ≡ s.text → (f ≡ unparsed.Memory) ⊎ Parses s.text (Err f) → ((lex : LexFault) → Parses t (Err (unparsed.Lex lex)) → lex.offset ≤ length t) → StandsIn s f
+stands_in s t f e (inl m) all lex is = let no_way : unparsed.Memory ≡ unparsed.Lex lex = sym m ∙ is in absurd (cc)
+stands_in s t f e (inr p) all lex is =
+    let here : Parses s.text (Err (unparsed.Lex lex)) = subst (λ (g : ParseFault). Parses s.text (Err g)) is p in
+    let there : Parses t (Err (unparsed.Lex lex)) = subst (λ (x : List ℕ). Parses x (Err (unparsed.Lex lex))) (sym e) here in
+    subst (λ (x : List ℕ). lex.offset ≤ length x) e (all lex there)

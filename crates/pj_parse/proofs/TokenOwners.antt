@@ -16,9 +16,9 @@ Among [] s = ⊥
 Among (x ∷ xs) s = (x ≡ s) ⊎ Among xs s
 
 pub among_contains : (xs : List Span) (s : Span) → Contains xs s → Among xs s
-among_contains [] s (k, c) = let lt = c.0 in absurd (omega arith)
-among_contains (x ∷ xs) s (zero, c) = inl c.1
-among_contains (x ∷ xs) s (suc k, c) = inr (among_contains xs s (k, (let lt = c.0 in omega arith), c.1))
+among_contains [] s (k, lt, e) = absurd (omega arith)
+among_contains (x ∷ xs) s (zero, lt, e) = inl e
+among_contains (x ∷ xs) s (suc k, lt, e) = inr (among_contains xs s (k, (let l : length (x ∷ xs) ≡ suc (length xs) = refl in omega arith), e))
 
 pub contains_among : (xs : List Span) (s : Span) → Among xs s → Contains xs s
 contains_among [] s h = absurd h
@@ -63,7 +63,7 @@ begins_from offset to (Child kind begin within end rest) st = from_end (tokens_o
   where
     from_end : (ts : List Span) → BeginsFrom end ts → BeginsFrom offset ts
     from_end [] b = tt
-    from_end (t ∷ ts) b = (let a = st.0 in let c = stand_le begin end within st.1 in omega arith)
+    from_end (t ∷ ts) b = (let a = st.0 in let c = stand_le begin end within st.1 in let d : end ≤ t.from = b in omega arith)
 
 pub own_in_order : (from to : ℕ) (parts : Parts) → StandInOrder from to parts → AreInOrder (tokens_of parts)
 own_in_order from to NoMore st = tt
@@ -135,7 +135,7 @@ owner_of parent number (Child kind begin within end rest) s h = elim (among_case
 ]
 
 -- where an owned token lies
-owned_within : (parent : Option Node) (number from to n : ℕ) (x : TreeNode) (i : Parts) (s : Span) → IsSeated parent number from to n x i → Among (tokens_of i) s → (x.span.from ≤ s.from) × (s.to ≤ x.span.to)
+pub owned_within : (parent : Option Node) (number from to n : ℕ) (x : TreeNode) (i : Parts) (s : Span) → IsSeated parent number from to n x i → Among (tokens_of i) s → (x.span.from ≤ s.from) × (s.to ≤ x.span.to)
 owned_within parent number from to n x i s seat h = token_within x.span.from x.span.to i s seat.in_order h
 
 -- a token that is not empty has one owner

@@ -32,15 +32,17 @@ fn refused_unparsed(source: &Source, fault: ParseFault) -> FileRefused
     requires { StandsIn source.now fault }
     ensures { result ≡ refused_by (fault_unparsed source.now fault) }
 {
-    let fault = match fault {
-        ParseFault::Lex(fault) => FileFault::Lexical(fault.kind, source.place(fault.offset)),
-        ParseFault::TooManyTokens(count) => FileFault::TooManyTokens(count),
-        ParseFault::Syntax => FileFault::Syntax,
-        ParseFault::TooDeep(depth) => FileFault::TooDeep(depth),
-        ParseFault::TooMany(count) => FileFault::TooManyNodes(count),
-        ParseFault::Memory => return FileRefused::Memory,
-    };
-    FileRefused::Fault(fault)
+    match fault {
+        ParseFault::Lex(fault) => FileRefused::Fault(FileFault::Lexical(
+            fault.kind,
+            source.place(fault.offset),
+        )),
+        ParseFault::TooManyTokens(count) => FileRefused::Fault(FileFault::TooManyTokens(count)),
+        ParseFault::Syntax => FileRefused::Fault(FileFault::Syntax),
+        ParseFault::TooDeep(depth) => FileRefused::Fault(FileFault::TooDeep(depth)),
+        ParseFault::TooMany(count) => FileRefused::Fault(FileFault::TooManyNodes(count)),
+        ParseFault::Memory => FileRefused::Memory,
+    }
 }
 
 /// The text of a file, with the places of its characters, or the first fault of the bytes.

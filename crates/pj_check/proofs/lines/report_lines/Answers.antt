@@ -16,3 +16,6 @@ returns-else-may_suppress c =
     (λ found. MatchOption found (IsNotTaken c.args.bytes.now) (λ lines. IsReportText c.args.path.now c.args.name.now c.args.bytes.now (string_bytes lines)))
     (of_bytes string_bytes c.args.path.now c.args.name.now c.args.bytes.now c.in-Ok.source (sym (c.may_suppress.ensures ∙ ap may_suppress c.text.ensures.value) ∙ c.if-may_suppress.false))
     (c.source_lines.ensures c.args.bytes.now c.in-Ok.ensures)
+
+pub returns-in-Err-Fault : goal.returns-in-Err-Fault
+returns-in-Err-Fault c = not_taken c.file_has_one_outcome.ensures.one c.args.bytes.now c.in-Err-Fault.field-0 c.in-Err-Fault.ensures (λ e. let f = c.in-Err-Fault.field-0-is in cc)

@@ -1,6 +1,6 @@
 use Rattle.pj_parse.specs.FileOutcome.{outcome_of}
 use Rattle.pj_parse.proofs.FileCases.{same_file}
-use Rattle.pj_parse.proofs.FileThere.{text_outcome, file_there}
+use Rattle.pj_parse.specs.FileThere.{text_outcome, file_there}
 use Rattle.pj_parse.proofs.laws.file_has_one_outcome.Goals as goal
 
 pub returns : goal.returns

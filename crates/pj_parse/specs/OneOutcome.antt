@@ -1,4 +1,4 @@
--- One outcome comes of each text.
+-- One outcome comes of each text: a proof, on which a definition rests.
 use Rattle.std.proofs.Common.{◌≡◌, ◌≤◌, ◌<◌, ◌+◌, ℕ, Bool, true, false, nat_lt, if◌then◌else◌, List, [], ◌∷◌, ◌++◌, length, map, Result, Ok, Err, ◌⊎◌, inl, inr, None, refl, sym, ◌∙◌, ap, subst, arith}
 use Rattle.std.specs.Str.{chars}
 use Rattle.pj_lex.specs.Tokens.{Lexed, Tokens, ended, token, fault, fault_of}

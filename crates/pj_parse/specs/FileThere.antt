@@ -1,4 +1,4 @@
--- Something comes of the bytes of each file.
+-- Something comes of the bytes of each file: a proof, on which a definition rests.
 use Rattle.std.proofs.Common.{◌≡◌, ◌≤◌, ◌<◌, ◌+◌, ℕ, zero, suc, List, [], ◌∷◌, length, Result, Ok, Err, Option, None, Some, inl, inr, refl, sym, ap, arith}
 use Rattle.std.specs.Prelude.{slice_get}
 use Rattle.std.specs.Str.{chars}
@@ -21,12 +21,12 @@ use Rattle.pj_tree.specs.declared.node.Place.{Place}
 use Rattle.pj_parse.specs.Laws.{HasOneOutcome}
 use Rattle.pj_parse.specs.Parses.{Parses, FileParsed}
 use Rattle.pj_parse.specs.JavaFile.{JavaFile, java_file, IsJavaFile, bad_escape, lexical_fault, too_many_tokens, syntax_fault, too_deep, too_many_nodes, file}
-use Rattle.pj_parse.specs.JavaFile.IsJavaFile as java
+use Rattle.pj_parse.specs.JavaFile.IsJavaFile.{not_utf8 as no_utf8}
 use Rattle.pj_parse.specs.declared.fault.ParseFault.{ParseFault}
 use Rattle.pj_parse.specs.declared.fault.ParseFault.TheVariants as unparsed
 use Rattle.pj_parse.specs.declared.file_fault.FileFault.{FileFault}
 use Rattle.pj_parse.specs.declared.file_fault.FileFault.TheVariants.{NotUtf8, Escape, Lexical, TooManyTokens, Syntax, TooDeep, TooManyNodes}
-use Rattle.pj_parse.proofs.One.{one_of_text, ends_in_fault, never_memory_of_text}
+use Rattle.pj_parse.specs.OneOutcome.{one_of_text, ends_in_fault, never_memory_of_text}
 use Rattle.pj_grammar.proofs.Stretches.{fault_stands}
 
 -- one outcome comes of each text
@@ -82,7 +82,7 @@ parsed_there bytes s (Err unparsed.Memory) r q = absurd (never_memory_of_text s.
 
 read_there : (bytes : List ℕ) (o : Result SourceText SourceFault) → IsRead bytes o → There bytes
 read_there bytes (Ok s) r = let one = text_outcome s.text in parsed_there bytes s one.outcome r one.comes
-read_there bytes (Err (unread.NotUtf8 n)) r = (Err (NotUtf8 n), java.not_utf8 n r)
+read_there bytes (Err (unread.NotUtf8 n)) r = (Err (NotUtf8 n), no_utf8 n r)
 read_there bytes (Err (unread.Escape at)) r = (Err (Escape at), bad_escape at r)
 read_there bytes (Err unread.Memory) r = absurd (read_not_memory bytes (Err unread.Memory) r)
 
