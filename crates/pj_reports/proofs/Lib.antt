@@ -1,0 +1,3 @@
+pub mod CsvFacts
+pub mod JsonFacts
+pub mod ShownFacts

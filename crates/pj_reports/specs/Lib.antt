@@ -1,0 +1,5 @@
+pub mod Shown
+pub mod ReportText
+pub mod Borrowed
+pub mod CsvWriter
+pub mod JsonData
