@@ -1,3 +1,4 @@
 pub mod CsvFacts
 pub mod JsonFacts
+pub mod ReportLaws
 pub mod ShownFacts

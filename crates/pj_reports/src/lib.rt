@@ -6,6 +6,7 @@
 
 mod csv_form;
 mod json_form;
+pub mod laws;
 mod report;
 mod rows;
 mod shown;
