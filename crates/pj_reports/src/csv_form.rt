@@ -7,7 +7,8 @@ ghost use Rattle.pj_reports.specs.Borrowed.{problem_seen};
 use crate::report::Report;
 use crate::shown::{Problem, problems, rule_shown};
 use csv::{QuoteStyle, Writer, WriterBuilder};
-use pj_names::{Bytes, NoMemory, RuleRowList};
+use pj_base::{Bytes, NoMemory};
+use pj_rule_rows::RuleRowList;
 use std::alloc::Global;
 use std::convert::AsStr;
 

@@ -10,7 +10,8 @@ ghost use Rattle.pj_reports.specs.JsonData.{config_error_data, file_data, files_
 use crate::report::Report;
 use crate::rows::{FileRows, Finding, Reason};
 use crate::shown::{RuleShown, rule_shown};
-use pj_names::{Bytes, ConfigError, NoMemory, RuleRowList, Text};
+use pj_base::{Bytes, NoMemory, Text};
+use pj_rule_rows::{ConfigError, RuleRowList};
 use serde_json::{Value, json};
 use std::alloc::{AllocError, Global};
 use std::convert::AsStr;

@@ -1,6 +1,6 @@
 //! What is found in a file.
 
-use pj_names::{Copied, ListOf, NoMemory, Text};
+use pj_base::{Copied, ListOf, NoMemory, Text};
 use pj_tree::Place;
 
 /// Why a finding is not reported.

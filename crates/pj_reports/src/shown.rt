@@ -4,7 +4,8 @@ ghost use Rattle.pj_reports.specs.Shown.{is_reported, problems, problems_of, row
 ghost use Rattle.pj_reports.specs.Borrowed.{problem_seen, rule_seen};
 
 use crate::rows::{FileRows, Finding};
-use pj_names::{NoMemory, RuleRowList, Text};
+use pj_base::{NoMemory, Text};
+use pj_rule_rows::RuleRowList;
 use std::alloc::Global;
 use std::convert::AsStr;
 

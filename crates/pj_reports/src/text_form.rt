@@ -7,7 +7,8 @@ ghost use Rattle.pj_reports.specs.Borrowed.{problem_seen};
 use crate::report::Report;
 use crate::rows::FileRows;
 use crate::shown::{Problem, problems, rule_shown};
-use pj_names::{Bytes, ConfigError, NoMemory, RuleRowList, Text};
+use pj_base::{Bytes, NoMemory, Text};
+use pj_rule_rows::{ConfigError, RuleRowList};
 use std::alloc::Global;
 
 fn put_texts(text: &mut Text, pieces: &[&str]) -> Result<(), NoMemory>

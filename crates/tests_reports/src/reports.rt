@@ -1,9 +1,10 @@
 //! Each of the three texts of a report, by rows that Python's own writers made.
-use pj_names::{ConfigError, ConfigErrors, NoMemory, RuleRow, RuleRowList, Text};
+use pj_base::{NoMemory, Text};
 use pj_reports::{
     FileError, FileErrors, FileRows, Finding, Findings, PathRows, Reason, Report, csv_of, json_of,
     text_of,
 };
+use pj_rule_rows::{ConfigError, ConfigErrors, RuleRow, RuleRowList};
 use pj_tree::Place;
 use std::alloc::Global;
 use std::test::Fail;
