@@ -53,7 +53,13 @@ fn number_between(least: u32, most: u32, text: &str) -> Option<u32>
         return None;
     }
     match text.parse::<u32>() {
-        Ok(n) => { if least <= n && n <= most { Some(n) } else { None } }
+        Ok(n) => {
+            if least <= n && n <= most {
+                Some(n)
+            } else {
+                None
+            }
+        }
         Err(_) => None,
     }
 }
