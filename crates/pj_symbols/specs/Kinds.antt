@@ -1,7 +1,7 @@
--- Kinds of nodes, and of the nodes above.
-use Rattle.std.specs.Prelude.{Bool, true, false, Option}
-use Rattle.std.specs.Option.{option_and_then, option_map_or}
-use Rattle.pj_tree.specs.Tree.{Tree, kind_of, parent_of}
+-- The kinds of nodes that declare classes.
+use Rattle.std.specs.Prelude.{Bool, true, false}
+use Rattle.std.specs.Option.{option_map_or}
+use Rattle.pj_tree.specs.Tree.{Tree, kind_of}
 use Rattle.pj_tree.specs.declared.kind.Kind.{Kind}
 use Rattle.pj_tree.specs.declared.kind.Kind.TheVariants as k
 use Rattle.pj_tree.specs.declared.node.Node.{Node}
@@ -17,7 +17,3 @@ is_class other = false
 
 abbrev pub declares_class : Tree → Node → Bool
 declares_class t n = option_map_or is_class (kind_of t n) false
-
--- the kind of the parent
-abbrev pub kind_above : Tree → Node → Option Kind
-kind_above t n = option_and_then (kind_of t) (parent_of t n)

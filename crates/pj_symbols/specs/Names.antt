@@ -1,25 +1,13 @@
 -- Names, by the own tokens of nodes.
-use Rattle.std.specs.Prelude.{ℕ, Bool, true, not, Option, None, Some, if◌then◌else◌, false, List, [], ◌∷◌, ◌++◌, codes, nat_eq, unwrap_or}
+use Rattle.std.specs.Prelude.{ℕ, Bool, true, not, Option, None, Some, if◌then◌else◌, false, List, [], ◌∷◌, ◌++◌, codes, nat_eq}
 use Rattle.std.specs.List.{list_any}
 use Rattle.std.specs.Option.{option_map_or}
 use Rattle.std.specs.Cmp.Lexicographic.{pointwise}
-use Rattle.pj_tree.specs.Tree.{Tree, kind_of, own_of}
+use Rattle.pj_nodes.specs.Words.{words_of, last_of}
+use Rattle.pj_tree.specs.Tree.{Tree, kind_of}
 use Rattle.pj_tree.specs.declared.kind.Kind.{Kind}
 use Rattle.pj_tree.specs.declared.kind.Kind.TheVariants as k
 use Rattle.pj_tree.specs.declared.node.Node.{Node}
-
--- the own tokens of a node
-abbrev pub words_of : Tree → Node → List (List ℕ)
-words_of t n = unwrap_or (own_of t n) []
-
-abbrev pub first_of : List (List ℕ) → List ℕ
-first_of [] = []
-first_of (word ∷ words) = word
-
--- the last of the words, and the text before them where there is none
-abbrev pub last_of : List ℕ → List (List ℕ) → List ℕ
-last_of before [] = before
-last_of before (word ∷ words) = last_of word words
 
 -- the name of a class (JLS 8.1): the last own token of its declaration, and nothing for an anonymous class, which has none
 abbrev pub simple_name : Tree → Node → List ℕ

@@ -5,9 +5,9 @@ ghost use Rattle.pj_symbols.specs.Classes.{nesting_of, nesting_below, nesting_in
 ghost use Rattle.pj_symbols.specs.Kinds.{declares_class};
 ghost use Rattle.pj_symbols.specs.Names.{package_name, package_prefix};
 
-use crate::kinds::{is_class, kind_above};
-use crate::name::last_word;
+use crate::kinds::is_class;
 use pj_names::{NoMemory, Text};
+use pj_nodes::{kind_above, last_word};
 use pj_tree::{Kind, Node, SyntaxTree};
 use std::alloc::Global;
 

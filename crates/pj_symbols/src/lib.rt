@@ -11,7 +11,6 @@ mod symbols;
 mod variable;
 
 pub use class::{Class, Nesting, class_around, nesting_of};
-pub use kinds::{is_class, kind_above};
-pub use name::{first_word, last_word};
+pub use kinds::is_class;
 pub use symbols::{Classes, Symbols, Variables};
 pub use variable::{Variable, VariableKind, declaration_of, variable_kind};

@@ -1,47 +1,11 @@
 //! Names, by the own tokens of a node.
 
 ghost use Rattle.std.specs.Prelude.{◌≡◌, ◌<◌, [], length, MatchOption, IfOk};
-ghost use Rattle.pj_symbols.specs.Names.{first_of, last_of, is_of_name, joined_name, words_of, package_of, package_name, package_prefix};
+ghost use Rattle.pj_symbols.specs.Names.{is_of_name, joined_name, package_of, package_name, package_prefix};
 
 use pj_names::{NoMemory, Text};
 use pj_tree::{Kind, Node, OwnTokens, SyntaxTree};
 use std::alloc::Global;
-
-/// The first own token of the node, and the empty text where it has none.
-pub fn first_word<'t>(tree: &'t SyntaxTree<'_>, n: Node) -> &'t str
-    requires inside { n.0 < length tree.now.nodes }
-    ensures { result.now ≡ first_of (words_of tree.now n) }
-{
-    first_of(tree.own(n))
-}
-
-fn first_of<'t>(words: OwnTokens<'t>) -> &'t str
-    ensures { result.now ≡ first_of words.entry }
-{
-    let mut words = words;
-    match words.next() {
-        Some(word) => word,
-        None => "",
-    }
-}
-
-/// The last own token of the node, and the empty text where it has none.
-pub fn last_word<'t>(tree: &'t SyntaxTree<'_>, n: Node) -> &'t str
-    requires inside { n.0 < length tree.now.nodes }
-    ensures { result.now ≡ last_of [] (words_of tree.now n) }
-{
-    last_of(tree.own(n))
-}
-
-fn last_of<'t>(words: OwnTokens<'t>) -> &'t str
-    ensures { result.now ≡ last_of [] words.entry }
-{
-    let mut last = "";
-    for word in words {
-        last = word;
-    }
-    last
-}
 
 /// Whether a token of a package declaration is of the name.
 fn is_of_name(word: &str) -> bool
