@@ -63,10 +63,18 @@ impl ClassNameSet {
         ensures ascending { IfOk result (λ names. IsStrictlySortedBy (slice_cmp nat_cmp) names) }
         ensures members { IfOk result (λ names. set.from_list names ≡ self.now) }
     {
-        let mut names = ClassNames::new(alloc);
-        for name in &self.names {
-            names.push(name.copied()?)?;
-        }
-        Ok(names)
+        keys_of(alloc, &self.names)
     }
+}
+
+/// The keys in their order.
+fn keys_of(alloc: Global, keys: &BTreeSet<ClassName>) -> Result<ClassNames, NoMemory>
+    ensures keys { IfOk result (λ names. names ≡ keys.now.keys) }
+    ensures ascending { IfOk result (λ names. IsStrictlySortedBy (slice_cmp nat_cmp) names) }
+{
+    let mut names = ClassNames::new(alloc);
+    for key in keys {
+        names.push(key.copied()?)?;
+    }
+    Ok(names)
 }

@@ -1,6 +1,7 @@
 //! Class files by hand: cut, changed at each byte, and with one fault each.
-use crate::{ClassRefused, answer_of, parse};
+use crate::class_bodies::BODIES;
 use pj_base::Bytes;
+use pj_classfile::{ClassRefused, answer_of, parse};
 use pj_names::{Answer, Broken, ClassName};
 use pj_outside::Reading;
 use std::alloc::{AllocError, Global};
@@ -149,13 +150,6 @@ fn shown(alloc: Global, bytes: &[u8]) -> Result<String, AllocError> {
     Ok(text)
 }
 
-#[test]
-fn the_smallest_class_is_read(rt: HostRuntime) -> Result<(), Fail> {
-    let shown = shown(rt.alloc(), &SMALLEST)?;
-    assert_eq!(rt; shown.as_str(), "p.X 33 Ljava/lang/Object;");
-    Ok(())
-}
-
 /// A class of version 52 with the slots 1 to 4 of the smallest class, 5 `f`, 6 `I`, 7 `()V`, 8 `Signature`, 9 `TT;`,
 /// 10 and 11 a Long, 12 bytes that are no modified UTF-8, and `body` behind them from byte 86 on.
 fn with_body(alloc: Global, body: &[u8]) -> Result<Vec<u8>, AllocError> {
@@ -175,167 +169,6 @@ fn fault_of(alloc: Global, body: &[u8]) -> Result<(u8, u32), AllocError> {
     Ok(fault(alloc, &bytes))
 }
 
-/// Bodies with their faults. The class's own fields end before byte 94, where the number of fields stands.
-static BODIES: [(&[u8], (u8, u32)); 36] = [
-    // no members; this class of the Utf8 2, the name 13 is out of range
-    (
-        b"\x00\x21\x00\x01\x00\x03\x00\x00\x00\x00\x00\x00\x00\x00",
-        (0, 0),
-    ),
-    (
-        b"\x00\x21\x00\x02\x00\x03\x00\x00\x00\x00\x00\x00\x00\x00",
-        (5, 88),
-    ),
-    (
-        b"\x00\x21\x00\x0d\x00\x03\x00\x00\x00\x00\x00\x00\x00\x00",
-        (5, 88),
-    ),
-    (
-        b"\x00\x21\x00\x00\x00\x03\x00\x00\x00\x00\x00\x00\x00\x00",
-        (5, 88),
-    ),
-    // no superclass, of `java.lang.Object` and of another class
-    (
-        b"\x00\x21\x00\x03\x00\x00\x00\x00\x00\x00\x00\x00\x00\x00",
-        (0, 0),
-    ),
-    (
-        b"\x00\x21\x00\x01\x00\x00\x00\x00\x00\x00\x00\x00\x00\x00",
-        (5, 90),
-    ),
-    // an interface: a class, a text
-    (
-        b"\x00\x21\x00\x01\x00\x03\x00\x01\x00\x03\x00\x00\x00\x00\x00\x00",
-        (0, 0),
-    ),
-    (
-        b"\x00\x21\x00\x01\x00\x03\x00\x01\x00\x05\x00\x00\x00\x00\x00\x00",
-        (5, 94),
-    ),
-    // bytes behind the class
-    (
-        b"\x00\x21\x00\x01\x00\x03\x00\x00\x00\x00\x00\x00\x00\x00\x00",
-        (10, 100),
-    ),
-    // a field: its name 5, 1, 10, 11, 13, 12
-    (
-        b"\x00\x21\x00\x01\x00\x03\x00\x00\x00\x01\x00\x02\x00\x05\x00\x06\x00\x00\x00\x00\x00\x00",
-        (0, 0),
-    ),
-    (
-        b"\x00\x21\x00\x01\x00\x03\x00\x00\x00\x01\x00\x02\x00\x01\x00\x06\x00\x00\x00\x00\x00\x00",
-        (5, 98),
-    ),
-    (
-        b"\x00\x21\x00\x01\x00\x03\x00\x00\x00\x01\x00\x02\x00\x0a\x00\x06\x00\x00\x00\x00\x00\x00",
-        (5, 98),
-    ),
-    (
-        b"\x00\x21\x00\x01\x00\x03\x00\x00\x00\x01\x00\x02\x00\x0b\x00\x06\x00\x00\x00\x00\x00\x00",
-        (5, 98),
-    ),
-    (
-        b"\x00\x21\x00\x01\x00\x03\x00\x00\x00\x01\x00\x02\x00\x0d\x00\x06\x00\x00\x00\x00\x00\x00",
-        (5, 98),
-    ),
-    (
-        b"\x00\x21\x00\x01\x00\x03\x00\x00\x00\x01\x00\x02\x00\x0c\x00\x06\x00\x00\x00\x00\x00\x00",
-        (6, 98),
-    ),
-    // its descriptor `()V`, bytes that are no text, a class
-    (
-        b"\x00\x21\x00\x01\x00\x03\x00\x00\x00\x01\x00\x02\x00\x05\x00\x07\x00\x00\x00\x00\x00\x00",
-        (7, 100),
-    ),
-    (
-        b"\x00\x21\x00\x01\x00\x03\x00\x00\x00\x01\x00\x02\x00\x05\x00\x0c\x00\x00\x00\x00\x00\x00",
-        (6, 100),
-    ),
-    (
-        b"\x00\x21\x00\x01\x00\x03\x00\x00\x00\x01\x00\x02\x00\x05\x00\x01\x00\x00\x00\x00\x00\x00",
-        (5, 100),
-    ),
-    // the first of two faults, of the name and of the descriptor
-    (
-        b"\x00\x21\x00\x01\x00\x03\x00\x00\x00\x01\x00\x02\x00\x0c\x00\x07\x00\x00\x00\x00\x00\x00",
-        (6, 98),
-    ),
-    // a method, with the descriptor `()V` and `I`
-    (
-        b"\x00\x21\x00\x01\x00\x03\x00\x00\x00\x00\x00\x01\x00\x01\x00\x05\x00\x07\x00\x00\x00\x00",
-        (0, 0),
-    ),
-    (
-        b"\x00\x21\x00\x01\x00\x03\x00\x00\x00\x00\x00\x01\x00\x01\x00\x05\x00\x06\x00\x00\x00\x00",
-        (7, 102),
-    ),
-    // a field's Signature attribute: `TT;`, `()V`, no text, a class
-    (
-        b"\x00\x21\x00\x01\x00\x03\x00\x00\x00\x01\x00\x02\x00\x05\x00\x06\x00\x01\x00\x08\x00\x00\x00\x02\x00\x09\x00\x00\x00\x00",
-        (0, 0),
-    ),
-    (
-        b"\x00\x21\x00\x01\x00\x03\x00\x00\x00\x01\x00\x02\x00\x05\x00\x06\x00\x01\x00\x08\x00\x00\x00\x02\x00\x07\x00\x00\x00\x00",
-        (8, 110),
-    ),
-    (
-        b"\x00\x21\x00\x01\x00\x03\x00\x00\x00\x01\x00\x02\x00\x05\x00\x06\x00\x01\x00\x08\x00\x00\x00\x02\x00\x0c\x00\x00\x00\x00",
-        (6, 110),
-    ),
-    (
-        b"\x00\x21\x00\x01\x00\x03\x00\x00\x00\x01\x00\x02\x00\x05\x00\x06\x00\x01\x00\x08\x00\x00\x00\x02\x00\x01\x00\x00\x00\x00",
-        (5, 110),
-    ),
-    // its length 3, 0, and what follows is at fault too
-    (
-        b"\x00\x21\x00\x01\x00\x03\x00\x00\x00\x01\x00\x02\x00\x05\x00\x06\x00\x01\x00\x08\x00\x00\x00\x03\x00\x09\x00\x00\x00\x00\x00",
-        (9, 106),
-    ),
-    (
-        b"\x00\x21\x00\x01\x00\x03\x00\x00\x00\x01\x00\x02\x00\x05\x00\x06\x00\x01\x00\x08\x00\x00\x00\x00\x00\x00\x00\x00",
-        (9, 106),
-    ),
-    (
-        b"\x00\x21\x00\x01\x00\x03\x00\x00\x00\x01\x00\x02\x00\x05\x00\x06\x00\x01\x00\x08\x00\x00\x00\x03\x00\x07",
-        (9, 106),
-    ),
-    // an attribute of another name, and one whose name is no text but bytes; cut content; a name that is a class
-    (
-        b"\x00\x21\x00\x01\x00\x03\x00\x00\x00\x01\x00\x02\x00\x05\x00\x06\x00\x01\x00\x05\x00\x00\x00\x02\xff\xff\x00\x00\x00\x00",
-        (0, 0),
-    ),
-    (
-        b"\x00\x21\x00\x01\x00\x03\x00\x00\x00\x01\x00\x02\x00\x05\x00\x06\x00\x01\x00\x0c\x00\x00\x00\x02\xff\xff\x00\x00\x00\x00",
-        (0, 0),
-    ),
-    (
-        b"\x00\x21\x00\x01\x00\x03\x00\x00\x00\x01\x00\x02\x00\x05\x00\x06\x00\x01\x00\x05\x00\x00\x00\x07\xff\xff\x00\x00\x00\x00",
-        (1, 110),
-    ),
-    (
-        b"\x00\x21\x00\x01\x00\x03\x00\x00\x00\x01\x00\x02\x00\x05\x00\x06\x00\x01\x00\x01\x00\x00\x00\x02\xff\xff\x00\x00\x00\x00",
-        (5, 104),
-    ),
-    // two Signature attributes: the second one is judged too
-    (
-        b"\x00\x21\x00\x01\x00\x03\x00\x00\x00\x01\x00\x02\x00\x05\x00\x06\x00\x02\x00\x08\x00\x00\x00\x02\x00\x09\x00\x08\x00\x00\x00\x02\x00\x06\x00\x00\x00\x00",
-        (0, 0),
-    ),
-    (
-        b"\x00\x21\x00\x01\x00\x03\x00\x00\x00\x01\x00\x02\x00\x05\x00\x06\x00\x02\x00\x08\x00\x00\x00\x02\x00\x09\x00\x08\x00\x00\x00\x02\x00\x07\x00\x00\x00\x00",
-        (8, 118),
-    ),
-    // the class's Signature attribute is no type variable; a method's is no field's type
-    (
-        b"\x00\x21\x00\x01\x00\x03\x00\x00\x00\x00\x00\x00\x00\x01\x00\x08\x00\x00\x00\x02\x00\x09",
-        (8, 106),
-    ),
-    (
-        b"\x00\x21\x00\x01\x00\x03\x00\x00\x00\x00\x00\x01\x00\x01\x00\x05\x00\x07\x00\x01\x00\x08\x00\x00\x00\x02\x00\x09\x00\x00",
-        (8, 112),
-    ),
-];
-
 #[test]
 fn a_body_has_the_fault_of_its_row(rt: HostRuntime) -> Result<(), Fail> {
     for (body, fault) in BODIES {
@@ -344,27 +177,34 @@ fn a_body_has_the_fault_of_its_row(rt: HostRuntime) -> Result<(), Fail> {
     Ok(())
 }
 
-#[test]
-fn the_first_of_two_signatures_counts(rt: HostRuntime) -> Result<(), Fail> {
-    let alloc = rt.alloc();
-    let bytes = with_body(alloc, BODIES[32].0)?;
-    let shown = shown(alloc, &bytes)?;
-    assert_eq!(rt; shown.as_str(), "p.X 33 Ljava/lang/Object; field f:TT;");
-    Ok(())
+/// Classes by the numbers of their bodies, and what is read of them: the first of two signatures counts, and one is made of
+/// superclass and interfaces.
+static SHOWN: [(usize, &str); 4] = [
+    (0, "p.X 33 Ljava/lang/Object;"),
+    (4, "java.lang.Object 33 Ljava/lang/Object;"),
+    (6, "p.X 33 Ljava/lang/Object;Ljava/lang/Object;"),
+    (32, "p.X 33 Ljava/lang/Object; field f:TT;"),
+];
+
+/// What is read of the class with the body of a number.
+fn shown_body(alloc: Global, number: usize) -> Result<String, AllocError> {
+    match BODIES.get(number) {
+        Some((body, _)) => {
+            let bytes = with_body(alloc, body)?;
+            shown(alloc, &bytes)
+        }
+        None => Ok(String::new(alloc)),
+    }
 }
 
 #[test]
-fn a_signature_is_made_of_superclass_and_interfaces(rt: HostRuntime) -> Result<(), Fail> {
-    let alloc = rt.alloc();
-    let root = with_body(alloc, BODIES[4].0)?;
-    let below = with_body(alloc, BODIES[6].0)?;
-    let root = shown(alloc, &root)?;
-    let below = shown(alloc, &below)?;
-    assert_eq!(rt; root.as_str(), "java.lang.Object 33 Ljava/lang/Object;");
-    assert_eq!(rt;
-        below.as_str(),
-        "p.X 33 Ljava/lang/Object;Ljava/lang/Object;"
-    );
+fn classes_are_read(rt: HostRuntime) -> Result<(), Fail> {
+    let smallest = shown(rt.alloc(), &SMALLEST)?;
+    assert_eq!(rt; smallest.as_str(), "p.X 33 Ljava/lang/Object;");
+    for (number, wanted) in &SHOWN {
+        let found = shown_body(rt.alloc(), *number)?;
+        assert_eq!(rt; found.as_str(), *wanted);
+    }
     Ok(())
 }
 
