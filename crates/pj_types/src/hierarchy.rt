@@ -1,6 +1,5 @@
 //! The list of supertypes of a class.
-ghost use Rattle.std.specs.Prelude.{◌≡◌, ◌<◌, IfOk, length};
-ghost use Rattle.pj_names.specs.Classes.{most_classes};
+ghost use Rattle.std.specs.Prelude.{◌≡◌};
 ghost use Rattle.pj_names.specs.JavaType.{java_type};
 ghost use Rattle.pj_names.specs.Told.{Asks};
 ghost use Rattle.pj_types.specs.Supertypes.{class_name, supertypes_of};
@@ -26,14 +25,13 @@ fn class_name(alloc: Global, ty: Ty) -> Text
 /// The names of a class and of its supertypes (JLS 4.10.2), each once: the class, then depth first its superclass, then its
 /// interfaces in their order. Each of them is asked but `java.lang.Object`.
 ///
-/// No limit is part of the list: where it would have more than 4,294,967,293 members, memory is wanted.
+/// No number bounds the list: where it has more members than a list can hold, memory is wanted.
 pub fn supertypes<O: Oracle>(
     alloc: Global,
     oracle: &mut O,
     name: &ClassName,
 ) -> Result<Names, AskFault>
-    ensures asks { Asks (supertypes_of name.now) (O.tells oracle.old) (O.tells oracle.new) result }
-    ensures short { IfOk result (λ names. length names < most_classes) }
+    ensures { Asks (supertypes_of name.now) (O.tells oracle.old) (O.tells oracle.new) result }
 {
     let mut walk = Walk::of(alloc, name)?;
     let mut names = Names::new(alloc);

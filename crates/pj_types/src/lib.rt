@@ -4,6 +4,7 @@
 pub mod hierarchy;
 pub mod laws;
 mod listed;
+pub mod members;
 pub mod substitution;
 pub mod subtyping;
 #[cfg(test)]
@@ -11,6 +12,7 @@ mod tests;
 pub mod walk;
 
 pub use hierarchy::supertypes;
+pub use members::{Field, Method, Methods, copied_methods};
 pub use substitution::{erase, substitute};
 pub use subtyping::is_subtype;
 pub use walk::Walk;

@@ -162,7 +162,7 @@ fn signature_of(alloc: Global, answer: &Answer) -> Result<Option<ClassSig>, NoMe
 }
 
 /// The direct supertypes of a class, from what is known of it.
-fn of_answer(
+pub fn of_answer(
     alloc: Global,
     arguments: &Option<Types>,
     answer: &Answer,

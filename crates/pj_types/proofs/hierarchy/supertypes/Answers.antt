@@ -1,60 +1,53 @@
 use Rattle.std.proofs.Common.{rules, ◌<◌, ap, sym, subst, refl, ◌∙◌}
 use Rattle.std.specs.Prelude.{map, Ok}
 use Rattle.pj_names.specs.JavaType.{java_type}
-use Rattle.pj_names.specs.AskingLaws.{ComesTo, comes-begin, comes-then, comes-ends, asks-refused, asks-return, asks-stop}
-use Rattle.pj_names.specs.Classes.{most_classes, most_classes_is}
+use Rattle.pj_names.specs.AskingLaws.{ComesTo, comes-begin, comes-then, comes-ends, asks-refused, asks-settled, asks-stop}
+use Rattle.pj_names.specs.Told.{longest, longest_is}
 use Rattle.pj_types.specs.Supertypes.{class_name, given_type, supertypes_of}
 use Rattle.pj_types.specs.Standing.{given_types, standing}
-use Rattle.pj_types.proofs.Loops.{begin-from, turn-from, names-more, count-more}
+use Rattle.pj_types.proofs.Loops.{begin-from, turn-from, names-more}
 use Rattle.pj_types.proofs.hierarchy.supertypes.Goals as goal
 
-pub returns-in_err-walk-clause-asks : goal.returns-in_err-walk-clause-asks
-returns-in_err-walk-clause-asks g c = asks-stop (search rules)
+pub returns-in_err-walk : goal.returns-in_err-walk
+returns-in_err-walk g c = asks-stop (search rules)
 
 pub loop-class-init : goal.loop-class-init
 loop-class-init g c = record {
   comes = subst (λ m. ComesTo (supertypes_of c.args.name.now) (g.O.Oracle.tells c.args.oracle.now) m (g.O.Oracle.tells c.args.oracle.now))
-      (begin-from most_classes c.args.name.now (standing c.in_ok-walk.walk) c.in_ok-walk.ensures) comes-begin;
+      (begin-from c.args.name.now (standing c.in_ok-walk.walk) c.in_ok-walk.ensures) comes-begin;
   names = c.new-names.ensures ∙ ap (λ s. map class_name (map given_type s.given)) (sym c.in_ok-walk.ensures);
-  count = search rules;
 }
 
-pub returns-in_err-ty-clause-asks : goal.returns-in_err-ty-clause-asks
-returns-in_err-ty-clause-asks g c =
-    let below : c.loop-class._class < most_classes = rw most_classes_is c.loop-class-test.true in
-    let so_far = turn-from most_classes c.loop-class._class (standing c.loop-class.walk) below c.loop-class.invariant.comes in
+pub returns-in_err-ty : goal.returns-in_err-ty
+returns-in_err-ty g c =
+    let below : c.loop-class._class < longest = rw longest_is c.loop-class-test.true in
+    let so_far = turn-from c.loop-class._class (standing c.loop-class.walk) below c.loop-class.invariant.comes in
     comes-ends so_far (asks-refused _ c.in_err-ty.ensures.asks (search rules))
 
-pub returns-in_default-clause-asks : goal.returns-in_default-clause-asks
-returns-in_default-clause-asks g c =
-    let below : c.loop-class._class < most_classes = rw most_classes_is c.loop-class-test.true in
-    let so_far = turn-from most_classes c.loop-class._class (standing c.loop-class.walk) below c.loop-class.invariant.comes in
+pub returns-in_default : goal.returns-in_default
+returns-in_default g c =
+    let below : c.loop-class._class < longest = rw longest_is c.loop-class-test.true in
+    let so_far = turn-from c.loop-class._class (standing c.loop-class.walk) below c.loop-class.invariant.comes in
     let asked = rw c.in_default.is at c.in_ok-ty.ensures.asks in
     let same = rw c.in_default.is at c.in_ok-ty.ensures.given in
-    comes-ends (comes-then _ so_far asked) (asks-return (ap (λ l. Ok l) (c.loop-class.invariant.names ∙ ap (λ w. map class_name (given_types w)) (sym same))))
+    comes-ends (comes-then _ so_far asked) (asks-settled (ap (λ l. Ok l) (c.loop-class.invariant.names ∙ ap (λ w. map class_name (given_types w)) (sym same))))
 
-pub returns-in_default-clause-short : goal.returns-in_default-clause-short
-returns-in_default-clause-short g c =
-    let below : c.loop-class._class < most_classes = rw most_classes_is c.loop-class-test.true in
-    subst (λ n. n < most_classes) (sym c.loop-class.invariant.count) below
-
-pub returns-in_err-push-clause-asks : goal.returns-in_err-push-clause-asks
-returns-in_err-push-clause-asks g c =
-    let below : c.loop-class._class < most_classes = rw most_classes_is c.loop-class-test.true in
-    let so_far = turn-from most_classes c.loop-class._class (standing c.loop-class.walk) below c.loop-class.invariant.comes in
+pub returns-in_err-push : goal.returns-in_err-push
+returns-in_err-push g c =
+    let below : c.loop-class._class < longest = rw longest_is c.loop-class-test.true in
+    let so_far = turn-from c.loop-class._class (standing c.loop-class.walk) below c.loop-class.invariant.comes in
     comes-ends (comes-then _ so_far c.in_ok-ty.ensures.asks) (asks-stop (search rules))
 
 pub loop-class-preserved : goal.loop-class-preserved
 loop-class-preserved g c =
-    let below : c.loop-class._class < most_classes = rw most_classes_is c.loop-class-test.true in
-    let so_far = turn-from most_classes c.loop-class._class (standing c.loop-class.walk) below c.loop-class.invariant.comes in
+    let below : c.loop-class._class < longest = rw longest_is c.loop-class-test.true in
+    let so_far = turn-from c.loop-class._class (standing c.loop-class.walk) below c.loop-class.invariant.comes in
     let asked = rw c.in-Some.is at c.in_ok-ty.ensures.asks in
     let more = rw c.in-Some.is at c.in_ok-ty.ensures.given in
     record {
       comes = comes-then _ so_far asked;
       names = names-more c.loop-class.names c.push.new.self (given_types c.loop-class.walk) (given_types c.next_class.new.self) (java_type c.in-Some.ty) c.class_name.result c.loop-class.invariant.names (search rules) more c.class_name.ensures;
-      count = count-more c.loop-class.names c.push.new.self c.class_name.result c.loop-class._class (search rules) c.loop-class.invariant.count;
     }
 
-pub returns-clause-asks : goal.returns-clause-asks
-returns-clause-asks g c = comes-ends c.loop-class.invariant.comes (asks-stop refl)
+pub returns : goal.returns
+returns g c = comes-ends c.loop-class.invariant.comes (asks-stop refl)
