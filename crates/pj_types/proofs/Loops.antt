@@ -8,58 +8,51 @@ use Rattle.pj_names.specs.Asking.{Asking, Return, Unbounded, bind}
 use Rattle.pj_names.specs.MeaningLaws.{bind-bind}
 use Rattle.pj_names.specs.Told.{Told, longest}
 use Rattle.pj_names.specs.AskingLaws.{ComesTo, comes-deeper}
-use Rattle.pj_types.specs.Supertypes.{Listed, Standing, begin, class_name, given_type, no_hit, search_within, supertypes_within, supertypes_of, step}
+use Rattle.pj_types.specs.Supertypes.{Listed, Standing, begin, given_type, no_hit, search_within, supertypes_within, supertype_list, step}
 use Rattle.pj_types.specs.Subtyping.{is_class_of, is_named, is_hit, is_on_list}
 use Rattle.pj_types.specs.WalkLaws.{onward, as_types, tested, unless_hit, onward-step, search-onward}
 
--- the names of the list, from where a walk stands
-abbrev pub names_from : ℕ → Standing → Asking (List Name)
-names_from n standing = bind (onward no_hit n standing) (λ o. Return (map class_name (map given_type o.1)))
+-- the list, from where a walk stands
+abbrev pub types_from : ℕ → Standing → Asking (List JavaType)
+types_from n standing = bind (onward no_hit n standing) (λ o. Return (map given_type o.1))
 
-abbrev pub names_after : ℕ → Option JavaType → Standing → Asking (List Name)
-names_after n None standing = Return (map class_name (map given_type standing.given))
-names_after n (Some ty) standing = names_from n standing
+abbrev pub types_after : ℕ → Option JavaType → Standing → Asking (List JavaType)
+types_after n None standing = Return (map given_type standing.given)
+types_after n (Some ty) standing = types_from n standing
 
-pub names-begin : (most : ℕ) (name : Name) → bind (supertypes_within most name) (λ types. Return (map class_name types)) ≡ names_from most (begin name)
-names-begin most name =
-    bind-bind (search_within most no_hit name) (λ o. Return o.1) (λ types. Return (map class_name types))
-    ∙ ap (λ (m : Asking (Option (Unit {0}) × List JavaType)). bind m (λ o. Return (map class_name o.1))) (search-onward most no_hit name)
-    ∙ bind-bind (onward no_hit most (begin name)) (λ o. Return (as_types o)) (λ o. Return (map class_name o.1))
+types-begin : (most : ℕ) (name : Name) → supertypes_within most name ≡ types_from most (begin name)
+types-begin most name =
+    ap (λ (m : Asking (Option (Unit {0}) × List JavaType)). bind m (λ o. Return o.1)) (search-onward most no_hit name)
+    ∙ bind-bind (onward no_hit most (begin name)) (λ o. Return (as_types o)) (λ o. Return o.1)
 
-names-suc : (n : ℕ) (standing : Standing) → names_from (suc n) standing ≡ bind (step standing) (λ o. names_after n o.0 o.1)
-names-suc n standing =
-    ap (λ (m : Asking (Option (Unit {0}) × List Listed)). bind m (λ o. Return (map class_name (map given_type o.1)))) (onward-step no_hit n standing)
-    ∙ bind-bind (step standing) (λ o. tested no_hit n o.0 o.1) (λ o. Return (map class_name (map given_type o.1)))
+types-suc : (n : ℕ) (standing : Standing) → types_from (suc n) standing ≡ bind (step standing) (λ o. types_after n o.0 o.1)
+types-suc n standing =
+    ap (λ (m : Asking (Option (Unit {0}) × List Listed)). bind m (λ o. Return (map given_type o.1))) (onward-step no_hit n standing)
+    ∙ bind-bind (step standing) (λ o. tested no_hit n o.0 o.1) (λ o. Return (map given_type o.1))
     ∙ (λ i. bind (step standing) (λ o. at o.0 o.1 i))
   where
-    at : (next : Option JavaType) (further : Standing) → bind (tested no_hit n next further) (λ o. Return (map class_name (map given_type o.1))) ≡ names_after n next further
+    at : (next : Option JavaType) (further : Standing) → bind (tested no_hit n next further) (λ o. Return (map given_type o.1)) ≡ types_after n next further
     at None further = refl
     at (Some ty) further = refl
 
--- one turn of the loop
-pub names-turn : (most i : ℕ) (standing : Standing) → i < most → names_from (most - i) standing ≡ bind (step standing) (λ o. names_after (most - (i + 1)) o.0 o.1)
-names-turn most i standing below = let more : most - i ≡ suc (most - (i + 1)) = omega arith in ap (λ n. names_from n standing) more ∙ names-suc (most - (i + 1)) standing
+types-turn : (most i : ℕ) (standing : Standing) → i < most → types_from (most - i) standing ≡ bind (step standing) (λ o. types_after (most - (i + 1)) o.0 o.1)
+types-turn most i standing below = let more : most - i ≡ suc (most - (i + 1)) = omega arith in ap (λ n. types_from n standing) more ∙ types-suc (most - (i + 1)) standing
 
 -- the loop's invariant where it begins and where a turn begins
 
-abbrev pub all_names : ℕ → Standing → Asking (List Name)
-all_names i standing = Unbounded (λ most. names_from (most - i) standing)
+abbrev pub all_types : ℕ → Standing → Asking (List JavaType)
+all_types i standing = Unbounded (λ most. types_from (most - i) standing)
 
-abbrev pub names_on : ℕ → Option JavaType → Standing → Asking (List Name)
-names_on i next standing = Unbounded (λ most. names_after (most - i) next standing)
+abbrev pub types_on : ℕ → Option JavaType → Standing → Asking (List JavaType)
+types_on i next standing = Unbounded (λ most. types_after (most - i) next standing)
 
-pub begin-from : (name : Name) (standing : Standing) → standing ≡ begin name → supertypes_of name ≡ all_names 0 standing
-begin-from name standing is = λ i. Unbounded (λ most. (names-begin most name ∙ (let all : most ≡ most - 0 = omega arith in λ j. names_from (all j) (sym is j))) i)
+pub begin-from : (name : Name) (standing : Standing) → standing ≡ begin name → supertype_list name ≡ all_types 0 standing
+begin-from name standing is = λ i. Unbounded (λ most. (types-begin most name ∙ (let all : most ≡ most - 0 = omega arith in λ j. types_from (all j) (sym is j))) i)
 
-pub turn-from : {K : Type 0} (i : ℕ) (standing : Standing) {m : Asking (List Name)} {t u : Told K} → i < longest → ComesTo m t (all_names i standing) u
-    → ComesTo m t (bind (step standing) (λ o. names_on (i + 1) o.0 o.1)) u
-turn-from i standing below so_far = comes-deeper (step standing) (λ most o. names_after (most - (i + 1)) o.0 o.1) (λ most far. names-turn most i standing (omega (arith, below, far))) so_far
-
--- one name more
-pub names-more : (names more : List Name) (types more_types : List JavaType) (ty : JavaType) (name : Name) → names ≡ map class_name types → more ≡ names ++ name ∷ []
-    → more_types ≡ types ++ ty ∷ [] → name ≡ class_name ty → more ≡ map class_name more_types
-names-more names more types more_types ty name is grown types_grown name_is =
-    grown ∙ (λ i. is i ++ name_is i ∷ []) ∙ sym (ap (λ l. map class_name l) types_grown ∙ map-append class_name types (ty ∷ []))
+-- one turn of the loop
+pub turn-from : {K : Type 0} (i : ℕ) (standing : Standing) {m : Asking (List JavaType)} {t u : Told K} → i < longest → ComesTo m t (all_types i standing) u
+    → ComesTo m t (bind (step standing) (λ o. types_on (i + 1) o.0 o.1)) u
+turn-from i standing below so_far = comes-deeper (step standing) (λ most o. types_after (most - (i + 1)) o.0 o.1) (λ most far. types-turn most i standing (omega (arith, below, far))) so_far
 
 -- Whether a class is on the list, from where a walk stands.
 

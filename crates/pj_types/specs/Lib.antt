@@ -14,3 +14,4 @@ pub mod FiniteLaws
 pub mod SubtypingLaws
 pub mod Stepped
 pub mod Members
+pub mod Along

@@ -11,7 +11,8 @@ pub mod subtyping;
 mod tests;
 pub mod walk;
 
-pub use hierarchy::supertypes;
+pub use hierarchy::{supertype_list, supertypes};
+pub use listed::paired;
 pub use members::{Field, Method, Methods, copied_methods};
 pub use substitution::{erase, substitute};
 pub use subtyping::is_subtype;

@@ -75,9 +75,9 @@ impl Writing {
     }
 }
 
-/// Type parameters, each with its argument, or `None` where they are not as many.
+/// Type parameters, each with its argument, or `None` where they are not as many (JLS 4.5).
 #[tactic(auto, using(crate::proofs::Pairs::turns))]
-fn paired(
+pub fn paired(
     alloc: Global,
     parameters: &Bindings,
     arguments: &Types,

@@ -1,21 +1,22 @@
-use Rattle.std.proofs.Common.{rules, ◌<◌, ap, sym, subst, refl, ◌∙◌}
+use Rattle.std.proofs.Common.{rules, ◌<◌, ◌∷◌, ◌++◌, [], ap, sym, subst, refl, ◌∙◌}
 use Rattle.std.specs.Prelude.{map, Ok}
-use Rattle.pj_names.specs.JavaType.{java_type}
+use Rattle.std.proofs.lemmas.List.{map-append}
+use Rattle.pj_names.specs.JavaType.{java_type, type_list}
 use Rattle.pj_names.specs.AskingLaws.{ComesTo, comes-begin, comes-then, comes-ends, asks-refused, asks-settled, asks-stop}
 use Rattle.pj_names.specs.Told.{longest, longest_is}
-use Rattle.pj_types.specs.Supertypes.{class_name, given_type, supertypes_of}
+use Rattle.pj_types.specs.Supertypes.{given_type, supertype_list}
 use Rattle.pj_types.specs.Standing.{given_types, standing}
-use Rattle.pj_types.proofs.Loops.{begin-from, turn-from, names-more}
-use Rattle.pj_types.proofs.hierarchy.supertypes.Goals as goal
+use Rattle.pj_types.proofs.Loops.{begin-from, turn-from}
+use Rattle.pj_types.proofs.hierarchy.supertype_list.Goals as goal
 
 pub returns-in_err-walk : goal.returns-in_err-walk
 returns-in_err-walk g c = asks-stop (search rules)
 
 pub loop-class-init : goal.loop-class-init
 loop-class-init g c = record {
-  comes = subst (λ m. ComesTo (supertypes_of c.args.name.now) (g.O.Oracle.tells c.args.oracle.now) m (g.O.Oracle.tells c.args.oracle.now))
+  comes = subst (λ m. ComesTo (supertype_list c.args.name.now) (g.O.Oracle.tells c.args.oracle.now) m (g.O.Oracle.tells c.args.oracle.now))
       (begin-from c.args.name.now (standing c.in_ok-walk.walk) c.in_ok-walk.ensures) comes-begin;
-  names = c.new-names.ensures ∙ ap (λ s. map class_name (map given_type s.given)) (sym c.in_ok-walk.ensures);
+  types = ap (λ l. type_list l) c.new-types.ensures ∙ ap (λ s. map given_type s.given) (sym c.in_ok-walk.ensures);
 }
 
 pub returns-in_err-ty : goal.returns-in_err-ty
@@ -30,7 +31,7 @@ returns-in_default g c =
     let so_far = turn-from c.loop-class._class (standing c.loop-class.walk) below c.loop-class.invariant.comes in
     let asked = rw c.in_default.is at c.in_ok-ty.ensures.asks in
     let same = rw c.in_default.is at c.in_ok-ty.ensures.given in
-    comes-ends (comes-then _ so_far asked) (asks-settled (ap (λ l. Ok l) (c.loop-class.invariant.names ∙ ap (λ w. map class_name (given_types w)) (sym same))))
+    comes-ends (comes-then _ so_far asked) (asks-settled (ap (λ l. Ok l) (c.loop-class.invariant.types ∙ ap (λ w. given_types w) (sym same))))
 
 pub returns-in_err-push : goal.returns-in_err-push
 returns-in_err-push g c =
@@ -46,7 +47,7 @@ loop-class-preserved g c =
     let more = rw c.in-Some.is at c.in_ok-ty.ensures.given in
     record {
       comes = comes-then _ so_far asked;
-      names = names-more c.loop-class.names c.push.new.self (given_types c.loop-class.walk) (given_types c.next_class.new.self) (java_type c.in-Some.ty) c.class_name.result c.loop-class.invariant.names (search rules) more c.class_name.ensures;
+      types = ap (λ l. type_list l) (search rules) ∙ map-append java_type c.loop-class.types (c.in-Some.ty ∷ []) ∙ (λ i. c.loop-class.invariant.types i ++ java_type c.in-Some.ty ∷ []) ∙ sym more;
     }
 
 pub returns : goal.returns
