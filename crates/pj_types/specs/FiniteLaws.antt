@@ -40,7 +40,7 @@ fewer (pair ∷ rest) names more keeps = at (has_name names pair.0) (has_name mo
 fewer_by : (answers : List (Name × Answer)) (names more : List Name) (name : Name) → has_answer answers name ≡ true → has_name names name ≡ false → has_name more name ≡ true
     → ((q : Name) → has_name names q ≡ true → has_name more q ≡ true) → remaining answers more < remaining answers names
 fewer_by [] names more name there new now keeps = absurd (cc there)
-fewer_by (pair ∷ rest) names more name there new now keeps = at (pointwise nat_eq pair.0 name) refl there
+fewer_by (pair ∷ rest) names more name there new now keeps = at (pointwise nat_eq pair.0 name) refl (λ found. fewer_by rest names more name found new now keeps) there
   where
     here : (before after : Bool) → before ≡ false → after ≡ true
         → (let n : ℕ = (if after then remaining rest more else suc (remaining rest more)) in n) < (if before then remaining rest names else suc (remaining rest names))
@@ -55,20 +55,21 @@ fewer_by (pair ∷ rest) names more name there new now keeps = at (pointwise nat
     later false true keep h = omega (arith, h)
     later false false keep h = omega (arith, h)
 
-    at : (b : Bool) → pointwise nat_eq pair.0 name ≡ b → (if b then true else has_answer rest name) ≡ true → remaining (pair ∷ rest) more < remaining (pair ∷ rest) names
-    at true same found =
+    at : (b : Bool) → pointwise nat_eq pair.0 name ≡ b → (has_answer rest name ≡ true → remaining rest more < remaining rest names) → (if b then true else has_answer rest name) ≡ true
+        → remaining (pair ∷ rest) more < remaining (pair ∷ rest) names
+    at true same onward found =
         let is : pair.0 ≡ name = same_text pair.0 name (sym same) in
         here (has_name names pair.0) (has_name more pair.0) (ap (λ q. has_name names q) is ∙ new) (ap (λ q. has_name more q) is ∙ now)
-    at false other found = later (has_name names pair.0) (has_name more pair.0) (keeps pair.0) (fewer_by rest names more name found new now keeps)
+    at false other onward found = later (has_name names pair.0) (has_name more pair.0) (keeps pair.0) (onward found)
 
 -- a name without an answer is absent
 no_answer : (answers : List (Name × Answer)) (name : Name) → has_answer answers name ≡ false → found_in answers name ≡ None
 no_answer [] name unknown = refl
-no_answer (pair ∷ rest) name unknown = at (pointwise nat_eq pair.0 name) unknown
+no_answer (pair ∷ rest) name unknown = at (pointwise nat_eq pair.0 name) (λ unknown. no_answer rest name unknown) unknown
   where
-    at : (b : Bool) → (if b then true else has_answer rest name) ≡ false → (let o : Option Answer = (if b then Some pair.1 else found_in rest name) in o) ≡ None
-    at true unknown = absurd (cc unknown)
-    at false unknown = no_answer rest name unknown
+    at : (b : Bool) → (has_answer rest name ≡ false → found_in rest name ≡ None) → (if b then true else has_answer rest name) ≡ false → (let o : Option Answer = (if b then Some pair.1 else found_in rest name) in o) ≡ None
+    at true onward unknown = absurd (cc unknown)
+    at false onward unknown = onward unknown
 
 left_or : (a b : Bool) → a ≡ true → (a || b) ≡ true
 left_or true b h = refl
@@ -108,7 +109,7 @@ module _ (answers : List (Name × Answer)) where
   -- one class after the other, where it is known what those lead to that leave fewer answers
   in_turn : (n : ℕ) → ((visited xs : List Listed) → remaining answers (map name_of visited) < n → Leads visited xs) → (xs visited : List Listed) → remaining answers (map name_of visited) ≤ n → Leads visited xs
   in_turn n deeper [] visited h = (visited, none)
-  in_turn n deeper (x ∷ xs) visited h = at (has_name (map name_of visited) x.name) refl
+  in_turn n deeper (x ∷ xs) visited h = at (has_name (map name_of visited) x.name) refl (λ further h. in_turn n deeper xs further h)
     where
       put : List Listed
       put = visited ++ x ∷ []
@@ -125,12 +126,12 @@ module _ (answers : List (Name × Answer)) where
           deeper put (direct_in world x) (omega (arith, less, h))
       beneath new false unknown = (put, subst (λ l. LeadTo world put l put) (sym (no_supertypes x unknown)) none)
 
-      at : (b : Bool) → has_name (map name_of visited) x.name ≡ b → Leads visited (x ∷ xs)
-      at true was = let rest = in_turn n deeper xs visited h in (rest.0, skipped was rest.1)
-      at false new =
+      at : (b : Bool) → has_name (map name_of visited) x.name ≡ b → ((further : List Listed) → remaining answers (map name_of further) ≤ n → Leads further xs) → Leads visited (x ∷ xs)
+      at true was onward = let rest = onward visited h in (rest.0, skipped was rest.1)
+      at false new onward =
           let below = beneath new (has_answer answers x.name) refl in
           let left = fewer answers (map name_of visited) (map name_of below.0) (λ q was. keeps put (direct_in world x) below.0 below.1 q (kept q was)) in
-          let rest = in_turn n deeper xs below.0 (omega (arith, left, h)) in
+          let rest = onward below.0 (omega (arith, left, h)) in
           (rest.0, visited_now new below.1 rest.1)
 
   leads : (n : ℕ) (visited xs : List Listed) → remaining answers (map name_of visited) ≤ n → Leads visited xs
