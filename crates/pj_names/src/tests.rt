@@ -249,7 +249,7 @@ fn recording(rt: HostRuntime) -> Result<(), Fail> {
     for asked in ["p.B", "p.A", "p.B", "a.Z"] {
         recorder.ask(&name(alloc, asked)?)?;
     }
-    let listed = noted.into_names(alloc)?;
+    let listed = noted.names(alloc)?;
     assert!(rt; listed.is(&names(alloc, &["a.Z", "p.A", "p.B"])?), "{listed:?}");
     assert!(rt; has_asked(alloc, &oracle, &["p.A", "p.B", "a.Z"], &["p.C"])?);
     Ok(())
