@@ -2,7 +2,7 @@
 ghost use Rattle.std.specs.Prelude.{◌≡◌, ℕ, ◌<◌, ◌≤◌, ◌^◌, ◌-◌, IsTrue, IfSome, List, map, length, Option, Result, Bool};
 ghost use Rattle.std.specs.Option.{option_map, ForSome};
 ghost use Rattle.pj_names.specs.Asking.{Asking, value_of};
-ghost use Rattle.pj_names.specs.Told.{Told, Asks};
+ghost use Rattle.pj_names.specs.Told.{Told, Asks, longest};
 ghost use Rattle.pj_tree.specs.declared.node.Node.{Node};
 ghost use Rattle.pj_tree.specs.declared.node.Place.{Place};
 ghost use Rattle.pj_xvalue.specs.declared.fault.XCode.{XCode};
@@ -84,9 +84,12 @@ pub trait Calls {
     /// How many nodes the tree has.
     ghost nodes: { Self → ℕ };
 
-    /// What it tells of itself: the world that answers for classes, where it tells that and what it replies, the names
-    /// that were asked, and its faults.
-    ghost tells: { Self → Told };
+    /// The type of what it keeps in every call, besides what it replies.
+    ghost Kept: { Type 0 };
+
+    /// What it tells of itself: the world that answers for classes, where it tells that and what it replies, what it keeps,
+    /// the names that were asked, and its faults.
+    ghost tells: { Self → Told Kept };
 
     /// What a function comes to at a node, or at no node, with these arguments: a sequence or a code, with the classes
     /// that it asks for.
@@ -114,5 +117,5 @@ pub trait Calls {
 
     /// Where the world is told, the reply over it is of the same kind as the answers.
     ghost reply_kind: { (calls : Self) (function : PmdFunction) (at : Option Node) (arguments : List (List ItemValue)) → IsTrue (tells calls).is_told → ArgumentsOfTree (nodes calls) arguments → ForSome at (λ n. n.0 < nodes calls)
-        → IsTrue (pmd_takes function (length arguments)) → IsTrue (may_be function arguments (value_of (tells calls).world.answer (reply calls function at arguments))) };
+        → IsTrue (pmd_takes function (length arguments)) → (depth : ℕ) → longest ≤ depth → IsTrue (may_be function arguments (value_of depth ((tells calls).world depth).answer (reply calls function at arguments))) };
 }
