@@ -1,6 +1,6 @@
 -- What the borrowed words of options hold, for private clauses.
 use Rattle.pj_settings.specs.Job.{Given}
-use Rattle.pj_settings.specs.declared.read.Given as borrowed
+use Rattle.pj_settings.specs.declared.reading.Given as borrowed
 
 abbrev pub given_seen : borrowed.Given → Given
 given_seen g = record {

@@ -5,11 +5,11 @@
 #![tactic(auto)]
 
 mod command;
-mod read;
+mod reading;
 mod settings;
 mod usage;
 mod values;
 
-pub use read::read;
+pub use reading::read;
 pub use settings::{Format, Settings};
 pub use usage::{UsageFault, UsageRefused};

@@ -1,7 +1,7 @@
 use Rattle.std.proofs.Common.{◌≡◌, rules, true}
 use Rattle.pj_settings.specs.Job.{is_check}
 use Rattle.pj_settings.proofs.JobFacts.{job-refused}
-use Rattle.pj_settings.proofs.read.read.Goals as goal
+use Rattle.pj_settings.proofs.reading.read.Goals as goal
 
 pub returns-in-Err : goal.returns-in-Err
 returns-in-Err c =
