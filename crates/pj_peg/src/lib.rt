@@ -16,6 +16,7 @@ mod compile;
 mod derivation;
 mod evaluate;
 mod fill;
+mod firsts;
 mod grammar;
 mod graph;
 mod item;
@@ -23,8 +24,6 @@ mod law;
 mod program;
 mod runner;
 mod table;
-#[cfg(test)]
-mod tests;
 
 pub use derivation::{Derivation, Step};
 pub use grammar::{Grammar, GrammarFault, WellFormed};

@@ -14,8 +14,6 @@ mod row;
 mod run;
 mod shape_fault;
 mod syntax_tree;
-#[cfg(test)]
-mod tests;
 
 pub use builder::Builder;
 pub use characters::place_after;
