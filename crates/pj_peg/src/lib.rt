@@ -16,6 +16,7 @@ mod compile;
 mod derivation;
 mod evaluate;
 mod fill;
+mod firsts;
 mod grammar;
 mod graph;
 mod item;

@@ -208,7 +208,7 @@ pub fn run(
     ensures places { IfOk result (λ found. IfSome found (All (λ step. (step.from ≤ step.to) × (step.to ≤ length kinds.now)))) }
 {
     let program = &grammar.program;
-    let table = fill(alloc, program, &grammar.order, kinds)?;
+    let table = fill(alloc, program, &grammar.goings, &grammar.order, kinds)?;
     match table.end(0, 0) {
         None => Ok(None),
         Some(to) => {
