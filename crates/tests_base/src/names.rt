@@ -1,11 +1,16 @@
-//! Worked rows, and each public call that takes memory once, with ample memory.
+//! Names of classes, types, answers and oracles.
+
 ghost use Rattle.std.specs.Prelude.{◌≡◌, OnOk, Some};
 ghost use Rattle.std.specs.BTreeMap.{get};
 ghost use Rattle.std.specs.Cmp.Lexicographic.{slice_cmp};
 ghost use Rattle.std.specs.Ordering.{nat_cmp};
 
-use crate::*;
-use pj_base::{Bytes, Copied, Exact, NoMemory, Numbers, Text, Words};
+use pj_base::{Copied, Exact, NoMemory, Text};
+use pj_names::{
+    Answer, Answers, Bindings, Broken, ClassFault, ClassInfo, ClassName, ClassNameSet, ClassNames,
+    MapOracle, Member, Members, Oracle, Prim, Recorder, Ty, TyList, Types, copied_bindings,
+    copied_types, look_up, same_types,
+};
 use std::alloc::{AllocFailed, Global};
 use std::cmp::Ordering;
 use std::collections::BTreeMap;
@@ -48,35 +53,38 @@ fn oracle(alloc: Global, all: &[(&str, &str)]) -> Result<MapOracle, Fail> {
     Ok(MapOracle::new(alloc, answers))
 }
 
+/// Texts, and whether they are names of classes.
+static NAMES: [(&str, bool); 17] = [
+    ("A", true),
+    ("a.B", true),
+    ("java.util.Map$Entry", true),
+    ("p.A$$7", true),
+    ("ä.ß", true),
+    ("?", true),
+    ("a.b c", true),
+    ("", false),
+    (".", false),
+    (".a", false),
+    ("a.", false),
+    ("a..b", false),
+    ("a/b", false),
+    ("a.b;", false),
+    ("[a", false),
+    ("a.[.b", false),
+    ("java/util.List", false),
+];
+
 #[test]
 fn names_of_classes(rt: HostRuntime) -> Result<(), Fail> {
-    let good = [
-        "A",
-        "a.B",
-        "java.util.Map$Entry",
-        "p.A$$7",
-        "ä.ß",
-        "?",
-        "a.b c",
-    ];
-    for text in good {
-        assert!(rt; ClassName::of(rt.alloc(), text)?.is_some(), "{text}");
+    for (text, wanted) in &NAMES {
+        let is_name = ClassName::of(rt.alloc(), text)?.is_some();
+        assert_eq!(rt; is_name, *wanted, "{text}");
     }
-    let bad = [
-        "",
-        ".",
-        ".a",
-        "a.",
-        "a..b",
-        "a/b",
-        "a.b;",
-        "[a",
-        "a.[.b",
-        "java/util.List",
-    ];
-    for text in bad {
-        assert!(rt; ClassName::of(rt.alloc(), text)?.is_none(), "{text}");
-    }
+    Ok(())
+}
+
+#[test]
+fn a_name_of_a_class(rt: HostRuntime) -> Result<(), Fail> {
     let entry = name(rt.alloc(), "java.util.Map$Entry")?;
     assert_eq!(rt; entry.as_str(), "java.util.Map$Entry");
     assert!(rt; entry.copied()?.is(&entry));
@@ -87,31 +95,6 @@ fn names_of_classes(rt: HostRuntime) -> Result<(), Fail> {
     assert_eq!(rt; entry.into_text(), text(rt.alloc(), "java.util.Map$Entry")?);
     assert!(rt; name(rt.alloc(), "java.lang.Object")?.is_object());
     assert!(rt; !name(rt.alloc(), "java.lang.Objects")?.is_object());
-    Ok(())
-}
-
-#[test]
-fn texts_and_lists(rt: HostRuntime) -> Result<(), Fail> {
-    let mut word = text(rt.alloc(), "Zug")?;
-    assert_eq!(rt; word.cmp(&text(rt.alloc(), "auto")?), Ordering::Less);
-    word.push_str("fähre")?;
-    assert_eq!(rt; word.len(), 9);
-    assert_eq!(rt; word.copied()?.into_string().as_str(), "Zugfähre");
-    let mut words = Words::new(rt.alloc());
-    assert!(rt; words.is_empty());
-    words.push(word)?;
-    words.push(Text::new(rt.alloc()))?;
-    assert!(rt; words.copied()?.is(&words));
-    assert!(rt; words.contains(&Text::new(rt.alloc())));
-    assert_eq!(rt; words.get(0).map(|word| word.as_str()), Some("Zugfähre"));
-    assert_eq!(rt; words.get(2).map(|word| word.as_str()), None);
-    assert_eq!(rt; words.pop(), Some(Text::new(rt.alloc())));
-    assert_eq!(rt; words.len(), 1);
-    let bytes = Bytes::from_vec([1, 2].to_vec(rt.alloc())?);
-    assert!(rt; bytes.copied()?.is(&bytes));
-    let mut numbers = Numbers::new(rt.alloc());
-    numbers.push(7)?;
-    assert!(rt; numbers.copied()? == numbers);
     Ok(())
 }
 
@@ -250,7 +233,10 @@ fn recording(rt: HostRuntime) -> Result<(), Fail> {
         recorder.ask(&name(alloc, asked)?)?;
     }
     let listed = noted.names(alloc)?;
-    assert!(rt; listed.is(&names(alloc, &["a.Z", "p.A", "p.B"])?), "{listed:?}");
+    assert!(rt;
+        listed.is(&names(alloc, &["a.Z", "p.A", "p.B"])?),
+        "{listed:?}"
+    );
     assert!(rt; has_asked(alloc, &oracle, &["p.A", "p.B", "a.Z"], &["p.C"])?);
     Ok(())
 }

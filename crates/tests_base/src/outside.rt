@@ -1,10 +1,10 @@
-//! That calls succeed with ample memory, and fail where they are to.
-use crate::{
+//! Trees, class paths and sinks in memory: that calls succeed with ample memory, and fail where they are to.
+use pj_base::{Bytes, Copied, Names, Numbers, Text};
+use pj_names::ClassName;
+use pj_outside::{
     ClassDoor, ClassPath, Failed, Files, Folders, MemClassPath, MemDoor, MemSink, MemTree, Pairs,
     Reading, Refused, Sink, Tree,
 };
-use pj_base::{Bytes, Names, Numbers, Text};
-use pj_names::ClassName;
 use std::alloc::{AllocError, Global};
 use std::test::Fail;
 
@@ -20,7 +20,7 @@ fn put_file(files: &mut Files, alloc: Global, path: &str, bytes: &[u8]) -> Resul
     Ok(())
 }
 
-// The paths listed, a space behind each; `none` where there is none, `refused` where the call refused.
+/// The paths listed, a space behind each; `none` where there is none, `refused` where the call refused.
 fn listed(alloc: Global, tree: &mut MemTree, at: &str) -> Result<String, AllocError> {
     let mut line = String::new(alloc);
     match tree.list(at) {
@@ -58,7 +58,7 @@ fn a_tree_lists_what_lies_at_a_path_and_below(rt: HostRuntime) -> Result<(), Fai
     Ok(())
 }
 
-// What a reading is, in a word.
+/// What a reading is, in a word.
 fn reading(tree: &mut MemTree, path: &str, most: u64) -> &'static str {
     match tree.read(path, most) {
         Ok(Reading::Absent) => "absent",
@@ -96,7 +96,7 @@ fn a_sink_keeps_what_it_got_and_fails_where_it_is_to(rt: HostRuntime) -> Result<
     Ok(())
 }
 
-// Two folders: the first has `p/A.class`, the second `p/A.class` of other bytes and `p/B.class`.
+/// Two folders: the first has `p/A.class`, the second `p/A.class` of other bytes and `p/B.class`.
 fn class_path(alloc: Global, fail: &[u32], door_fail: (u32, u32)) -> Result<MemClassPath, Fail> {
     let mut first = Files::new(alloc);
     put_file(&mut first, alloc, "p/A.class", b"xyz")?;
@@ -111,7 +111,7 @@ fn class_path(alloc: Global, fail: &[u32], door_fail: (u32, u32)) -> Result<MemC
     Ok(MemClassPath::new(alloc, folders, numbers(alloc, fail)?, pairs))
 }
 
-// A door to the folders of these names; none where it could not be opened.
+/// A door to the folders of these names; none where it could not be opened.
 fn door(
     alloc: Global,
     classes: &mut MemClassPath,
@@ -124,7 +124,7 @@ fn door(
     Ok(classes.open(&folders).ok())
 }
 
-// What a find is, in a word.
+/// What a find is, in a word.
 fn found(alloc: Global, door: &mut Option<MemDoor>, name: &str, most: u64) -> &'static str {
     let (Some(door), Ok(Some(name))) = (door, ClassName::of(alloc, name)) else {
         return "none";
@@ -166,7 +166,7 @@ fn the_order_of_the_folders_is_that_of_the_opening(rt: HostRuntime) -> Result<()
     Ok(())
 }
 
-// Opens two doors, finds once at the first and twice at the second, and shuts them: the finds counted.
+/// Opens two doors, finds once at the first and twice at the second, and shuts them: the finds counted.
 fn finds_of_two_doors(alloc: Global) -> Result<u64, Fail> {
     let mut classes = class_path(alloc, &[], (1, 2))?;
     for count in 1..3 {
@@ -196,5 +196,22 @@ fn an_open_fails_where_it_is_to(rt: HostRuntime) -> Result<(), Fail> {
     let second = door(alloc, &mut classes, &["one"])?;
     assert!(rt; first.is_some());
     assert!(rt; second.is_none());
+    Ok(())
+}
+
+#[test]
+fn folders_are_read_and_copied(rt: HostRuntime) -> Result<(), Fail> {
+    let alloc = rt.alloc();
+    let mut files = Files::new(alloc);
+    put_file(&mut files, alloc, "p/A.class", b"xyz")?;
+    let mut folders = Folders::new(alloc);
+    assert!(rt; folders.is_empty());
+    folders.push(Text::from_str(alloc, "one")?, files)?;
+    let copy = folders.copied()?;
+    assert_eq!(rt; copy.len(), 1);
+    for (name, files) in copy.as_slice() {
+        assert_eq!(rt; name.as_str(), "one");
+        assert_eq!(rt; files.len(), 1);
+    }
     Ok(())
 }
