@@ -4,6 +4,7 @@ ghost use Rattle.std.specs.Bool.{OnFalse};
 ghost use Rattle.std.specs.Cmp.Lexicographic.{slice_cmp};
 ghost use Rattle.std.specs.FinSet as set;
 ghost use Rattle.std.specs.List.Sorted.{IsStrictlySortedBy};
+ghost use Rattle.pj_names.specs.Told.{IsWithin, with_names};
 ghost use Rattle.std.specs.Ordering.{nat_cmp};
 
 use crate::asking::ClassNames;
@@ -63,10 +64,43 @@ impl ClassNameSet {
         ensures ascending { IfOk result (λ names. IsStrictlySortedBy (slice_cmp nat_cmp) names) }
         ensures members { IfOk result (λ names. set.from_list names ≡ self.now) }
     {
-        let mut names = ClassNames::new(alloc);
-        for name in &self.names {
-            names.push(name.copied()?)?;
-        }
-        Ok(names)
+        keys_of(alloc, &self.names)
     }
+
+    /// Puts a name into the set; it is copied where it is new there.
+    pub fn note(&mut self, name: &ClassName) -> Result<(), NoMemory>
+        ensures ok { OnOk result (self.new ≡ set.insert self.old name.now) }
+        ensures err { OnErr result (self.new ≡ self.old) }
+    {
+        if self.contains(name) {
+            return Ok(());
+        }
+        self.insert(name.copied()?)?;
+        Ok(())
+    }
+
+    /// Puts names into the set; each is copied where it is new there.
+    #[tactic(auto, using(crate::specs::AskingLaws::asking_loops))]
+    pub fn note_all(&mut self, names: &ClassNames) -> Result<(), NoMemory>
+        ensures ok { OnOk result (self.new ≡ with_names self.old names.now) }
+        ensures stays { IsWithin self.old self.new }
+        ensures within { IsWithin self.new (with_names self.old names.now) }
+    {
+        for name in names.as_slice() {
+            self.note(name)?;
+        }
+        Ok(())
+    }
+}
+
+/// The keys in their order.
+fn keys_of(alloc: Global, keys: &BTreeSet<ClassName>) -> Result<ClassNames, NoMemory>
+    ensures keys { IfOk result (λ names. names ≡ keys.now.keys) }
+    ensures ascending { IfOk result (λ names. IsStrictlySortedBy (slice_cmp nat_cmp) names) }
+{
+    let mut names = ClassNames::new(alloc);
+    for key in keys {
+        names.push(key.copied()?)?;
+    }
+    Ok(names)
 }

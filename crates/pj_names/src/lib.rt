@@ -2,7 +2,6 @@
 // for classes: its meaning, its oracle, its laws.
 #![tactic(auto)]
 
-pub mod alias;
 pub mod answer;
 pub mod answers;
 pub mod asking;
@@ -11,18 +10,17 @@ pub mod class_name_set;
 pub mod laws;
 pub mod map_oracle;
 pub mod oracle;
-#[cfg(test)]
-mod tests;
+pub mod recorder;
 pub mod ty;
 
-pub use alias::{AliasOracle, reached_beneath, reached_over};
 pub use answer::{Answer, Broken, ClassFault, ClassInfo, Member, Members};
 pub use answers::Answers;
-pub use asking::{ClassNames, Next, answers_for, both_present, first_present, look_up, reached};
+pub use asking::{ClassNames, look_up};
 pub use class_name::ClassName;
 pub use class_name_set::ClassNameSet;
 pub use map_oracle::MapOracle;
 pub use oracle::{AskFault, Oracle};
+pub use recorder::Recorder;
 pub use ty::{
     Bindings, PrimitiveType as Prim, Ty, TyList, Types, copied_bindings, copied_types, same_types,
 };

@@ -42,6 +42,8 @@ impl MapOracle {
 }
 
 impl Oracle for MapOracle {
+    ghost Kept = { Unit {0} };
+
     ghost tells = { λ oracle. list_tells oracle.answers oracle.asked };
 
     fn ask(&mut self, name: &ClassName) -> Result<Arc<Answer>, AskFault> {

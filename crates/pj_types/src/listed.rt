@@ -75,9 +75,9 @@ impl Writing {
     }
 }
 
-/// Type parameters, each with its argument, or `None` where they are not as many.
+/// Type parameters, each with its argument, or `None` where they are not as many (JLS 4.5).
 #[tactic(auto, using(crate::proofs::Pairs::turns))]
-fn paired(
+pub fn paired(
     alloc: Global,
     parameters: &Bindings,
     arguments: &Types,
@@ -162,7 +162,7 @@ fn signature_of(alloc: Global, answer: &Answer) -> Result<Option<ClassSig>, NoMe
 }
 
 /// The direct supertypes of a class, from what is known of it.
-fn of_answer(
+pub fn of_answer(
     alloc: Global,
     arguments: &Option<Types>,
     answer: &Answer,
