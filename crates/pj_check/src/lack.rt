@@ -2,6 +2,7 @@
 ghost use Rattle.std.specs.Prelude.{◌≡◌, ◌≢◌, ◌≤◌, ◌↔◌, List, ℕ, length, IfOk, IfSome, IsSome, IsTrue, IsFalse, MatchOption, Ok, Err, Some};
 ghost use Rattle.pj_outside.specs.Faults.{CountsFaults};
 ghost use Rattle.pj_lex.specs.SourceText.{IsRead};
+ghost use Rattle.pj_parse.specs.Refused.{IsRefused};
 ghost use Rattle.pj_check.specs.CheckFile.{IsNoJob, HasNoReport};
 ghost use Rattle.pj_check.specs.FileTree.{may_suppress};
 ghost use Rattle.pj_check.specs.Lack.{IsTakenSo, HasFile, Lacks, LacksFile, LacksFor};
@@ -56,15 +57,25 @@ fn lack_of_text(text: &str) -> Option<Lack>
     }
 }
 
+/// Why a check does not take bytes that are refused so.
+fn lack_of_refused(refused: FileRefused) -> Result<Option<Lack>, NoMemory>
+    ensures { (bytes : List ℕ) → IsRefused bytes refused → IfOk result (λ found. MatchOption found (IsTakenSo bytes) (Lacks bytes)) }
+{
+    match refused {
+        FileRefused::Fault(fault) => Ok(Some(Lack::NoFile(fault))),
+        FileRefused::Memory => Err(NoMemory),
+    }
+}
+
 /// Why a check does not take a file of which this was read, or `None` where it does.
 fn lack_of_source(alloc: Global, source: &Source) -> Result<Option<Lack>, NoMemory>
     ensures { (bytes : List ℕ) → IsRead bytes (Ok source.now) → IfOk result (λ found. MatchOption found (IsTakenSo bytes) (Lacks bytes)) }
 {
-    match parse_file(alloc, source) {
-        Ok(_) => Ok(lack_of_text(source.text())),
-        Err(FileRefused::Fault(fault)) => Ok(Some(Lack::NoFile(fault))),
-        Err(FileRefused::Memory) => Err(NoMemory),
-    }
+    let refused = match parse_file(alloc, source) {
+        Ok(_) => return Ok(lack_of_text(source.text())),
+        Err(refused) => refused,
+    };
+    lack_of_refused(refused)
 }
 
 /// Why a check does not take a file of these bytes, or `None` where it does.
@@ -74,8 +85,7 @@ fn lack_of_bytes(alloc: Global, bytes: &[u8]) -> Result<Option<Lack>, NoMemory>
 {
     match read_file(alloc, bytes) {
         Ok(source) => lack_of_source(alloc, &source),
-        Err(FileRefused::Fault(unread)) => Ok(Some(Lack::NoFile(unread))),
-        Err(FileRefused::Memory) => Err(NoMemory),
+        Err(unread) => lack_of_refused(unread),
     }
 }
 

@@ -3,12 +3,12 @@ use Rattle.pj_parse.specs.Refused.{file_seen}
 use Rattle.pj_check.proofs.TakenLaws.{no_file}
 use Rattle.pj_check.proofs.lines.source_lines.Goals as goal
 
-pub returns-in-Ok : goal.returns-in-Ok
-returns-in-Ok c = λ bytes read. record {
+pub returns-in_ok-tree_lines-in-Ok : goal.returns-in_ok-tree_lines-in-Ok
+returns-in_ok-tree_lines-in-Ok c = λ bytes read. record {
   file = file_seen c.args.source.now c.in-Ok.parsed;
   is_file = c.in-Ok.ensures.file bytes read;
   source_is = refl;
-  lines_are = c.in_ok-tree_lines.ensures;
+  lines_are = c.in_ok-tree_lines-in-Ok.ensures;
 }
 
 pub returns-in-Err-Fault : goal.returns-in-Err-Fault
