@@ -1,5 +1,5 @@
 -- What a bisection says of whether a number is in a list that rises.
-use Rattle.std.proofs.Common.{◌≡◌, ◌≢◌, ◌∙◌, ◌<◌, ◌≤◌, ◌==◌, ◌||◌, ℕ, zero, suc, Bool, true, false, List, [], ◌∷◌, Result, Ok, Err, ap, arith, eq-eqb, get_or, is_ok, length, ne_eqb, refl, sym}
+use Rattle.std.proofs.Common.{◌≡◌, ◌≢◌, ◌<◌, ◌≤◌, ◌==◌, ◌||◌, ℕ, zero, suc, Bool, true, false, List, [], ◌∷◌, Result, Ok, Err, arith, eq-eqb, get_or, is_ok, length, ne_eqb, refl, sym}
 use Rattle.std.specs.List.{list_any}
 use Rattle.std.specs.List.Sorted.{IsBinarySearchResult, IsNonDecreasing}
 use Rattle.std.specs.Ordering.{nat_cmp}

@@ -1,4 +1,4 @@
-use Rattle.std.proofs.Common.{◌≡◌, ◌∙◌, ◌==◌, ap, subst, sym}
+use Rattle.std.proofs.Common.{◌∙◌, ◌==◌, ap, subst, sym}
 use Rattle.std.specs.List.{list_any}
 use Rattle.std.specs.List.Sorted.{IsNonDecreasing}
 use Rattle.pj_suppress.proofs.Bisection.{found_or_not}
