@@ -40,7 +40,7 @@ place_of-behind pair pairs name apart = rw apart (omega arith)
 pub replaced-there : (name bytes : Bytes) (held : Files) → place_of held name < length held → slice_set held (place_of held name) (name, bytes) ≡ replaced name bytes held
 replaced-there name bytes [] there = absurd (omega arith)
 replaced-there name bytes (pair ∷ pairs) there = elim (cases_Bool (is_same pair.0 name)) [
-  | inl same ↦ rw (same, same) refl
+  | inl same ↦ rw same refl
   | inr apart ↦
       let behind = place_of-behind pair pairs name apart in
       let within : place_of pairs name < length pairs = omega (arith, behind) in
