@@ -1,6 +1,6 @@
 use Rattle.std.proofs.Common.{◌≡◌, [], ◌∷◌, rules}
 use Rattle.pj_xvalue.proofs.Made.{either_is}
-use Rattle.pj_xvalue.proofs.tests_expr.either.Goals as goal
+use Rattle.tests_values.proofs.expressions.either.Goals as goal
 
 pub returns : goal.returns
 returns c =

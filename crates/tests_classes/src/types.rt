@@ -1,11 +1,12 @@
-//! Worked rows by hand, and each public call once with ample memory.
-use crate::*;
+//! Substitution, erasure, walks over supertypes and subtyping, by hand.
+
 use pj_base::{Copied, NoMemory, Text};
 use pj_names::{
     Answer, Answers, AskFault, Bindings, ClassInfo, ClassName, MapOracle, Members, Oracle, Ty,
     Types,
 };
 use pj_signatures::field_signature;
+use pj_types::{Walk, erase, is_subtype, substitute, supertypes};
 use std::alloc::Global;
 use std::sync::Arc;
 use std::test::Fail;
@@ -28,6 +29,18 @@ fn bind(alloc: Global, bindings: &mut Bindings, name: &str, text: &str) -> Resul
     Ok(())
 }
 
+/// Types, and what they are with `p.X` for `T` and an array of `T` for `U`; the second type that is bound to `T` does not count.
+static SUBSTITUTED: [(&str, &str); 8] = [
+    ("TT;", "Lp/X;"),
+    ("TU;", "[TT;"),
+    ("TV;", "TV;"),
+    ("[TT;", "[Lp/X;"),
+    ("Lp/M<TT;TU;TV;>;", "Lp/M<Lp/X;[TT;TV;>;"),
+    ("Lp/M<Lp/L<TT;>;>;", "Lp/M<Lp/L<Lp/X;>;>;"),
+    ("I", "I"),
+    ("L?;", "L?;"),
+];
+
 #[test]
 fn substitution(rt: HostRuntime) -> Result<(), Fail> {
     let alloc = rt.alloc();
@@ -35,16 +48,7 @@ fn substitution(rt: HostRuntime) -> Result<(), Fail> {
     bind(alloc, &mut bindings, "T", "Lp/X;")?;
     bind(alloc, &mut bindings, "T", "Lp/Y;")?;
     bind(alloc, &mut bindings, "U", "[TT;")?;
-    for (text, wanted) in [
-        ("TT;", "Lp/X;"),
-        ("TU;", "[TT;"),
-        ("TV;", "TV;"),
-        ("[TT;", "[Lp/X;"),
-        ("Lp/M<TT;TU;TV;>;", "Lp/M<Lp/X;[TT;TV;>;"),
-        ("Lp/M<Lp/L<TT;>;>;", "Lp/M<Lp/L<Lp/X;>;>;"),
-        ("I", "I"),
-        ("L?;", "L?;"),
-    ] {
+    for (text, wanted) in &SUBSTITUTED {
         let made = substitute(alloc, &ty(alloc, text)?, &bindings)?;
         assert!(rt; made.is(&ty(alloc, wanted)?), "{text}");
     }
@@ -69,19 +73,22 @@ fn bounds_are_substituted(rt: HostRuntime) -> Result<(), Fail> {
     Ok(())
 }
 
+/// Types with their erasures.
+static ERASED: [(&str, &str); 8] = [
+    ("TT;", "Ljava/lang/Object;"),
+    ("[[TT;", "[[Ljava/lang/Object;"),
+    ("Lp/M<Lp/X;*>;", "Lp/M;"),
+    ("[Lp/M<[I>;", "[Lp/M;"),
+    ("I", "I"),
+    ("null", "null"),
+    ("V", "V"),
+    ("L?;", "L?;"),
+];
+
 #[test]
 fn erasure(rt: HostRuntime) -> Result<(), Fail> {
     let alloc = rt.alloc();
-    for (text, wanted) in [
-        ("TT;", "Ljava/lang/Object;"),
-        ("[[TT;", "[[Ljava/lang/Object;"),
-        ("Lp/M<Lp/X;*>;", "Lp/M;"),
-        ("[Lp/M<[I>;", "[Lp/M;"),
-        ("I", "I"),
-        ("null", "null"),
-        ("V", "V"),
-        ("L?;", "L?;"),
-    ] {
+    for (text, wanted) in &ERASED {
         let made = erase(alloc, &ty(alloc, text)?)?;
         assert!(rt; made.is(&ty(alloc, wanted)?), "{text}");
     }
@@ -179,71 +186,77 @@ fn generic(alloc: Global) -> Result<MapOracle, Fail> {
     )
 }
 
+/// What a walk gives.
+static DEPTH_FIRST: [&str; 10] = [
+    "Lp/D;",
+    "Lp/B<TT;>;",
+    "Ljava/lang/Object;",
+    "Lp/J<Lp/L<TT;>;>;",
+    "Lp/I<[TT;>;",
+    "Lp/K;",
+    "Lp/N;",
+    "Lp/Z;",
+    "Lp/Q<[TT;>;",
+    "-",
+];
+
 #[test]
 fn a_walk_goes_depth_first(rt: HostRuntime) -> Result<(), Fail> {
     let alloc = rt.alloc();
     let mut oracle = generic(alloc)?;
     let mut walk = Walk::of(alloc, &name(alloc, "p.D")?)?;
-    for wanted in [
-        "Lp/D;",
-        "Lp/B<TT;>;",
-        "Ljava/lang/Object;",
-        "Lp/J<Lp/L<TT;>;>;",
-        "Lp/I<[TT;>;",
-        "Lp/K;",
-        "Lp/N;",
-        "Lp/Z;",
-        "Lp/Q<[TT;>;",
-        "-",
-    ] {
+    for wanted in &DEPTH_FIRST {
         let given = walk.next_class(&mut oracle)?;
         assert!(rt; is_given(alloc, &given, wanted)?, "{wanted} {given:?}");
     }
     Ok(())
 }
 
+/// Pairs of types, and whether the first is a subtype of the second.
+static SUBTYPES: [(&str, &str, bool); 34] = [
+    ("B", "D", true),
+    ("C", "I", true),
+    ("C", "S", false),
+    ("S", "C", false),
+    ("I", "C", false),
+    ("J", "F", true),
+    ("F", "J", false),
+    ("Z", "I", false),
+    ("Z", "Z", true),
+    ("[I", "[J", false),
+    ("[I", "[I", true),
+    ("[Lp/D;", "[Lp/J;", true),
+    ("[Lp/J;", "[Lp/D;", false),
+    ("[[I", "[Ljava/lang/Object;", true),
+    ("[I", "[Ljava/lang/Object;", false),
+    ("[I", "Ljava/lang/Cloneable;", true),
+    ("[I", "Ljava/io/Serializable;", true),
+    ("[I", "Lp/D;", false),
+    ("Lp/D;", "Ljava/lang/Object;", true),
+    ("Lp/D<Lp/X;>;", "Lp/J<Lp/Y;>;", true),
+    ("Lp/B;", "Lp/D;", false),
+    ("Lp/Q;", "Lp/Q;", true),
+    ("Lp/Q;", "Ljava/lang/Object;", false),
+    ("Lp/D;", "[Lp/D;", false),
+    ("TT;", "Ljava/lang/Object;", true),
+    ("null", "Lp/D;", true),
+    ("null", "[I", true),
+    ("null", "null", true),
+    ("null", "I", false),
+    ("V", "V", true),
+    ("V", "I", false),
+    ("L?;", "L?;", true),
+    ("L?;", "Ljava/lang/Object;", false),
+    ("Lp/D;", "L?;", false),
+];
+
 #[test]
 fn subtyping(rt: HostRuntime) -> Result<(), Fail> {
     let alloc = rt.alloc();
     let mut oracle = generic(alloc)?;
-    for (lower, upper, wanted) in [
-        ("B", "D", true),
-        ("C", "I", true),
-        ("C", "S", false),
-        ("S", "C", false),
-        ("I", "C", false),
-        ("J", "F", true),
-        ("F", "J", false),
-        ("Z", "I", false),
-        ("Z", "Z", true),
-        ("[I", "[J", false),
-        ("[I", "[I", true),
-        ("[Lp/D;", "[Lp/J;", true),
-        ("[Lp/J;", "[Lp/D;", false),
-        ("[[I", "[Ljava/lang/Object;", true),
-        ("[I", "[Ljava/lang/Object;", false),
-        ("[I", "Ljava/lang/Cloneable;", true),
-        ("[I", "Ljava/io/Serializable;", true),
-        ("[I", "Lp/D;", false),
-        ("Lp/D;", "Ljava/lang/Object;", true),
-        ("Lp/D<Lp/X;>;", "Lp/J<Lp/Y;>;", true),
-        ("Lp/B;", "Lp/D;", false),
-        ("Lp/Q;", "Lp/Q;", true),
-        ("Lp/Q;", "Ljava/lang/Object;", false),
-        ("Lp/D;", "[Lp/D;", false),
-        ("TT;", "Ljava/lang/Object;", true),
-        ("null", "Lp/D;", true),
-        ("null", "[I", true),
-        ("null", "null", true),
-        ("null", "I", false),
-        ("V", "V", true),
-        ("V", "I", false),
-        ("L?;", "L?;", true),
-        ("L?;", "Ljava/lang/Object;", false),
-        ("Lp/D;", "L?;", false),
-    ] {
+    for (lower, upper, wanted) in &SUBTYPES {
         let is_under = is_subtype(alloc, &mut oracle, &ty(alloc, lower)?, &ty(alloc, upper)?)?;
-        assert_eq!(rt; is_under, wanted, "{lower} {upper}");
+        assert_eq!(rt; is_under, *wanted, "{lower} {upper}");
     }
     Ok(())
 }

@@ -3,7 +3,7 @@ use Rattle.pj_tree.specs.Building.{Building, IsWhole, opened, closed}
 use Rattle.pj_tree.specs.Nested.{Parts, NoMore, Child}
 use Rattle.pj_tree.specs.Tree.{IsSpanOf}
 use Rattle.pj_tree.specs.declared.kind.Kind.TheVariants.{CompilationUnit}
-use Rattle.pj_xaxes.proofs.tests.tree.Goals as goal
+use Rattle.tests_values.proofs.axes.tree.Goals as goal
 
 -- a node without text, and its inner nodes
 abbrev around : Parts → Parts → Parts

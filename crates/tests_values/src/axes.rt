@@ -1,12 +1,10 @@
-//! Worked examples. Their values were found by hand.
+//! Nodes on axes and in document order, found by hand.
 
-ghost use Rattle.std.specs.Prelude.{◌≡◌, ◌<◌, length};
-ghost use Rattle.std.specs.List.{list_all};
-ghost use Rattle.pj_xvalue.specs.Items.{value_of_item, values_of, is_node, are_nodes};
+ghost use Rattle.std.specs.Prelude.{◌<◌, length};
 
-use super::*;
 use pj_tree::{Builder, Kind, Node, ShapeFault, SyntaxTree};
-use pj_xvalue::{Axis, Item, Sequence};
+use pj_xaxes::{axis, in_order};
+use pj_xvalue::{Axis, Item, Sequence, are_nodes};
 use std::alloc::{AllocError, Global};
 use std::fmt::Write;
 use std::test::Fail;
@@ -52,53 +50,41 @@ fn numbers(alloc: Global, tree: &SyntaxTree<'_>, along: Axis, n: Node) -> Result
     Ok(text)
 }
 
+/// Axes from nodes, with the nodes on them.
+static AXES: [(Axis, u32, &str); 15] = [
+    (Axis::Child, 5, "6 8 9 "),
+    (Axis::Child, 4, ""),
+    (Axis::Descendant, 5, "6 7 8 9 "),
+    (Axis::SelfNode, 5, "5 "),
+    (Axis::DescendantOrSelf, 10, "10 11 "),
+    (Axis::FollowingSibling, 1, "5 10 "),
+    (Axis::FollowingSibling, 0, ""),
+    (Axis::Following, 6, "8 9 10 11 "),
+    (Axis::Parent, 7, "6 "),
+    (Axis::Parent, 0, ""),
+    (Axis::Ancestor, 7, "6 5 0 "),
+    (Axis::PrecedingSibling, 10, "5 1 "),
+    (Axis::PrecedingSibling, 9, "8 6 "),
+    (Axis::Preceding, 7, "4 3 2 1 "),
+    (Axis::AncestorOrSelf, 7, "7 6 5 0 "),
+];
+
 #[test]
 fn axes(rt: HostRuntime) -> Result<(), Fail> {
     let tree = tree(rt.alloc())?;
-    let table = [
-        (Axis::Child, 5, "6 8 9 "),
-        (Axis::Child, 4, ""),
-        (Axis::Descendant, 5, "6 7 8 9 "),
-        (Axis::SelfNode, 5, "5 "),
-        (Axis::DescendantOrSelf, 10, "10 11 "),
-        (Axis::FollowingSibling, 1, "5 10 "),
-        (Axis::FollowingSibling, 0, ""),
-        (Axis::Following, 6, "8 9 10 11 "),
-        (Axis::Parent, 7, "6 "),
-        (Axis::Parent, 0, ""),
-        (Axis::Ancestor, 7, "6 5 0 "),
-        (Axis::PrecedingSibling, 10, "5 1 "),
-        (Axis::PrecedingSibling, 9, "8 6 "),
-        (Axis::Preceding, 7, "4 3 2 1 "),
-        (Axis::AncestorOrSelf, 7, "7 6 5 0 "),
-    ];
-    for (along, n, wanted) in table {
-        if n < tree.len() {
-            let found = numbers(rt.alloc(), &tree, along, Node(n))?;
-            assert_eq!(rt; found.as_str(), wanted, "of {along:?} at {n}");
+    for (along, n, wanted) in &AXES {
+        if *n < tree.len() {
+            let found = numbers(rt.alloc(), &tree, *along, Node(*n))?;
+            assert_eq!(rt; found.as_str(), *wanted, "of {along:?} at {n}");
         }
     }
     Ok(())
 }
 
-/// Whether each item is a node.
-fn is_each_node(items: &Sequence<'_>) -> bool
-    ensures { result ≡ list_all (λ item. is_node (value_of_item item)) items.now }
-{
-    items.as_slice().iter().all(|item| item.is_node())
-}
-
-/// Whether all items are nodes, as in each sequence of these tests.
-fn has_only_nodes(items: &Sequence<'_>) -> bool
-    ensures { result ≡ are_nodes (values_of items.now) }
-{
-    is_each_node(items)
-}
-
 /// The items in document order, as one text.
 fn in_order_text(alloc: Global, items: Sequence<'static>) -> Result<String, AllocError> {
     let mut text = String::new(alloc);
-    if has_only_nodes(&items) {
+    if are_nodes(items.as_slice()) {
         let items = in_order(items);
         for item in items.as_slice() {
             match item {

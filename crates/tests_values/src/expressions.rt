@@ -3,8 +3,8 @@
 ghost use Rattle.std.specs.Prelude.{◌≡◌, ◌<◌, ℕ, [], IfOk};
 ghost use Rattle.pj_xvalue.specs.Expressions.{IsExpression, part_of};
 
-use super::*;
 use pj_base::{NoMemory, Text};
+use pj_xvalue::{Expr, Function};
 use std::alloc::Global;
 use std::test::Fail;
 

@@ -1,7 +1,7 @@
 use Rattle.std.proofs.Common.{◌≡◌, [], ◌∷◌, rules}
 use Rattle.pj_xvalue.specs.declared.expr.Expr.TheVariants as expr
 use Rattle.pj_xvalue.proofs.Made.{matching_is, matching_nesting}
-use Rattle.pj_xvalue.proofs.tests_expr.matching.Goals as goal
+use Rattle.tests_values.proofs.expressions.matching.Goals as goal
 
 pub returns-clause-expression : goal.returns-clause-expression
 returns-clause-expression c =
