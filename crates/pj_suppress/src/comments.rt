@@ -1,9 +1,8 @@
 //! The lines with a comment that suppresses findings.
-ghost use Rattle.std.specs.Prelude.{◌≡◌, ◌≤◌, ◌==◌, ◌&&◌, ℕ, IfOk, length};
-ghost use Rattle.std.specs.List.{All, list_any};
-ghost use Rattle.std.specs.List.Sorted.{IsSorted};
-ghost use Rattle.std.specs.Ordering.{nat_cmp};
-ghost use Rattle.pj_suppress.specs.Marks.{is_comment, is_mark, is_marked};
+ghost use Rattle.std.specs.Prelude.{◌≡◌, ◌==◌, ℕ, IfOk};
+ghost use Rattle.std.specs.List.{list_any};
+ghost use Rattle.std.specs.List.Sorted.{IsNonDecreasing};
+ghost use Rattle.pj_suppress.specs.Marks.{is_comment, is_mark, is_marked, line_of};
 
 use crate::words::contains;
 use pj_base::{ListOf, NoMemory, Text};
@@ -26,6 +25,18 @@ fn is_mark(marker: &str, token: &Token<'_>) -> bool
     is_comment(token.kind) && text.starts_with(b"//") && contains(text, marker.as_bytes())
 }
 
+/// The line on which the token begins, in the file as it is; of a token that stands past the end, the first line.
+fn line_of(source: &Source, token: &Token<'_>) -> u32
+    ensures { result ≡ line_of source.now token.now }
+{
+    let end = source.text().len();
+    if token.span.from as usize <= end {
+        source.place(token.span.from).line
+    } else {
+        1
+    }
+}
+
 /// The lines on which a `//` comment that contains the marker begins. The comment's text is the translated one, its two
 /// slashes included, and the line is that of the file as it is.
 pub fn marks(
@@ -34,14 +45,13 @@ pub fn marks(
     tokens: &[Token<'_>],
     marker: &Text,
 ) -> Result<Lines, NoMemory>
-    requires inside { All (λ token. token.span.from ≤ length source.now.text) tokens.now }
     ensures lines { IfOk result (λ lines. (line : ℕ) → list_any (λ other. other == line) lines ≡ is_marked source.now tokens.now marker.now line) }
-    ensures ascending { IfOk result (IsSorted nat_cmp) }
+    ensures ascending { IfOk result IsNonDecreasing }
 {
     let mut lines = Vec::new(alloc);
     for token in tokens {
         if is_mark(marker.as_str(), token) {
-            lines.push(source.place(token.span.from).line)?;
+            lines.push(line_of(source, token))?;
         }
     }
     lines.sort()?;
@@ -50,7 +60,7 @@ pub fn marks(
 
 /// Whether the line is one of them, by bisection.
 pub fn is_marked(lines: &Lines, line: u32) -> bool
-    requires ascending { IsSorted nat_cmp lines.now }
+    requires ascending { IsNonDecreasing lines.now }
     ensures { result ≡ list_any (λ other. other == line) lines.now }
 {
     lines.as_slice().binary_search(&line).is_ok()
