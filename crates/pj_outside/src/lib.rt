@@ -13,8 +13,6 @@ pub mod mem_sink;
 pub mod mem_tree;
 pub mod refused;
 pub mod sink;
-#[cfg(test)]
-mod tests;
 pub mod tree;
 
 pub use class_path::{ClassDoor, ClassPath};
