@@ -1,27 +1,17 @@
 //! Annotations that suppress findings.
-ghost use Rattle.std.specs.Prelude.{◌≡◌, ◌<◌, ◌&&◌, ◌∷◌, [], IfSome, IsTrue, MatchOption, codes, drop, length, nat_eq, option_to_list};
+ghost use Rattle.std.specs.Prelude.{◌≡◌, ◌<◌, ◌&&◌, ◌∷◌, [], IfSome, IsTrue, MatchOption, codes, drop, is_none, length, nat_eq};
 ghost use Rattle.std.specs.List.{list_any, starts_with};
 ghost use Rattle.pj_tree.specs.Tree.{ancestors_of, children_of};
-ghost use Rattle.pj_suppress.specs.Annotation.{annotation_names, by_annotation, declaration_names, first_of, is_empty, is_kind, is_named, is_string, is_suppress_warnings, literal_names, member_names, members_name, modifiers_name, names_rule, same_kind, value_names, words_of};
-ghost use Rattle.pj_suppress.specs.Words.{same_text};
+ghost use Rattle.pj_nodes.specs.Children.{first_child};
+ghost use Rattle.pj_nodes.specs.Words.{words_of};
+ghost use Rattle.pj_suppress.specs.Annotation.{annotation_names, by_annotation, declaration_names, is_named, is_string, literal_names, member_names, members_name, modifiers_name, names_rule, qualified_name, simple_name, value_names};
+ghost use Rattle.pj_suppress.specs.Words.{same_text, same_texts};
 
-use crate::words::are_words;
+use crate::words::has_words;
 use pj_base::Text;
+use pj_nodes::{first_child, is_kind};
 use pj_tree::{Kind, Node, SyntaxTree};
 use pj_xvalue::{Attributes, Value};
-
-fn same_kind(one: Kind, other: Kind) -> bool
-    ensures { result ≡ same_kind one other }
-{
-    one == other
-}
-
-fn is_kind(tree: &SyntaxTree<'_>, kind: Kind, n: Node) -> bool
-    requires inside { n.0 < length tree.now.nodes }
-    ensures { result ≡ is_kind tree.now kind n }
-{
-    same_kind(tree.kind(n), kind)
-}
 
 fn behind<'a>(text: &'a [u8], front: &[u8]) -> &'a [u8]
     requires { IsTrue (starts_with nat_eq text.now front.now) }
@@ -162,32 +152,32 @@ fn is_named(tree: &SyntaxTree<'_>, n: Node) -> bool
     requires inside { n.0 < length tree.now.nodes }
     ensures { result ≡ is_named tree.now n }
 {
-    is_kind(tree, Kind::ClassType, n) && has_no_children(tree, n) && has_written_name(tree, n)
-}
-
-fn first_child(tree: &SyntaxTree<'_>, n: Node) -> Option<Node>
-    requires inside { n.0 < length tree.now.nodes }
-    ensures value { option_to_list result ≡ first_of (children_of tree.now n) }
-    ensures inside { IfSome result (λ child. child.0 < length tree.now.nodes) }
-{
-    let mut children = tree.children(n);
-    children.next()
+    is_kind(tree, Kind::ClassType, n)
+        && has_no_children(tree, n)
+        && (has_simple_name(tree, n) || has_qualified_name(tree, n))
 }
 
 fn has_no_children(tree: &SyntaxTree<'_>, n: Node) -> bool
     requires inside { n.0 < length tree.now.nodes }
-    ensures { result ≡ is_empty (children_of tree.now n) }
+    ensures { result ≡ is_none (first_child tree.now n) }
 {
     first_child(tree, n).is_none()
 }
 
-fn has_written_name(tree: &SyntaxTree<'_>, n: Node) -> bool
+fn has_simple_name(tree: &SyntaxTree<'_>, n: Node) -> bool
     requires inside { n.0 < length tree.now.nodes }
-    ensures { result ≡ is_suppress_warnings (words_of tree.now n) }
+    ensures { result ≡ same_texts (words_of tree.now n) simple_name }
 {
-    let simple: [&str; 1] = ["SuppressWarnings"];
-    let qualified: [&str; 5] = ["java", ".", "lang", ".", "SuppressWarnings"];
-    are_words(tree.own(n), simple.as_slice()) || are_words(tree.own(n), qualified.as_slice())
+    let name: [&str; 1] = ["SuppressWarnings"];
+    has_words(tree, n, name.as_slice())
+}
+
+fn has_qualified_name(tree: &SyntaxTree<'_>, n: Node) -> bool
+    requires inside { n.0 < length tree.now.nodes }
+    ensures { result ≡ same_texts (words_of tree.now n) qualified_name }
+{
+    let name: [&str; 5] = ["java", ".", "lang", ".", "SuppressWarnings"];
+    has_words(tree, n, name.as_slice())
 }
 
 fn some_is_named(tree: &SyntaxTree<'_>, n: Node) -> bool

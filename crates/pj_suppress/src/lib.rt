@@ -2,8 +2,8 @@
 #![tactic(auto)]
 
 mod annotation;
-mod marks;
+mod comments;
 mod words;
 
 pub use annotation::by_annotation;
-pub use marks::{Lines, is_marked, marks};
+pub use comments::{Lines, is_marked, marks};

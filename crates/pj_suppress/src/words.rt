@@ -1,11 +1,11 @@
 //! Texts beside each other.
-ghost use Rattle.std.specs.Prelude.{◌≡◌, map};
+ghost use Rattle.std.specs.Prelude.{◌≡◌, ◌<◌, length, map};
+ghost use Rattle.pj_nodes.specs.Words.{words_of};
 ghost use Rattle.pj_suppress.specs.Words.{contains, same_texts};
 
-use pj_tree::OwnTokens;
+use pj_tree::{Node, OwnTokens, SyntaxTree};
 
-/// Whether the words are these.
-pub fn are_words(words: OwnTokens<'_>, wanted: &[&str]) -> bool
+fn are_texts(words: OwnTokens<'_>, wanted: &[&str]) -> bool
     ensures { result ≡ same_texts words.entry (map (λ word. word.now) wanted.now) }
 {
     let mut words = words;
@@ -16,6 +16,14 @@ pub fn are_words(words: OwnTokens<'_>, wanted: &[&str]) -> bool
         }
     }
     words.next().is_none()
+}
+
+/// Whether the words of the node are these.
+pub fn has_words(tree: &SyntaxTree<'_>, n: Node, wanted: &[&str]) -> bool
+    requires inside { n.0 < length tree.now.nodes }
+    ensures { result ≡ same_texts (words_of tree.now n) (map (λ word. word.now) wanted.now) }
+{
+    are_texts(tree.own(n), wanted)
 }
 
 /// Whether the text contains the part.

@@ -7,8 +7,6 @@ mod listed;
 pub mod members;
 pub mod substitution;
 pub mod subtyping;
-#[cfg(test)]
-mod tests;
 pub mod walk;
 
 pub use hierarchy::{supertype_list, supertypes};

@@ -5,8 +5,6 @@ mod law;
 mod nodes;
 mod order;
 mod search;
-#[cfg(test)]
-mod tests;
 
 pub use law::ordered_is_a_filter;
 pub use nodes::{AxisNodes, axis};

@@ -17,10 +17,6 @@ mod modifiers;
 mod operator;
 mod pmd_function;
 mod sequence;
-#[cfg(test)]
-mod tests;
-#[cfg(test)]
-mod tests_expr;
 mod value;
 
 pub use axis::Axis;

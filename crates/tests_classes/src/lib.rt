@@ -7,3 +7,5 @@ mod class_bodies;
 mod classfile;
 #[cfg(test)]
 mod signatures;
+#[cfg(test)]
+mod types;

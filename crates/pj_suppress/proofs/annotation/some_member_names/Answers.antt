@@ -1,4 +1,4 @@
-use Rattle.std.proofs.Common.{◌≡◌, ◌∙◌, ap, length, subst, sym}
+use Rattle.std.proofs.Common.{◌∙◌, ap, length, subst, sym}
 use Rattle.std.specs.List.{list_any}
 use Rattle.pj_suppress.specs.Annotation.{member_names}
 use Rattle.pj_suppress.proofs.Inside.{AreInside, are_inside}
