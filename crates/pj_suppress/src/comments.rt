@@ -6,7 +6,7 @@ ghost use Rattle.pj_suppress.specs.Marks.{is_comment, is_mark, is_marked, line_o
 
 use crate::words::contains;
 use pj_base::{ListOf, NoMemory, Text};
-use pj_lex::{Source, Token, TokenKind};
+use pj_lex::{Source, Token, TokenKind, Tokens};
 use std::alloc::Global;
 
 /// Lines of a file, from 1, in ascending order.
@@ -42,14 +42,14 @@ fn line_of(source: &Source, token: &Token<'_>) -> u32
 pub fn marks(
     alloc: Global,
     source: &Source,
-    tokens: &[Token<'_>],
+    tokens: &Tokens<'_>,
     marker: &Text,
 ) -> Result<Lines, NoMemory>
     ensures lines { IfOk result (λ lines. (line : ℕ) → list_any (λ other. other == line) lines ≡ is_marked source.now tokens.now marker.now line) }
     ensures ascending { IfOk result IsNonDecreasing }
 {
     let mut lines = Vec::new(alloc);
-    for token in tokens {
+    for token in tokens.as_slice() {
         if is_mark(marker.as_str(), token) {
             lines.push(line_of(source, token))?;
         }

@@ -9,11 +9,12 @@ use Rattle.pj_suppress.proofs.comments.marks.Goals as goal
 
 pub returns-clause-lines : goal.returns-clause-lines
 returns-clause-lines c = λ line.
-    let all : take c.loop-token.token-index c.args.tokens.now ≡ c.args.tokens.now = first_of (search rules, grind (arith, common_steps)) in
+    let items = c.as_slice-token-items.result.now in
+    let all : take c.loop-token.token-index items ≡ items = first_of (search rules, grind (arith, common_steps)) in
     ap (list_any (λ other. other == line)) c.from_vec.ensures
     ∙ sym (list_any-IsPermutation (λ other. other == line) c.loop-token.lines.items c.sort.new.self.items c.sort.ensures.permutation)
     ∙ c.loop-token.invariant line
-    ∙ ap (λ tokens. is_marked c.args.source.now tokens c.args.marker.now line) all
+    ∙ ap (λ tokens. is_marked c.args.source.now tokens c.args.marker.now line) (all ∙ c.as_slice-token-items.ensures)
 
 pub returns-clause-ascending : goal.returns-clause-ascending
 returns-clause-ascending c =
