@@ -14,7 +14,7 @@ use Rattle.pj_signatures.specs.Types.{MethodTypes}
 use Rattle.pj_signatures.specs.Reading.{method_signature_of}
 use Rattle.pj_types.specs.declared.members.Method.{Method}
 use Rattle.pj_types.specs.Members.{FoundMethod, all_methods, method_view}
-use Rattle.pj_members.specs.Declared.{Bound, is_bound, method_from, methods_from, with_method, without}
+use Rattle.pj_members.specs.InClass.{Bound, is_bound, method_from, methods_from, with_method, without}
 use Rattle.pj_members.specs.Methods.{erasure_text, key_of, parameters_text, unhidden}
 
 left_at : {X : Type 0} (xs : List X) (i : ℕ) (x : X) → i < length xs → x ≡ get_or xs i x → drop i xs ≡ x ∷ drop (i + 1) xs

@@ -7,7 +7,7 @@ ghost use Rattle.pj_names.specs.declared.answer.Answer.TheVariants as answers;
 ghost use Rattle.pj_signatures.specs.Seen.{method_view as types_of_method};
 ghost use Rattle.pj_signatures.specs.Signature.{letter as letter_of};
 ghost use Rattle.pj_types.specs.Members.{all_methods, method_view};
-ghost use Rattle.pj_members.specs.Declared.{method_from, methods_from, methods_of_answer, methods_of_known};
+ghost use Rattle.pj_members.specs.InClass.{method_from, methods_from, methods_of_answer, methods_of_known};
 ghost use Rattle.pj_members.specs.Methods.{erasure_text, found_in, key_of, methods_in, methods_in_class, methods_named, parameters_text, searched, unhidden};
 ghost use Rattle.pj_members.specs.Seen.{own_or};
 
