@@ -1,9 +1,9 @@
 -- The turns of the loops over members, their types and their names.
-use Rattle.std.proofs.Common.{◌≡◌, ℕ, ◌<◌, ◌+◌, List, [], ◌∷◌, ◌++◌, length, get_or, drop, ap, refl, sym, ◌∙◌, append_assoc}
+use Rattle.std.proofs.Common.{◌≡◌, ℕ, ◌<◌, ◌+◌, List, [], ◌∷◌, ◌++◌, length, get_or, drop, ap, refl, reverse, sym, ◌∙◌, append_assoc}
 use Rattle.std.specs.Prelude.{Bool, true, false, not, Option, Some, None, if◌then◌else◌, nat_eq}
 use Rattle.std.specs.Cmp.Lexicographic.{pointwise}
 use Rattle.std.specs.FinSet as set
-use Rattle.std.proofs.lemmas.List.{map-append}
+use Rattle.std.proofs.lemmas.List.{map-append, reverse-append}
 use Rattle.pj_names.specs.declared.answer.Member.{Member}
 use Rattle.pj_names.specs.declared.ty.Ty.{Ty}
 use Rattle.pj_names.specs.ClassName.{Name, NameSet}
@@ -14,8 +14,9 @@ use Rattle.pj_signatures.specs.Types.{MethodTypes}
 use Rattle.pj_signatures.specs.Reading.{method_signature_of}
 use Rattle.pj_types.specs.declared.members.Method.{Method}
 use Rattle.pj_types.specs.Members.{FoundMethod, all_methods, method_view}
-use Rattle.pj_members.specs.Declared.{Bound, is_bound, method_from, methods_from, with_method, without}
-use Rattle.pj_members.specs.Methods.{erasure_text, key_of, parameters_text, unhidden}
+use Rattle.pj_members.specs.InClass.{Bound, is_bound, method_from, methods_from, with_method, without}
+use Rattle.pj_names.specs.Asking.{bind}
+use Rattle.pj_members.specs.Methods.{erasure_text, found_in, key_of, methods_in, parameters_text, unhidden}
 
 left_at : {X : Type 0} (xs : List X) (i : ℕ) (x : X) → i < length xs → x ≡ get_or xs i x → drop i xs ≡ x ∷ drop (i + 1) xs
 left_at xs i x h is = left_from xs i x h ∙ ap (λ y. y ∷ drop (i + 1) xs) (sym is)
@@ -110,33 +111,40 @@ hides-at : (keys : NameSet) (method : FoundMethod) (rest : List FoundMethod) (b 
 hides-at keys method rest b is = ap (λ b. if b then unhidden keys rest else method ∷ unhidden (set.insert keys (key_of method)) rest) is
 
 -- one that is hidden
-pub hidden-turn : (keys more : NameSet) (left : List Method) (all : List FoundMethod) (method : Method) (rest : List Method) (key : List ℕ) (added : Bool)
-    → key ≡ key_of (method_view method) → added ≡ not (set.contains keys key) → added ≡ false → more ≡ set.insert keys key
-    → all_methods left ++ unhidden keys (all_methods (method ∷ rest)) ≡ all → all_methods left ++ unhidden more (all_methods rest) ≡ all
-hidden-turn keys more left all method rest key added is was no grown so_far =
-    let there : set.contains keys key ≡ true = at (set.contains keys key) (sym was ∙ no) in
-    ap (λ k. all_methods left ++ unhidden k (all_methods rest)) (grown ∙ sym (insert-there keys key (sym there)))
-    ∙ sym (ap (λ l. all_methods left ++ l) (hides-at keys (method_view method) (all_methods rest) true (ap (λ k. set.contains keys k) (sym is) ∙ there)))
-    ∙ so_far
+pub hidden-turn : (keys more : NameSet) (left : List FoundMethod) (method : FoundMethod) (rest : List FoundMethod) (key : List ℕ) (added : Bool)
+    → key ≡ key_of method → added ≡ not (set.contains keys key) → added ≡ false → more ≡ set.insert keys key
+    → left ++ unhidden more rest ≡ left ++ unhidden keys (method ∷ rest)
+hidden-turn keys more left method rest key added is was none grown =
+    let there : set.contains keys key ≡ true = at (set.contains keys key) (sym was ∙ none) in
+    ap (λ k. left ++ unhidden k rest) (grown ∙ sym (insert-there keys key (sym there)))
+    ∙ sym (ap (λ l. left ++ l) (hides-at keys method rest true (ap (λ k. set.contains keys k) (sym is) ∙ there)))
   where
     at : (b : Bool) → not b ≡ false → b ≡ true
     at true h = refl
     at false h = sym h
 
 -- one that is not
-pub shown-turn : (keys more : NameSet) (left : List Method) (all : List FoundMethod) (method : Method) (rest : List Method) (key : List ℕ) (added : Bool)
+pub shown-turn : (keys more : NameSet) (left : List Method) (method : Method) (rest : List FoundMethod) (key : List ℕ) (added : Bool)
     → key ≡ key_of (method_view method) → added ≡ not (set.contains keys key) → added ≡ true → more ≡ set.insert keys key
-    → all_methods left ++ unhidden keys (all_methods (method ∷ rest)) ≡ all → all_methods (left ++ method ∷ []) ++ unhidden more (all_methods rest) ≡ all
-shown-turn keys more left all method rest key added is was yes grown so_far =
-    let new : set.contains keys key ≡ false = at (set.contains keys key) (sym was ∙ yes) in
-    ap (λ l. l ++ unhidden more (all_methods rest)) (map-append method_view left (method ∷ []))
-    ∙ push (all_methods left) (method_view method) (unhidden more (all_methods rest))
-    ∙ ap (λ k. all_methods left ++ method_view method ∷ unhidden k (all_methods rest)) (grown ∙ ap (λ k. set.insert keys k) is)
-    ∙ sym (ap (λ l. all_methods left ++ l) (hides-at keys (method_view method) (all_methods rest) false (ap (λ k. set.contains keys k) (sym is) ∙ new)))
-    ∙ so_far
+    → all_methods (left ++ method ∷ []) ++ unhidden more rest ≡ all_methods left ++ unhidden keys (method_view method ∷ rest)
+shown-turn keys more left method rest key added is was one grown =
+    let new : set.contains keys key ≡ false = at (set.contains keys key) (sym was ∙ one) in
+    ap (λ l. l ++ unhidden more rest) (map-append method_view left (method ∷ []))
+    ∙ push (all_methods left) (method_view method) (unhidden more rest)
+    ∙ ap (λ k. all_methods left ++ method_view method ∷ unhidden k rest) (grown ∙ ap (λ k. set.insert keys k) is)
+    ∙ sym (ap (λ l. all_methods left ++ l) (hides-at keys (method_view method) rest false (ap (λ k. set.contains keys k) (sym is) ∙ new)))
   where
     at : (b : Bool) → not b ≡ true → b ≡ false
     at true h = sym h
     at false h = refl
 
+-- the next method, where they lie in reverse
+pub next-turn : (rest more : List Method) (method : Method) → rest ≡ more ++ method ∷ [] → all_methods (reverse rest) ≡ method_view method ∷ all_methods (reverse more)
+next-turn rest more method is = ap (λ l. all_methods (reverse l)) is ∙ ap (λ l. all_methods l) (reverse-append more (method ∷ []))
+
 pub ruleset hiding_turns = (hidden-turn, shown-turn)
+
+-- The methods of one type more.
+pub found-turn : (class : Name) (name : List ℕ) (found : List FoundMethod) (types : List Ty) (i : ℕ) (ty : Ty) → i < length types → ty ≡ get_or types i ty
+    → found_in class name found (type_list (drop i types)) ≡ bind (methods_in class name (java_type ty)) (λ more. found_in class name (found ++ more) (type_list (drop (i + 1) types)))
+found-turn class name found types i ty below is = ap (λ (l : List Ty). found_in class name found (type_list l)) (left_at types i ty below is)

@@ -5,7 +5,7 @@ use Rattle.pj_names.specs.JavaType.{JavaType, Primitive, Void, Null, Class, Arra
 use Rattle.pj_names.specs.Asking.{Asking, Return, bind, look_up}
 use Rattle.pj_types.specs.Along.{first_along}
 use Rattle.pj_types.specs.Members.{FoundField}
-use Rattle.pj_members.specs.Declared.{arguments_on, field_of_known}
+use Rattle.pj_members.specs.InClass.{arguments_on, field_of_known}
 
 -- the field of a class on the list of a class: it is asked, unless it is `java.lang.Object`
 abbrev pub field_in_class : Name → List ℕ → Name → Arguments → Asking (Option FoundField)

@@ -1,4 +1,4 @@
-pub mod Declared
+pub mod InClass
 pub mod Fields
 pub mod Methods
 pub mod Seen

@@ -9,7 +9,7 @@ use Rattle.pj_names.specs.Asking.{Asking, Return, bind, look_up}
 use Rattle.pj_signatures.specs.Signature.{letter}
 use Rattle.pj_types.specs.Members.{FoundMethod}
 use Rattle.pj_types.specs.Supertypes.{supertype_list}
-use Rattle.pj_members.specs.Declared.{arguments_on, methods_of_known}
+use Rattle.pj_members.specs.InClass.{arguments_on, methods_of_known}
 
 -- the methods of a name of a class on the list of a class: it is asked, unless it is `java.lang.Object`
 abbrev pub methods_in_class : Name → List ℕ → Name → Arguments → Asking (List FoundMethod)

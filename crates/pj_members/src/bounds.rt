@@ -2,7 +2,7 @@
 ghost use Rattle.std.specs.Prelude.{◌≡◌, IfOk};
 ghost use Rattle.pj_names.specs.JavaType.{bound_types, type_list};
 ghost use Rattle.pj_signatures.specs.Seen.{method_view};
-ghost use Rattle.pj_members.specs.Declared.{all_substituted, bounds_substituted, erased_bounds, in_method, in_place, is_bound, without};
+ghost use Rattle.pj_members.specs.InClass.{all_substituted, bounds_substituted, erased_bounds, in_method, in_place, is_bound, without};
 ghost use Rattle.pj_members.specs.Seen.{own_or};
 
 use pj_base::{Copied, NoMemory, Text};

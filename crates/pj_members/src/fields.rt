@@ -5,7 +5,7 @@ ghost use Rattle.pj_names.specs.Told.{Asks, known_answer, seen};
 ghost use Rattle.pj_names.specs.declared.answer.Answer.TheVariants as answers;
 ghost use Rattle.pj_types.specs.Members.{field_view};
 ghost use Rattle.pj_types.specs.Substitution.{substituted};
-ghost use Rattle.pj_members.specs.Declared.{field_of_answer, field_of_known, first_field};
+ghost use Rattle.pj_members.specs.InClass.{field_of_answer, field_of_known, first_field};
 ghost use Rattle.pj_members.specs.Fields.{field_in, field_in_class, find_field};
 ghost use Rattle.pj_members.specs.Seen.{own_or, seen_field};
 

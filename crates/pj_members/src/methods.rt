@@ -1,13 +1,13 @@
 //! Methods and constructors, along the supertypes of a class (JLS 8.4.8, 8.8).
-ghost use Rattle.std.specs.Prelude.{◌≡◌, ◌++◌, ◌∷◌, [], IfOk, OnOk};
+ghost use Rattle.std.specs.Prelude.{◌≡◌, ◌++◌, ◌∷◌, [], IfOk, List, OnOk};
 ghost use Rattle.std.specs.FinSet as set;
 ghost use Rattle.pj_names.specs.JavaType.{Class, NoMore, bound_types, java_type, java_types, type_list};
 ghost use Rattle.pj_names.specs.Told.{Asks, known_answer, seen};
 ghost use Rattle.pj_names.specs.declared.answer.Answer.TheVariants as answers;
 ghost use Rattle.pj_signatures.specs.Seen.{method_view as types_of_method};
 ghost use Rattle.pj_signatures.specs.Signature.{letter as letter_of};
-ghost use Rattle.pj_types.specs.Members.{all_methods, method_view};
-ghost use Rattle.pj_members.specs.Declared.{method_from, methods_from, methods_of_answer, methods_of_known};
+ghost use Rattle.pj_types.specs.Members.{FoundMethod, all_methods, method_view};
+ghost use Rattle.pj_members.specs.InClass.{method_from, methods_from, methods_of_answer, methods_of_known};
 ghost use Rattle.pj_members.specs.Methods.{erasure_text, found_in, key_of, methods_in, methods_in_class, methods_named, parameters_text, searched, unhidden};
 ghost use Rattle.pj_members.specs.Seen.{own_or};
 
@@ -84,7 +84,14 @@ fn methods_of_class(
         return Ok(Methods::new(alloc));
     };
     let bound = in_place(alloc, &signature.params, is_own, arguments)?;
-    methods_from(alloc, owner, &signature.params, &bound, name, &class.methods)
+    methods_from(
+        alloc,
+        owner,
+        &signature.params,
+        &bound,
+        name,
+        &class.methods,
+    )
 }
 
 /// The methods of a class, from what is known of it.
@@ -244,18 +251,33 @@ fn key_of(alloc: Global, method: &Method) -> Result<Text, NoMemory>
     Ok(key)
 }
 
-/// Methods without those that an earlier one hides.
+/// Puts a method at the end, unless one whose erased parameters are among the keys hides it.
 #[tactic(auto, using(crate::proofs::Turns::hiding_turns))]
+fn put_unhidden(
+    alloc: Global,
+    keys: &mut Keys,
+    left: &mut Methods,
+    method: Method,
+) -> Result<(), NoMemory>
+    ensures { OnOk result ((rest : List FoundMethod) → all_methods left.new ++ unhidden keys.new rest ≡ all_methods left.old ++ unhidden keys.old (method_view method ∷ rest)) }
+{
+    let key = key_of(alloc, &method)?;
+    if keys.insert(key)? {
+        left.push(method)?;
+    }
+    Ok(())
+}
+
+/// Methods without those that an earlier one hides.
 fn unhidden(alloc: Global, found: Methods) -> Result<Methods, NoMemory>
     ensures { IfOk result (λ left. all_methods left ≡ unhidden set.empty (all_methods found)) }
 {
     let mut keys = Keys::new(alloc);
     let mut left = Methods::new(alloc);
-    for method in found.into_vec() {
-        let key = key_of(alloc, &method)?;
-        if keys.insert(key)? {
-            left.push(method)?;
-        }
+    let mut rest = found.into_vec();
+    rest.reverse();
+    while let Some(method) = rest.pop() {
+        put_unhidden(alloc, &mut keys, &mut left, method)?;
     }
     Ok(left)
 }

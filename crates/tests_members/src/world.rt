@@ -128,7 +128,12 @@ pub static CLASSES: &[Class] = &[
         name: "p.Orphan",
         signature: "Lp/Gone;Lp/Broken;Lp/Odd;L?;Lp/Top;",
         fields: &[],
-        methods: &[(1, "m", "()V"), (1, "m", "()I"), (1, "m", "([I)V"), (1, "m", "([[I)V")],
+        methods: &[
+            (1, "m", "()V"),
+            (1, "m", "()I"),
+            (1, "m", "([I)V"),
+            (1, "m", "([[I)V"),
+        ],
     },
     Class {
         name: "p.Odd",
@@ -152,7 +157,10 @@ pub static CLASSES: &[Class] = &[
         name: "java.lang.Object",
         signature: "Ljava/lang/Object;",
         fields: &[(1, "never", "I")],
-        methods: &[(1, "toString", "()Ljava/lang/String;"), (1, "<init>", "()V")],
+        methods: &[
+            (1, "toString", "()Ljava/lang/String;"),
+            (1, "<init>", "()V"),
+        ],
     },
 ];
 
@@ -186,7 +194,10 @@ fn found(alloc: Global, class: &Class) -> Result<Answer, Fail> {
 pub fn oracle(alloc: Global) -> Result<MapOracle, Fail> {
     let mut answers = Answers::new(alloc);
     for class in CLASSES {
-        answers.push(name(alloc, class.name)?, Arc::new(alloc, found(alloc, class)?)?)?;
+        answers.push(
+            name(alloc, class.name)?,
+            Arc::new(alloc, found(alloc, class)?)?,
+        )?;
     }
     answers.push(
         name(alloc, "p.Broken")?,

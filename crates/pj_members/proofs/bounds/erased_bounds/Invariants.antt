@@ -1,6 +1,6 @@
 use Rattle.std.proofs.Common.{◌≡◌, take}
 use Rattle.pj_names.specs.JavaType.{bound_types}
-use Rattle.pj_members.specs.Declared.{erased_bounds}
+use Rattle.pj_members.specs.InClass.{erased_bounds}
 use Rattle.pj_members.proofs.bounds.erased_bounds.Given as goal
 
 abbrev pub invariant-loop-name : goal.invariant-loop-name

@@ -1,6 +1,6 @@
 use Rattle.std.proofs.Common.{◌≡◌, drop}
 use Rattle.pj_names.specs.JavaType.{bound_types}
-use Rattle.pj_members.specs.Declared.{is_bound}
+use Rattle.pj_members.specs.InClass.{is_bound}
 use Rattle.pj_members.proofs.bounds.is_bound.Given as goal
 
 abbrev pub invariant-loop-variable : goal.invariant-loop-variable

@@ -1,6 +1,6 @@
 use Rattle.std.proofs.Common.{◌≡◌, ◌++◌, drop}
 use Rattle.pj_names.specs.JavaType.{bound_types}
-use Rattle.pj_members.specs.Declared.{without}
+use Rattle.pj_members.specs.InClass.{without}
 use Rattle.pj_members.proofs.bounds.without.Given as goal
 
 abbrev pub invariant-loop-name : goal.invariant-loop-name

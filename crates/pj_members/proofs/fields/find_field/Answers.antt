@@ -1,4 +1,4 @@
-use Rattle.std.proofs.Common.{rules, ◌<◌, refl, subst}
+use Rattle.std.proofs.Common.{rules, ◌+◌, ◌<◌, refl, subst}
 use Rattle.pj_names.specs.AskingLaws.{ComesTo, comes-begin, comes-then, comes-ends, asks-refused, asks-settled, asks-stop}
 use Rattle.pj_names.specs.JavaType.{java_type}
 use Rattle.pj_names.specs.Told.{longest, longest_is}
@@ -33,7 +33,7 @@ returns-in_err-hit g c =
     let below : c.loop-class._class < longest = rw longest_is c.loop-class-test.true in
     let so_far = first-turn (field_in c.args.class.now c.args.name.now) c.loop-class._class (standing c.loop-class.walk) below c.loop-class.invariant in
     let asked = rw c.in-Some.is at c.in_ok-ty.ensures.asks in
-    let tested = first-tested (field_in c.args.class.now c.args.name.now) _ _ _ (comes-then _ so_far asked) in
+    let tested = first-tested (field_in c.args.class.now c.args.name.now) (c.loop-class._class + 1) (java_type c.in-Some.ty) (standing c.next_class.new.self) (comes-then _ so_far asked) in
     comes-ends tested (asks-refused _ c.in_err-hit.ensures (search rules))
 
 pub loop-class-preserved : goal.loop-class-preserved
@@ -41,6 +41,15 @@ loop-class-preserved g c =
     let below : c.loop-class._class < longest = rw longest_is c.loop-class-test.true in
     let so_far = first-turn (field_in c.args.class.now c.args.name.now) c.loop-class._class (standing c.loop-class.walk) below c.loop-class.invariant in
     let asked = rw c.in-Some.is at c.in_ok-ty.ensures.asks in
-    let tested = first-tested (field_in c.args.class.now c.args.name.now) _ _ _ (comes-then _ so_far asked) in
-    let missed = rw c.in_default-2.is at c.in_ok-hit.ensures in
+    let tested = first-tested (field_in c.args.class.now c.args.name.now) (c.loop-class._class + 1) (java_type c.in-Some.ty) (standing c.next_class.new.self) (comes-then _ so_far asked) in
+    let missed = rw c.in_default-hit.is at c.in_ok-hit.ensures in
     comes-then _ tested missed
+
+pub returns-in-Some-hit : goal.returns-in-Some-hit
+returns-in-Some-hit g c =
+    let below : c.loop-class._class < longest = rw longest_is c.loop-class-test.true in
+    let so_far = first-turn (field_in c.args.class.now c.args.name.now) c.loop-class._class (standing c.loop-class.walk) below c.loop-class.invariant in
+    let asked = rw c.in-Some.is at c.in_ok-ty.ensures.asks in
+    let tested = first-tested (field_in c.args.class.now c.args.name.now) (c.loop-class._class + 1) (java_type c.in-Some.ty) (standing c.next_class.new.self) (comes-then _ so_far asked) in
+    let found = rw c.in-Some-hit.is at c.in_ok-hit.ensures in
+    comes-ends (comes-then _ tested found) (asks-settled refl)

@@ -1,6 +1,6 @@
 use Rattle.std.proofs.Common.{◌≡◌, drop}
 use Rattle.pj_names.specs.JavaType.{bound_types}
-use Rattle.pj_members.specs.Declared.{first_field}
+use Rattle.pj_members.specs.InClass.{first_field}
 use Rattle.pj_members.proofs.fields.first_field.Given as goal
 
 abbrev pub invariant-loop-member : goal.invariant-loop-member

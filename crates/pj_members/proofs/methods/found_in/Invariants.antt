@@ -8,4 +8,4 @@ use Rattle.pj_members.proofs.methods.found_in.Given as goal
 abbrev pub invariant-loop-ty : goal.invariant-loop-ty
 invariant-loop-ty g l =
     ComesTo (found_in l.fn.class l.fn.name [] (type_list l.fn.types)) (g.O.Oracle.tells l.fn.oracle)
-        (found_in l.class l.name (all_methods l.found) (type_list (drop l.ty-index l.ty-items))) (g.O.Oracle.tells l.oracle)
+    (found_in l.class l.name (all_methods l.found) (type_list (drop l.ty-index l.ty-items))) (g.O.Oracle.tells l.oracle)

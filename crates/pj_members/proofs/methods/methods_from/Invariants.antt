@@ -1,7 +1,7 @@
 use Rattle.std.proofs.Common.{◌≡◌, ◌++◌, drop}
 use Rattle.pj_names.specs.JavaType.{bound_types}
 use Rattle.pj_types.specs.Members.{all_methods}
-use Rattle.pj_members.specs.Declared.{methods_from}
+use Rattle.pj_members.specs.InClass.{methods_from}
 use Rattle.pj_members.proofs.methods.methods_from.Given as goal
 
 abbrev pub invariant-loop-member : goal.invariant-loop-member
