@@ -1,0 +1,3 @@
+pub mod Residual
+pub mod Sound
+pub mod Complete

@@ -1,0 +1,4 @@
+pub mod Characters
+pub mod Elements
+pub mod Markup
+pub mod States

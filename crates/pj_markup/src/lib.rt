@@ -1,0 +1,5 @@
+//! The markup of ruleset files.
+#![tactic(auto)]
+
+/// nothing yet
+pub fn nothing() {}
