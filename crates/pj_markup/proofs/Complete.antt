@@ -63,11 +63,11 @@ get_drop (x ∷ xs) (suc k) l ls h = let it = get_drop xs k l ls h in let lt = i
 whole_word : (xs : List ℕ) (k : ℕ) → drop k xs ≡ [] → k ≤ length xs → (k == length xs) ≡ true
 whole_word xs k h le = let n : length xs - k ≡ 0 = sym (length-drop k xs) ∙ ap length h in let same : k ≡ length xs = omega arith in eq-eqb k (length xs) same
 
-part_word : (k n : ℕ) → k < n → (k == n) ≡ false
+pub part_word : (k n : ℕ) → k < n → (k == n) ≡ false
 part_word k n lt = grind (arith, nat_tests)
 
 module _ (deepest end : ℕ) where
-  abbrev Run : State → List ℕ → Outcome
+  abbrev pub Run : State → List ℕ → Outcome
   Run s t = run deepest end s t
 
   picked : (b : Bool) (o : Option State) (next : State) (less at : ℕ) (t : List ℕ) → b ≡ false → o ≡ Some next →
@@ -112,7 +112,7 @@ module _ (deepest end : ℕ) where
   tag_names f begun t name r m.NameTail.ended = refl
   tag_names f begun t name r (m.NameTail.further p h) = goes _ (TagName (in_element f (with_name f.element (begun ++ _ ∷ [])))) _ _ refl (yes _ _ _ p refl) ∙ tag_names f _ _ _ _ h
 
-  attribute_names : (f : Frame) (begun t name r : List ℕ) → m.NameTail begun t name r → Run (AttributeName f begun) t ≡ Run (AttributeName f name) r
+  pub attribute_names : (f : Frame) (begun t name r : List ℕ) → m.NameTail begun t name r → Run (AttributeName f begun) t ≡ Run (AttributeName f name) r
   attribute_names f begun t name r m.NameTail.ended = refl
   attribute_names f begun t name r (m.NameTail.further p h) = goes _ (AttributeName f (begun ++ _ ∷ [])) _ _ refl (yes _ _ _ p refl) ∙ attribute_names f _ _ _ _ h
 
@@ -193,7 +193,7 @@ module _ (deepest end : ℕ) where
   space_continues_no_name : (c : ℕ) → is_space c ≡ true → continues_name c ≡ false
   space_continues_no_name c h = of_space (λ x. continues_name x ≡ false) c h refl refl refl refl
 
-  to_equals : (f : Frame) (name t r : List ℕ) → IsFalse (has_name (encode_utf8_all name) f.element.attributes) → m.Spaces t (61 ∷ r) → Run (AttributeName f name) t ≡ Run (Quote f name) r
+  pub to_equals : (f : Frame) (name t r : List ℕ) → IsFalse (has_name (encode_utf8_all name) f.element.attributes) → m.Spaces t (61 ∷ r) → Run (AttributeName f name) t ≡ Run (Quote f name) r
   to_equals f name t r new m.Spaces.none = goes _ (Quote f name) 61 r refl (no_ _ _ _ new refl)
   to_equals f name t r new (m.Spaces.space {c = c} p h) =
       goes _ (Equals f name) c _ refl (no_ _ _ _ (space_continues_no_name c p) (no_ _ _ _ new (yes _ _ _ p refl))) ∙ equals_spaces f name _ _ h ∙ goes _ (Quote f name) 61 r refl refl
@@ -232,10 +232,10 @@ module _ (deepest end : ℕ) where
 
   -- words
 
-  abbrev Spelled : Word → ℕ → List ℕ → Outcome
+  abbrev pub Spelled : Word → ℕ → List ℕ → Outcome
   Spelled w k t = Run (spelled w k) t
 
-  word_from : (w : Word) (k : ℕ) (ls t : List ℕ) → drop k (letters w) ≡ ls → k ≤ length (letters w) → Spelled w k (ls ++ t) ≡ Run (behind_word w) t
+  pub word_from : (w : Word) (k : ℕ) (ls t : List ℕ) → drop k (letters w) ≡ ls → k ≤ length (letters w) → Spelled w k (ls ++ t) ≡ Run (behind_word w) t
   word_from w k [] t is le = ap (λ x. Run x t) (yes (k == length (letters w)) _ _ (whole_word (letters w) k is le) refl)
   word_from w k (l ∷ ls) t is le =
       let (get, more, lt) = get_drop (letters w) k l ls is in
@@ -246,7 +246,7 @@ module _ (deepest end : ℕ) where
   pub word : (w : Word) (t : List ℕ) → Spelled w 0 (letters w ++ t) ≡ Run (behind_word w) t
   word w t = word_from w 0 (letters w) t refl (omega arith)
 
-  end_tag : (f : Frame) (t r : List ℕ) → m.EndTag f.element.name t r → Run (On (Inside f)) t ≡ Run (close f) r
+  pub end_tag : (f : Frame) (t r : List ℕ) → m.EndTag f.element.name t r → Run (On (Inside f)) t ≡ Run (close f) r
   end_tag f t r (m.EndTag.end_tag {text = u} {spaces = v} is s) =
       goes (On (Inside f)) (Less (Inside f) (end - size (60 ∷ 47 ∷ u))) 60 (47 ∷ u) refl refl
       ∙ goes (Less (Inside f) (end - size (60 ∷ 47 ∷ u))) (spelled (EndName f) 0) 47 u refl refl
@@ -254,11 +254,11 @@ module _ (deepest end : ℕ) where
 
   -- up to a closing sign
 
-  other : (l : Long) (k c : ℕ) (t : List ℕ) → (c == repeated l) ≡ false → ((c == 62) && (k == times l)) ≡ false →
+  pub other : (l : Long) (k c : ℕ) (t : List ℕ) → (c == repeated l) ≡ false → ((c == 62) && (k == times l)) ≡ false →
       Run (Until l k) (c ∷ t) ≡ Run (Until (take_in (take_back l k) c) 0) t
   other l k c t p q = goes (Until l k) (Until (take_in (take_back l k) c) 0) c t refl (no_ (c == repeated l) _ _ p (no_ ((c == 62) && (k == times l)) _ _ q refl))
 
-  not_both : (a b : Bool) → b ≡ false → (a && b) ≡ false
+  pub not_both : (a b : Bool) → b ≡ false → (a && b) ≡ false
   not_both a true h = absurd (cc)
   not_both a false h = and_no a
 
@@ -337,14 +337,14 @@ module _ (deepest end : ℕ) where
       (λ e. other (InInstruction A) 0 c u e (and_no (c == 62)) ∙ instruction_up_to A u more r h)
       (cases (c == 63))
 
-  at_less : (g : Ground) (t : List ℕ) → Run (On g) (60 ∷ t) ≡ Run (Less g (end - size (60 ∷ t))) t
+  pub at_less : (g : Ground) (t : List ℕ) → Run (On g) (60 ∷ t) ≡ Run (Less g (end - size (60 ∷ t))) t
   at_less (Outside rows) t = goes (On (Outside rows)) (Less (Outside rows) (end - size (60 ∷ t))) 60 t refl refl
   at_less (Inside f) t = goes (On (Inside f)) (Less (Inside f) (end - size (60 ∷ t))) 60 t refl refl
 
-  at_bang : (g : Ground) (t : List ℕ) → Run (On g) (60 ∷ 33 ∷ t) ≡ Run (Bang g) t
+  pub at_bang : (g : Ground) (t : List ℕ) → Run (On g) (60 ∷ 33 ∷ t) ≡ Run (Bang g) t
   at_bang g t = at_less g (33 ∷ t) ∙ goes (Less g (end - size (60 ∷ 33 ∷ t))) (Bang g) 33 t refl refl
 
-  at_dash : (g : Ground) (t : List ℕ) → Run (Bang g) (45 ∷ 45 ∷ t) ≡ Run (Until (InComment g) 0) t
+  pub at_dash : (g : Ground) (t : List ℕ) → Run (Bang g) (45 ∷ 45 ∷ t) ≡ Run (Until (InComment g) 0) t
   at_dash (Outside rows) t = goes (Bang (Outside rows)) (Letters (Dashes (Outside rows)) 1) 45 (45 ∷ t) refl refl ∙ goes (Letters (Dashes (Outside rows)) 1) (Until (InComment (Outside rows)) 0) 45 t refl refl
   at_dash (Inside f) t = goes (Bang (Inside f)) (Letters (Dashes (Inside f)) 1) 45 (45 ∷ t) refl refl ∙ goes (Letters (Dashes (Inside f)) 1) (Until (InComment (Inside f)) 0) 45 t refl refl
 
@@ -389,7 +389,7 @@ module _ (deepest end : ℕ) where
   not_too_deep a b true h = and_no (a && b)
   not_too_deep a b false h = absurd (cc)
 
-  both_true : (a b : Bool) → a ≡ true → b ≡ true → (a && b) ≡ true
+  pub both_true : (a b : Bool) → a ≡ true → b ≡ true → (a && b) ≡ true
   both_true true true h k = refl
   both_true true false h k = absurd (cc)
   both_true false b h k = absurd (cc)
@@ -412,7 +412,7 @@ module _ (deepest end : ℕ) where
   end_depth (Outside rows) = refl
   end_depth (Inside f) = refl
 
-  abbrev framed : List Row → Open → List Open → Frame
+  abbrev pub framed : List Row → Open → List Open → Frame
   framed rows e outer = record { rows = rows; element = e; outer = outer }
 
   mutual
@@ -445,7 +445,7 @@ module _ (deepest end : ℕ) where
 
   -- the mark at the front
 
-  no_mark : (c : ℕ) (t : List ℕ) → (c == 65279) ≡ false → Run Begin (c ∷ t) ≡ Run (On (Outside [])) (c ∷ t)
+  pub no_mark : (c : ℕ) (t : List ℕ) → (c == 65279) ≡ false → Run Begin (c ∷ t) ≡ Run (On (Outside [])) (c ∷ t)
   no_mark c t p = same_step Begin (On (Outside [])) c t refl refl (no_ _ _ _ p refl)
 
   no_mark_tag : (d : ℕ) (t r : List ℕ) (rows : List Row) → m.Elem deepest end d [] t rows r → Run Begin t ≡ Run (On (Outside [])) t
@@ -462,7 +462,7 @@ module _ (deepest end : ℕ) where
   marks t front u r rows m.Mark.none ms e = no_mark_front t u r rows ms e
   marks t front u r rows m.Mark.mark ms e = goes Begin (On (Outside [])) 65279 front refl refl
 
-  ends_whole : (rows : List Row) (r : Row) → at_end end (On (Outside (rows ++ r ∷ []))) ≡ Whole (rows ++ r ∷ [])
+  pub ends_whole : (rows : List Row) (r : Row) → at_end end (On (Outside (rows ++ r ∷ []))) ≡ Whole (rows ++ r ∷ [])
   ends_whole [] r = refl
   ends_whole (x ∷ rows) r = refl
 

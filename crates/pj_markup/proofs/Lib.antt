@@ -1,3 +1,6 @@
 pub mod Residual
 pub mod Sound
 pub mod Complete
+pub mod Good
+pub mod Depth
+pub mod Alive

@@ -68,7 +68,7 @@ module _ (deepest end : ℕ) (final : List Row) where
 
   closing : (rows : List Row) (r : Row) (around : List Open) (t : List ℕ) → Ground_on (ended (rows ++ r ∷ []) around) t → Closing deepest end final (rows ++ r ∷ []) around t
   closing rows r [] t (before n ms e ns is) = absurd (not_nil rows r n)
-  closing rows r [] t (after ms is) = root ms is
+  closing rows r [] t (after y ms is) = root ms is
   closing rows r (g ∷ around) t h = outer h
 
   on_outside : (rows : List Row) (at c : ℕ) (t : List ℕ) → at ≡ end - size (c ∷ t) → Goes_on (on_ground (Outside rows) at c) t → Out deepest end final rows (c ∷ t)
@@ -78,7 +78,7 @@ module _ (deepest end : ℕ) (final : List Row) where
     where
       out_space : IsTrue (is_space c) → Out deepest end final rows t → Out deepest end final rows (c ∷ t)
       out_space p (before n ms e ns is) = before n (m.Miscs.space p ms) e ns is
-      out_space p (after ms is) = after (m.Miscs.space p ms) is
+      out_space p (after y ms is) = after y (m.Miscs.space p ms) is
 
   in_character : {rows : List Row} {e : Open} {around : List Open} {t : List ℕ} (c : ℕ) → IsFalse (c == 60) → IsFalse (c == 38) →
       In deepest end final rows (with_character e c) around t → In deepest end final rows e around (c ∷ t)
@@ -245,12 +245,12 @@ module _ (deepest end : ℕ) (final : List Row) where
 
   comment_on : (g : Ground) (t behind : List ℕ) → m.Comment t behind → Ground_on g behind → Ground_on g t
   comment_on (Outside rows) t b k (before n ms e ns is) = before n (m.Miscs.comment k ms) e ns is
-  comment_on (Outside rows) t b k (after ms is) = after (m.Miscs.comment k ms) is
+  comment_on (Outside rows) t b k (after y ms is) = after y (m.Miscs.comment k ms) is
   comment_on (Inside f) t b k (within c n z) = within (m.Content.comment k c) n z
 
   instruction_on : (g : Ground) (t behind : List ℕ) → m.Instruction t behind → Ground_on g behind → Ground_on g t
   instruction_on (Outside rows) t b k (before n ms e ns is) = before n (m.Miscs.instruction k ms) e ns is
-  instruction_on (Outside rows) t b k (after ms is) = after (m.Miscs.instruction k ms) is
+  instruction_on (Outside rows) t b k (after y ms is) = after y (m.Miscs.instruction k ms) is
   instruction_on (Inside f) t b k (within c n z) = within (m.Content.instruction k c) n z
 
   section_on : (f : Frame) (t body behind : List ℕ) → m.Section t body behind → In deepest end final f.rows (with_characters f.element body) f.outer behind →
@@ -315,7 +315,7 @@ module _ (deepest end : ℕ) (final : List Row) where
   started (Outside (r ∷ rows)) at c t p q d o h = absurd (cc)
   started (Inside f) at c t p q d o h = start_inside f at c t h.0 h.1 h.3.1 h.3.0 p d o h.2 h.3.2 h.3.3
 
-  not_deep : (a b d : Bool) → (a && b && not d) ≡ false → (a && b) ≡ true → (a ≡ true) × (b ≡ true) × (d ≡ true)
+  pub not_deep : (a b d : Bool) → (a && b && not d) ≡ false → (a && b) ≡ true → (a ≡ true) × (b ≡ true) × (d ≡ true)
   not_deep true true true h k = (refl, refl, refl)
   not_deep true true false h k = absurd (cc)
   not_deep true false d h k = absurd (cc)
@@ -439,7 +439,7 @@ module _ (deepest end : ℕ) (final : List Row) where
 
   whole_end : (rows : List Row) → stops (at_end end (On (Outside rows))) → Out deepest end final rows []
   whole_end [] h = absurd h
-  whole_end (r ∷ rows) h = after m.Miscs.none h
+  whole_end (r ∷ rows) h = after refl m.Miscs.none h
 
   ends : (s : State) → stops (at_end end s) → Then s []
   ends (On (Outside rows)) h = whole_end rows h
