@@ -100,6 +100,28 @@ large n a b = both (nat_le 1 n && nat_le n greatest) _ (both (nat_le 1 n) (nat_l
 not_scalar : (n : ℕ) → (n == 0) ≡ false → n ≤ 1114111 → is_scalar n ≡ false → (55295 < n) × (n < 57344)
 not_scalar n ne le h = (grind (arith, nat_tests), grind (arith, nat_tests))
 
+-- a text with which a document goes on from the state
+abbrev pub goes_on : State → List ℕ
+goes_on Begin = on_goes (Outside [])
+goes_on (On g) = on_goes g
+goes_on (Less g at) = 33 ∷ 45 ∷ 45 ∷ long_goes (InComment g)
+goes_on (Bang g) = 45 ∷ 45 ∷ long_goes (InComment g)
+goes_on (Letters w k) = drop k (letters w) ++ behind_goes w
+goes_on (Until l k) = long_goes l
+goes_on (TagName f) = 47 ∷ 62 ∷ outer_tags f.outer
+goes_on (Tag f) = 47 ∷ 62 ∷ outer_tags f.outer
+goes_on (TagSpace f) = 47 ∷ 62 ∷ outer_tags f.outer
+goes_on (AttributeName f name) = fresh name f.element.attributes ++ (61 ∷ 34 ∷ 34 ∷ 47 ∷ 62 ∷ outer_tags f.outer)
+goes_on (Equals f name) = 61 ∷ 34 ∷ 34 ∷ 47 ∷ 62 ∷ outer_tags f.outer
+goes_on (Quote f name) = 34 ∷ 34 ∷ 47 ∷ 62 ∷ outer_tags f.outer
+goes_on (InValue f name q value) = q ∷ 47 ∷ 62 ∷ outer_tags f.outer
+goes_on (EndSpace f) = 62 ∷ outer_tags f.outer
+goes_on (Reference t) = 108 ∷ 116 ∷ 59 ∷ put_goes t
+goes_on (ReferenceA t) = 109 ∷ 112 ∷ 59 ∷ put_goes t
+goes_on (Hash t) = 49 ∷ 59 ∷ put_goes t
+goes_on (Digit t h) = 49 ∷ 59 ∷ put_goes t
+goes_on (Digits t h n) = digits_to n ++ (59 ∷ put_goes t)
+
 module _ (deepest end : ℕ) (some : nat_le 1 deepest ≡ true) where
   abbrev Run : State → List ℕ → Outcome
   Run s t = run deepest end s t
@@ -224,27 +246,6 @@ module _ (deepest end : ℕ) (some : nat_le 1 deepest ≡ true) where
       scalar_or : (b : Bool) → is_scalar n ≡ b → Lives (Digits t h n) ((if b then [] else (if n == 0 then 49 ∷ [] else 48 ∷ [])) ++ (59 ∷ put_goes t))
       scalar_or true e = last n e
       scalar_or false e = nothing_or (n == 0) refl e
-
-  abbrev pub goes_on : State → List ℕ
-  goes_on Begin = on_goes (Outside [])
-  goes_on (On g) = on_goes g
-  goes_on (Less g at) = 33 ∷ 45 ∷ 45 ∷ long_goes (InComment g)
-  goes_on (Bang g) = 45 ∷ 45 ∷ long_goes (InComment g)
-  goes_on (Letters w k) = drop k (letters w) ++ behind_goes w
-  goes_on (Until l k) = long_goes l
-  goes_on (TagName f) = 47 ∷ 62 ∷ outer_tags f.outer
-  goes_on (Tag f) = 47 ∷ 62 ∷ outer_tags f.outer
-  goes_on (TagSpace f) = 47 ∷ 62 ∷ outer_tags f.outer
-  goes_on (AttributeName f name) = fresh name f.element.attributes ++ (61 ∷ 34 ∷ 34 ∷ 47 ∷ 62 ∷ outer_tags f.outer)
-  goes_on (Equals f name) = 61 ∷ 34 ∷ 34 ∷ 47 ∷ 62 ∷ outer_tags f.outer
-  goes_on (Quote f name) = 34 ∷ 34 ∷ 47 ∷ 62 ∷ outer_tags f.outer
-  goes_on (InValue f name q value) = q ∷ 47 ∷ 62 ∷ outer_tags f.outer
-  goes_on (EndSpace f) = 62 ∷ outer_tags f.outer
-  goes_on (Reference t) = 108 ∷ 116 ∷ 59 ∷ put_goes t
-  goes_on (ReferenceA t) = 109 ∷ 112 ∷ 59 ∷ put_goes t
-  goes_on (Hash t) = 49 ∷ 59 ∷ put_goes t
-  goes_on (Digit t h) = 49 ∷ 59 ∷ put_goes t
-  goes_on (Digits t h n) = digits_to n ++ (59 ∷ put_goes t)
 
   alive_less : (g : Ground) (at : ℕ) → Lives (Less g at) (33 ∷ 45 ∷ 45 ∷ long_goes (InComment g))
   alive_less g at = go _ (Bang g) 33 _ refl refl (move _ (Until (InComment g) 0) _ _ (at_dash deepest end g _) (alive_long (InComment g) 0))

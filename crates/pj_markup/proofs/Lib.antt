@@ -4,3 +4,4 @@ pub mod Complete
 pub mod Good
 pub mod Depth
 pub mod Alive
+pub mod Reached
