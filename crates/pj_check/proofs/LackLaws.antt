@@ -19,7 +19,7 @@ use Rattle.pj_check.specs.Laws.{OneLack, LackingIsNotBuilt}
 use Rattle.pj_check.specs.Report.{Report}
 use Rattle.pj_check.specs.declared.lack.Lack.{Lack}
 use Rattle.pj_check.specs.declared.lack.Lack.TheVariants.{MaySuppress}
-use Rattle.pj_names.specs.declared.memory.NoMemory.{NoMemory}
+use Rattle.pj_base.specs.declared.memory.NoMemory.{NoMemory}
 use Rattle.pj_check.proofs.OneLaws.{OneReading, OneOutcome}
 use Rattle.pj_check.proofs.OutcomeLaws.{same_job, no_report_without_job, no_report_absent, no_report_long}
 

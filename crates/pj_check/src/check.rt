@@ -7,7 +7,7 @@ ghost use Rattle.pj_check.specs.Outcome.{Says, CountsTreeFaults, CountsSinkFault
 use crate::lines::report_lines;
 use crate::outcome::FileOutcome;
 use crate::query::query_name;
-use pj_names::Words;
+use pj_base::Words;
 use pj_outside::{Reading, Refused, Sink, Tree};
 use std::alloc::Global;
 

@@ -7,8 +7,8 @@ ghost use Rattle.pj_check.specs.Lines.{node_line, lines_of, HasNoTree, AreLinesO
 ghost use Rattle.pj_tree.specs.Tree.{TreeNode};
 
 use crate::suppression::may_suppress;
+use pj_base::NoMemory;
 use pj_lex::{Source, SourceFault};
-use pj_names::NoMemory;
 use pj_parse::{ParseFault, parse, text_has_one_outcome};
 use pj_tree::{Node, SyntaxTree};
 use std::alloc::Global;

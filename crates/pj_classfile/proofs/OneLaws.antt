@@ -46,6 +46,11 @@ pub there : (bytes : List ℕ) → (r : Result ClassInfo ClassFault) × ClassOf 
 unfolding class_file
 there bytes = let m = whole_means 10 class_structure bytes in (named m.0, is_named bytes m.0 m.1)
 
+pub answer_there : (name : List ℕ) (reading : Reading) → (a : Answer) × AnswerOf name reading a
+answer_there name readings.Absent = (answers.Absent, refl)
+answer_there name readings.Longer = (answers.Broken broken.TooLong, refl)
+answer_there name (readings.Whole bytes) = let class = there bytes in (answer_from name class.0, (class.0, class.1, refl))
+
 pub one_answer : (name : List ℕ) (reading : Reading) (a b : Answer) → AnswerOf name reading a → AnswerOf name reading b → a ≡ b
 one_answer name readings.Absent a b h k = h ∙ sym k
 one_answer name readings.Longer a b h k = h ∙ sym k

@@ -6,7 +6,8 @@ ghost use Rattle.pj_classfile.specs.ClassOf.{AnswerOf};
 
 use crate::class::parse;
 use crate::fault::ClassRefused;
-use pj_names::{Answer, Broken, ClassName, NoMemory};
+use pj_base::NoMemory;
+use pj_names::{Answer, Broken, ClassName};
 use pj_outside::Reading;
 use std::alloc::Global;
 

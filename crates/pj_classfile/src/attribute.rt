@@ -7,8 +7,8 @@ ghost use Rattle.pj_classfile.specs.ClassFile.{views, signature_content, other_c
 use crate::lookup::{bytes_of, signature_of};
 use crate::member::Holder;
 use crate::pool::Constant;
+use pj_base::Text;
 use pj_format::{Refused, refused, run_of, u16_of, u32_of};
-use pj_names::Text;
 use std::alloc::Global;
 
 /// The content of a Signature attribute.

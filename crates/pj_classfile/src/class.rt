@@ -12,8 +12,9 @@ use crate::lookup::class_of;
 use crate::member::{Holder, MemberKind, members_of};
 use crate::pool::{Constant, pool_of};
 use crate::texts::class_name_of;
+use pj_base::{NoMemory, Text};
 use pj_format::{Refused, refused, u16_of, u32_of};
-use pj_names::{ClassFault, ClassInfo, NoMemory, Text};
+use pj_names::{ClassFault, ClassInfo};
 use std::alloc::Global;
 
 /// All up to the constant pool: the pool, and the place behind it.

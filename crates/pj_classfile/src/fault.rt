@@ -2,8 +2,9 @@
 ghost use Rattle.std.specs.Prelude.{◌≡◌, Ok, Err, MatchResult};
 ghost use Rattle.pj_format.specs.declared.fault.Refused.TheVariants as refusals;
 
+use pj_base::NoMemory;
 use pj_format::Refused;
-use pj_names::{ClassFault, NoMemory};
+use pj_names::ClassFault;
 
 /// Why there is no class.
 #[derive(Clone, Copy, Debug, PartialEq, Eq)]

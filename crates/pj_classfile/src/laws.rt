@@ -13,9 +13,10 @@ pub fn one_class()
     ensures one { (bytes : List ℕ) (r s : Result infos.ClassInfo faults.ClassFault) → ClassOf bytes r → ClassOf bytes s → r ≡ s }
 {}
 
-/// A name has one answer for each reading.
+/// A name has exactly one answer for each reading.
 pub fn one_answer()
-    ensures { (name : List ℕ) (reading : readings.Reading) (a b : answers.Answer) → AnswerOf name reading a → AnswerOf name reading b → a ≡ b }
+    ensures there { (name : List ℕ) (reading : readings.Reading) → (a : answers.Answer) × AnswerOf name reading a }
+    ensures one { (name : List ℕ) (reading : readings.Reading) (a b : answers.Answer) → AnswerOf name reading a → AnswerOf name reading b → a ≡ b }
 {}
 
 /// A text is decoded from exactly the bytes that spell it in modified UTF-8 (JVMS 4.4.7).

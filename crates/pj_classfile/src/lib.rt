@@ -10,8 +10,6 @@ mod lookup;
 mod member;
 mod modified_utf8;
 mod pool;
-#[cfg(test)]
-mod tests;
 mod texts;
 
 pub use answer::answer_of;

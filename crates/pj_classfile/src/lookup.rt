@@ -10,8 +10,8 @@ use crate::member::{Holder, MemberKind};
 use crate::modified_utf8::decode;
 use crate::pool::Constant;
 use crate::texts::{fits_descriptor, fits_signature};
+use pj_base::Text;
 use pj_format::{Refused, refused};
-use pj_names::Text;
 use pj_signatures::names::is_internal_name;
 use std::alloc::Global;
 

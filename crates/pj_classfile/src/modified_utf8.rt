@@ -3,7 +3,7 @@ ghost use Rattle.std.specs.Prelude.{◌≡◌, ◌<◌, IfOk, IfSome, Some, None
 ghost use Rattle.std.specs.Option.{option_map};
 ghost use Rattle.pj_classfile.specs.ModifiedUtf8.{unit_at, units_of, text_of_units, decoded, is_two, is_three, two, three};
 
-use pj_names::{NoMemory, Text};
+use pj_base::{NoMemory, Text};
 use std::alloc::{AllocError, Global};
 
 /// The unit of two bytes, where they are its shortest form.

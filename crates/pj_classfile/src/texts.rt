@@ -5,7 +5,8 @@ ghost use Rattle.pj_classfile.specs.Texts.{is_descriptor, is_method_descriptor, 
 ghost use Rattle.pj_classfile.specs.ClassFile.{is_descriptor_of, is_signature_of};
 
 use crate::member::{Holder, MemberKind};
-use pj_names::{ClassName, NoMemory};
+use pj_base::NoMemory;
+use pj_names::ClassName;
 use pj_signatures::names::{class_name, name_of_internal};
 use pj_signatures::{
     class_signature, descriptor, field_signature, method_descriptor, method_signature,

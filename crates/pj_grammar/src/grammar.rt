@@ -7,7 +7,8 @@ ghost use Rattle.pj_pieces.specs.Piece.{decoded};
 ghost use Rattle.pj_grammar.specs.Java17.{java_17_forms, java_17_shapes};
 
 use crate::table::{PIECES, SHAPES};
-use pj_peg::{NoMemory, WellFormed};
+use pj_base::NoMemory;
+use pj_peg::WellFormed;
 use pj_pieces::{Piece, items_of};
 use pj_shape::Shape;
 use std::alloc::Global;

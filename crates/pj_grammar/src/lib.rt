@@ -10,8 +10,6 @@ mod laws;
 mod rule;
 mod table;
 mod terminal;
-#[cfg(test)]
-mod tests;
 
 pub use grammar::{java_17, shapes};
 pub use laws::{

@@ -3,7 +3,7 @@ use Rattle.std.proofs.Common.{ℕ, zero, suc, ◌≡◌, ◌+◌, ◌<◌, ◌==
 use Rattle.std.specs.Char.{digit_value}
 use Rattle.std.proofs.lemmas.Bool.{cases_Bool, eqb-true}
 use Rattle.std.proofs.lemmas.List.{length-replicate}
-use Rattle.pj_tree.specs.Places.{starts_with}
+use Rattle.pj_base.specs.Front.{starts_with}
 use Rattle.pj_lex.specs.Escapes.{AreDigits, IsEscape, BeginsWithNoEscape, begins_escape}
 use Rattle.pj_lex.specs.Translating.{BeginsWithNoDigit, BeginsWithNoDigits}
 

@@ -6,7 +6,8 @@ use Rattle.std.specs.Str.{chars, IsUtf8, is_utf8, IsValidUpTo}
 use Rattle.std.proofs.lemmas.Bool.{cases_Bool, cases_lt, and_parts, eqb-true}
 use Rattle.std.proofs.lemmas.List.{take_all}
 use Rattle.std.proofs.lemmas.Str.{IsUtf8-nil, IsUtf8-from_is_utf8, is_utf8-from_IsUtf8}
-use Rattle.pj_tree.specs.Places.{first_place, starts_with}
+use Rattle.pj_base.specs.Front.{starts_with}
+use Rattle.pj_tree.specs.Places.{first_place}
 use Rattle.pj_tree.specs.declared.node.Place.{Place}
 use Rattle.pj_lex.specs.Escapes.{AreDigits, IsEscape, BeginsWithNoEscape, BeginsWithLow, IsBadEscape, IsWritten, Piece, begins_escape, is_eligible, place_behind_all}
 use Rattle.pj_lex.specs.Escapes.IsWritten.{plain}

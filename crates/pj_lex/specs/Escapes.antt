@@ -10,7 +10,8 @@
 use Rattle.std.specs.Prelude.{ℕ, zero, suc, ◌≡◌, ◌+◌, ◌*◌, ◌<◌, ◌==◌, ◌&&◌, ◌||◌, not, Bool, true, false, if◌then◌else◌, List, [], ◌∷◌, ◌++◌, replicate}
 use Rattle.std.specs.Char.{digit_value, encode_utf8, len_utf8}
 use Rattle.std.specs.Char.Utf16.{is_high_surrogate, is_low_surrogate, surrogate_pair_char}
-use Rattle.pj_tree.specs.Places.{starts_with, place_behind}
+use Rattle.pj_base.specs.Front.{starts_with}
+use Rattle.pj_tree.specs.Places.{place_behind}
 use Rattle.pj_tree.specs.declared.node.Place.{Place}
 
 -- ---- one escape

@@ -19,10 +19,6 @@ mod sign;
 mod source;
 mod state;
 mod string_literal;
-#[cfg(test)]
-mod tests;
-#[cfg(test)]
-mod tests_source;
 mod text;
 mod text_block;
 mod token;

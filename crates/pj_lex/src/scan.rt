@@ -12,8 +12,9 @@ use crate::category::Category;
 use crate::characters::continues_name;
 use crate::reserved_words::name_kind;
 use crate::state::{State, category, step};
-use crate::text::{before, split_first};
+use crate::text::before;
 use crate::token::TokenKind;
+use pj_base::split_first;
 
 /// The longest word at the text's front that a rule spells, and what stands behind it.
 fn longest_word<'s>(text: &'s str) -> Option<(Category, &'s str)>

@@ -7,17 +7,7 @@ ghost use Rattle.pj_lex.specs.Scanning.{run, past_run, IsBehind};
 ghost use Rattle.pj_lex.specs.Size.{size};
 
 use crate::characters::is_white;
-
-/// The first character and the text behind it.
-pub fn split_first<'s>(text: &'s str) -> Option<(char, &'s str)>
-    ensures { MatchOption result (chars text.now ≡ []) (λ p. chars text.now ≡ p.0 ∷ chars p.1.now) }
-{
-    let mut all = text.chars();
-    match all.next() {
-        Some(c) => Some((c, all.as_str())),
-        None => None,
-    }
-}
+use pj_base::split_first;
 
 /// What stands behind the white space at the text's front.
 pub fn skip_white<'s>(text: &'s str) -> &'s str

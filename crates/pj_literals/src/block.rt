@@ -4,7 +4,7 @@ ghost use Rattle.std.specs.Prelude.{◌≡◌, ◌≤◌, length, IfOk};
 ghost use Rattle.pj_literals.specs.TextBlock.{is_white_space, indentation_of, common_indentation, stripped, content_lines, text_block, least_of};
 
 use crate::lines::Lines;
-use pj_names::NoMemory;
+use pj_base::NoMemory;
 use std::alloc::Global;
 
 /// The content of a text block with its line terminators normalized and its incidental white space removed.

@@ -7,7 +7,7 @@ ghost use Rattle.pj_literals.specs.Digits.{number};
 ghost use Rattle.pj_literals.specs.Escapes.{stands_at, octal_length, escape_length, escape_value, letter_value, interpreted};
 ghost use Rattle.pj_literals.specs.Reading.{IsOctalDigitAt, Takes};
 
-use pj_names::{NoMemory, Text};
+use pj_base::{NoMemory, Text};
 use std::alloc::Global;
 
 /// What the characters stand for: each escape for its character, any other character for itself.

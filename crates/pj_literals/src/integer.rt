@@ -7,6 +7,8 @@ ghost use Rattle.std.specs.Str.{chars};
 ghost use Rattle.pj_literals.specs.Digits.{number_in};
 ghost use Rattle.pj_literals.specs.IntegerValue.{IsInteger, radix_behind_zero, radix_of, is_long, integer_value};
 
+use pj_base::split_first;
+
 /// The value of an integer literal (JLS 3.10.1): a decimal literal has its number, one of another radix is the bits of an `int`, or of a `long` with
 /// the suffix `L`, and further bits are lost. `None` comes exactly where the value does not fit 64 bits, so of decimal literals alone.
 /// No memory is taken.
@@ -42,17 +44,6 @@ fn radix(text: &str) -> u32
             None => 10,
         },
         _ => 10,
-    }
-}
-
-/// The first character, and the text behind it.
-fn split_first<'s>(text: &'s str) -> Option<(char, &'s str)>
-    ensures { MatchOption result (chars text.now ≡ []) (λ p. chars text.now ≡ p.0 ∷ chars p.1.now) }
-{
-    let mut all = text.chars();
-    match all.next() {
-        Some(c) => Some((c, all.as_str())),
-        None => None,
     }
 }
 

@@ -6,7 +6,7 @@ ghost use Rattle.pj_literals.specs.StringValue.{string_value, between_delimiters
 
 use crate::block::text_block;
 use crate::escape::interpreted;
-use pj_names::{NoMemory, Text};
+use pj_base::{NoMemory, Text};
 use std::alloc::Global;
 
 /// The characters that a character literal, a string literal or a text block stands for (JLS 3.10.4 to 3.10.7): its escapes are interpreted,

@@ -11,7 +11,6 @@
 
 mod grammar;
 mod law;
-mod no_memory;
 mod parser;
 mod reading;
 mod stack;
@@ -21,6 +20,5 @@ mod tests;
 
 pub use grammar::{Piece, Symbol};
 pub use law::{one_derivation, one_end};
-pub use no_memory::NoMemory;
 pub use parser::{End, Run, parse};
 pub use table::Table;

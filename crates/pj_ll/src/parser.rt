@@ -4,10 +4,10 @@ ghost use Rattle.pj_ll.specs.Outcome.{IsEnd, LeadTo};
 ghost use Rattle.pj_ll.specs.Predictive.{RuleFacts, IsPredictive};
 ghost use Rattle.pj_ll.specs.Parsing.{HasComeTo, HasEnded, HasMoved, IsStack};
 
-use crate::NoMemory;
 use crate::grammar::Symbol;
 use crate::stack::Stack;
 use crate::table::Table;
+use pj_base::NoMemory;
 use std::alloc::Global;
 
 /// How a run of the parser ended. Places are counted from 0, and the number of terminals is the place of the end.

@@ -2,8 +2,8 @@ ghost use Rattle.std.specs.Prelude.{◌≡◌, IfOk, map};
 ghost use Rattle.pj_ll.specs.Grammar.{at_end_in, entries_of, on_in, symbols_in};
 ghost use Rattle.pj_ll.specs.Entries.{entry_of};
 
-use crate::NoMemory;
 use crate::grammar::{Piece, Production, Symbol};
+use pj_base::NoMemory;
 use std::alloc::Global;
 
 // The production of the rule, by the pieces behind its first one.

@@ -3,8 +3,8 @@ ghost use Rattle.pj_ll.specs.declared.grammar.Symbol.{Symbol};
 ghost use Rattle.pj_ll.specs.Grammar.{closes};
 ghost use Rattle.pj_ll.specs.Stack.{behind_top};
 
-use crate::NoMemory;
 use crate::grammar::Symbol;
+use pj_base::NoMemory;
 use std::alloc::Global;
 use std::marker::Model;
 

@@ -3,9 +3,9 @@ ghost use Rattle.pj_ll.specs.Grammar.{Entry, entries_of};
 ghost use Rattle.pj_ll.specs.Entries.{entry_of};
 ghost use Rattle.pj_ll.specs.Table.{AddsChoices, AreChoices, IsChoice, cell, choice_in, column_of, row_at};
 
-use crate::NoMemory;
 use crate::grammar::{Piece, Production, Symbol};
 use crate::reading::productions_of;
+use pj_base::NoMemory;
 use std::alloc::Global;
 use std::marker::Model;
 

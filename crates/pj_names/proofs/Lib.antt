@@ -2,4 +2,3 @@ pub mod Lists
 pub mod NameSets
 pub mod Oracles
 pub mod Parts
-pub mod WalkSteps

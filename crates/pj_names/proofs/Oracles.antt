@@ -27,12 +27,12 @@ pub list-asks : (answers : List (Name × Answer)) {old new : NameSet} {name : Na
 list-asks answers {old = old} {new = new} {name = name} {r = r} is right never = record {
   same_told = refl;
   same_world = refl;
-  same_below = refl;
+  same_kept = refl;
   faults_grow = omega arith;
   faults_stay = unless r refl;
   failed = λ e. absurd (never e);
-  value_is = λ told. right;
-  asked_is = λ told. on_ok r is;
+  value_is = λ told d far. right;
+  asked_is = λ told d far. on_ok r is;
   asked_stays = subst (λ s. IsWithin old s) (sym is) (within-names {t = old} (name ∷ []) (within-self old));
-  asked_within = λ told. subst (λ s. IsWithin new s) is (within-self new);
+  asked_within = λ told d far. subst (λ s. IsWithin new s) is (within-self new);
 }

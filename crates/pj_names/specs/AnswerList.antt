@@ -19,8 +19,8 @@ abbrev pub list_world : List (Name × Answer) → World
 list_world answers = record { answer = λ name. or_absent (found_in answers name); needs = λ name. name ∷ [] }
 
 -- what an oracle over a list tells: its world, and that it never failed
-abbrev pub list_tells : List (Name × Answer) → NameSet → Told
-list_tells answers asked = record { is_told = true; world = list_world answers; below = []; asked = asked; faults = 0 }
+abbrev pub list_tells : List (Name × Answer) → NameSet → Told (Unit {0})
+list_tells answers asked = record { is_told = true; world = λ depth. list_world answers; kept = tt; asked = asked; faults = 0 }
 
 -- the answer behind a lent shared reference, if there is one
 abbrev pub lent_answer : Option (Bor (Arc Answer Global)) → Option Answer

@@ -5,20 +5,25 @@ use Rattle.std.specs.Cmp.Lexicographic.{pointwise}
 use Rattle.pj_names.specs.declared.answer.Answer.{Answer}
 use Rattle.pj_names.specs.ClassName.{Name, is_object}
 
--- A meaning with a value of type A: the value, without asking; or a name to ask, and what follows for each answer.
+-- A meaning with a value of type A: the value, without asking; or a name to ask, and what follows for each answer; or a
+-- recursion that nothing bounds, from what it is where it goes at most so deep. What it means is what it comes to from
+-- some depth on (`specs/Meaning.antt`), so no depth is part of a meaning.
 pub data Asking (A : Type 0) : Type 0 where
   Return : A → Asking A
   Ask : Name → (Answer → Asking A) → Asking A
+  Unbounded : (ℕ → Asking A) → Asking A
 
--- the value where every name is answered
-abbrev pub value_of : {A : Type 0} → (Name → Answer) → Asking A → A
-value_of world (Return value) = value
-value_of world (Ask name rest) = value_of world (rest (world name))
+-- the value where every name is answered, and recursions go at most so deep
+abbrev pub value_of : {A : Type 0} → ℕ → (Name → Answer) → Asking A → A
+value_of depth world (Return value) = value
+value_of depth world (Ask name rest) = value_of depth world (rest (world name))
+value_of depth world (Unbounded recursion) = value_of depth world (recursion depth)
 
--- the names asked where every name is answered, in the order of asking
-abbrev pub names_of : {A : Type 0} → (Name → Answer) → Asking A → List Name
-names_of world (Return value) = []
-names_of world (Ask name rest) = name ∷ names_of world (rest (world name))
+-- the names asked, in the order of asking, where every name is answered, and recursions go at most so deep
+abbrev pub names_of : {A : Type 0} → ℕ → (Name → Answer) → Asking A → List Name
+names_of depth world (Return value) = []
+names_of depth world (Ask name rest) = name ∷ names_of depth world (rest (world name))
+names_of depth world (Unbounded recursion) = names_of depth world (recursion depth)
 
 -- one name asked: its answer
 abbrev pub ask : Name → Asking Answer
@@ -28,6 +33,7 @@ ask name = Ask name (λ answer. Return answer)
 abbrev pub bind : {A B : Type 0} → Asking A → (A → Asking B) → Asking B
 bind (Return value) next = next value
 bind (Ask name rest) next = Ask name (λ answer. bind (rest answer) next)
+bind (Unbounded recursion) next = Unbounded (λ depth. bind (recursion depth) next)
 
 -- One class looked up: its answer, or nothing for `java.lang.Object`, which is known without asking and of which
 -- nothing is looked for.
@@ -81,18 +87,3 @@ module _ {A B : Type 0} (name_of : A → Name) (test : A → Asking (Option B)) 
   walk zero found to_visit = Return (None, found)
   walk (suc most) found to_visit =
       visit (λ more_found still. walk most more_found still) found (unvisited name_of (has_name (map name_of found)) to_visit)
-
-  -- Whether the walk comes to its end, or to a hit, with at most so many new items, where every name is answered.
-  module _ (world : Name → Answer) where
-    abbrev pub ends_at : Option B → Bool → Bool
-    ends_at (Some hit) rest = true
-    ends_at None rest = rest
-
-    abbrev pub ends_after : (List A → List A → Bool) → List A → List A → Bool
-    ends_after on found [] = true
-    ends_after on found (x ∷ to_visit) = ends_at (value_of world (test x)) (on (found ++ x ∷ []) (value_of world (next x) ++ to_visit))
-
-    abbrev pub ends_within : ℕ → List A → List A → Bool
-    ends_within zero found to_visit = is_empty (unvisited name_of (has_name (map name_of found)) to_visit)
-    ends_within (suc most) found to_visit =
-        ends_after (λ more_found still. ends_within most more_found still) found (unvisited name_of (has_name (map name_of found)) to_visit)

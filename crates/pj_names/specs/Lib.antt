@@ -7,4 +7,5 @@ pub mod MeaningLaws
 pub mod AskingLaws
 pub mod Expand
 pub mod AnswerList
-pub mod Classes
+pub mod Noting
+pub mod Held

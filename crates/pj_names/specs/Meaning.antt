@@ -1,10 +1,10 @@
 -- What a meaning comes to over a source of answers.
-use Rattle.std.specs.Prelude.{◌≡◌, Bool, true, false, List, [], ◌∷◌, Option, Some, None, nat_eq, if◌then◌else◌, All}
+use Rattle.std.specs.Prelude.{◌≡◌, ◌≤◌, ℕ, Bool, true, false, List, [], ◌∷◌, Option, Some, None, nat_eq, if◌then◌else◌, All}
 use Rattle.std.specs.Cmp.Lexicographic.{pointwise}
 use Rattle.pj_names.specs.declared.answer.Answer.{Answer}
 use Rattle.pj_names.specs.declared.answer.Answer.TheVariants.{Absent}
 use Rattle.pj_names.specs.ClassName.{Name}
-use Rattle.pj_names.specs.Asking.{Asking, Return, Ask}
+use Rattle.pj_names.specs.Asking.{Asking, Return, Ask, Unbounded}
 
 -- A source: its answer for a name, if it has one.
 abbrev pub Source : Type 0
@@ -41,10 +41,16 @@ abbrev pub answered : {A : Type 0} → Name → Option Answer → (Answer → Me
 answered name None rest = Need name
 answered name (Some answer) rest = also name (rest answer)
 
--- the meaning over a source
-abbrev pub over : {A : Type 0} → Source → Asking A → Meaning A
-over source (Return value) = Done value []
-over source (Ask name rest) = answered name (source name) (λ answer. over source (rest answer))
+-- what a meaning is over a source where recursions go at most so deep
+abbrev pub over : {A : Type 0} → ℕ → Source → Asking A → Meaning A
+over depth source (Return value) = Done value []
+over depth source (Ask name rest) = answered name (source name) (λ answer. over depth source (rest answer))
+over depth source (Unbounded recursion) = over depth source (recursion depth)
+
+-- What a meaning comes to over a source: from some depth on it is that, however deep recursions go.
+pub record Means {A : Type 0} (source : Source) (meaning : Asking A) (outcome : Meaning A) : Type 0 where
+  pub least : ℕ
+  pub is : (depth : ℕ) → least ≤ depth → over depth source meaning ≡ outcome
 
 -- what is done, with some names asked before it
 abbrev pub in_front : {A : Type 0} → List Name → Meaning A → Meaning A
@@ -64,4 +70,4 @@ whole world name = Some (world name)
 -- were asked alike, it is done over the second, with the same value and names.
 abbrev pub Agrees : {A : Type 0} → Source → Source → Asking A → Type 0
 Agrees {A} first second meaning =
-    (value : A) (names : List Name) → over first meaning ≡ Done value names → All (λ name. second name ≡ first name) names → over second meaning ≡ Done value names
+    (value : A) (names : List Name) → Means first meaning (Done value names) → All (λ name. second name ≡ first name) names → Means second meaning (Done value names)

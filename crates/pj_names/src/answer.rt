@@ -1,10 +1,6 @@
 //! What is known of a class.
 use crate::class_name::ClassName;
-use crate::copied::Copied;
-use crate::exact::Exact;
-use crate::list::ListOf;
-use crate::memory::NoMemory;
-use crate::text::Text;
+use pj_base::{Copied, Exact, ListOf, NoMemory, Text};
 
 /// The first fault of the bytes of a class file (JVMS 4).
 #[derive(Clone, Copy, Debug, PartialEq, Eq)]

@@ -5,7 +5,7 @@ ghost use Rattle.pj_names.specs.Meaning.{found_in};
 
 use crate::answer::Answer;
 use crate::class_name::ClassName;
-use crate::memory::NoMemory;
+use pj_base::NoMemory;
 use std::alloc::Global;
 use std::marker::Model;
 use std::sync::Arc;

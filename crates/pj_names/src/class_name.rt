@@ -2,10 +2,7 @@
 ghost use Rattle.std.specs.Prelude.{◌≡◌, IfOk, IsTrue, MatchOption, false};
 ghost use Rattle.pj_names.specs.ClassName.{is_class_name, is_object};
 
-use crate::copied::Copied;
-use crate::exact::Exact;
-use crate::memory::NoMemory;
-use crate::text::Text;
+use pj_base::{Copied, Exact, NoMemory, Text};
 use std::alloc::Global;
 use std::cmp::Ordering;
 use std::convert::AsStr;

@@ -7,8 +7,8 @@ use crate::answer::Answer;
 use crate::answers::Answers;
 use crate::class_name::ClassName;
 use crate::class_name_set::ClassNameSet;
-use crate::copied::Copied;
 use crate::oracle::{AskFault, Oracle};
+use pj_base::Copied;
 use std::alloc::Global;
 use std::sync::Arc;
 
@@ -42,6 +42,8 @@ impl MapOracle {
 }
 
 impl Oracle for MapOracle {
+    ghost Kept = { Unit {0} };
+
     ghost tells = { λ oracle. list_tells oracle.answers oracle.asked };
 
     fn ask(&mut self, name: &ClassName) -> Result<Arc<Answer>, AskFault> {

@@ -6,7 +6,7 @@ ghost use Rattle.pj_names.specs.Told.{Told, Asks, seen, shared_answer};
 
 use crate::answer::Answer;
 use crate::class_name::ClassName;
-use crate::memory::NoMemory;
+use pj_base::NoMemory;
 use std::alloc::{AllocError, AllocFailed};
 use std::sync::Arc;
 
@@ -47,8 +47,12 @@ impl<T: Drop> From<AllocFailed<T>> for AskFault {
 ///
 /// Its world never changes, and where it tells its world, an answer is the world's; see `docs/asking.md`.
 pub trait Oracle {
-    /// What the oracle tells of itself: its world, where it tells that, the names that were asked, and its faults.
-    ghost tells: { Self → Told };
+    /// The type of what the oracle keeps in every call.
+    ghost Kept: { Type 0 };
+
+    /// What the oracle tells of itself: its world, where it tells that, what it keeps, the names that were asked, and its
+    /// faults.
+    ghost tells: { Self → Told Kept };
 
     /// The answer for a name. Where the world is told it is the world's, and to the names asked come just the name's
     /// needs. `Failed` comes only where the count of faults rose.

@@ -1,11 +1,11 @@
 //! Worked rows, and each public call that takes memory once, with ample memory.
-ghost use Rattle.std.specs.Prelude.{◌≡◌, IfOk, OnOk, Some, filter, map};
+ghost use Rattle.std.specs.Prelude.{◌≡◌, OnOk, Some};
 ghost use Rattle.std.specs.BTreeMap.{get};
 ghost use Rattle.std.specs.Cmp.Lexicographic.{slice_cmp};
 ghost use Rattle.std.specs.Ordering.{nat_cmp};
-ghost use Rattle.pj_names.specs.ClassName.{is_class_name};
 
 use crate::*;
+use pj_base::{Bytes, Copied, Exact, NoMemory, Numbers, Text, Words};
 use std::alloc::{AllocFailed, Global};
 use std::cmp::Ordering;
 use std::collections::BTreeMap;
@@ -142,10 +142,10 @@ fn types(rt: HostRuntime) -> Result<(), Fail> {
     let mut list = TyList::new(alloc);
     list.push(Ty::Void)?;
     list.push(Ty::Null)?;
-    assert!(rt; list.copied()?.is(&list));
+    assert!(rt; same_types(&copied_types(&list)?, &list));
     let mut bindings = Bindings::new(alloc);
     bindings.push((text(alloc, "T")?, Ty::Null))?;
-    assert_eq!(rt; bindings.copied()?.len(), 1);
+    assert_eq!(rt; copied_bindings(&bindings)?.len(), 1);
     Ok(())
 }
 
@@ -207,211 +207,51 @@ fn map_oracle(rt: HostRuntime) -> Result<(), Fail> {
     Ok(())
 }
 
-/// A class leads to the names of its fields that are names of classes.
-#[derive(Drop)]
-struct FieldNames {
+/// Whether each of these names was asked, and none of those.
+fn has_asked(
     alloc: Global,
-}
-
-impl Next for FieldNames {
-    ghost use Rattle.std.specs.Prelude.{[], filter, map};
-    ghost use Rattle.pj_names.specs.declared.answer.Answer.TheVariants.{Found, Absent, Broken};
-    ghost use Rattle.pj_names.specs.ClassName.{is_class_name};
-
-    ghost next = { λ _ answer. elim answer [ Found info ↦ filter is_class_name (map (λ member. member.name) info.fields) | Absent ↦ [] | Broken broken ↦ [] ] };
-
-    fn next(&self, answer: &Answer) -> Result<ClassNames, NoMemory> {
-        match answer {
-            Answer::Found(info) => class_names(self.alloc, &info.fields),
-            _ => Ok(ClassNames::new(self.alloc)),
-        }
-    }
-}
-
-fn class_names(alloc: Global, members: &Members) -> Result<ClassNames, NoMemory>
-    ensures { IfOk result (λ names. names ≡ filter is_class_name (map (λ member. member.name) members.now)) }
-{
-    let mut names = ClassNames::new(alloc);
-    for member in members.as_slice() {
-        if let Some(name) = ClassName::of(alloc, member.name.as_str())? {
-            names.push(name)?;
-        }
-    }
-    Ok(names)
-}
-
-/// A class whose fields have these names.
-fn leading(alloc: Global, of: &str, fields: &[&str]) -> Result<Arc<Answer>, Fail> {
-    let mut members = Members::new(alloc);
-    for field in fields {
-        members.push(Member {
-            flags: 1,
-            name: text(alloc, field)?,
-            signature: text(alloc, "I")?,
-        })?;
-    }
-    let info = ClassInfo {
-        name: name(alloc, of)?,
-        flags: 33,
-        signature: text(alloc, "Ljava/lang/Object;")?,
-        fields: members,
-        methods: Members::new(alloc),
-    };
-    Ok(Arc::new(alloc, Answer::Found(info))?)
-}
-
-/// `p.A` leads to `p.B` and `p.C`, `p.B` to `p.D`, `p.A` and `java.lang.Object`, `p.C` to `p.D` and `p.E`, which is not there.
-fn leading_oracle(alloc: Global) -> Result<MapOracle, Fail> {
-    let mut answers = Answers::new(alloc);
-    answers.push(name(alloc, "p.A")?, leading(alloc, "p.A", &["p.B", "p.C"])?)?;
-    answers.push(
-        name(alloc, "p.B")?,
-        leading(alloc, "p.B", &["p.D", "p.A", "java.lang.Object"])?,
-    )?;
-    answers.push(name(alloc, "p.C")?, leading(alloc, "p.C", &["p.D", "p.E"])?)?;
-    answers.push(name(alloc, "p.D")?, leading(alloc, "p.D", &[])?)?;
-    Ok(MapOracle::new(alloc, answers))
-}
-
-/// Whether each of these names was asked.
-fn has_asked(alloc: Global, oracle: &MapOracle, all: &[&str]) -> Result<bool, Fail> {
-    for text in all {
+    oracle: &MapOracle,
+    asked: &[&str],
+    unasked: &[&str],
+) -> Result<bool, Fail> {
+    for text in asked {
         if !oracle.asked().contains(&name(alloc, text)?) {
+            return Ok(false);
+        }
+    }
+    for text in unasked {
+        if oracle.asked().contains(&name(alloc, text)?) {
             return Ok(false);
         }
     }
     Ok(true)
 }
 
-/// Whether some of these names was asked.
-fn has_asked_one(alloc: Global, oracle: &MapOracle, all: &[&str]) -> Result<bool, Fail> {
-    for text in all {
-        if oracle.asked().contains(&name(alloc, text)?) {
-            return Ok(true);
-        }
-    }
-    Ok(false)
-}
-
 #[test]
 fn looking_up(rt: HostRuntime) -> Result<(), Fail> {
     let alloc = rt.alloc();
-    let mut oracle = leading_oracle(alloc)?;
+    let mut oracle = oracle(alloc, &[("p.A", "one")])?;
     assert!(rt; look_up(&mut oracle, &name(alloc, "java.lang.Object")?)?.is_none());
     assert!(rt; look_up(&mut oracle, &name(alloc, "p.A")?)?.is_some());
-    assert!(rt; has_asked(alloc, &oracle, &["p.A"])?);
-    assert!(rt; !has_asked_one(alloc, &oracle, &["java.lang.Object", "p.B"])?);
+    assert!(rt; has_asked(alloc, &oracle, &["p.A"], &["java.lang.Object", "p.B"])?);
     Ok(())
 }
 
 #[test]
-fn two_in_a_row(rt: HostRuntime) -> Result<(), Fail> {
+fn recording(rt: HostRuntime) -> Result<(), Fail> {
     let alloc = rt.alloc();
-    let mut oracle = leading_oracle(alloc)?;
-    let first = name(alloc, "p.A")?;
-    assert!(rt; both_present(&mut oracle, &first, &name(alloc, "p.D")?)?);
-    assert!(rt; !both_present(&mut oracle, &first, &name(alloc, "p.E")?)?);
-    assert!(rt; has_asked(alloc, &oracle, &["p.A", "p.D", "p.E"])?);
-    Ok(())
-}
-
-#[test]
-fn first_of_a_list(rt: HostRuntime) -> Result<(), Fail> {
-    let alloc = rt.alloc();
-    let mut oracle = leading_oracle(alloc)?;
-    let first = first_present(&mut oracle, &names(alloc, &["p.E", "p.F", "p.C", "p.G"])?)?;
-    assert_eq!(rt; first, Some(name(alloc, "p.C")?));
-    assert_eq!(rt; first_present(&mut oracle, &names(alloc, &["p.E"])?)?, None);
-    assert!(rt; has_asked(alloc, &oracle, &["p.C", "p.E", "p.F"])?);
-    assert!(rt; !has_asked_one(alloc, &oracle, &["p.B", "p.G"])?);
-    Ok(())
-}
-
-#[test]
-fn answers_of_a_list(rt: HostRuntime) -> Result<(), Fail> {
-    let alloc = rt.alloc();
-    let mut oracle = leading_oracle(alloc)?;
-    let found = answers_for(alloc, &mut oracle, &names(alloc, &["p.A", "p.E"])?)?;
-    assert_eq!(rt; found.len(), 2);
-    assert!(rt; has_asked(alloc, &oracle, &["p.A", "p.E"])?);
-    Ok(())
-}
-
-#[test]
-fn walks(rt: HostRuntime) -> Result<(), Fail> {
-    let alloc = rt.alloc();
-    let mut oracle = leading_oracle(alloc)?;
-    let found = reached(
-        alloc,
-        &mut oracle,
-        &FieldNames { alloc },
-        &name(alloc, "p.A")?,
-    )?;
-    let wanted = names(
-        alloc,
-        &["p.A", "p.B", "p.D", "java.lang.Object", "p.C", "p.E"],
-    )?;
-    assert!(rt; found.is(&wanted), "{found:?}");
-    assert!(rt; !has_asked_one(alloc, &oracle, &["java.lang.Object"])?);
-    Ok(())
-}
-
-#[test]
-fn walks_beneath_an_alias(rt: HostRuntime) -> Result<(), Fail> {
-    let alloc = rt.alloc();
-    let mut oracle = leading_oracle(alloc)?;
-    let candidates = names(alloc, &["p.F", "p.C"])?;
-    let alias = name(alloc, "q.Alias")?;
-    let next = FieldNames { alloc };
-    let found = reached_beneath(alloc, &mut oracle, &alias, &candidates, &next, &alias)?;
-    assert!(rt; found.is(&names(alloc, &["q.Alias"])?), "{found:?}");
-    assert!(rt; has_asked(alloc, &oracle, &["p.C", "p.F"])?);
-    assert!(rt; !has_asked_one(alloc, &oracle, &["q.Alias"])?);
-    Ok(())
-}
-
-/// The class without members whose signature is that of an alias of `of`.
-fn alias_of(alloc: Global, alias: &ClassName, of: &str) -> Result<Answer, Fail> {
-    Ok(Answer::Found(ClassInfo {
-        name: alias.copied()?,
-        flags: 0,
-        signature: text(alloc, of)?,
-        fields: Members::new(alloc),
-        methods: Members::new(alloc),
-    }))
-}
-
-#[test]
-fn alias_is_made(rt: HostRuntime) -> Result<(), Fail> {
-    let alloc = rt.alloc();
-    let mut oracle = leading_oracle(alloc)?;
-    let candidates = names(alloc, &["p.F", "p.C"])?;
-    let alias = name(alloc, "q.Alias")?;
-    let mut over = AliasOracle {
-        alloc,
-        alias: &alias,
-        candidates: &candidates,
+    let mut oracle = oracle(alloc, &[("p.A", "one")])?;
+    let mut noted = ClassNameSet::new(alloc);
+    let mut recorder = Recorder {
         inner: &mut oracle,
+        noted: &mut noted,
     };
-    let made = over.ask(&alias)?;
-    assert!(rt; made.is(&alias_of(alloc, &alias, "p.C")?));
-    Ok(())
-}
-
-#[test]
-fn walks_over_an_alias(rt: HostRuntime) -> Result<(), Fail> {
-    let alloc = rt.alloc();
-    let mut oracle = leading_oracle(alloc)?;
-    let candidates = names(alloc, &["p.F", "p.C"])?;
-    let alias = name(alloc, "q.Alias")?;
-    let mut over = AliasOracle {
-        alloc,
-        alias: &alias,
-        candidates: &candidates,
-        inner: &mut oracle,
-    };
-    let found = reached_over(&mut over, &FieldNames { alloc }, &name(alloc, "p.D")?)?;
-    assert!(rt; found.is(&names(alloc, &["p.D"])?), "{found:?}");
+    for asked in ["p.B", "p.A", "p.B", "a.Z"] {
+        recorder.ask(&name(alloc, asked)?)?;
+    }
+    let listed = noted.names(alloc)?;
+    assert!(rt; listed.is(&names(alloc, &["a.Z", "p.A", "p.B"])?), "{listed:?}");
+    assert!(rt; has_asked(alloc, &oracle, &["p.A", "p.B", "a.Z"], &["p.C"])?);
     Ok(())
 }
 

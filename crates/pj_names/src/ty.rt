@@ -3,11 +3,7 @@ ghost use Rattle.std.specs.Prelude.{◌≡◌, ◌↔◌, IsTrue, IfOk};
 ghost use Rattle.pj_names.specs.JavaType.{bound_types, java_type, java_types, type_list};
 
 use crate::class_name::ClassName;
-use crate::copied::Copied;
-use crate::exact::Exact;
-use crate::list::ListOf;
-use crate::memory::NoMemory;
-use crate::text::Text;
+use pj_base::{Copied, Exact, ListOf, NoMemory, Text};
 
 /// A primitive type, JLS 4.2.
 #[derive(Clone, Copy, Debug, PartialEq, Eq)]
@@ -134,44 +130,40 @@ impl Types {
     }
 }
 
-impl ListOf<Ty> {
-    /// Whether both are lists of the same types.
-    pub fn is(&self, other: &TyList) -> bool
-        ensures { IsTrue result ↔ (type_list self.now ≡ type_list other.now) }
-    {
-        let (ours, theirs) = (self.as_slice(), other.as_slice());
-        if ours.len() != theirs.len() {
+/// Whether both are lists of the same types.
+pub fn same_types(ours: &TyList, theirs: &TyList) -> bool
+    ensures { IsTrue result ↔ (type_list ours.now ≡ type_list theirs.now) }
+{
+    let (ours, theirs) = (ours.as_slice(), theirs.as_slice());
+    if ours.len() != theirs.len() {
+        return false;
+    }
+    for i in 0..ours.len() {
+        if !ours[i].is(&theirs[i]) {
             return false;
         }
-        for i in 0..ours.len() {
-            if !ours[i].is(&theirs[i]) {
-                return false;
-            }
-        }
-        true
     }
-
-    /// The same types once more.
-    pub fn copied(&self) -> Result<TyList, NoMemory>
-        ensures { IfOk result (λ copy. type_list copy ≡ type_list self.now) }
-    {
-        let mut copy = TyList::new(self.allocator());
-        for ty in self.as_slice() {
-            copy.push(ty.copied()?)?;
-        }
-        Ok(copy)
-    }
+    true
 }
 
-impl ListOf<(Text, Ty)> {
-    /// The same variables and types once more.
-    pub fn copied(&self) -> Result<Bindings, NoMemory>
-        ensures { IfOk result (λ copy. bound_types copy ≡ bound_types self.now) }
-    {
-        let mut copy = Bindings::new(self.allocator());
-        for (name, ty) in self.as_slice() {
-            copy.push((name.copied()?, ty.copied()?))?;
-        }
-        Ok(copy)
+/// The same types once more.
+pub fn copied_types(types: &TyList) -> Result<TyList, NoMemory>
+    ensures { IfOk result (λ copy. type_list copy ≡ type_list types.now) }
+{
+    let mut copy = TyList::new(types.allocator());
+    for ty in types.as_slice() {
+        copy.push(ty.copied()?)?;
     }
+    Ok(copy)
+}
+
+/// The same variables and types once more.
+pub fn copied_bindings(bindings: &Bindings) -> Result<Bindings, NoMemory>
+    ensures { IfOk result (λ copy. bound_types copy ≡ bound_types bindings.now) }
+{
+    let mut copy = Bindings::new(bindings.allocator());
+    for (name, ty) in bindings.as_slice() {
+        copy.push((name.copied()?, ty.copied()?))?;
+    }
+    Ok(copy)
 }

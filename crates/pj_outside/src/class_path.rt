@@ -5,7 +5,8 @@ ghost use Rattle.pj_outside.specs.Files.{Files, IsAtMost};
 ghost use Rattle.pj_outside.specs.Doors.{ClassFolders, TakesFaults, opened, found_at, count_and};
 
 use crate::refused::{Reading, Refused};
-use pj_names::{ClassName, Names};
+use pj_base::Names;
+use pj_names::ClassName;
 
 /// A door to the class files of some folders, which one worker uses.
 pub trait ClassDoor: Send {

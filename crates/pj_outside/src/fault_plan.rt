@@ -4,7 +4,7 @@ ghost use Rattle.pj_outside.specs.InMemory.{new_plan, IsDue, called, failed};
 ghost use Rattle.pj_outside.specs.Faults.{Rises, next_count};
 
 use crate::refused::Failed;
-use pj_names::Numbers;
+use pj_base::Numbers;
 use std::marker::Model;
 
 /// The numbers of the calls that are to fail, and the counts of calls and faults. A count stands still at its type's

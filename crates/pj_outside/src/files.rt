@@ -5,7 +5,7 @@ ghost use Rattle.pj_outside.specs.Files.{bytes_at, reading_of};
 ghost use Rattle.pj_outside.specs.Doors.{class_file_of};
 
 use crate::refused::Reading;
-use pj_names::{Bytes, Copied, ListOf, NoMemory, Text};
+use pj_base::{Bytes, Copied, ListOf, NoMemory, Text};
 use std::alloc::{AllocError, Global};
 
 /// Pairs of a path and bytes. Where two have one path, the bytes of the first count.

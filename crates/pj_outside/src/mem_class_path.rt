@@ -1,5 +1,5 @@
 //! A class path in memory.
-ghost use Rattle.std.specs.Prelude.{◌≡◌, ◌≢◌, ◌↔◌, ◌++◌, ◌∷◌, [], Some, IfOk, IsErrOf, OnOk, OnErr, map};
+ghost use Rattle.std.specs.Prelude.{◌≡◌, ◌≢◌, ◌↔◌, ◌++◌, ◌∷◌, ◌==◌, [], Some, IfOk, IsErrOf, OnOk, OnErr, length, map};
 ghost use Rattle.std.specs.Option.{option_copied};
 ghost use Rattle.pj_outside.specs.Faults.{CountsFaults, next_count};
 ghost use Rattle.pj_outside.specs.Doors.{TakesFaults, files_of, count_and, fails_at};
@@ -10,7 +10,7 @@ use crate::fault_plan::FaultPlan;
 use crate::files::Files;
 use crate::mem_door::MemDoor;
 use crate::refused::Refused;
-use pj_names::{ListOf, Names, NoMemory, Numbers, Text};
+use pj_base::{Copied, ListOf, Names, NoMemory, Numbers, Text};
 use std::alloc::Global;
 use std::marker::Model;
 use std::sync::Arc;
@@ -56,6 +56,27 @@ impl Folders {
         Ok(())
     }
 
+    /// The number of folders.
+    pub fn len(&self) -> usize
+        ensures { result ≡ length self.now }
+    {
+        self.pairs.len()
+    }
+
+    /// Whether there are no folders.
+    pub fn is_empty(&self) -> bool
+        ensures { result ≡ (length self.now == 0) }
+    {
+        self.pairs.is_empty()
+    }
+
+    /// The folders with their files, borrowed.
+    pub fn as_slice(&self) -> &[(Text, Arc<Files>)]
+        ensures { map (λ pair. (pair.0, pair.1.value)) result.now ≡ self.now }
+    {
+        self.pairs.as_slice()
+    }
+
     /// The files of the first folder of the name, shared; no files where there is no such folder.
     fn files_of(&self, name: &str) -> Result<Arc<Files>, NoMemory>
         ensures { IfOk result (λ files. files.value ≡ files_of self.now name.now) }
@@ -66,6 +87,19 @@ impl Folders {
             }
         }
         Ok(Arc::new(self.alloc, Files::new(self.alloc))?)
+    }
+}
+
+impl Copied for Folders {
+    fn copied(&self) -> Result<Folders, NoMemory> {
+        let mut pairs = Vec::new(self.alloc);
+        for (name, files) in &self.pairs {
+            pairs.push((name.copied()?, files.clone()?))?;
+        }
+        Ok(Folders {
+            alloc: self.alloc,
+            pairs,
+        })
     }
 }
 

@@ -6,7 +6,7 @@ ghost use Rattle.pj_outside.specs.InMemory.{new_plan, IsDue, PlanAfterPut};
 use crate::fault_plan::FaultPlan;
 use crate::refused::Failed;
 use crate::sink::Sink;
-use pj_names::{Bytes, Numbers};
+use pj_base::{Bytes, Numbers};
 use std::alloc::Global;
 use std::marker::Model;
 use std::mem;

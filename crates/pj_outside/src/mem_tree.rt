@@ -9,7 +9,7 @@ use crate::fault_plan::FaultPlan;
 use crate::files::{Files, find_bytes, read_bytes};
 use crate::refused::{Reading, Refused};
 use crate::tree::Tree;
-use pj_names::{Copied, Names, NoMemory, Numbers};
+use pj_base::{Copied, Names, NoMemory, Numbers};
 use std::alloc::Global;
 use std::marker::Model;
 

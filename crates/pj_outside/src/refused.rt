@@ -2,7 +2,7 @@
 ghost use Rattle.std.specs.Prelude.{◌≡◌};
 ghost use Rattle.pj_outside.specs.declared.refused.Refused.TheVariants as refused;
 
-use pj_names::{Bytes, NoMemory};
+use pj_base::{Bytes, NoMemory};
 use std::alloc::{AllocError, AllocFailed};
 
 /// An object of the outside failed. Its count of faults rose.

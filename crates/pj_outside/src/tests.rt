@@ -3,7 +3,8 @@ use crate::{
     ClassDoor, ClassPath, Failed, Files, Folders, MemClassPath, MemDoor, MemSink, MemTree, Pairs,
     Reading, Refused, Sink, Tree,
 };
-use pj_names::{Bytes, ClassName, Names, Numbers, Text};
+use pj_base::{Bytes, Names, Numbers, Text};
+use pj_names::ClassName;
 use std::alloc::{AllocError, Global};
 use std::test::Fail;
 

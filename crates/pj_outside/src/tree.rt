@@ -4,7 +4,7 @@ ghost use Rattle.pj_outside.specs.Faults.{CountsFaults};
 ghost use Rattle.pj_outside.specs.Files.{Files, listed_at, read_at, HasPath, IsAtMost};
 
 use crate::refused::{Reading, Refused};
-use pj_names::Names;
+use pj_base::Names;
 
 /// A tree of source files, which both calls leave as it is.
 pub trait Tree {

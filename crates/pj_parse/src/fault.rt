@@ -1,7 +1,7 @@
 //! Why a source file has no syntax tree.
 
+use pj_base::NoMemory;
 use pj_lex::LexFault;
-use pj_names::NoMemory;
 use pj_tree::ShapeFault;
 use std::alloc::{AllocError, AllocFailed};
 

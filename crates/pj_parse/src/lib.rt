@@ -4,10 +4,6 @@
 mod fault;
 mod laws;
 mod parsing;
-#[cfg(test)]
-mod tests;
-#[cfg(test)]
-mod tests_rows;
 mod tokens;
 mod words;
 

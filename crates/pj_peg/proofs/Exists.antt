@@ -169,7 +169,7 @@ module _ (rules : List Form) (kinds : List ℕ) where
         (λ r f is below. has_rule r i f is (has_form i later f (known_rule r f is) (fed_rule r f is) (λ s lt begins. below s begins lt)))
 
     -- each form has an outcome where at most m tokens are left
-    has_near : (m i : ℕ) (f : Form) → length kinds ≤ i + m → Known f → Fed f → Has f i
+    pub has_near : (m i : ℕ) (f : Form) → length kinds ≤ i + m → Known f → Fed f → Has f i
     has_near zero i f near known fed =
         let later : Later i = λ j g lt le _ _. absurd (omega arith) in
         has_form i later f known fed (λ s lt _. has_here i later s lt)

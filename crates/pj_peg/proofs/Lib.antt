@@ -18,6 +18,7 @@ pub mod Placing
 pub mod Checking
 pub mod Going
 pub mod Filling
+pub mod Beginning
 pub mod Collecting
 pub mod Placed
 pub mod Decided

@@ -3,19 +3,18 @@ use Rattle.std.proofs.Common.{◌≡◌, ℕ, ◌+◌, ◌<◌, ◌≤◌, ◌�
 use Rattle.std.specs.Prelude.{slice_get, slice_set}
 use Rattle.std.proofs.lemmas.Bool.{cases_lt}
 use Rattle.std.proofs.lemmas.List.{length-set}
-use Rattle.pj_peg.specs.declared.analysis.Facts.{Facts}
-use Rattle.pj_peg.specs.Analysis.{is_set, unset, root_nullable, AddsNullable}
+use Rattle.pj_peg.specs.Analysis.{is_set, unset, root_bit, AddsRules}
 use Rattle.pj_peg.proofs.Sets.{set_cases, set_fewer}
 
-pub record IsTurn (facts : List Facts) (roots : List ℕ) (old now : List Bool) (added : Bool) (k : ℕ) : Type 0 where
-  pub adds : AddsNullable facts roots old now
+pub record IsTurn (bits : List Bool) (roots : List ℕ) (old now : List Bool) (added : Bool) (k : ℕ) : Type 0 where
+  pub adds : AddsRules bits roots old now
   pub same : added ≡ false → now ≡ old
   pub most : unset now ≤ unset old
   pub fewer : added ≡ true → unset now < unset old
-  pub closed : added ≡ false → (r : ℕ) → r < k → root_nullable facts roots r ≡ true → is_set old r ≡ true
+  pub closed : added ≡ false → (r : ℕ) → r < k → root_bit bits roots r ≡ true → is_set old r ≡ true
 
-pub turn_start : (facts : List Facts) (roots : List ℕ) (old : List Bool) → IsTurn facts roots old old false 0
-turn_start facts roots old = record {
+pub turn_start : (bits : List Bool) (roots : List ℕ) (old : List Bool) → IsTurn bits roots old old false 0
+turn_start bits roots old = record {
   adds = record { count = refl; sound = λ r t. inl t };
   same = λ e. refl;
   most = omega arith;
@@ -24,9 +23,9 @@ turn_start facts roots old = record {
 }
 
 -- the rule at k is not to be added
-pub turn_skips : (facts : List Facts) (roots : List ℕ) (old now : List Bool) (added : Bool) (k : ℕ) → IsTurn facts roots old now added k →
-    ((root_nullable facts roots k ≡ true → ⊥) ⊎ (is_set now k ≡ true)) → IsTurn facts roots old now added (k + 1)
-turn_skips facts roots old now added k turn skips = record {
+pub turn_skips : (bits : List Bool) (roots : List ℕ) (old now : List Bool) (added : Bool) (k : ℕ) → IsTurn bits roots old now added k →
+    ((root_bit bits roots k ≡ true → ⊥) ⊎ (is_set now k ≡ true)) → IsTurn bits roots old now added (k + 1)
+turn_skips bits roots old now added k turn skips = record {
   adds = turn.adds;
   same = turn.same;
   most = turn.most;
@@ -36,21 +35,21 @@ turn_skips facts roots old now added k turn skips = record {
       (λ (le : k ≤ r).
       let here : r ≡ k = omega arith in
       ⊎_elim
-      (λ (no : root_nullable facts roots k ≡ true → ⊥). absurd (no (subst (λ n. root_nullable facts roots n ≡ true) here t)))
+      (λ (no : root_bit bits roots k ≡ true → ⊥). absurd (no (subst (λ n. root_bit bits roots n ≡ true) here t)))
       (λ (is : is_set now k ≡ true). ap (is_set old) here ∙ ap (λ set. is_set set k) (sym (turn.same e)) ∙ is)
       skips)
       (cases_lt r k);
 }
 
 -- the rule at k is added
-pub turn_adds : (facts : List Facts) (roots : List ℕ) (old now new : List Bool) (added : Bool) (k : ℕ) → IsTurn facts roots old now added k →
-    root_nullable facts roots k ≡ true → is_set now k ≡ false → k < length now → new ≡ slice_set now k true → IsTurn facts roots old new true (k + 1)
-turn_adds facts roots old now new added k turn t not_yet lt is = subst (λ set. IsTurn facts roots old set true (k + 1)) (sym is) (record {
+pub turn_adds : (bits : List Bool) (roots : List ℕ) (old now new : List Bool) (added : Bool) (k : ℕ) → IsTurn bits roots old now added k →
+    root_bit bits roots k ≡ true → is_set now k ≡ false → k < length now → new ≡ slice_set now k true → IsTurn bits roots old new true (k + 1)
+turn_adds bits roots old now new added k turn t not_yet lt is = subst (λ set. IsTurn bits roots old set true (k + 1)) (sym is) (record {
   adds = record {
     count = length-set now k true ∙ turn.adds.count;
     sound = λ r e. ⊎_elim
         (λ (h : is_set now r ≡ true). turn.adds.sound r h)
-        (λ (h : r ≡ k). inr (ap (root_nullable facts roots) h ∙ t))
+        (λ (h : r ≡ k). inr (ap (root_bit bits roots) h ∙ t))
         (set_cases now k r e);
   };
   same = λ e. absurd (let z = e in cc);
@@ -59,8 +58,8 @@ turn_adds facts roots old now new added k turn t not_yet lt is = subst (λ set. 
   closed = λ e. absurd (let z = e in cc);
 })
 
-pub root_fact : (facts : List Facts) (roots : List ℕ) (r k : ℕ) (f : Facts) → slice_get roots r ≡ Some k → slice_get facts k ≡ Some f → root_nullable facts roots r ≡ f.nullable
-root_fact facts roots r k f at is = of (slice_get roots r) (slice_get facts k) at is
+pub root_is : (bits : List Bool) (roots : List ℕ) (r k : ℕ) (b : Bool) → slice_get roots r ≡ Some k → slice_get bits k ≡ Some b → root_bit bits roots r ≡ b
+root_is bits roots r k b at is = of (slice_get roots r) (slice_get bits k) at is
   where
-    of : (o : Option ℕ) (p : Option Facts) → slice_get roots r ≡ Some k → slice_get facts k ≡ Some f → root_nullable facts roots r ≡ f.nullable
+    of : (o : Option ℕ) (p : Option Bool) → slice_get roots r ≡ Some k → slice_get bits k ≡ Some b → root_bit bits roots r ≡ b
     of o p e h = simp (e, h) refl

@@ -1,6 +1,6 @@
 -- Tests of forms, by a set of rules that are taken to be able to take nothing.
 use Rattle.std.specs.Prelude.{◌≡◌, ℕ, suc, Bool, true, false, ◌&&◌, ◌||◌, ◌⊎◌, not, nat_lt, List, [], ◌∷◌, ◌++◌, length, Some, slice_get, slice_index_or, unwrap_or, if◌then◌else◌}
-use Rattle.std.specs.Option.{option_map, option_and_then}
+use Rattle.std.specs.Option.{option_and_then}
 use Rattle.pj_peg.specs.declared.analysis.Facts.{Facts}
 use Rattle.pj_peg.specs.Form.{Form, token, any, rule, nothing, seq, never, choice, star, maybe, ahead, not_ahead}
 use Rattle.pj_peg.specs.WellFormed.{IsNullable}
@@ -74,9 +74,9 @@ unset [] = 0
 unset (true ∷ bs) = unset bs
 unset (false ∷ bs) = suc (unset bs)
 
--- whether the fact of the rule's node is that it can take nothing
-abbrev pub root_nullable : List Facts → List ℕ → ℕ → Bool
-root_nullable facts roots r = unwrap_or (option_map (λ (f : Facts). f.nullable) (option_and_then (λ k. slice_get facts k) (slice_get roots r))) false
+-- whether the bit of the rule's node is set
+abbrev pub root_bit : List Bool → List ℕ → ℕ → Bool
+root_bit bits roots r = unwrap_or (option_and_then (λ k. slice_get bits k) (slice_get roots r)) false
 
 -- the rules that can take nothing
 pub record AreNullableRules (rules : List Form) (set : List Bool) : Type 0 where
@@ -84,7 +84,7 @@ pub record AreNullableRules (rules : List Form) (set : List Bool) : Type 0 where
   pub sound : (r : ℕ) → is_set set r ≡ true → IsNullable rules (rule r)
   pub closed : (r : ℕ) (f : Form) → slice_get rules r ≡ Some f → nullable_by (is_set set) f ≡ true → is_set set r ≡ true
 
--- rules were added to the set, of those whose fact says so
-pub record AddsNullable (facts : List Facts) (roots : List ℕ) (old new : List Bool) : Type 0 where
+-- rules were added to the set, of those whose bit says so
+pub record AddsRules (bits : List Bool) (roots : List ℕ) (old new : List Bool) : Type 0 where
   pub count : length new ≡ length old
-  pub sound : (r : ℕ) → is_set new r ≡ true → (is_set old r ≡ true) ⊎ (root_nullable facts roots r ≡ true)
+  pub sound : (r : ℕ) → is_set new r ≡ true → (is_set old r ≡ true) ⊎ (root_bit bits roots r ≡ true)

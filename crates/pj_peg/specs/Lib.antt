@@ -10,4 +10,5 @@ pub mod Graph
 pub mod Made
 pub mod Ends
 pub mod Filled
+pub mod Firsts
 pub mod Emit

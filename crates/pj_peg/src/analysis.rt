@@ -2,10 +2,10 @@ ghost use Rattle.std.specs.Prelude.{◌≡◌, ℕ, ◌&&◌, ◌||◌, ◌<◌,
 ghost use Rattle.std.specs.Bool.{OnTrue, OnFalse};
 ghost use Rattle.pj_peg.specs.Form.{Form};
 ghost use Rattle.pj_peg.specs.Program.{AreNodes, PartsBelow, IsProgram, node_form, forms_in, rules_of};
-ghost use Rattle.pj_peg.specs.Analysis.{facts_by, is_set, unset, root_nullable, AreNullableRules, AddsNullable};
+ghost use Rattle.pj_peg.specs.Analysis.{facts_by, is_set, unset, root_bit, AreNullableRules, AddsRules};
 
-use crate::NoMemory;
 use crate::program::{Node, Program};
+use pj_base::NoMemory;
 use std::alloc::Global;
 
 // What is to be known of a node: whether it can take nothing, whether it names only rules that are there, and whether no
@@ -101,25 +101,36 @@ pub fn facts_of(alloc: Global, program: &Program, empty: &[bool]) -> Result<Vec<
     Ok(facts)
 }
 
-// Adds the rules that can take nothing by the facts, and says whether there was one.
-fn add_nullable(roots: &[usize], facts: &[Facts], empty: &mut Vec<bool>) -> bool
-    requires roots { (r k : ℕ) → slice_get roots.now r ≡ Some k → k < length facts.now }
-    requires count { length empty.old.items ≡ length roots.now }
-    ensures adds { AddsNullable facts.now roots.now empty.old.items empty.new.items }
-    ensures fewer { OnTrue result (unset empty.new.items < unset empty.old.items) }
-    ensures unchanged { OnFalse result (empty.new.items ≡ empty.old.items) }
-    ensures closed { OnFalse result ((r : ℕ) → root_nullable facts.now roots.now r ≡ true → is_set empty.old.items r ≡ true) }
+// Of each fact whether the node can take nothing.
+fn nullable_bits(alloc: Global, facts: &[Facts]) -> Result<Vec<bool>, NoMemory>
+    ensures { IfOk result (λ bits. bits.items ≡ map (λ (f : Facts). f.nullable) facts.now) }
+{
+    let mut bits = Vec::new(alloc);
+    for fact in facts {
+        bits.push(fact.nullable)?;
+    }
+    Ok(bits)
+}
+
+// Adds to the set the rules whose node has its bit set, and says whether there was one.
+pub fn add_rules(roots: &[usize], bits: &[bool], set: &mut Vec<bool>) -> bool
+    requires roots { (r k : ℕ) → slice_get roots.now r ≡ Some k → k < length bits.now }
+    requires count { length set.old.items ≡ length roots.now }
+    ensures adds { AddsRules bits.now roots.now set.old.items set.new.items }
+    ensures fewer { OnTrue result (unset set.new.items < unset set.old.items) }
+    ensures unchanged { OnFalse result (set.new.items ≡ set.old.items) }
+    ensures closed { OnFalse result ((r : ℕ) → root_bit bits.now roots.now r ≡ true → is_set set.old.items r ≡ true) }
 {
     let mut added = false;
     for rule in 0..roots.len() {
         let root = roots[rule];
-        if !facts[root].nullable {
+        if !bits[root] {
             continue;
         }
-        if empty[rule] {
+        if set[rule] {
             continue;
         }
-        empty[rule] = true;
+        set[rule] = true;
         added = true;
     }
     added
@@ -134,7 +145,8 @@ pub fn nullable_rules(alloc: Global, program: &Program) -> Result<Vec<bool>, NoM
     empty.resize(program.roots.len(), false)?;
     loop {
         let facts = facts_of(alloc, program, &empty)?;
-        if !add_nullable(&program.roots, &facts, &mut empty) {
+        let bits = nullable_bits(alloc, &facts)?;
+        if !add_rules(&program.roots, &bits, &mut empty) {
             return Ok(empty);
         }
     }

@@ -2,8 +2,9 @@ ghost use Rattle.std.specs.Prelude.{◌≡◌, [], ◌∷◌, ◌++◌, length, 
 ghost use Rattle.pj_peg.specs.Form.{form_of, forms_of, seq_all, choice_all};
 ghost use Rattle.pj_peg.specs.Program.{AreNodes, AddsForm, IsProgram, rules_of};
 
+use crate::Item;
 use crate::program::{Node, Program};
-use crate::{Item, NoMemory};
+use pj_base::NoMemory;
 use std::alloc::Global;
 
 // Adds a node, and says its index.

@@ -1,15 +1,17 @@
 ghost use Rattle.std.specs.Prelude.{◌≡◌, ℕ, ◌+◌, ◌<◌, ◌≤◌, length, IfOk, Some, slice_get};
+ghost use Rattle.std.specs.Bool.{OnTrue};
 ghost use Rattle.pj_peg.specs.Form.{star as repetition};
 ghost use Rattle.pj_peg.specs.WellFormed.{IsWellFormed};
 ghost use Rattle.pj_peg.specs.Program.{IsProgram, form_at, forms_in, rules_of};
 ghost use Rattle.pj_peg.specs.Graph.{IsOrder};
-ghost use Rattle.pj_peg.specs.Ends.{Ends, AreTold, IsShaped};
+ghost use Rattle.pj_peg.specs.Ends.{Ends, AreTold, IsReady, IsShaped};
 ghost use Rattle.pj_peg.specs.Filled.{AreRulesTold};
+ghost use Rattle.pj_peg.specs.Firsts.{AreGoing, IsRuledOut};
 
-use crate::NoMemory;
 use crate::evaluate::end_of;
 use crate::program::Program;
 use crate::table::Table;
+use pj_base::NoMemory;
 use std::alloc::Global;
 
 // A rule that took the tokens from a place up to another.
@@ -20,10 +22,64 @@ pub struct Call {
     pub to: u32,
 }
 
-// Fills in where each rule ends from the place on. A rule stands in the order after those that it can call there.
-fn fill_rules(program: &Program, order: &[u16], kinds: &[u16], table: &mut Table, place: u32)
+// Whether the token at the place shows that the node takes nothing at all from there on.
+fn is_ruled_out(
+    program: &Program,
+    goings: &[Vec<bool>],
+    kinds: &[u16],
+    root: usize,
+    place: u32,
+) -> bool
+    requires goings { AreGoing program.now goings.now }
+    requires root { root < length program.now.nodes.items }
+    ensures { OnTrue result (IsRuledOut (rules_of program.now) kinds.now (form_at (forms_in program.now.nodes.items) root) place) }
+{
+    let Some(kind) = kinds.get(place as usize) else {
+        return false;
+    };
+    let Some(set) = goings.get(*kind as usize) else {
+        return false;
+    };
+    root < set.len() && !set[root]
+}
+
+// Where a node ends from a place on, by the token there or by a table that has what the node can call.
+fn end_at(
+    program: &Program,
+    goings: &[Vec<bool>],
+    kinds: &[u16],
+    table: &Table,
+    root: usize,
+    place: u32,
+) -> Option<u32>
     requires small { length kinds.now ≤ 200000 }
     requires program { IsProgram program.now }
+    requires well_formed { IsWellFormed (rules_of program.now) }
+    requires goings { AreGoing program.now goings.now }
+    requires root { root < length program.now.nodes.items }
+    requires within { place ≤ length kinds.now }
+    requires later { AreTold program.now kinds.now table.now (place + 1) }
+    requires ready { IsReady program.now kinds.now table.now (form_at (forms_in program.now.nodes.items) root) place }
+    ensures { Ends (rules_of program.now) kinds.now (form_at (forms_in program.now.nodes.items) root) place result }
+{
+    if is_ruled_out(program, goings, kinds, root, place) {
+        return None;
+    }
+    end_of(program, kinds, table, root, place)
+}
+
+// Fills in where each rule ends from the place on. A rule stands in the order after those that it can call there.
+fn fill_rules(
+    program: &Program,
+    goings: &[Vec<bool>],
+    order: &[u16],
+    kinds: &[u16],
+    table: &mut Table,
+    place: u32,
+)
+    requires small { length kinds.now ≤ 200000 }
+    requires program { IsProgram program.now }
+    requires goings { AreGoing program.now goings.now }
     requires well_formed { IsWellFormed (rules_of program.now) }
     requires order { IsOrder (rules_of program.now) order.now }
     requires within { place ≤ length kinds.now }
@@ -35,7 +91,7 @@ fn fill_rules(program: &Program, order: &[u16], kinds: &[u16], table: &mut Table
 {
     for rule in order {
         let root = program.roots[*rule as usize];
-        let end = end_of(program, kinds, table, root, place);
+        let end = end_at(program, goings, kinds, table, root, place);
         table.set(place, *rule as usize, end);
     }
 }
@@ -43,6 +99,7 @@ fn fill_rules(program: &Program, order: &[u16], kinds: &[u16], table: &mut Table
 // Where a repetition ends from the place on, by the rules' ends there.
 fn end_of_star(
     program: &Program,
+    goings: &[Vec<bool>],
     kinds: &[u16],
     table: &Table,
     star: usize,
@@ -50,6 +107,7 @@ fn end_of_star(
 ) -> Option<u32>
     requires small { length kinds.now ≤ 200000 }
     requires program { IsProgram program.now }
+    requires goings { AreGoing program.now goings.now }
     requires well_formed { IsWellFormed (rules_of program.now) }
     requires there { star < length program.now.stars.items }
     requires within { place ≤ length kinds.now }
@@ -59,16 +117,17 @@ fn end_of_star(
         Ends (rules_of program.now) kinds.now (repetition (form_at (forms_in program.now.nodes.items) a)) place result }
 {
     let part = program.stars[star];
-    match end_of(program, kinds, table, part, place) {
+    match end_at(program, goings, kinds, table, part, place) {
         None => Some(place),
         Some(turn) => table.end(turn, program.roots.len() + star),
     }
 }
 
 // Fills in where each repetition ends from the place on, by the rules' ends there.
-fn fill_stars(program: &Program, kinds: &[u16], table: &mut Table, place: u32)
+fn fill_stars(program: &Program, goings: &[Vec<bool>], kinds: &[u16], table: &mut Table, place: u32)
     requires small { length kinds.now ≤ 200000 }
     requires program { IsProgram program.now }
+    requires goings { AreGoing program.now goings.now }
     requires well_formed { IsWellFormed (rules_of program.now) }
     requires within { place ≤ length kinds.now }
     requires shape { IsShaped program.now kinds.now table.old }
@@ -78,7 +137,7 @@ fn fill_stars(program: &Program, kinds: &[u16], table: &mut Table, place: u32)
     ensures told { AreTold program.now kinds.now table.new place }
 {
     for star in 0..program.stars.len() {
-        let end = end_of_star(program, kinds, table, star, place);
+        let end = end_of_star(program, goings, kinds, table, star, place);
         let column = program.roots.len() + star;
         table.set(place, column, end);
     }
@@ -88,11 +147,13 @@ fn fill_stars(program: &Program, kinds: &[u16], table: &mut Table, place: u32)
 pub fn fill(
     alloc: Global,
     program: &Program,
+    goings: &[Vec<bool>],
     order: &[u16],
     kinds: &[u16],
 ) -> Result<Table, NoMemory>
     requires small { length kinds.now ≤ 200000 }
     requires program { IsProgram program.now }
+    requires goings { AreGoing program.now goings.now }
     requires well_formed { IsWellFormed (rules_of program.now) }
     requires order { IsOrder (rules_of program.now) order.now }
     ensures { IfOk result (λ table. AreTold program.now kinds.now table 0) }
@@ -102,8 +163,8 @@ pub fn fill(
     let mut place = kinds.len() + 1;
     while place > 0 {
         place -= 1;
-        fill_rules(program, order, kinds, &mut table, place as u32);
-        fill_stars(program, kinds, &mut table, place as u32);
+        fill_rules(program, goings, order, kinds, &mut table, place as u32);
+        fill_stars(program, goings, kinds, &mut table, place as u32);
     }
     Ok(table)
 }

@@ -3,12 +3,15 @@ ghost use Rattle.pj_peg.specs.Form.{forms_of};
 ghost use Rattle.pj_peg.specs.WellFormed.{IsWellFormed, IsFirstFault};
 ghost use Rattle.pj_peg.specs.Made.{IsAnalysis, IsMade};
 ghost use Rattle.pj_peg.specs.Graph.{IsPlacing, IsClosed};
+ghost use Rattle.pj_peg.specs.Firsts.{AreGoing};
 
 use crate::analysis::{Facts, facts_of, nullable_rules};
 use crate::compile::compile;
+use crate::firsts::goings;
 use crate::graph::{Placing, calls, fault_of, place_rules};
 use crate::program::Program;
-use crate::{Item, Items, NoMemory};
+use crate::{Item, Items};
+use pj_base::NoMemory;
 use std::alloc::Global;
 use std::marker::Model;
 
@@ -66,6 +69,7 @@ pub struct WellFormed {
     rules: Items,
     pub(crate) program: Program,
     pub(crate) order: Vec<u16>,
+    pub(crate) goings: Vec<Vec<bool>>,
 }
 
 impl Model for WellFormed {
@@ -82,7 +86,7 @@ impl Model for WellFormed {
 
     ghost view = { λ g. g.rules.items };
 
-    ghost invariant = { λ g. IsMade (forms_of g.rules.items) g.program g.order.items };
+    ghost invariant = { λ g. IsMade (forms_of g.rules.items) g.program g.order.items g.goings.items };
 }
 
 // What was found out of a grammar's rules.
@@ -92,6 +96,7 @@ struct Analysis {
     facts: Vec<Facts>,
     calls: Vec<Vec<u16>>,
     placing: Placing,
+    goings: Vec<Vec<bool>>,
 }
 
 // Finds out what is to be known of the rules.
@@ -100,17 +105,20 @@ fn analyse(alloc: Global, rules: &[Item]) -> Result<Analysis, NoMemory>
     ensures analysis { IfOk result (λ a. IsAnalysis (forms_of rules.now) a.program a.facts.items a.calls.items) }
     ensures placing { IfOk result (λ a. IsPlacing a.calls.items a.placing.order.items a.placing.placed.items) }
     ensures closed { IfOk result (λ a. IsClosed a.calls.items a.placing.placed.items) }
+    ensures goings { IfOk result (λ a. AreGoing a.program a.goings.items) }
 {
     let program = compile(alloc, rules)?;
     let empty = nullable_rules(alloc, &program)?;
     let facts = facts_of(alloc, &program, &empty)?;
     let calls = calls(alloc, &program, &facts)?;
     let placing = place_rules(alloc, &calls)?;
+    let goings = goings(alloc, &program, &empty)?;
     Ok(Analysis {
         program,
         facts,
         calls,
         placing,
+        goings,
     })
 }
 
@@ -175,6 +183,7 @@ impl WellFormed {
         requires analysis { IsAnalysis (forms_of rules.items) analysis.program analysis.facts.items analysis.calls.items }
         requires placing { IsPlacing analysis.calls.items analysis.placing.order.items analysis.placing.placed.items }
         requires closed { IsClosed analysis.calls.items analysis.placing.placed.items }
+        requires goings { AreGoing analysis.program analysis.goings.items }
         ensures { result ≡ rules.items }
     {
         let Analysis {
@@ -182,12 +191,14 @@ impl WellFormed {
             facts: _,
             calls: _,
             placing,
+            goings,
         } = analysis;
         let Placing { order, placed: _ } = placing;
         WellFormed {
             rules,
             program,
             order,
+            goings,
         }
     }
 

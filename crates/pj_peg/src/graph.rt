@@ -5,9 +5,10 @@ ghost use Rattle.pj_peg.specs.Program.{AreNodes, IsProgram, form_at, forms_in, r
 ghost use Rattle.pj_peg.specs.Analysis.{facts_by, is_set, unset, begun_by};
 ghost use Rattle.pj_peg.specs.Graph.{IsIn, calls_of, Comes, Marks, IsPlacing, IsClosed, IsFaultBy};
 
+use crate::GrammarFault;
 use crate::analysis::{Facts, has};
 use crate::program::{Node, Program};
-use crate::{GrammarFault, NoMemory};
+use pj_base::NoMemory;
 use std::alloc::Global;
 
 // Adds the rules that a node can call where it begins, by the facts of the nodes.

@@ -16,20 +16,17 @@ mod compile;
 mod derivation;
 mod evaluate;
 mod fill;
+mod firsts;
 mod grammar;
 mod graph;
 mod item;
 mod law;
-mod no_memory;
 mod program;
 mod runner;
 mod table;
-#[cfg(test)]
-mod tests;
 
 pub use derivation::{Derivation, Step};
 pub use grammar::{Grammar, GrammarFault, WellFormed};
 pub use item::{Item, Items};
 pub use law::one_outcome;
-pub use no_memory::NoMemory;
 pub use runner::run;

@@ -7,13 +7,13 @@ ghost use Rattle.pj_peg.specs.Program.{IsProgram, form_at, forms_in, rules_of};
 ghost use Rattle.pj_peg.specs.Ends.{Ends, Collects, AreTold, IsSafe};
 ghost use Rattle.pj_peg.specs.Emit.{opens, Opens, set_next};
 
-use crate::NoMemory;
 use crate::derivation::{Derivation, Step};
 use crate::evaluate::end_of;
 use crate::fill::{Call, fill};
 use crate::grammar::WellFormed;
 use crate::program::{Node, Program};
 use crate::table::Table;
+use pj_base::NoMemory;
 use std::alloc::Global;
 
 // Adds the calls by which a node takes what it takes from a place on, where it does not fail.
@@ -208,7 +208,7 @@ pub fn run(
     ensures places { IfOk result (λ found. IfSome found (All (λ step. (step.from ≤ step.to) × (step.to ≤ length kinds.now)))) }
 {
     let program = &grammar.program;
-    let table = fill(alloc, program, &grammar.order, kinds)?;
+    let table = fill(alloc, program, &grammar.goings, &grammar.order, kinds)?;
     match table.end(0, 0) {
         None => Ok(None),
         Some(to) => {

@@ -1,7 +1,7 @@
 ghost use Rattle.std.specs.Prelude.{◌≡◌, ℕ, ◌+◌, ◌-◌, ◌^◌, ◌<◌, List, IfOk, IfSome, IsSome};
 ghost use Rattle.pj_peg.specs.Table.{cell_at};
 
-use crate::NoMemory;
+use pj_base::NoMemory;
 use std::alloc::Global;
 use std::marker::Model;
 

@@ -5,7 +5,8 @@ ghost use Rattle.pj_peg.specs.Form.{form_of, forms_of};
 ghost use Rattle.pj_pieces.specs.Piece.{piece_on, decoded};
 
 use crate::piece::Piece;
-use pj_peg::{Item, Items, NoMemory};
+use pj_base::NoMemory;
+use pj_peg::{Item, Items};
 use std::alloc::Global;
 
 // Takes as many items from the top of the stack as there are, and at most `count`, the top one first.

@@ -6,8 +6,8 @@ ghost use Rattle.pj_pool.specs.PoolText.{pool_text};
 
 use crate::content::{Content, content_of};
 use crate::names::{dotted, identifiers};
+use pj_base::{NoMemory, Text};
 use pj_literals::string_value;
-use pj_names::{NoMemory, Text};
 use pj_tree::{Node, OwnTokens, SyntaxTree};
 use std::alloc::Global;
 

@@ -3,7 +3,7 @@
 ghost use Rattle.std.specs.Prelude.{◌≡◌, IfOk, filter, map};
 ghost use Rattle.pj_pool.specs.Names.{is_identifier, identifiers, dotted, texts_of};
 
-use pj_names::{NoMemory, Text};
+use pj_base::{NoMemory, Text};
 use pj_tree::OwnTokens;
 use std::alloc::Global;
 

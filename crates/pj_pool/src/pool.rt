@@ -6,7 +6,7 @@ ghost use Rattle.pj_pool.specs.Entries.{entry_of};
 ghost use Rattle.pj_pool.specs.PoolText.{text_in, IsPoolOf};
 
 use crate::entry::{Entry, kept_text};
-use pj_names::{NoMemory, Text};
+use pj_base::{NoMemory, Text};
 use pj_tree::{Node, SyntaxTree};
 use std::alloc::Global;
 use std::marker::Model;

@@ -8,7 +8,8 @@ ghost use Rattle.pj_shape.specs.Words.{AreTokens};
 use crate::kinds::is_variable;
 use crate::made::{Made, node_at};
 use crate::words::word;
-use pj_tree::{NoMemory, Span};
+use pj_base::NoMemory;
+use pj_tree::Span;
 use std::alloc::Global;
 use std::collections::BTreeSet;
 

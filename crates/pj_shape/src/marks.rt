@@ -12,7 +12,8 @@ use crate::declared::{declared_variables, is_declared_name};
 use crate::kinds::{is_field, is_name};
 use crate::made::{Made, node_at};
 use crate::words::{is_capital_word, word};
-use pj_tree::{Kind, NoMemory, Span};
+use pj_base::NoMemory;
+use pj_tree::{Kind, Span};
 use std::alloc::Global;
 
 /// What a node is among names.

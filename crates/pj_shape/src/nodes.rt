@@ -9,7 +9,8 @@ ghost use Rattle.pj_shape.specs.Flat.{flat};
 use crate::made::{Made, put_node};
 use crate::shape::{Shape, shape_at};
 use crate::turns::{Body, count_at, put_turns};
-use pj_peg::{Derivation, NoMemory};
+use pj_base::NoMemory;
+use pj_peg::Derivation;
 use pj_tree::Span;
 use std::alloc::Global;
 

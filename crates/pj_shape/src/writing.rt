@@ -11,7 +11,8 @@ ghost use Rattle.pj_shape.specs.Written.{begin_of, end_of};
 
 use crate::kinds::follows_type;
 use crate::made::{Made, node_at};
-use pj_tree::{Builder, Kind, NoMemory, Span};
+use pj_base::NoMemory;
+use pj_tree::{Builder, Kind, Span};
 use std::alloc::Global;
 
 /// A node whose children are being written.

@@ -6,7 +6,8 @@ ghost use Rattle.pj_signatures.specs.Seen.{seen_type, seen_method_types};
 use crate::names::{is_internal_name, name_of_internal};
 use crate::scan::{begins, behind, primitive_at, split_run};
 use crate::types::class_named;
-use pj_names::{NoMemory, Ty, TyList};
+use pj_base::NoMemory;
+use pj_names::{Ty, TyList};
 use std::alloc::Global;
 
 /// The class whose name in internal form ends before a semicolon.

@@ -8,8 +8,6 @@ mod parameters;
 mod read;
 mod scan;
 pub mod signature;
-#[cfg(test)]
-mod tests;
 mod types;
 
 pub use signature::{

@@ -6,7 +6,8 @@ ghost use Rattle.pj_signatures.specs.Reading.{identifier_at, path_at};
 ghost use Rattle.pj_signatures.specs.Seen.{seen_text};
 
 use crate::scan::{behind, split_run};
-use pj_names::{ClassName, NoMemory, Text};
+use pj_base::{NoMemory, Text};
+use pj_names::ClassName;
 use std::alloc::Global;
 
 /// Whether a text is a name without some signs.

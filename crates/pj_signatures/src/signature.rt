@@ -9,7 +9,8 @@ use crate::read::{
     read_class_signature, read_descriptor, read_field_signature, read_method_descriptor,
     read_method_signature,
 };
-use pj_names::{Bindings, NoMemory, Ty, TyList};
+use pj_base::NoMemory;
+use pj_names::{Bindings, Ty, TyList, copied_bindings, copied_types};
 use std::alloc::Global;
 
 /// The signature of a class (JVMS 4.7.9.1).
@@ -39,9 +40,9 @@ impl ClassSig {
     pub fn copied(&self) -> Result<ClassSig, NoMemory>
         ensures { IfOk result (λ copy. class_view copy ≡ class_view self.now) }
     {
-        let params = self.params.copied()?;
+        let params = copied_bindings(&self.params)?;
         let superclass = self.superclass.copied()?;
-        let interfaces = self.interfaces.copied()?;
+        let interfaces = copied_types(&self.interfaces)?;
         Ok(ClassSig {
             params,
             superclass,
@@ -55,8 +56,8 @@ impl MethodSig {
     pub fn copied(&self) -> Result<MethodSig, NoMemory>
         ensures { IfOk result (λ copy. method_view copy ≡ method_view self.now) }
     {
-        let params = self.params.copied()?;
-        let arguments = self.arguments.copied()?;
+        let params = copied_bindings(&self.params)?;
+        let arguments = copied_types(&self.arguments)?;
         let result = self.result.copied()?;
         Ok(MethodSig {
             params,

@@ -12,8 +12,13 @@ ghost use Rattle.pj_signatures.specs.Seen.{declared_of, seen_bound, seen_type, s
 
 use crate::names::{add_member, class_name, identifier_at, name_of_path, path_at};
 use crate::scan::{begins, begins_reference, behind, primitive_at};
-use pj_names::{NoMemory, Text, Ty, TyList, Types};
+use pj_base::{NoMemory, Text};
+use pj_names::{Ty, TyList, Types};
 use std::alloc::Global;
+
+/// How many type arguments may lie around a type, each counted with those before it in its list: a copy of a type, and
+/// its end, go as deep as that. Where a text has more, memory is wanted.
+pub const DEEPEST: u32 = 2000;
 
 /// The type variables that are declared where a type stands, with their bounds: those of its own signature, and then
 /// those around it.
@@ -23,6 +28,8 @@ pub struct Declared<'a> {
     pub own: &'a [(Text, Ty)],
     /// Those that are declared around it.
     pub around: &'a [(Text, Ty)],
+    /// How many more type arguments may lie around a type, `DEEPEST` at first.
+    pub room: u32,
 }
 
 /// The bound of the first variable of a name.
@@ -251,8 +258,14 @@ fn listed_at<'s>(
 {
     let mut arguments = TyList::new(alloc);
     let mut rest = text;
+    let mut room = declared.room;
     'arguments: while !begins(rest, b'>') {
-        let Some((argument, after)) = argument_at(alloc, declared, open_signs, rest)? else {
+        if room == 0 {
+            return Err(NoMemory);
+        }
+        room -= 1;
+        let below = Declared { own: declared.own, around: declared.around, room };
+        let Some((argument, after)) = argument_at(alloc, &below, open_signs, rest)? else {
             return Ok(None);
         };
         arguments.push(argument)?;

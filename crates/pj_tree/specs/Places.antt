@@ -4,11 +4,8 @@
 use Rattle.std.specs.Prelude.{ℕ, ◌≡◌, ◌+◌, ◌<◌, ◌==◌, nat_lt, Some, length, slice_get, slice_index_or, ◌&&◌, ◌||◌, not, Bool, false, if◌then◌else◌, List, [], ◌∷◌, ◌++◌, replicate}
 use Rattle.std.specs.Char.{len_utf8}
 use Rattle.std.specs.Str.{chars}
+use Rattle.pj_base.specs.Front.{starts_with}
 use Rattle.pj_tree.specs.declared.node.Place.{Place}
-
-abbrev pub starts_with : ℕ → List ℕ → Bool
-starts_with c [] = false
-starts_with c (x ∷ xs) = x == c
 
 -- whether the character c ends a line, where `rest` follows it; of a carriage return and a line feed only the second does, so that both stand on the line that they end
 abbrev pub ends_line : ℕ → List ℕ → Bool

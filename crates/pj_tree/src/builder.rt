@@ -7,8 +7,9 @@ ghost use Rattle.pj_tree.specs.Building.{started, opened, closed, owned, IsWhole
 use crate::kind::Kind;
 use crate::node::{Node, Span};
 use crate::row::{BEYOND, OwnToken, Row};
-use crate::shape_fault::{NoMemory, ShapeFault};
+use crate::shape_fault::ShapeFault;
 use crate::syntax_tree::SyntaxTree;
+use pj_base::NoMemory;
 use std::alloc::Global;
 use std::marker::Model;
 

@@ -14,14 +14,13 @@ mod row;
 mod run;
 mod shape_fault;
 mod syntax_tree;
-#[cfg(test)]
-mod tests;
 
 pub use builder::Builder;
+pub use characters::place_after;
 pub use children::Children;
 pub use kind::Kind;
 pub use line_map::LineMap;
 pub use node::{Node, Place, Span};
 pub use own_tokens::OwnTokens;
-pub use shape_fault::{NoMemory, ShapeFault};
+pub use shape_fault::ShapeFault;
 pub use syntax_tree::SyntaxTree;

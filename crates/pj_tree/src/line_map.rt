@@ -3,10 +3,10 @@
 ghost use Rattle.std.specs.Prelude.{◌≡◌, ◌+◌, ◌<◌, ◌≤◌, length, Some, IfOk, slice_get};
 ghost use Rattle.pj_tree.specs.Places.{places_of, ArePlacesOf};
 
-use crate::characters::{place_after, split_first};
+use crate::characters::place_after;
 use crate::node::Place;
 use crate::run::{Run, go_on};
-use crate::shape_fault::NoMemory;
+use pj_base::{NoMemory, split_first};
 use std::alloc::Global;
 use std::marker::Model;
 

@@ -4,7 +4,7 @@ ghost use Rattle.std.specs.Prelude.{◌≡◌, ◌+◌, ◌<◌, ◌≤◌, OnOk
 ghost use Rattle.pj_tree.specs.Runs.{AreRuns, Takes, SameBelow};
 
 use crate::node::Place;
-use crate::shape_fault::NoMemory;
+use pj_base::NoMemory;
 
 /// A run of characters on one line, each of which takes `width` bytes.
 #[derive(Clone, Copy, Debug)]

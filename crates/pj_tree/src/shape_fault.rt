@@ -1,22 +1,6 @@
 //! Refusals.
 
-use std::alloc::{AllocError, AllocFailed};
-
-/// Want of memory.
-#[derive(Clone, Copy, Debug, PartialEq, Eq)]
-pub struct NoMemory;
-
-impl From<AllocError> for NoMemory {
-    fn from(_: AllocError) -> Self {
-        NoMemory
-    }
-}
-
-impl<T: Drop> From<AllocFailed<T>> for NoMemory {
-    fn from(_: AllocFailed<T>) -> Self {
-        NoMemory
-    }
-}
+use pj_base::NoMemory;
 
 /// Why nodes make no tree.
 #[derive(Clone, Copy, Debug, PartialEq, Eq)]

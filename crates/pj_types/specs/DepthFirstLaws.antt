@@ -4,9 +4,9 @@ use Rattle.std.proofs.Common.{sym, ◌∙◌, ap, subst, arith, append-nil, appe
 use Rattle.std.proofs.lemmas.Bool.Decides.{nat_tests}
 use Rattle.pj_names.specs.declared.answer.Answer.{Answer}
 use Rattle.pj_names.specs.ClassName.{Name}
-use Rattle.pj_names.specs.Asking.{Asking, Return, Ask, bind, has_name, unvisited, hit_or, walk, value_of, ends_within, ends_at, ends_after}
+use Rattle.pj_names.specs.Asking.{Asking, Return, Ask, Unbounded, bind, has_name, unvisited, hit_or, walk}
 use Rattle.pj_names.specs.Asking as asking
-use Rattle.pj_names.specs.MeaningLaws.{bind-bind, value_of-bind}
+use Rattle.pj_names.specs.MeaningLaws.{bind-bind}
 use Rattle.pj_types.specs.DepthFirst.{in_turn, visit}
 
 -- A fact of each value that a meaning may have, whatever is answered.
@@ -14,18 +14,22 @@ use Rattle.pj_types.specs.DepthFirst.{in_turn, visit}
 abbrev pub AllValues : {A : Type 0} → (A → Type 0) → Asking A → Type 0
 AllValues P (Return v) = P v
 AllValues P (Ask n f) = (a : Answer) → AllValues P (f a)
+AllValues P (Unbounded f) = (d : ℕ) → AllValues P (f d)
 
 all-bind : {A B : Type 0} (P : B → Type 0) (m : Asking A) (k : A → Asking B) → ((v : A) → AllValues P (k v)) → AllValues P (bind m k)
 all-bind P (Return v) k all = all v
 all-bind P (Ask n f) k all = λ a. all-bind P (f a) k all
+all-bind P (Unbounded f) k all = λ d. all-bind P (f d) k all
 
 all-weaken : {A : Type 0} (P Q : A → Type 0) (m : Asking A) → ((v : A) → P v → Q v) → AllValues P m → AllValues Q m
 all-weaken P Q (Return v) weaken p = weaken v p
 all-weaken P Q (Ask n f) weaken p = λ a. all-weaken P Q (f a) weaken (p a)
+all-weaken P Q (Unbounded f) weaken p = λ d. all-weaken P Q (f d) weaken (p d)
 
 bind-alike : {A B : Type 0} (P : A → Type 0) (m : Asking A) (k h : A → Asking B) → AllValues P m → ((v : A) → P v → k v ≡ h v) → bind m k ≡ bind m h
 bind-alike P (Return v) k h p same = same v p
 bind-alike P (Ask n f) k h p same = λ i. Ask n (λ a. bind-alike P (f a) k h (p a) same i)
+bind-alike P (Unbounded f) k h p same = λ i. Unbounded (λ d. bind-alike P (f d) k h (p d) same i)
 
 module _ {A B : Type 0} (name_of : A → Name) (test : A → Asking (Option B)) (next : A → Asking (List A)) where
   abbrev goes : ℕ → List A → List A → Asking (Option B × List A)
@@ -148,31 +152,3 @@ module _ {A B : Type 0} (name_of : A → Name) (test : A → Asking (Option B)) 
             ap (λ b. if b then Return (None, found) else new) (not_full n found here is)
             ∙ either n (λ more. deeper more (found ++ x ∷ []) (omega (arith, left_over, is, deep)) ∙ (λ i. goes (left_over i) (found ++ x ∷ []) (sym (append-nil more) i))) here
             ∙ (λ i. goes (is i) found (x ∷ []))
-
--- Where the list is shorter than its limit, the walk came to its end.
-module _ {A B : Type 0} (name_of : A → Name) (test : A → Asking (Option B)) (next : A → Asking (List A)) (w : Name → Answer) where
-  abbrev list : ℕ → List A → List A → List A
-  list n found xs = (value_of w (walk name_of test next n found xs)).1
-
-  abbrev list_on : ℕ → List A → List A → List A
-  list_on n found xs = (value_of w (goes_on name_of test next n found xs)).1
-
-  pub short-ends : (n : ℕ) (found xs : List A) → length (list n found xs) < n + length found → IsTrue (ends_within name_of test next w n found xs)
-  short-ends zero found xs short = absurd (omega (arith, short))
-  short-ends (suc n) found xs short =
-      elim (unvisited name_of (has_name (map name_of found)) xs) as (λ u. length (list_on n found u) < suc n + length found
-      → IsTrue (ends_after name_of test next w (λ more_found still. ends_within name_of test next w n more_found still) found u)) [
-        | [] ↦ λ short. refl
-        | x ∷ rest ↦ λ short. at x rest (λ shorter. short-ends n (found ++ x ∷ []) (value_of w (next x) ++ rest) shorter) (value_of w (test x))
-            (subst (λ (o : Option B × List A). length o.1 < suc n + length found)
-            (value_of-bind w (test x) (λ hit. hit_or name_of test next hit (found ++ x ∷ []) (bind (next x) (λ more. walk name_of test next n (found ++ x ∷ []) (more ++ rest))))) short)
-      ] short
-    where
-      at : (x : A) (rest : List A) → (length (list n (found ++ x ∷ []) (value_of w (next x) ++ rest)) < n + length (found ++ x ∷ []) → IsTrue (ends_within name_of test next w n (found ++ x ∷ []) (value_of w (next x) ++ rest)))
-          → (hit : Option B) → length (value_of w (hit_or name_of test next hit (found ++ x ∷ []) (bind (next x) (λ more. walk name_of test next n (found ++ x ∷ []) (more ++ rest))))).1 < suc n + length found
-          → IsTrue (ends_at name_of test next w hit (ends_within name_of test next w n (found ++ x ∷ []) (value_of w (next x) ++ rest)))
-      at x rest onward (Some h) few = refl
-      at x rest onward None few =
-          let fewer : length (list n (found ++ x ∷ []) (value_of w (next x) ++ rest)) < suc n + length found
-          = subst (λ (o : Option B × List A). length o.1 < suc n + length found) (value_of-bind w (next x) (λ more. walk name_of test next n (found ++ x ∷ []) (more ++ rest))) few in
-          onward (omega (arith, fewer, length-append found (x ∷ [])))

@@ -10,5 +10,8 @@ pub mod Visited
 pub mod Standing
 pub mod Listing
 pub mod ListingLaws
-pub mod Limits
+pub mod FiniteLaws
 pub mod SubtypingLaws
+pub mod Stepped
+pub mod Members
+pub mod Along

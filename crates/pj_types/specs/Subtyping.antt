@@ -1,5 +1,5 @@
 -- Subtyping, JLS 4.10.
-use Rattle.std.specs.Prelude.{ℕ, ◌==◌, Bool, true, false, ◌||◌, List, [], ◌∷◌, Option, Some, None, codes, if◌then◌else◌, nat_eq}
+use Rattle.std.specs.Prelude.{◌==◌, Bool, true, false, ◌||◌, List, [], ◌∷◌, Option, Some, None, codes, if◌then◌else◌, nat_eq}
 use Rattle.std.specs.List.{list_any}
 use Rattle.std.specs.Cmp.Lexicographic.{pointwise}
 use denote.Enum.Declared.{tag_of}
@@ -7,11 +7,10 @@ use Rattle.pj_names.specs.contracts.ty.PrimitiveType as primitives
 use Rattle.pj_names.specs.declared.ty.PrimitiveType.{PrimitiveType}
 use Rattle.pj_names.specs.declared.ty.PrimitiveType.TheVariants.{Boolean, Byte, Short, Int, Long, Char, Float, Double}
 use Rattle.pj_names.specs.ClassName.{Name, is_object}
-use Rattle.pj_names.specs.Classes.{most_classes}
 use Rattle.pj_names.specs.JavaType.{JavaType, Primitive, Void, Null, Class, Array, Variable, Unknown}
 use Rattle.pj_names.specs.Asking.{Asking, Return, bind}
 use Rattle.pj_types.specs.Substitution.{erased}
-use Rattle.pj_types.specs.Supertypes.{search_within}
+use Rattle.pj_types.specs.Supertypes.{search}
 
 -- A primitive type with those above it, JLS 4.10.1, the nearest first: each is a direct supertype of the one before it.
 abbrev pub from_float : List PrimitiveType
@@ -54,13 +53,13 @@ abbrev pub is_hit : {A : Type 0} → Option A → Bool
 is_hit None = false
 is_hit (Some hit) = true
 
--- whether a class is on the list of supertypes of another one, of at most so many members: it is looked for along the list
-unfoldable pub is_on_list : ℕ → Name → Name → Asking Bool
-is_on_list most lower upper = bind (search_within most (is_named upper) lower) (λ outcome. Return (is_hit outcome.0))
+-- whether a class is on the list of supertypes of another one: it is looked for along the list
+unfoldable pub is_on_list : Name → Name → Asking Bool
+is_on_list lower upper = bind (search (is_named upper) lower) (λ outcome. Return (is_hit outcome.0))
 
 -- A class is under the classes of its list of supertypes. Equal names are looked at first, without asking.
-unfoldable pub is_class_under : ℕ → Name → Name → Asking Bool
-is_class_under most lower upper = if pointwise nat_eq lower upper then Return true else is_on_list most lower upper
+unfoldable pub is_class_under : Name → Name → Asking Bool
+is_class_under lower upper = if pointwise nat_eq lower upper then Return true else is_on_list lower upper
 
 -- the classes above every array, JLS 4.10.3
 abbrev pub is_above_arrays : Name → Bool
@@ -105,14 +104,14 @@ primitive_under lower (Variable name bound) = false
 primitive_under lower Unknown = false
 
 -- a class, below a type
-abbrev pub class_under : ℕ → Name → JavaType → Asking Bool
-class_under most lower (Primitive prim) = Return false
-class_under most lower Void = Return false
-class_under most lower Null = Return false
-class_under most lower (Class upper arguments) = is_class_under most lower upper
-class_under most lower (Array member) = Return false
-class_under most lower (Variable name bound) = Return false
-class_under most lower Unknown = Return false
+abbrev pub class_under : Name → JavaType → Asking Bool
+class_under lower (Primitive prim) = Return false
+class_under lower Void = Return false
+class_under lower Null = Return false
+class_under lower (Class upper arguments) = is_class_under lower upper
+class_under lower (Array member) = Return false
+class_under lower (Variable name bound) = Return false
+class_under lower Unknown = Return false
 
 -- the same primitive type
 abbrev pub is_primitive : PrimitiveType → JavaType → Bool
@@ -144,20 +143,16 @@ as_member (Array member) under upper = under upper
 as_member (Variable name bound) under upper = under upper
 as_member Unknown under upper = under upper
 
--- A type without type variables, below another one. `void` and the type that is not known are below themselves alone. A
--- list of supertypes has at most so many members.
-unfoldable pub erased_under : ℕ → JavaType → JavaType → Asking Bool
-erased_under most (Primitive prim) upper = Return (primitive_under prim upper)
-erased_under most Void upper = Return (is_void upper)
-erased_under most Null upper = Return (is_null_under upper)
-erased_under most (Class name arguments) upper = class_under most name upper
-erased_under most (Array member) upper = array_under (as_member member (erased_under most member)) upper
-erased_under most (Variable name bound) upper = Return false
-erased_under most Unknown upper = Return (is_unknown upper)
+-- A type without type variables, below another one. `void` and the type that is not known are below themselves alone.
+unfoldable pub erased_under : JavaType → JavaType → Asking Bool
+erased_under (Primitive prim) upper = Return (primitive_under prim upper)
+erased_under Void upper = Return (is_void upper)
+erased_under Null upper = Return (is_null_under upper)
+erased_under (Class name arguments) upper = class_under name upper
+erased_under (Array member) upper = array_under (as_member member (erased_under member)) upper
+erased_under (Variable name bound) upper = Return false
+erased_under Unknown upper = Return (is_unknown upper)
 
 -- A type is under another one where its erasure is under that one's.
-abbrev pub is_under_within : ℕ → JavaType → JavaType → Asking Bool
-is_under_within most lower upper = erased_under most (erased lower) (erased upper)
-
 abbrev pub is_under : JavaType → JavaType → Asking Bool
-is_under lower upper = is_under_within most_classes lower upper
+is_under lower upper = erased_under (erased lower) (erased upper)

@@ -4,8 +4,7 @@ use Rattle.pj_names.specs.declared.answer.Answer.{Answer}
 use Rattle.pj_names.specs.declared.answer.Answer.TheVariants.{Found, Absent, Broken}
 use Rattle.pj_names.specs.ClassName.{Name, is_object}
 use Rattle.pj_names.specs.JavaType.{JavaType, Primitive, Void, Null, Class, Array, Variable, Unknown, Arguments, NoMore, Argument}
-use Rattle.pj_names.specs.Asking.{Asking, Return, bind, look_up, has_name, unvisited}
-use Rattle.pj_names.specs.Classes.{most_classes}
+use Rattle.pj_names.specs.Asking.{Asking, Return, Unbounded, bind, look_up, has_name, unvisited}
 use Rattle.pj_signatures.specs.Types.{ClassTypes}
 use Rattle.pj_signatures.specs.Reading.{class_signature_of}
 use Rattle.pj_types.specs.Substitution.{substituted, erased}
@@ -98,20 +97,32 @@ name_of class = class.name
 abbrev pub on_listed : {B : Type 0} → (JavaType → Asking (Option B)) → Listed → Asking (Option B)
 on_listed test class = test (given_type class)
 
--- The supertypes of a class along which a test is tried, up to its first hit: the class, then depth first its superclass,
--- then its interfaces in order; a class that was visited is skipped. It gives the hit, if there is one, and the list up to
--- there. A list has at most so many members.
+-- The supertypes of a class along which a test is tried, up to its first hit, where at most so many classes are visited.
 unfoldable pub search_within : {B : Type 0} → ℕ → (JavaType → Asking (Option B)) → Name → Asking (Option B × List JavaType)
 search_within most test name =
     bind (visit name_of (on_listed test) direct most most [] (first_listed name)) (λ outcome. Return (outcome.0, map given_type outcome.1))
+
+-- The supertypes of a class along which a test is tried, up to its first hit: the class, then depth first its superclass,
+-- then its interfaces in order; a class that was visited is skipped. It gives the hit, if there is one, and the list up to
+-- there. No number bounds the recursion.
+abbrev pub search : {B : Type 0} → (JavaType → Asking (Option B)) → Name → Asking (Option B × List JavaType)
+search test name = Unbounded (λ most. search_within most test name)
 
 -- nothing is a hit
 abbrev pub no_hit : JavaType → Asking (Option (Unit {0}))
 no_hit ty = Return None
 
--- the whole list of supertypes
+-- the list of a search
+abbrev pub list_of : {B : Type 0} → Asking (Option B × List JavaType) → Asking (List JavaType)
+list_of found = bind found (λ outcome. Return outcome.1)
+
+-- the whole list of supertypes, where it has at most so many members
 abbrev pub supertypes_within : ℕ → Name → Asking (List JavaType)
-supertypes_within most name = bind (search_within most no_hit name) (λ outcome. Return outcome.1)
+supertypes_within most name = list_of (search_within most no_hit name)
+
+-- the whole list of supertypes
+abbrev pub supertype_list : Name → Asking (List JavaType)
+supertype_list name = list_of (search no_hit name)
 
 -- the name of a class
 abbrev pub class_name : JavaType → Name
@@ -125,7 +136,7 @@ class_name Unknown = []
 
 -- the names of the whole list of supertypes
 abbrev pub supertypes_of : Name → Asking (List Name)
-supertypes_of name = bind (supertypes_within most_classes name) (λ types. Return (map class_name types))
+supertypes_of name = bind (supertype_list name) (λ types. Return (map class_name types))
 
 -- Where a walk stands: the classes that it gave, and those that it is still to visit, the next one first. What the class
 -- given last leads to is not yet among these.

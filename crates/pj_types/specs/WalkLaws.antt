@@ -5,12 +5,10 @@ use Rattle.std.proofs.lemmas.List.{map-append, length-map}
 use Rattle.pj_names.specs.declared.answer.Answer.{Answer}
 use Rattle.pj_names.specs.ClassName.{Name, is_object}
 use Rattle.pj_names.specs.JavaType.{JavaType}
-use Rattle.pj_names.specs.Asking.{Asking, Return, ask, bind, walk, value_of, names_of, ends_within}
+use Rattle.pj_names.specs.Asking.{Asking, Return, ask, bind, walk, value_of, names_of}
 use Rattle.pj_names.specs.Asking as asking
-use Rattle.pj_names.specs.Meaning.{over, whole, after}
-use Rattle.pj_names.specs.MeaningLaws.{bind-bind, value_of-bind, names_of-bind, over-bind, walk-suc, ends_within-suc}
-use Rattle.pj_types.specs.DepthFirst.{visit}
-use Rattle.pj_types.specs.DepthFirstLaws.{visits-walk, short-ends}
+use Rattle.pj_names.specs.MeaningLaws.{bind-bind, value_of-bind, names_of-bind}
+use Rattle.pj_types.specs.DepthFirstLaws.{visits-walk}
 use Rattle.pj_types.specs.Supertypes.{Listed, first_listed, given_type, name_of, on_listed, direct, search_within, no_hit, supertypes_within, Standing, begin, after_last, last_asked, given_next, of_known, still_left, step}
 
 -- What is still to come of a search from where the walk stands, where at most so many more classes are visited.
@@ -65,43 +63,6 @@ search-onward most test name =
     (visits-walk name_of (on_listed test) direct most most [] (first_listed name) (omega arith)
     ∙ (λ i. walk name_of (on_listed test) direct (all i) [] (first_listed name ∷ [])))
 
--- No limit: where the list is shorter than the limit, it is the same with each greater one, and the same names are asked.
-
-module _ {B : Type 0} (test : JavaType → Asking (Option B)) (name : Name) (w : Name → Answer) where
-  abbrev goes : ℕ → Asking (Option B × List Listed)
-  goes n = walk name_of (on_listed test) direct n [] (first_listed name ∷ [])
-
-  abbrev ends : ℕ → Type 0
-  ends n = IsTrue (ends_within name_of (on_listed test) direct w n [] (first_listed name ∷ []))
-
-  search-goes : (n : ℕ) → search_within n test name ≡ bind (goes n) (λ o. Return (as_types o))
-  unfolding onward
-  search-goes n = search-onward n test name
-
-  ends-more : (k most : ℕ) → ends most → ends (k + most)
-  ends-more zero most h = let same : most ≡ 0 + most = omega arith in subst ends same h
-  ends-more (suc k) most h = let same : suc (k + most) ≡ suc k + most = omega arith in subst ends same (ends_within-suc name_of (on_listed test) direct w (k + most) [] (first_listed name ∷ []) (ends-more k most h))
-
-  goes-more : (k most : ℕ) → ends most → over (whole w) (goes (k + most)) ≡ over (whole w) (goes most)
-  goes-more zero most h = let same : 0 + most ≡ most = omega arith in ap (λ n. over (whole w) (goes n)) same
-  goes-more (suc k) most h =
-      let same : suc k + most ≡ suc (k + most) = omega arith in
-      ap (λ n. over (whole w) (goes n)) same
-      ∙ walk-suc name_of (on_listed test) direct w (k + most) [] (first_listed name ∷ []) (ends-more k most h)
-      ∙ goes-more k most h
-
-  over-search : (n : ℕ) → over (whole w) (search_within n test name) ≡ after (over (whole w) (goes n)) (λ o. over (whole w) (Return (as_types o)))
-  over-search n = ap (λ m. over (whole w) m) (search-goes n) ∙ over-bind (whole w) (goes n) (λ o. Return (as_types o))
-
-  pub search-limit : (k most : ℕ) → length (value_of w (search_within most test name)).1 < most → over (whole w) (search_within (k + most) test name) ≡ over (whole w) (search_within most test name)
-  search-limit k most short =
-      let value : value_of w (search_within most test name) ≡ as_types (value_of w (goes most))
-      = ap (λ m. value_of w m) (search-goes most) ∙ value_of-bind w (goes most) (λ o. Return (as_types o)) in
-      let shorter : length (value_of w (goes most)).1 < most
-      = subst (λ l. l < most) (ap (λ (o : Option B × List JavaType). length o.1) value ∙ length-map (value_of w (goes most)).1 given_type) short in
-      let ended : ends most = short-ends name_of (on_listed test) direct w most [] (first_listed name ∷ []) (omega (arith, shorter)) in
-      over-search (k + most) ∙ ap (λ r. after r (λ o. over (whole w) (Return (as_types o)))) (goes-more k most ended) ∙ sym (over-search most)
-
 -- The first answers of a walk.
 
 abbrev pub and_more : (Standing → Asking (List JavaType)) → Option JavaType → Standing → Asking (List JavaType)
@@ -113,49 +74,49 @@ abbrev pub answers : ℕ → Standing → Asking (List JavaType)
 answers zero standing = Return []
 answers (suc n) standing = bind (step standing) (λ o. and_more (answers n) o.0 o.1)
 
-module _ (w : Name → Answer) where
+module _ (d : ℕ) (w : Name → Answer) where
   abbrev next_of : Standing → Option JavaType × Standing
-  next_of standing = given_next standing (still_left standing.given (value_of w (after_last standing.given) ++ standing.to_visit))
+  next_of standing = given_next standing (still_left standing.given (value_of d w (after_last standing.given) ++ standing.to_visit))
 
-  step-value : (standing : Standing) → value_of w (step standing) ≡ next_of standing
+  step-value : (standing : Standing) → value_of d w (step standing) ≡ next_of standing
   unfolding step
-  step-value standing = value_of-bind w (after_last standing.given) (λ more. Return (given_next standing (still_left standing.given (more ++ standing.to_visit))))
+  step-value standing = value_of-bind d w (after_last standing.given) (λ more. Return (given_next standing (still_left standing.given (more ++ standing.to_visit))))
 
-  answers-suc : (n : ℕ) (standing : Standing) → value_of w (answers (suc n) standing) ≡ value_of w (and_more (answers n) (next_of standing).0 (next_of standing).1)
-  answers-suc n standing = value_of-bind w (step standing) (λ o. and_more (answers n) o.0 o.1) ∙ ap (λ (o : Option JavaType × Standing). value_of w (and_more (answers n) o.0 o.1)) (step-value standing)
+  answers-suc : (n : ℕ) (standing : Standing) → value_of d w (answers (suc n) standing) ≡ value_of d w (and_more (answers n) (next_of standing).0 (next_of standing).1)
+  answers-suc n standing = value_of-bind d w (step standing) (λ o. and_more (answers n) o.0 o.1) ∙ ap (λ (o : Option JavaType × Standing). value_of d w (and_more (answers n) o.0 o.1)) (step-value standing)
 
-  onward-suc : (n : ℕ) (standing : Standing) → value_of w (onward no_hit (suc n) standing) ≡ value_of w (tested no_hit n (next_of standing).0 (next_of standing).1)
+  onward-suc : (n : ℕ) (standing : Standing) → value_of d w (onward no_hit (suc n) standing) ≡ value_of d w (tested no_hit n (next_of standing).0 (next_of standing).1)
   onward-suc n standing =
-      ap (λ m. value_of w m) (onward-step no_hit n standing)
-      ∙ value_of-bind w (step standing) (λ o. tested no_hit n o.0 o.1)
-      ∙ ap (λ (o : Option JavaType × Standing). value_of w (tested no_hit n o.0 o.1)) (step-value standing)
+      ap (λ m. value_of d w m) (onward-step no_hit n standing)
+      ∙ value_of-bind d w (step standing) (λ o. tested no_hit n o.0 o.1)
+      ∙ ap (λ (o : Option JavaType × Standing). value_of d w (tested no_hit n o.0 o.1)) (step-value standing)
 
-  more-value : (more : Standing → Asking (List JavaType)) (ty : JavaType) (standing : Standing) → value_of w (and_more more (Some ty) standing) ≡ ty ∷ value_of w (more standing)
-  more-value more ty standing = value_of-bind w (more standing) (λ types. Return (ty ∷ types))
+  more-value : (more : Standing → Asking (List JavaType)) (ty : JavaType) (standing : Standing) → value_of d w (and_more more (Some ty) standing) ≡ ty ∷ value_of d w (more standing)
+  more-value more ty standing = value_of-bind d w (more standing) (λ types. Return (ty ∷ types))
 
   -- what a search without hits comes to is what was given, and then all answers
-  onward-answers : (n : ℕ) (standing : Standing) → map given_type (value_of w (onward no_hit n standing)).1 ≡ map given_type standing.given ++ value_of w (answers n standing)
+  onward-answers : (n : ℕ) (standing : Standing) → map given_type (value_of d w (onward no_hit n standing)).1 ≡ map given_type standing.given ++ value_of d w (answers n standing)
   unfolding onward
   onward-answers zero standing =
-      ap (λ (o : Option (Unit {0}) × List Listed). map given_type o.1) (value_of-bind w (after_last standing.given) (λ more. Return (None, standing.given)))
+      ap (λ (o : Option (Unit {0}) × List Listed). map given_type o.1) (value_of-bind d w (after_last standing.given) (λ more. Return (None, standing.given)))
       ∙ sym (append-nil (map given_type standing.given))
   onward-answers (suc n) standing =
       ap (λ (o : Option (Unit {0}) × List Listed). map given_type o.1) (onward-suc n standing)
-      ∙ at (still_left standing.given (value_of w (after_last standing.given) ++ standing.to_visit)) (λ further. onward-answers n further)
+      ∙ at (still_left standing.given (value_of d w (after_last standing.given) ++ standing.to_visit)) (λ further. onward-answers n further)
       ∙ ap (λ l. map given_type standing.given ++ l) (sym (answers-suc n standing))
     where
-      at : (left : List Listed) → ((further : Standing) → map given_type (value_of w (onward no_hit n further)).1 ≡ map given_type further.given ++ value_of w (answers n further))
-          → map given_type (value_of w (tested no_hit n (given_next standing left).0 (given_next standing left).1)).1
-          ≡ map given_type standing.given ++ value_of w (and_more (answers n) (given_next standing left).0 (given_next standing left).1)
+      at : (left : List Listed) → ((further : Standing) → map given_type (value_of d w (onward no_hit n further)).1 ≡ map given_type further.given ++ value_of d w (answers n further))
+          → map given_type (value_of d w (tested no_hit n (given_next standing left).0 (given_next standing left).1)).1
+          ≡ map given_type standing.given ++ value_of d w (and_more (answers n) (given_next standing left).0 (given_next standing left).1)
       at [] further = sym (append-nil (map given_type standing.given))
       at (class ∷ rest) further =
           further (record { given = standing.given ++ class ∷ []; to_visit = rest })
-          ∙ ap (λ l. l ++ value_of w (answers n (record { given = standing.given ++ class ∷ []; to_visit = rest }))) (map-append given_type standing.given (class ∷ []))
-          ∙ append_assoc (map given_type standing.given) (given_type class ∷ []) (value_of w (answers n (record { given = standing.given ++ class ∷ []; to_visit = rest })))
+          ∙ ap (λ l. l ++ value_of d w (answers n (record { given = standing.given ++ class ∷ []; to_visit = rest }))) (map-append given_type standing.given (class ∷ []))
+          ∙ append_assoc (map given_type standing.given) (given_type class ∷ []) (value_of d w (answers n (record { given = standing.given ++ class ∷ []; to_visit = rest })))
           ∙ ap (λ l. map given_type standing.given ++ l) (sym (more-value (answers n) (given_type class) (record { given = standing.given ++ class ∷ []; to_visit = rest })))
 
   -- fewer answers are the first ones
-  answers-take : (n m : ℕ) (standing : Standing) → n ≤ m → value_of w (answers n standing) ≡ take n (value_of w (answers m standing))
+  answers-take : (n m : ℕ) (standing : Standing) → n ≤ m → value_of d w (answers n standing) ≡ take n (value_of d w (answers m standing))
   answers-take zero m standing h = refl
   answers-take (suc n) zero standing h = absurd (omega arith)
   answers-take (suc n) (suc m) standing h =
@@ -163,55 +124,38 @@ module _ (w : Name → Answer) where
       ∙ at (next_of standing).0 (next_of standing).1 (answers-take n m (next_of standing).1 (omega arith))
       ∙ ap (λ l. take (suc n) l) (sym (answers-suc m standing))
     where
-      at : (next : Option JavaType) (further : Standing) → value_of w (answers n further) ≡ take n (value_of w (answers m further))
-          → value_of w (and_more (answers n) next further) ≡ take (suc n) (value_of w (and_more (answers m) next further))
+      at : (next : Option JavaType) (further : Standing) → value_of d w (answers n further) ≡ take n (value_of d w (answers m further))
+          → value_of d w (and_more (answers n) next further) ≡ take (suc n) (value_of d w (and_more (answers m) next further))
       at None further same = refl
       at (Some ty) further same = more-value (answers n) ty further ∙ ap (λ l. ty ∷ l) same ∙ ap (λ l. take (suc n) l) (sym (more-value (answers m) ty further))
 
   -- The first answers of a walk are the first members of the list.
-  pub answers-prefix : (n most : ℕ) (name : Name) → n ≤ most → value_of w (answers n (begin name)) ≡ take n (value_of w (supertypes_within most name))
+  pub answers-prefix : (n most : ℕ) (name : Name) → n ≤ most → value_of d w (answers n (begin name)) ≡ take n (value_of d w (supertypes_within most name))
   answers-prefix n most name h =
       answers-take n most (begin name) h
       ∙ ap (λ l. take n l) (sym (
-      value_of-bind w (search_within most no_hit name) (λ outcome. Return outcome.1)
-      ∙ ap (λ (m : Asking (Option (Unit {0}) × List JavaType)). (value_of w m).1) (search-onward most no_hit name)
-      ∙ ap (λ (o : Option (Unit {0}) × List JavaType). o.1) (value_of-bind w (onward no_hit most (begin name)) (λ o. Return (as_types o)))
+      value_of-bind d w (search_within most no_hit name) (λ outcome. Return outcome.1)
+      ∙ ap (λ (m : Asking (Option (Unit {0}) × List JavaType)). (value_of d w m).1) (search-onward most no_hit name)
+      ∙ ap (λ (o : Option (Unit {0}) × List JavaType). o.1) (value_of-bind d w (onward no_hit most (begin name)) (λ o. Return (as_types o)))
       ∙ onward-answers most (begin name)))
 
--- No limit is part of the whole list.
-pub supertypes-limit : (w : Name → Answer) (name : Name) (k most : ℕ) → length (value_of w (supertypes_within most name)) < most
-    → over (whole w) (supertypes_within (k + most) name) ≡ over (whole w) (supertypes_within most name)
-supertypes-limit w name k most short =
-    let shorter : length (value_of w (search_within most no_hit name)).1 < most
-    = subst (λ (l : List JavaType). length l < most) (value_of-bind w (search_within most no_hit name) (λ outcome. Return outcome.1)) short in
-    over-bind (whole w) (search_within (k + most) no_hit name) (λ outcome. Return outcome.1)
-    ∙ ap (λ r. after r (λ (outcome : Option (Unit {0}) × List JavaType). over (whole w) (Return outcome.1))) (search-limit no_hit name w k most shorter)
-    ∙ sym (over-bind (whole w) (search_within most no_hit name) (λ outcome. Return outcome.1))
-
 -- A step asks the class given last and nothing else.
-pub step-asks : (w : Name → Answer) (standing : Standing) → names_of w (step standing) ≡ last_asked standing.given
+pub step-asks : (d : ℕ) (w : Name → Answer) (standing : Standing) → names_of d w (step standing) ≡ last_asked standing.given
 unfolding step direct
-step-asks w standing =
-    names_of-bind w (after_last standing.given) (λ more. Return (given_next standing (still_left standing.given (more ++ standing.to_visit))))
-    ∙ append-nil (names_of w (after_last standing.given)) ∙ last standing.given
+step-asks d w standing =
+    names_of-bind d w (after_last standing.given) (λ more. Return (given_next standing (still_left standing.given (more ++ standing.to_visit))))
+    ∙ append-nil (names_of d w (after_last standing.given)) ∙ last standing.given
   where
     own : (class : Listed) (b : Bool)
-        → names_of w (bind (let m : Asking (Option Answer) = (if b then Return None else bind (ask class.name) (λ answer. Return (Some answer))) in m) (λ known. Return (of_known class.arguments known)))
+        → names_of d w (bind (let m : Asking (Option Answer) = (if b then Return None else bind (ask class.name) (λ answer. Return (Some answer))) in m) (λ known. Return (of_known class.arguments known)))
         ≡ (if b then [] else class.name ∷ [])
     own class true = refl
     own class false = refl
 
-    one : (class : Listed) → names_of w (direct class) ≡ (if is_object class.name then [] else class.name ∷ [])
+    one : (class : Listed) → names_of d w (direct class) ≡ (if is_object class.name then [] else class.name ∷ [])
     one class = own class (is_object class.name)
 
-    last : (given : List Listed) → names_of w (after_last given) ≡ last_asked given
+    last : (given : List Listed) → names_of d w (after_last given) ≡ last_asked given
     last [] = refl
     last (class ∷ []) = one class
     last (class ∷ (second ∷ more)) = last (second ∷ more)
-
--- The depth is no bound of its own.
-pub depth-free : {B : Type 0} (test : JavaType → Asking (Option B)) (name : Name) (most depth : ℕ) → most ≤ depth
-    → visit name_of (on_listed test) direct most depth [] (first_listed name) ≡ visit name_of (on_listed test) direct most most [] (first_listed name)
-depth-free test name most depth h =
-    visits-walk name_of (on_listed test) direct most depth [] (first_listed name) (omega arith)
-    ∙ sym (visits-walk name_of (on_listed test) direct most most [] (first_listed name) (omega arith))

@@ -4,13 +4,16 @@
 pub mod hierarchy;
 pub mod laws;
 mod listed;
+pub mod members;
 pub mod substitution;
 pub mod subtyping;
 #[cfg(test)]
 mod tests;
 pub mod walk;
 
-pub use hierarchy::supertypes;
+pub use hierarchy::{supertype_list, supertypes};
+pub use listed::paired;
+pub use members::{Field, Method, Methods, copied_methods};
 pub use substitution::{erase, substitute};
 pub use subtyping::is_subtype;
 pub use walk::Walk;

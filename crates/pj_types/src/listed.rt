@@ -7,9 +7,8 @@ ghost use Rattle.pj_types.specs.Supertypes.{classes_by, direct, given_type, of_a
 ghost use Rattle.pj_types.specs.Seen.{listed, seen_arguments, seen_bindings, written_by, all_listed};
 
 use crate::substitution::{erase, substitute};
-use pj_names::{
-    Answer, AskFault, Bindings, ClassName, Copied, ListOf, NoMemory, Oracle, Ty, Types, look_up,
-};
+use pj_base::{Copied, ListOf, NoMemory};
+use pj_names::{Answer, AskFault, Bindings, ClassName, Oracle, Ty, Types, look_up};
 use pj_signatures::{ClassSig, class_signature};
 use std::alloc::Global;
 
@@ -76,9 +75,9 @@ impl Writing {
     }
 }
 
-/// Type parameters, each with its argument, or `None` where they are not as many.
+/// Type parameters, each with its argument, or `None` where they are not as many (JLS 4.5).
 #[tactic(auto, using(crate::proofs::Pairs::turns))]
-fn paired(
+pub fn paired(
     alloc: Global,
     parameters: &Bindings,
     arguments: &Types,
@@ -163,7 +162,7 @@ fn signature_of(alloc: Global, answer: &Answer) -> Result<Option<ClassSig>, NoMe
 }
 
 /// The direct supertypes of a class, from what is known of it.
-fn of_answer(
+pub fn of_answer(
     alloc: Global,
     arguments: &Option<Types>,
     answer: &Answer,

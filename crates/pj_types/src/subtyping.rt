@@ -1,10 +1,8 @@
 //! Subtyping (JLS 4.10).
-ghost use Rattle.std.specs.Prelude.{◌≡◌, IsTrue, OnOk};
+ghost use Rattle.std.specs.Prelude.{◌≡◌};
 ghost use Rattle.pj_names.specs.JavaType.{java_type};
-ghost use Rattle.pj_names.specs.Classes.{most_classes};
 ghost use Rattle.pj_names.specs.Told.{Asks};
-ghost use Rattle.pj_types.specs.Limits.{IsUnlimited};
-ghost use Rattle.pj_types.specs.Subtyping.{class_under, erased_under, is_above_arrays, is_class_of, is_class_under, is_null_under, is_on_list, is_primitive, is_primitive_under, is_under, is_under_within, primitive_under};
+ghost use Rattle.pj_types.specs.Subtyping.{class_under, erased_under, is_above_arrays, is_class_of, is_class_under, is_null_under, is_on_list, is_primitive, is_primitive_under, is_under, primitive_under};
 
 use crate::hierarchy::MOST_CLASSES;
 use crate::substitution::erase;
@@ -81,8 +79,7 @@ fn is_on_list<O: Oracle>(
     lower: &ClassName,
     upper: &ClassName,
 ) -> Result<bool, AskFault>
-    ensures asks { Asks (is_on_list most_classes lower.now upper.now) (O.tells oracle.old) (O.tells oracle.new) result }
-    ensures limit { IsTrue (O.tells oracle.old).is_told → OnOk result (IsUnlimited (O.tells oracle.old).world.answer most_classes (λ most. is_on_list most lower.now upper.now)) }
+    ensures { Asks (is_on_list lower.now upper.now) (O.tells oracle.old) (O.tells oracle.new) result }
 {
     let mut walk = Walk::of(alloc, lower)?;
     for _class in 0..MOST_CLASSES {
@@ -104,8 +101,7 @@ fn is_class_under<O: Oracle>(
     lower: &ClassName,
     upper: &ClassName,
 ) -> Result<bool, AskFault>
-    ensures asks { Asks (is_class_under most_classes lower.now upper.now) (O.tells oracle.old) (O.tells oracle.new) result }
-    ensures limit { IsTrue (O.tells oracle.old).is_told → OnOk result (IsUnlimited (O.tells oracle.old).world.answer most_classes (λ most. is_class_under most lower.now upper.now)) }
+    ensures { Asks (is_class_under lower.now upper.now) (O.tells oracle.old) (O.tells oracle.new) result }
 {
     if lower == upper {
         return Ok(true);
@@ -121,8 +117,7 @@ fn class_under<O: Oracle>(
     lower: &ClassName,
     upper: &Ty,
 ) -> Result<bool, AskFault>
-    ensures asks { Asks (class_under most_classes lower.now (java_type upper.now)) (O.tells oracle.old) (O.tells oracle.new) result }
-    ensures limit { IsTrue (O.tells oracle.old).is_told → OnOk result (IsUnlimited (O.tells oracle.old).world.answer most_classes (λ most. class_under most lower.now (java_type upper.now))) }
+    ensures { Asks (class_under lower.now (java_type upper.now)) (O.tells oracle.old) (O.tells oracle.new) result }
 {
     match upper {
         Ty::Class(upper, _) => is_class_under(alloc, oracle, lower, upper),
@@ -138,8 +133,7 @@ fn erased_under<O: Oracle>(
     lower: &Ty,
     upper: &Ty,
 ) -> Result<bool, AskFault>
-    ensures asks { Asks (erased_under most_classes (java_type lower.now) (java_type upper.now)) (O.tells oracle.old) (O.tells oracle.new) result }
-    ensures limit { IsTrue (O.tells oracle.old).is_told → OnOk result (IsUnlimited (O.tells oracle.old).world.answer most_classes (λ most. erased_under most (java_type lower.now) (java_type upper.now))) }
+    ensures { Asks (erased_under (java_type lower.now) (java_type upper.now)) (O.tells oracle.old) (O.tells oracle.new) result }
 {
     match (lower, upper) {
         (Ty::Prim(prim), _) => Ok(primitive_under(*prim, upper)),
@@ -163,8 +157,8 @@ fn erased_under<O: Oracle>(
 /// under `java.lang.Object`, `java.lang.Cloneable` and `java.io.Serializable`. A primitive type is under itself and the wider
 /// ones. `void` and the type that is not known are under themselves alone.
 ///
-/// No limit is part of the answer: where a list of supertypes would have more than 4,294,967,294 members and the class is not
-/// among these, memory is wanted.
+/// No number bounds the search: where a list of supertypes has more members than a list can hold and the class is not among
+/// the first of them, memory is wanted.
 #[tactic(auto, using(pj_names::specs::AskingLaws::asking_steps))]
 pub fn is_subtype<O: Oracle>(
     alloc: Global,
@@ -172,8 +166,7 @@ pub fn is_subtype<O: Oracle>(
     lower: &Ty,
     upper: &Ty,
 ) -> Result<bool, AskFault>
-    ensures asks { Asks (is_under (java_type lower.now) (java_type upper.now)) (O.tells oracle.old) (O.tells oracle.new) result }
-    ensures limit { IsTrue (O.tells oracle.old).is_told → OnOk result (IsUnlimited (O.tells oracle.old).world.answer most_classes (λ most. is_under_within most (java_type lower.now) (java_type upper.now))) }
+    ensures { Asks (is_under (java_type lower.now) (java_type upper.now)) (O.tells oracle.old) (O.tells oracle.new) result }
 {
     let lower = erase(alloc, lower)?;
     let upper = erase(alloc, upper)?;

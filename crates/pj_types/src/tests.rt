@@ -1,8 +1,9 @@
 //! Worked rows by hand, and each public call once with ample memory.
 use crate::*;
+use pj_base::{Copied, NoMemory, Text};
 use pj_names::{
-    Answer, Answers, AskFault, Bindings, ClassInfo, ClassName, Copied, MapOracle, Members,
-    NoMemory, Oracle, Text, Ty, Types,
+    Answer, Answers, AskFault, Bindings, ClassInfo, ClassName, MapOracle, Members, Oracle, Ty,
+    Types,
 };
 use pj_signatures::field_signature;
 use std::alloc::Global;
@@ -259,7 +260,9 @@ impl Oracle for Chain {
     ghost use Rattle.std.specs.FinSet as set;
     ghost use Rattle.pj_names.specs.AnswerList.{list_world};
 
-    ghost tells = { λ chain. record { is_told = false; world = list_world []; below = []; asked = set.empty; faults = 0 } };
+    ghost Kept = { Unit {0} };
+
+    ghost tells = { λ chain. record { is_told = false; world = λ depth. list_world []; kept = tt; asked = set.empty; faults = 0 } };
 
     fn ask(&mut self, name: &ClassName) -> Result<Arc<Answer>, AskFault> {
         self.asked = self.asked.saturating_add(1);

@@ -7,10 +7,13 @@ ghost use Rattle.pj_names.specs.Told.{Asks, seen};
 ghost use Rattle.pj_signatures.specs.Seen.{seen_option};
 ghost use Rattle.pj_types.specs.Supertypes.{after_last, begin, given_next, given_type, name_of, step, still_left};
 ghost use Rattle.pj_types.specs.Seen.{all_listed, listed};
+ghost use Rattle.pj_types.specs.Stepped.{after_known, asked_name, known_answer, stepped};
+ghost use Rattle.pj_types.specs.Supertypes.{last_asked};
 ghost use Rattle.pj_types.specs.Standing.{standing, after_step, given_types};
 
-use crate::listed::{ListedClass, ListedClasses, direct_supertypes};
-use pj_names::{AskFault, ClassName, ClassNameSet, Copied, NoMemory, Oracle, Ty};
+use crate::listed::{ListedClass, ListedClasses, direct_supertypes, of_answer};
+use pj_base::{Copied, NoMemory};
+use pj_names::{Answer, AskFault, ClassName, ClassNameSet, Oracle, Ty};
 use std::alloc::Global;
 use std::marker::Model;
 
@@ -116,7 +119,55 @@ fn give(
     }
 }
 
+/// The class that is asked after these were given: the last one, unless that is `java.lang.Object`.
+#[tactic(auto, using(crate::proofs::LastKnown::last_known))]
+fn asked_after(given: &ListedClasses) -> Option<&ClassName>
+    ensures { asked_name result ≡ last_asked (all_listed given.now) }
+{
+    let given = given.as_slice();
+    if given.is_empty() {
+        return None;
+    }
+    let last = &given[given.len() - 1].name;
+    if last.is_object() { None } else { Some(last) }
+}
+
+/// What the class given last leads to, from what is known of it.
+#[tactic(auto, using(crate::proofs::LastKnown::last_known))]
+fn after_known(
+    alloc: Global,
+    given: &ListedClasses,
+    known: Option<&Answer>,
+) -> Result<ListedClasses, NoMemory>
+    ensures { IfOk result (λ classes. all_listed classes ≡ after_known (all_listed given.now) (known_answer known.entry)) }
+{
+    let given = given.as_slice();
+    let Some(answer) = known else {
+        return Ok(ListedClasses::new(alloc));
+    };
+    if given.is_empty() {
+        return Ok(ListedClasses::new(alloc));
+    }
+    of_answer(alloc, &given[given.len() - 1].arguments, answer)
+}
+
 impl Walk {
+    /// The class that the next step asks: the one that was given last, unless that is `java.lang.Object`.
+    pub fn asks(&self) -> Option<&ClassName>
+        ensures { asked_name result ≡ last_asked (standing self.now).given }
+    {
+        asked_after(&self.given)
+    }
+
+    /// The next step, where it is known what is asked there, without asking. After an `Err` the walk is unchanged.
+    pub fn go_on(&mut self, known: Option<&Answer>) -> Result<Option<Ty>, NoMemory>
+        ensures value { IfOk result (λ next. after_step self.new next ≡ stepped (standing self.old) (known_answer known.entry)) }
+        ensures unchanged { OnErr result (self.new ≡ self.old) }
+    {
+        let more = after_known(self.alloc, &self.given, known)?;
+        self.advance(more)
+    }
+
     /// The walk along the supertypes of a class, where it begins: nothing is asked.
     pub fn of(alloc: Global, class: &ClassName) -> Result<Walk, NoMemory>
         ensures { IfOk result (λ walk. standing walk ≡ begin class.now) }

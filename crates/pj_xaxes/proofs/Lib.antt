@@ -1,4 +1,5 @@
 pub mod Ancestry
+pub mod Inside
 pub mod Ordered
 pub mod Picking
 pub mod Siblings

@@ -10,4 +10,4 @@ mod tests;
 
 pub use law::ordered_is_a_filter;
 pub use nodes::{AxisNodes, axis};
-pub use order::in_order;
+pub use order::{in_order, is_same_position};

@@ -1,5 +1,5 @@
 //! The nodes of an axis.
-ghost use Rattle.std.specs.Prelude.{◌≡◌, ◌<◌, ◌≤◌, length};
+ghost use Rattle.std.specs.Prelude.{◌≡◌, ◌<◌, ◌≤◌, length, All};
 ghost use Rattle.std.specs.Iterator.{YieldsFirst, item_count};
 ghost use Rattle.pj_xaxes.specs.Axes.{axis_nodes};
 
@@ -37,7 +37,8 @@ impl<'t> Model for AxisNodes<'t> {
 /// the first (XPath 2.0, 3.2.1.1).
 pub fn axis<'t>(tree: &'t SyntaxTree<'t>, a: Axis, n: Node) -> AxisNodes<'t>
     requires { n.0 < length tree.now.nodes }
-    ensures { result ≡ axis_nodes tree.now a n }
+    ensures nodes { result ≡ axis_nodes tree.now a n }
+    ensures inside { All (λ m. m.0 < length tree.now.nodes) result }
 {
     let (low, high) = window(tree, a, n);
     AxisNodes {

@@ -1,9 +1,10 @@
 //! Document order.
-ghost use Rattle.std.specs.Prelude.{◌≡◌, map, IsTrue};
+ghost use Rattle.std.specs.Prelude.{◌≡◌, ℕ, map, IsTrue};
 ghost use Rattle.std.specs.List.Sorted.{IsStrictlySortedBy};
 ghost use Rattle.std.specs.Ordering.{eq_by_cmp};
 ghost use Rattle.pj_xaxes.specs.Standing.{standing};
 ghost use Rattle.pj_xvalue.specs.Items.{ItemValue, value_of_item, values_of, are_nodes};
+ghost use Rattle.pj_xvalue.specs.OfTree.{OfTree};
 ghost use Rattle.pj_xaxes.specs.Order.{position_of, document_order, ordered, has_item};
 
 use pj_xvalue::{Item, Sequence};
@@ -37,8 +38,8 @@ fn order_position(item: &Item<'_>) -> Position
     }
 }
 
-/// Whether both items stand at one position.
-fn is_at(item: &Item<'_>, other: &Item<'_>) -> bool
+/// Whether both items stand at one position in document order, as two nodes do exactly where they are one.
+pub fn is_same_position(item: &Item<'_>, other: &Item<'_>) -> bool
     ensures { result ≡ eq_by_cmp document_order (value_of_item item.now) (value_of_item other.now) }
 {
     order_position(item).cmp(&order_position(other)) == Ordering::Equal
@@ -50,10 +51,11 @@ pub fn in_order(items: Sequence<'_>) -> Sequence<'_>
     requires { IsTrue (are_nodes (values_of items)) }
     ensures value { values_of result ≡ ordered (values_of items.entry) }
     ensures ascending { IsStrictlySortedBy document_order (values_of result) }
+    ensures of_tree { (nodes : ℕ) → OfTree nodes (values_of items.entry) → OfTree nodes (values_of result) }
     ensures members { (x : ItemValue) → has_item (values_of result) x ≡ has_item (values_of items.entry) x }
 {
     let mut held = items.into_vec();
     held.sort_unstable_by_key(|item| order_position(item));
-    held.dedup_by(|item, last| is_at(item, last));
+    held.dedup_by(|item, last| is_same_position(item, last));
     Sequence::from_vec(held)
 }

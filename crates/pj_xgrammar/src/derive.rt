@@ -10,7 +10,8 @@ ghost use Rattle.pj_xgrammar.specs.XPath.{xpath_grammar};
 
 use crate::grammar::pieces;
 use crate::terminal::{Behind, Terminal};
-use pj_ll::{End, NoMemory, Run, Table, parse};
+use pj_base::NoMemory;
+use pj_ll::{End, Run, Table, parse};
 use pj_xtokens::Token;
 use std::alloc::Global;
 

@@ -7,7 +7,7 @@ ghost use Rattle.pj_xmeaning.specs.Meaning.{behind_first, to_rule, beginnings};
 ghost use Rattle.pj_xmeaning.specs.Seen.{beginning_of};
 
 use crate::form::{Slot, slots_of};
-use pj_names::NoMemory;
+use pj_base::NoMemory;
 use pj_xtokens::Token;
 use std::alloc::Global;
 use std::marker::Model;

@@ -8,7 +8,7 @@ ghost use Rattle.pj_xmeaning.specs.Values.{change_value, single_value};
 use crate::action::{Change, Single};
 use crate::part::Part;
 use crate::step::{axis_step, child_step, descendants, filtered, kind_test, relative, rooted};
-use pj_names::NoMemory;
+use pj_base::NoMemory;
 use pj_xvalue::{Axis, Expr, NodeTest};
 use std::alloc::Global;
 

@@ -7,7 +7,7 @@ ghost use Rattle.pj_xmeaning.specs.Values.{binder_value, binding_value, choice_v
 
 use crate::action::Binder;
 use crate::part::Part;
-use pj_names::NoMemory;
+use pj_base::NoMemory;
 use pj_xvalue::Expr;
 use std::alloc::Global;
 

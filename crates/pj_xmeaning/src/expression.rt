@@ -19,7 +19,7 @@ use crate::part::Part;
 use crate::parts::{put, take};
 use crate::rest::rest;
 use crate::step::step;
-use pj_names::NoMemory;
+use pj_base::NoMemory;
 use pj_xtokens::Token;
 use pj_xvalue::Expr;
 use std::alloc::Global;

@@ -2,7 +2,7 @@
 
 ghost use Rattle.std.specs.Prelude.{◌≡◌, ◌≢◌, ◌==◌, [], ◌∷◌, length, IfOk, MatchResult};
 
-use pj_names::NoMemory;
+use pj_base::NoMemory;
 use std::alloc::Global;
 use std::marker::Model;
 

@@ -7,7 +7,7 @@ ghost use Rattle.pj_xmeaning.specs.Values.{leaf_value};
 use crate::action::Leaf;
 use crate::literal::{integer_value, string_value};
 use crate::part::Part;
-use pj_names::{NoMemory, Text};
+use pj_base::{NoMemory, Text};
 use pj_xvalue::{Expr, NodeTest};
 use std::alloc::Global;
 

@@ -4,7 +4,7 @@ ghost use Rattle.std.specs.Prelude.{◌≡◌, ◌++◌, false, IfOk, OnOk, opti
 ghost use Rattle.std.specs.Str.{chars, encode_utf8_all};
 ghost use Rattle.pj_xmeaning.specs.Literals.{number_from, if_it_fits, integer_of, unquoted, characters_of, is_left_out, kept};
 
-use pj_names::{NoMemory, Text};
+use pj_base::{NoMemory, Text};
 use std::alloc::Global;
 
 // The number of the digits, where it is an integer of 64 bits.

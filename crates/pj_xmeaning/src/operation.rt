@@ -8,7 +8,7 @@ ghost use Rattle.pj_xmeaning.specs.Values.{mixed, comparison, range, chain_const
 use crate::action::{Chain, Operation};
 use crate::front::Front;
 use crate::part::Part;
-use pj_names::NoMemory;
+use pj_base::NoMemory;
 use pj_xvalue::{Additive, Expr, Multiplicative, SetOperator};
 use std::alloc::Global;
 

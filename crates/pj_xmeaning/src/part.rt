@@ -5,7 +5,7 @@ ghost use Rattle.pj_xmeaning.specs.Trees.{tree_of};
 ghost use Rattle.pj_xmeaning.specs.Parts.{value_of, operand_of, expression, expressions, sums, products, sets, bindings, word, test};
 
 use crate::front::Front;
-use pj_names::Text;
+use pj_base::Text;
 use pj_xvalue::{Additive, Compare, Expr, Multiplicative, NodeTest, SetOperator};
 use std::alloc::Global;
 

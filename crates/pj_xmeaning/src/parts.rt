@@ -5,7 +5,7 @@ ghost use Rattle.pj_xmeaning.specs.Parts.{value_of, values_of};
 ghost use Rattle.pj_xmeaning.specs.Values.{top, behind};
 
 use crate::part::Part;
-use pj_names::NoMemory;
+use pj_base::NoMemory;
 
 /// Takes the first one off; where there is none it is no value.
 #[tactic(auto, using(crate::proofs::Values::top_of_pushed, crate::proofs::Values::behind_pushed))]

@@ -7,7 +7,7 @@ ghost use Rattle.pj_xmeaning.specs.Values.{rest_value};
 use crate::action::Rest;
 use crate::part::Part;
 use crate::step::descendants;
-use pj_names::NoMemory;
+use pj_base::NoMemory;
 use std::alloc::Global;
 
 /// What a production makes of the values of its rules.

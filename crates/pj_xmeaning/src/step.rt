@@ -10,7 +10,7 @@ use crate::action::{Kind, Step};
 use crate::front::Front;
 use crate::name::{Callee, axis_named, function_named};
 use crate::part::Part;
-use pj_names::{NoMemory, Text};
+use pj_base::{NoMemory, Text};
 use pj_xvalue::{Axis, Expr, NodeTest};
 use std::alloc::Global;
 

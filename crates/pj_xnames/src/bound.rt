@@ -4,7 +4,7 @@ ghost use Rattle.std.specs.Prelude.{◌≡◌, ◌∷◌, [], drop, OnOk};
 ghost use Rattle.pj_xvalue.specs.Attributes.{is_among};
 ghost use Rattle.pj_xnames.specs.Bound.{count_in, names_of, IsCounted};
 
-use pj_names::NoMemory;
+use pj_base::NoMemory;
 use std::alloc::Global;
 use std::collections::BTreeMap;
 

@@ -11,7 +11,7 @@ use crate::operand::one;
 use crate::part::{Part, Piece, before, mentions_in};
 use crate::role::{Role, roles_named};
 use crate::token::first_from;
-use pj_names::NoMemory;
+use pj_base::NoMemory;
 use pj_xmeaning::function_named;
 use pj_xtokens::Token;
 use std::alloc::Global;

@@ -9,7 +9,7 @@ use crate::named::{Named, Spelling};
 use crate::operand::one;
 use crate::part::Part;
 use crate::token::{begins_with_name, behind_first, first_from, first_text};
-use pj_names::NoMemory;
+use pj_base::NoMemory;
 use pj_xtokens::Token;
 use std::alloc::Global;
 

@@ -13,7 +13,7 @@ use crate::bound::BoundNames;
 use crate::mentions::mentions;
 use crate::named::Named;
 use crate::written::{fits_role, is_given};
-use pj_names::{Names, NoMemory};
+use pj_base::{Names, NoMemory};
 use pj_xmeaning::{Callee, function_named};
 use pj_xtokens::Token;
 use std::alloc::Global;

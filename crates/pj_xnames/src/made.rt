@@ -14,7 +14,7 @@ use crate::operand::{one, primary, with_rest};
 use crate::part::{Part, before};
 use crate::parts::{put, take};
 use crate::token::first_text;
-use pj_names::NoMemory;
+use pj_base::NoMemory;
 use pj_xmeaning::{Action, Change, Leaf, Rest, Single, Step};
 use pj_xtokens::Token;
 use std::alloc::Global;

@@ -8,7 +8,7 @@ ghost use Rattle.pj_xnames.specs.Readings.{seen_mentions};
 use crate::made::act;
 use crate::named::Named;
 use crate::parts::take;
-use pj_names::NoMemory;
+use pj_base::NoMemory;
 use pj_xmeaning::{action_of, beginnings};
 use pj_xtokens::Token;
 use std::alloc::Global;

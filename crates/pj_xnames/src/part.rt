@@ -6,7 +6,7 @@ ghost use Rattle.pj_xnames.specs.Namings.{mentions_in, mentions_of, written_in, 
 ghost use Rattle.pj_xnames.specs.Readings.{seen_written, seen_mentions, seen_operand, seen_operands, seen_variables, seen_naming};
 
 use crate::named::{Named, Spelling};
-use pj_names::NoMemory;
+use pj_base::NoMemory;
 use std::alloc::Global;
 
 /// An expression or a part of one.

@@ -5,7 +5,7 @@ ghost use Rattle.pj_xnames.specs.Namings.{top, behind};
 ghost use Rattle.pj_xnames.specs.Readings.{seen_naming, seen_namings};
 
 use crate::part::Part;
-use pj_names::NoMemory;
+use pj_base::NoMemory;
 
 /// Takes the first one off; where there is none, the tokens end before it.
 #[tactic(auto, using(crate::proofs::Values::top_of_pushed, crate::proofs::Values::behind_pushed))]

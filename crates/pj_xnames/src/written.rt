@@ -11,7 +11,7 @@ ghost use Rattle.pj_xnames.specs.Readings.{seen_written};
 use crate::bound::BoundNames;
 use crate::named::Spelling;
 use crate::role::Role;
-use pj_names::{Names, NoMemory};
+use pj_base::{Names, NoMemory};
 use pj_xmeaning::string_value;
 use std::alloc::Global;
 

@@ -11,7 +11,7 @@ ghost use Rattle.pj_xparse.specs.declared.fault.XSyntax.TheVariants.{Memory};
 
 use crate::fault::XSyntax;
 use crate::syntax::syntax_fault;
-use pj_names::{Names, NoMemory, Text};
+use pj_base::{Names, NoMemory, Text};
 use pj_xgrammar::derivation;
 use pj_xmeaning::meaning;
 use pj_xnames::{NameFault, first_fault};

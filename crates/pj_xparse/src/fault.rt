@@ -1,7 +1,7 @@
 //! Why a text is no expression.
 ghost use Rattle.std.specs.Prelude.{◌≡◌};
 
-use pj_names::{NoMemory, Text};
+use pj_base::{NoMemory, Text};
 use std::fmt;
 use std::fmt::{Display, Formatter, Write};
 
@@ -59,16 +59,6 @@ impl From<NoMemory> for XSyntax {
     ghost from_gives = { λ _ fault. fault ≡ Memory };
 
     fn from(_: NoMemory) -> Self {
-        XSyntax::Memory
-    }
-}
-
-impl From<pj_ll::NoMemory> for XSyntax {
-    ghost use Rattle.pj_xparse.specs.declared.fault.XSyntax.TheVariants.{Memory};
-
-    ghost from_gives = { λ _ fault. fault ≡ Memory };
-
-    fn from(_: pj_ll::NoMemory) -> Self {
         XSyntax::Memory
     }
 }

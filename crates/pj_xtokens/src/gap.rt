@@ -5,7 +5,8 @@ ghost use Rattle.std.specs.Str.{chars};
 ghost use Rattle.pj_xtokens.specs.Gaps.{Comment, Past, IsSolid};
 
 use crate::characters::is_white;
-use crate::text::{behind_pair, split_first};
+use crate::text::behind_pair;
+use pj_base::split_first;
 
 /// What stands behind the comment whose inside the text goes on with, where it ends (XPath 2.0, 2.6).
 fn past_comment<'t>(inside: &'t str) -> Option<&'t str>

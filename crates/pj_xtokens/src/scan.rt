@@ -9,8 +9,9 @@ ghost use Rattle.pj_xtokens.specs.declared.state.State.TheVariants.{Start};
 
 use crate::characters::starts_name;
 use crate::state::{State, spelled, step};
-use crate::text::{behind_pair, split_first};
+use crate::text::behind_pair;
 use crate::token::TokenKind;
+use pj_base::split_first;
 
 /// The longest word at the text's front that a rule spells, and what stands behind it.
 fn longest_word<'t>(text: &'t str) -> Option<(TokenKind, &'t str)>

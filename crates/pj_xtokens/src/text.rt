@@ -6,17 +6,7 @@ ghost use Rattle.pj_xtokens.specs.Gaps.{begins_with};
 ghost use Rattle.pj_xtokens.specs.Scanning.{IsBehind};
 ghost use Rattle.pj_xtokens.specs.Size.{size};
 
-/// The first character and the text behind it.
-pub fn split_first<'t>(text: &'t str) -> Option<(char, &'t str)>
-    ensures split { MatchOption result (chars text.now ≡ []) (λ p. chars text.now ≡ p.0 ∷ chars p.1.now) }
-    ensures shorter { IfSome result (λ p. length p.1.now < length text.now) }
-{
-    let mut all = text.chars();
-    match all.next() {
-        Some(c) => Some((c, all.as_str())),
-        None => None,
-    }
-}
+use pj_base::split_first;
 
 /// The text behind these two characters, where it begins with them.
 pub fn behind_pair<'t>(text: &'t str, first: char, second: char) -> Option<&'t str>

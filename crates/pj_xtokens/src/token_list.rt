@@ -9,7 +9,7 @@ use crate::gap::skip_gap;
 use crate::scan::{is_joined, scan};
 use crate::text::before;
 use crate::token::{End, Token};
-use pj_names::{ListOf, NoMemory};
+use pj_base::{ListOf, NoMemory};
 use std::alloc::Global;
 
 /// The tokens of a text, in their order, and where they end.

@@ -1,3 +1,4 @@
+pub mod Atomic
 pub mod Attributes
 pub mod Boolean
 pub mod Comparison
@@ -6,4 +7,6 @@ pub mod Expressions
 pub mod Functions
 pub mod Items
 pub mod Modifiers
+pub mod OfTree
+pub mod OfTreeLaws
 pub mod Replies

@@ -1,14 +1,15 @@
 //! What an evaluator asks for: attributes, and the functions of PMD.
-ghost use Rattle.std.specs.Prelude.{◌≡◌, ℕ, ◌<◌, ◌≤◌, ◌^◌, ◌-◌, IsTrue, IfSome, All, List, map, length, Option, Result, Bool};
+ghost use Rattle.std.specs.Prelude.{◌≡◌, ℕ, ◌<◌, ◌≤◌, ◌^◌, ◌-◌, IsTrue, IfSome, List, map, length, Option, Result, Bool};
 ghost use Rattle.std.specs.Option.{option_map, ForSome};
 ghost use Rattle.pj_names.specs.Asking.{Asking, value_of};
-ghost use Rattle.pj_names.specs.Told.{Told, Asks};
+ghost use Rattle.pj_names.specs.Told.{Told, Asks, longest};
 ghost use Rattle.pj_tree.specs.declared.node.Node.{Node};
 ghost use Rattle.pj_tree.specs.declared.node.Place.{Place};
 ghost use Rattle.pj_xvalue.specs.declared.fault.XCode.{XCode};
 ghost use Rattle.pj_xvalue.specs.declared.modifiers.Modifiers.{Modifiers};
 ghost use Rattle.pj_xvalue.specs.declared.pmd_function.PmdFunction.{PmdFunction};
-ghost use Rattle.pj_xvalue.specs.Items.{ItemValue, values_of, AreOfTree};
+ghost use Rattle.pj_xvalue.specs.Items.{ItemValue, values_of};
+ghost use Rattle.pj_xvalue.specs.OfTree.{ArgumentsOfTree};
 ghost use Rattle.pj_xvalue.specs.Functions.{pmd_takes};
 ghost use Rattle.pj_xvalue.specs.Attributes.{attribute_value, is_typed, is_among, are_different};
 ghost use Rattle.pj_xvalue.specs.Replies.{outcome, may_return, may_be};
@@ -83,9 +84,12 @@ pub trait Calls {
     /// How many nodes the tree has.
     ghost nodes: { Self → ℕ };
 
-    /// What it tells of itself: the world that answers for classes, where it tells that and what it replies, the names
-    /// that were asked, and its faults.
-    ghost tells: { Self → Told };
+    /// The type of what it keeps in every call, besides what it replies.
+    ghost Kept: { Type 0 };
+
+    /// What it tells of itself: the world that answers for classes, where it tells that and what it replies, what it keeps,
+    /// the names that were asked, and its faults.
+    ghost tells: { Self → Told Kept };
 
     /// What a function comes to at a node, or at no node, with these arguments: a sequence or a code, with the classes
     /// that it asks for.
@@ -104,7 +108,7 @@ pub trait Calls {
         arguments: &Arguments<'_>,
     ) -> Result<Sequence<'static>, XFault>
         requires inside { ForSome at (λ n. n.0 < nodes self.old) }
-        requires of_tree { All (λ items. AreOfTree (nodes self.old) (values_of items)) arguments.now }
+        requires of_tree { ArgumentsOfTree (nodes self.old) (map values_of arguments.now) }
         requires count { IsTrue (pmd_takes function (length arguments.now)) }
         ensures same_nodes { nodes self.new ≡ nodes self.old }
         ensures same_reply { reply self.new ≡ reply self.old }
@@ -112,6 +116,6 @@ pub trait Calls {
         ensures kind { IsTrue (may_return function (map values_of arguments.now) (outcome values_of result)) };
 
     /// Where the world is told, the reply over it is of the same kind as the answers.
-    ghost reply_kind: { (calls : Self) (function : PmdFunction) (at : Option Node) (arguments : List (List ItemValue)) → IsTrue (tells calls).is_told → All (AreOfTree (nodes calls)) arguments → ForSome at (λ n. n.0 < nodes calls)
-        → IsTrue (pmd_takes function (length arguments)) → IsTrue (may_be function arguments (value_of (tells calls).world.answer (reply calls function at arguments))) };
+    ghost reply_kind: { (calls : Self) (function : PmdFunction) (at : Option Node) (arguments : List (List ItemValue)) → IsTrue (tells calls).is_told → ArgumentsOfTree (nodes calls) arguments → ForSome at (λ n. n.0 < nodes calls)
+        → IsTrue (pmd_takes function (length arguments)) → (depth : ℕ) → longest ≤ depth → IsTrue (may_be function arguments (value_of depth ((tells calls).world depth).answer (reply calls function at arguments))) };
 }

@@ -4,7 +4,7 @@ use crate::axis::Axis;
 use crate::function::Function;
 use crate::operator::Compare;
 use crate::pmd_function::PmdFunction;
-use pj_names::Text;
+use pj_base::Text;
 
 /// An expression, with its section in XML Path Language (XPath) 2.0 where no other is named.
 ///

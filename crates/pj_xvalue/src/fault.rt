@@ -2,7 +2,8 @@
 ghost use Rattle.std.specs.Prelude.{◌≡◌};
 ghost use Rattle.pj_names.specs.declared.oracle.AskFault.TheVariants.{Memory};
 
-use pj_names::{AskFault, NoMemory};
+use pj_base::NoMemory;
+use pj_names::AskFault;
 use std::alloc::{AllocError, AllocFailed};
 
 /// The code of an error of XPath (XPath 2.0, appendix G, and XPath Functions and Operators, appendix C).

@@ -1,9 +1,11 @@
 //! Items and sequences.
-ghost use Rattle.std.specs.Prelude.{◌≡◌, MatchOption};
+ghost use Rattle.std.specs.Prelude.{◌≡◌, ◌++◌, MatchOption, OnOk, string_bytes};
+ghost use Rattle.pj_xvalue.specs.Atomic.{text_of};
 ghost use Rattle.pj_xvalue.specs.Items.{value_of_item, string_in, is_node, is_attribute};
 
-use pj_names::{ListOf, Text};
+use pj_base::{Copied, ListOf, NoMemory, Text};
 use pj_tree::Node;
+use std::fmt::Write;
 
 /// An item: a node or an atomic value (XPath 2.0, 2).
 ///
@@ -66,6 +68,35 @@ impl Item<'_> {
         match self {
             Item::Attribute(_, _) => true,
             _ => false,
+        }
+    }
+
+    /// Puts the text of an atomic value at the end (XPath Functions and Operators, 17.1.2), and nothing for a node.
+    pub fn push_text(&self, text: &mut String) -> Result<(), NoMemory>
+        ensures { OnOk result (string_bytes text.new ≡ string_bytes text.old ++ text_of (value_of_item self.now)) }
+    {
+        match self {
+            Item::Str(part) => text.push_str(part.as_str())?,
+            Item::Borrowed(part) => text.push_str(part)?,
+            Item::Int(value) => write!(text, "{}", *value)?,
+            Item::Bool(true) => text.push_str("true")?,
+            Item::Bool(false) => text.push_str("false")?,
+            _ => {}
+        }
+        Ok(())
+    }
+}
+
+impl Copied for Item<'_> {
+    fn copied(&self) -> Result<Self, NoMemory> {
+        match self {
+            Item::Node(n) => Ok(Item::Node(*n)),
+            Item::Attribute(n, place) => Ok(Item::Attribute(*n, *place)),
+            Item::Document => Ok(Item::Document),
+            Item::Str(text) => Ok(Item::Str(text.copied()?)),
+            Item::Int(value) => Ok(Item::Int(*value)),
+            Item::Bool(value) => Ok(Item::Bool(*value)),
+            Item::Borrowed(text) => Ok(Item::Borrowed(*text)),
         }
     }
 }

@@ -16,6 +16,7 @@ mod law;
 mod modifiers;
 mod operator;
 mod pmd_function;
+mod sequence;
 #[cfg(test)]
 mod tests;
 #[cfg(test)]
@@ -34,4 +35,5 @@ pub use law::pairs_decide;
 pub use modifiers::{Modifier, Modifiers};
 pub use operator::Compare;
 pub use pmd_function::PmdFunction;
+pub use sequence::{are_nodes, has_node, have_no_attribute};
 pub use value::Value;

@@ -5,7 +5,7 @@ ghost use Rattle.std.specs.List.{list_all};
 ghost use Rattle.pj_xvalue.specs.Items.{value_of_item, values_of, is_attribute, have_no_attribute};
 
 use super::*;
-use pj_names::{NoMemory, Text};
+use pj_base::{NoMemory, Text};
 use pj_tree::Node;
 use std::alloc::Global;
 use std::test::Fail;

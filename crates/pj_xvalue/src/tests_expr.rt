@@ -4,7 +4,7 @@ ghost use Rattle.std.specs.Prelude.{◌≡◌, ◌<◌, ℕ, [], IfOk};
 ghost use Rattle.pj_xvalue.specs.Expressions.{IsExpression, part_of};
 
 use super::*;
-use pj_names::{NoMemory, Text};
+use pj_base::{NoMemory, Text};
 use std::alloc::Global;
 use std::test::Fail;
 

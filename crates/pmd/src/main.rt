@@ -12,8 +12,8 @@ mod real_tree;
 mod tests;
 
 use notes::note_of;
+use pj_base::{Text, Words};
 use pj_check::{FileOutcome, Lack, check_file, lack_of};
-use pj_names::{Text, Words};
 use pj_outside::{Sink, Tree};
 use real_sink::RealSink;
 use real_tree::RealTree;

@@ -3,7 +3,7 @@ ghost use Rattle.std.specs.Prelude.{◌≡◌, ◌≤◌, length, None, IfOk, If
 ghost use Rattle.pj_outside.specs.Files.{HasPath};
 ghost use Rattle.pj_outside.specs.Faults.{Rises};
 
-use pj_names::{Bytes, Names, Text};
+use pj_base::{Bytes, Names, Text};
 use pj_outside::{Reading, Refused, Tree};
 use std::alloc::Global;
 use std::io::Read;

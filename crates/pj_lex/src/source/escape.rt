@@ -3,11 +3,11 @@
 ghost use Rattle.std.specs.Prelude.{ℕ, List, ◌≡◌, ◌+◌, ◌<◌, ◌≤◌, ◌∷◌, ◌++◌, length, replicate, MatchOption, IfSome, false};
 ghost use Rattle.std.specs.Char.{digit_value};
 ghost use Rattle.std.specs.Str.{chars};
-ghost use Rattle.pj_tree.specs.Places.{starts_with};
+ghost use Rattle.pj_base.specs.Front.{starts_with};
 ghost use Rattle.pj_lex.specs.Escapes.{AreDigits, IsEscape, BeginsWithNoEscape};
 ghost use Rattle.pj_lex.specs.Translating.{BeginsWithNoDigit, BeginsWithNoDigits};
 
-use crate::source::characters::{split_first, strip};
+use pj_base::{split_first, strip};
 
 /// An escape at the front of a text.
 #[derive(Clone, Copy)]

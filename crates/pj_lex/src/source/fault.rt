@@ -1,6 +1,7 @@
 //! Why there is no source text.
 
-use pj_tree::{NoMemory, Place};
+use pj_base::NoMemory;
+use pj_tree::Place;
 
 /// Why a file has no source text.
 #[derive(Clone, Copy, Debug, PartialEq, Eq)]

@@ -7,8 +7,8 @@ ghost use Rattle.std.specs.Str.{chars};
 ghost use Rattle.pj_lex.specs.Escapes.{IsBadEscape, BeginsWithNoEscape, character_alone};
 ghost use Rattle.pj_lex.specs.Translating.{IsFront};
 
-use crate::source::characters::begins_with;
 use crate::source::escape::split_escape;
+use pj_base::begins_with;
 
 /// A character of the translated text, and how the file writes it.
 #[derive(Clone, Copy)]

@@ -3,7 +3,8 @@
 ghost use Rattle.std.specs.Prelude.{ℕ, ◌≡◌, ◌+◌, ◌<◌, ◌≤◌, OnOk};
 ghost use Rattle.pj_lex.specs.SourceRuns.{AreRuns, Takes, SameBelow, place_in};
 
-use pj_tree::{NoMemory, Place};
+use pj_base::NoMemory;
+use pj_tree::Place;
 
 /// A run of characters on one line, each of which takes `width` bytes, and stands a column behind the one before.
 #[derive(Clone, Copy, Debug)]

@@ -10,11 +10,11 @@ ghost use Rattle.pj_lex.specs.SourceRuns.{AreRuns};
 ghost use Rattle.pj_lex.specs.Translating.{IsFront, HasMade, CanTake, IsTranslated};
 
 use crate::source::Source;
-use crate::source::characters::{place_after, split_first};
 use crate::source::fault::SourceFault;
 use crate::source::front::{Front, split_front};
 use crate::source::run::{Run, go_on};
-use pj_tree::{NoMemory, Place};
+use pj_base::{NoMemory, split_first};
+use pj_tree::{Place, place_after};
 use std::alloc::Global;
 
 /// What was translated of a file.

@@ -6,6 +6,8 @@ use Rattle.pj_xvalue.specs.Items.{value_of_item, values_of, are_nodes}
 use Rattle.pj_xaxes.specs.Order.{position_of, document_order, ordered, has_item}
 use Rattle.pj_xaxes.specs.Standing.{standing}
 use Rattle.std.specs.List.Sorted.{IsStrictlySortedBy}
+use Rattle.pj_xvalue.specs.OfTree.{OfTree}
+use Rattle.pj_xaxes.proofs.Inside.{of_tree-ordered}
 use Rattle.pj_xaxes.proofs.Ordered.{in_order-is, sorted-ordered, has_item-ordered}
 use Rattle.pj_xaxes.proofs.order.in_order.Goals as goal
 
@@ -27,3 +29,6 @@ returns-clause-ascending c = subst (λ xs. IsStrictlySortedBy document_order xs)
 
 pub returns-clause-members : goal.returns-clause-members
 returns-clause-members c = λ x. ap (λ xs. has_item xs x) (in_order_value c) ∙ has_item-ordered (values_of c.args.items) x
+
+pub returns-clause-of_tree : goal.returns-clause-of_tree
+returns-clause-of_tree c = λ n h. subst (λ xs. OfTree n xs) (sym (in_order_value c)) (of_tree-ordered n (values_of c.args.items) h)

@@ -34,6 +34,6 @@ pub loop-further-preserved : goal.loop-further-preserved
 loop-further-preserved c = record {
   is_text = search rules;
   room = omega (arith, c.in-Some.ensures.shorter);
-  onward = λ t k. c.loop-further.invariant.onward t (other _ _ _ _ t c.in-Some.ensures.split c.in_default-behind_pair-2.ensures.split c.in_default-behind_pair.ensures.split k);
-  back = λ t k. at_other _ _ _ _ t c.in-Some.ensures.split c.in_default-behind_pair-2.ensures.split c.in_default-behind_pair.ensures.split (c.loop-further.invariant.back t k);
+  onward = λ t k. c.loop-further.invariant.onward t (other _ _ _ _ t c.in-Some.ensures.chars c.in_default-behind_pair-2.ensures.split c.in_default-behind_pair.ensures.split k);
+  back = λ t k. at_other _ _ _ _ t c.in-Some.ensures.chars c.in_default-behind_pair-2.ensures.split c.in_default-behind_pair.ensures.split (c.loop-further.invariant.back t k);
 }

@@ -1,7 +1,7 @@
 use Rattle.std.proofs.Common.{◌≡◌, ◌∷◌, ◌==◌, ◌&&◌, false, sym, ◌∙◌}
 use Rattle.std.specs.Str.{chars}
 use Rattle.std.proofs.lemmas.Bool.{ne_eqb}
-use Rattle.pj_tree.specs.Places.{starts_with}
+use Rattle.pj_base.specs.Front.{starts_with}
 use Rattle.pj_lex.specs.Escapes.{begins_escape}
 use Rattle.pj_lex.proofs.WrittenLaws.{plain_front, first_false, second_false, third_false}
 use Rattle.pj_lex.proofs.source.front.split_front.Goals as goal

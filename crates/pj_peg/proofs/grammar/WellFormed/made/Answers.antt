@@ -12,4 +12,5 @@ invariant_of-result c = record {
   rules_are = c.requires.analysis.rules_are;
   order_is = order_of _ _ _ _ c.requires.analysis _ _ c.requires.placing c.requires.closed c.requires.well_formed;
   well_formed = c.requires.well_formed;
+  goings_are = c.requires.goings;
 }
