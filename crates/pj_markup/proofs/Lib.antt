@@ -5,3 +5,5 @@ pub mod Good
 pub mod Depth
 pub mod Alive
 pub mod Reached
+pub mod Fronts
+pub mod Rows

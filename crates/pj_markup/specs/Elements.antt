@@ -1,32 +1,19 @@
 -- What is read of an element.
-use Rattle.std.specs.Prelude.{ℕ, Bool, false, ◌||◌, ◌-◌, List, [], ◌∷◌, ◌++◌, length, map, encode_utf8}
+pub use Rattle.pj_markup.specs.declared.element.Attribute.{Attribute}
+pub use Rattle.pj_markup.specs.declared.element.Row.{Row}
+pub use Rattle.pj_markup.specs.declared.element.Open.{Open}
+pub use Rattle.pj_markup.specs.declared.element.Element.{Element}
+use Rattle.std.specs.Prelude.{ℕ, zero, suc, List, [], ◌∷◌, ◌++◌, length, Option, Some, None, nat_eq, if◌then◌else◌, encode_utf8}
+use Rattle.std.specs.Cmp.Lexicographic.{pointwise}
 use Rattle.std.specs.Str.{encode_utf8_all}
 
 -- how many bytes the text takes in UTF-8
 abbrev pub size : List ℕ → ℕ
 size text = length (encode_utf8_all text)
 
--- The name and the value of an attribute, in UTF-8; references in the value are resolved.
-pub record Attribute : Type 0 where
-  pub name : List ℕ
-  pub value : List ℕ
-
--- An element: its name, the offset in bytes of the < of its start tag, its attributes in order, its own text in UTF-8 with references resolved, and the
--- numbers of its children in order. Elements are numbered from 0 in the order of their ends, so the root has the last number.
-pub record Row : Type 0 where
-  pub name : List ℕ
-  pub offset : ℕ
-  pub attributes : List Attribute
-  pub text : List ℕ
-  pub children : List ℕ
-
--- what is read so far of an element that is open; its name as characters
-pub record Open : Type 0 where
-  pub name : List ℕ
-  pub offset : ℕ
-  pub attributes : List Attribute
-  pub text : List ℕ
-  pub children : List ℕ
+-- An attribute is its name and its value, in UTF-8. A row is an element: its name, the offset in bytes of the < of its start tag, its attributes in order, its
+-- own text, and the numbers of its children in order; elements are numbered from 0 in the order of their ends, so the root has the last number. `Open` is what
+-- is read so far of an element that is open, with its name as characters.
 
 abbrev pub row_of : Open → Row
 row_of e = record { name = encode_utf8_all e.name; offset = e.offset; attributes = e.attributes; text = e.text; children = e.children }
@@ -50,4 +37,15 @@ with_characters e [] = e
 with_characters e (c ∷ cs) = with_characters (with_character e c) cs
 
 abbrev pub with_child : Open → ℕ → Open
-with_child e child = record { name = e.name; offset = e.offset; attributes = e.attributes; text = e.text; children = e.children ++ child ∷ [] }
+with_child e child = record { name = e.name; offset = e.offset; attributes = e.attributes; text = e.text; children = e.children ++ record { number = child } ∷ [] }
+
+-- the element of a number, and one with nothing for a number that none has
+abbrev pub row_at : List Row → ℕ → Row
+row_at [] n = record { name = []; offset = 0; attributes = []; text = []; children = [] }
+row_at (r ∷ rows) zero = r
+row_at (r ∷ rows) (suc n) = row_at rows n
+
+-- the value of the attribute of a name
+abbrev pub value_of : List ℕ → List Attribute → Option (List ℕ)
+value_of name [] = None
+value_of name (a ∷ attributes) = if pointwise nat_eq a.name name then Some a.value else value_of name attributes

@@ -1,7 +1,10 @@
 -- The first place at which a text is no markup, and the first start tag that stands too deep.
 use Rattle.std.specs.Prelude.{◌≡◌, ℕ, suc, List, [], ◌∷◌, ◌++◌}
+use Rattle.pj_markup.specs.declared.reading.MarkupFault.{MarkupFault}
+use Rattle.pj_markup.specs.declared.reading.MarkupFault.TheVariants.{At, Deep, Memory}
 use Rattle.pj_markup.specs.Elements.{size, Row}
 use Rattle.pj_markup.specs.Markup.{Doc}
+use Rattle.pj_markup.specs.Depth.{greatest_depth}
 
 -- the text is a document with these elements, however deep they stand
 abbrev pub IsMarkup : List ℕ → List Row → Type 0
@@ -36,3 +39,9 @@ pub record IsTooDeepAt (deepest : ℕ) (text : List ℕ) (offset : ℕ) : Type 0
   pub before : CanGoOn deepest (front ++ 60 ∷ [])
   pub not_so_deep : CanGoOn deepest (front ++ 60 ∷ first ∷ []) → ⊥
   pub deeper : CanGoOn (suc deepest) (front ++ 60 ∷ first ∷ [])
+
+-- what is told of a text that has no elements: want of memory has no cause in it
+abbrev pub IsFault : List ℕ → MarkupFault → Type 0
+IsFault text (At offset) = StopsAt greatest_depth text offset
+IsFault text (Deep depth offset) = (depth ≡ suc greatest_depth) × IsTooDeepAt greatest_depth text offset
+IsFault text Memory = Unit {0}

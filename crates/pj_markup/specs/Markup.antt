@@ -12,9 +12,9 @@
 --
 -- A text is the list of its characters. Each relation `X .. text .. behind` says that the text begins with an X, behind which the rest stands.
 use Rattle.std.specs.Prelude.{◌≡◌, ℕ, suc, pred, ◌+◌, ◌*◌, ◌-◌, Bool, true, false, ◌==◌, ◌&&◌, ◌||◌, nat_eq, nat_le, IsTrue, IsFalse, List, [], ◌∷◌, ◌++◌, length, Some, encode_utf8}
-use Rattle.std.specs.Cmp.Lexicographic.{pointwise}
 use Rattle.std.specs.Str.{encode_utf8_all}
 use Rattle.pj_markup.specs.Characters.{is_space, starts_name, continues_name, is_quote, base, digit, greatest, is_scalar}
+pub use Rattle.pj_markup.specs.Names.{has_name}
 use Rattle.pj_markup.specs.Elements.{size, Attribute, Row, Open, row_of, opened, with_attribute, with_character, with_characters, with_child}
 
 -- S*
@@ -103,11 +103,6 @@ pub data Value (quote : ℕ) : List ℕ → List ℕ → List ℕ → List ℕ �
 pub data Attr : List ℕ → List ℕ → List ℕ → List ℕ → Type 0 where
   attr : {q : ℕ} {text more rest quoted name value behind : List ℕ} → Name text name more → Spaces more (61 ∷ rest) → Spaces rest (q ∷ quoted) → IsTrue (is_quote q) →
       Value q [] quoted value (q ∷ behind) → Attr text name value behind
-
--- whether an attribute has the name
-abbrev pub has_name : List ℕ → List Attribute → Bool
-has_name name [] = false
-has_name name (a ∷ attributes) = pointwise nat_eq a.name name || has_name name attributes
 
 -- (S+ Attr)*: the attributes of one tag have different names
 pub data Attributes : Open → List ℕ → Open → List ℕ → Type 0 where
