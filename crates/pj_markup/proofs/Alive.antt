@@ -93,6 +93,7 @@ large n a b = both (nat_le 1 n && nat_le n greatest) _ (both (nat_le 1 n) (nat_l
     both true true h k = refl
     both true false h k = absurd (cc)
     both false b h k = absurd (cc)
+
     or_right : (a b : Bool) → b ≡ true → (a || b) ≡ true
     or_right true b h = refl
     or_right false b h = h
@@ -230,6 +231,7 @@ module _ (deepest end : ℕ) (some : nat_le 1 deepest ≡ true) where
     where
       last : (n : ℕ) → is_scalar n ≡ true → Lives (Digits t h n) (59 ∷ put_goes t)
       last n ok = go _ (put t n) 59 _ refl (yes _ _ _ ok refl) (alive_put t n)
+
       surrogate : (h : Bool) → 55295 < n → n < 57344 → Lives (Digits t h n) (48 ∷ 59 ∷ put_goes t)
       surrogate true a b =
           go _ (Digits t true (n * 16 + 0)) 48 _ refl (yes _ _ _ (le-leb (n * 16 + 0) greatest (omega arith)) refl)
@@ -237,12 +239,15 @@ module _ (deepest end : ℕ) (some : nat_le 1 deepest ≡ true) where
       surrogate false a b =
           go _ (Digits t false (n * 10 + 0)) 48 _ refl (yes _ _ _ (le-leb (n * 10 + 0) greatest (omega arith)) refl)
           (go _ (put t (n * 10 + 0)) 59 _ refl (yes _ _ _ (large (n * 10 + 0) (omega arith) (omega arith)) refl) (alive_put t (n * 10 + 0)))
+
       zero_to : (h : Bool) → Lives (Digits t h 0) (49 ∷ 59 ∷ put_goes t)
       zero_to true = go _ (Digits t true 1) 49 _ refl refl (go _ (put t 1) 59 _ refl refl (alive_put t 1))
       zero_to false = go _ (Digits t false 1) 49 _ refl refl (go _ (put t 1) 59 _ refl refl (alive_put t 1))
+
       nothing_or : (b : Bool) → (n == 0) ≡ b → is_scalar n ≡ false → Lives (Digits t h n) ((if b then 49 ∷ [] else 48 ∷ []) ++ (59 ∷ put_goes t))
       nothing_or true e no_scalar = subst (λ k. Lives (Digits t h k) (49 ∷ 59 ∷ put_goes t)) (sym (eqb-true n 0 e)) (zero_to h)
       nothing_or false e no_scalar = let (a, b) = not_scalar n e (leb-true n greatest fits) no_scalar in surrogate h a b
+
       scalar_or : (b : Bool) → is_scalar n ≡ b → Lives (Digits t h n) ((if b then [] else (if n == 0 then 49 ∷ [] else 48 ∷ [])) ++ (59 ∷ put_goes t))
       scalar_or true e = last n e
       scalar_or false e = nothing_or (n == 0) refl e

@@ -108,12 +108,15 @@ module _ (at c : ℕ) where
     where
       some : {x y : ℕ} → Some x ≡ Some y → x ≡ y
       some e = cc
+
       third : (b : Bool) → (h && is_between 65 70 c) ≡ b → (if b then Some (c - 55) else None) ≡ Some d → d ≤ 1114111
       third true p e = let (a, q) = and_both h (is_between 65 70 c) p in let (u, v) = and_both (nat_le 65 c) (nat_le c 70) q in let le = leb-true c 70 v in let s : c - 55 ≡ d = some e in omega arith
       third false p e = absurd (cc)
+
       second : (b : Bool) → (h && is_between 97 102 c) ≡ b → (if b then Some (c - 87) else (if h && is_between 65 70 c then Some (c - 55) else None)) ≡ Some d → d ≤ 1114111
       second true p e = let (a, q) = and_both h (is_between 97 102 c) p in let (u, v) = and_both (nat_le 97 c) (nat_le c 102) q in let le = leb-true c 102 v in let s : c - 87 ≡ d = some e in omega arith
       second false p e = third (h && is_between 65 70 c) refl e
+
       small_by : (b : Bool) → is_between 48 57 c ≡ b →
           (if b then Some (c - 48) else (if h && is_between 97 102 c then Some (c - 87) else (if h && is_between 65 70 c then Some (c - 55) else None))) ≡ Some d → d ≤ 1114111
       small_by true p e = let (u, v) = and_both (nat_le 48 c) (nat_le c 57) p in let le = leb-true c 57 v in let s : c - 48 ≡ d = some e in omega arith

@@ -268,6 +268,7 @@ too_deep_at deepest text front behind s c some split r deep =
     no_more : (a b : Bool) → b ≡ true → (a && not b) ≡ false
     no_more true b h = ap not h
     no_more false b h = refl
+
     not_on : (deepest : ℕ) (front : List ℕ) (s : State) (c : ℕ) → Reached deepest front s → is_deep deepest s c ≡ true → CanGoOn deepest (front ++ c ∷ []) → ⊥
     not_on deepest front s c r deep (more, rows, doc) = too_deep deepest _ s c more rows deep (whole_on deepest deepest front s c more rows r (omega arith) doc)
 

@@ -10,8 +10,8 @@ mod characters;
 mod element;
 mod laws;
 mod markup;
-mod reading;
 mod reader;
+mod reading;
 mod state;
 mod steps;
 

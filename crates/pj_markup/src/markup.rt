@@ -109,7 +109,7 @@ impl Markup {
 
 /// A copy of a text, if there is one.
 fn copied(found: Option<&Text>) -> Result<Option<Text>, NoMemory>
-    ensures { IfOk result (λ copy. copy ≡ option_copied found) }
+    ensures { IfOk result (λ copy. copy ≡ option_copied found.entry) }
 {
     match found {
         None => Ok(None),

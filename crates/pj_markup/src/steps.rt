@@ -10,7 +10,9 @@ ghost use Rattle.pj_markup.specs.declared.reader.Reader.{Reader};
 
 use crate::around::Around;
 use crate::attributes::Attributes;
-use crate::characters::{base, continues_name, digit, is_quote, is_scalar, is_space, starts_name, text_of};
+use crate::characters::{
+    base, continues_name, digit, is_quote, is_scalar, is_space, starts_name, text_of,
+};
 use crate::element::{Element, Row, row_of};
 use crate::reader::{Reader, nothing};
 use crate::state::{Entity, Ground, Long, Mode, Target, Word};
@@ -21,12 +23,19 @@ use std::mem::replace;
 pub const GREATEST_DEPTH: usize = 64;
 
 static DASHES: [char; 2] = ['-', '-'];
+
 static OPEN_SECTION: [char; 7] = ['[', 'C', 'D', 'A', 'T', 'A', '['];
+
 static EMPTY: [char; 2] = ['/', '>'];
+
 static LESS: [char; 3] = ['l', 't', ';'];
+
 static GREATER: [char; 3] = ['g', 't', ';'];
+
 static AMPERSAND: [char; 4] = ['a', 'm', 'p', ';'];
+
 static QUOTE: [char; 5] = ['q', 'u', 'o', 't', ';'];
+
 static APOSTROPHE: [char; 5] = ['a', 'p', 'o', 's', ';'];
 
 /// The name of an entity and `;`.
@@ -499,7 +508,8 @@ impl Reader {
         match found {
             None => false,
             Some(value) => {
-                let number = u64::from(self.number) * u64::from(base(hexadecimal)) + u64::from(value);
+                let number = u64::from(self.number) * u64::from(base(hexadecimal))
+                    + u64::from(value);
                 if number <= 1_114_111 {
                     self.number = number as u32;
                     self.mode = Mode::Digits(target, hexadecimal);
