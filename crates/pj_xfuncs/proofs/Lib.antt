@@ -1,0 +1,3 @@
+pub mod Utf8Parts
+pub mod Parts
+pub mod PlaceFacts

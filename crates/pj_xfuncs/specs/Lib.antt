@@ -1,0 +1,8 @@
+pub mod Arguments
+pub mod General
+pub mod Library
+pub mod Numbers
+pub mod Patterns
+pub mod Places
+pub mod Sequences
+pub mod Strings

@@ -1,0 +1,15 @@
+//! XPath: the functions that need neither the tree nor the focus.
+#![tactic(auto)]
+
+mod arguments;
+mod general;
+mod library;
+mod matching;
+mod numbers;
+mod places;
+mod sequences;
+mod spaces;
+mod strings;
+
+pub use library::call;
+pub use pj_xpatterns::{PatternFault, Patterns};
