@@ -1,3 +1,6 @@
+pub mod Gathering
+pub mod OfTree
 pub mod Utf8Parts
 pub mod Parts
 pub mod PlaceFacts
+pub mod Words

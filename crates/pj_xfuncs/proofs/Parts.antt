@@ -37,21 +37,21 @@ place-parts p [] k h = go (starts_with eqb [] p) refl h
     go : (b : Bool) → starts_with eqb [] p ≡ b → cond b (Some 0) None ≡ Some k → [] ≡ take k [] ++ (p ++ drop (k + length p) [])
     go true e h = let zero : 0 ≡ k = cc in let same : length p ≡ 0 + length p = omega arith in subst (λ (n : ℕ). [] ≡ take n [] ++ (p ++ drop (n + length p) [])) zero (starts-parts [] p e ∙ ap (λ (n : ℕ). p ++ drop n []) same)
     go false e h = cc
-place-parts p (c ∷ cs) k h = go (starts_with eqb (c ∷ cs) p) refl h
+place-parts p (c ∷ cs) k h = go (λ n e. place-parts p cs n e) (starts_with eqb (c ∷ cs) p) refl h
   where
-    tail : (o : Option ℕ) → place_of p cs ≡ o → option_map suc o ≡ Some k → c ∷ cs ≡ take k (c ∷ cs) ++ (p ++ drop (k + length p) (c ∷ cs))
-    tail None e h = cc
-    tail (Some n) e h =
+    tail : ((n : ℕ) → place_of p cs ≡ Some n → cs ≡ take n cs ++ (p ++ drop (n + length p) cs)) → (o : Option ℕ) → place_of p cs ≡ o → option_map suc o ≡ Some k → c ∷ cs ≡ take k (c ∷ cs) ++ (p ++ drop (k + length p) (c ∷ cs))
+    tail rest None e h = cc
+    tail rest (Some n) e h =
         let is : suc n ≡ k = cc in
-        let ih = place-parts p cs n e in
+        let ih = rest n e in
         let same : suc (n + length p) ≡ suc n + length p = omega arith in
         subst (λ (m : ℕ). c ∷ cs ≡ take m (c ∷ cs) ++ (p ++ drop (m + length p) (c ∷ cs))) is (ap (λ (t : List ℕ). c ∷ t) ih ∙ ap (λ (m : ℕ). c ∷ (take n cs ++ (p ++ drop m (c ∷ cs)))) same)
-    go : (b : Bool) → starts_with eqb (c ∷ cs) p ≡ b → cond b (Some 0) (option_map suc (place_of p cs)) ≡ Some k → c ∷ cs ≡ take k (c ∷ cs) ++ (p ++ drop (k + length p) (c ∷ cs))
-    go true e h = let zero : 0 ≡ k = cc in let same : length p ≡ 0 + length p = omega arith in subst (λ (n : ℕ). c ∷ cs ≡ take n (c ∷ cs) ++ (p ++ drop (n + length p) (c ∷ cs))) zero (starts-parts (c ∷ cs) p e ∙ ap (λ (n : ℕ). p ++ drop n (c ∷ cs)) same)
-    go false e h = tail (place_of p cs) refl h
+    go : ((n : ℕ) → place_of p cs ≡ Some n → cs ≡ take n cs ++ (p ++ drop (n + length p) cs)) → (b : Bool) → starts_with eqb (c ∷ cs) p ≡ b → cond b (Some 0) (option_map suc (place_of p cs)) ≡ Some k → c ∷ cs ≡ take k (c ∷ cs) ++ (p ++ drop (k + length p) (c ∷ cs))
+    go rest true e h = let zero : 0 ≡ k = cc in let same : length p ≡ 0 + length p = omega arith in subst (λ (n : ℕ). c ∷ cs ≡ take n (c ∷ cs) ++ (p ++ drop (n + length p) (c ∷ cs))) zero (starts-parts (c ∷ cs) p e ∙ ap (λ (n : ℕ). p ++ drop n (c ∷ cs)) same)
+    go rest false e h = tail rest (place_of p cs) refl h
 
 -- a part that stands behind some characters, and at no place before
-pub NoEarlier : List ℕ → List ℕ → List ℕ → Type 0
+abbrev pub NoEarlier : List ℕ → List ℕ → List ℕ → Type 0
 NoEarlier a p b = (x y rest : List ℕ) → a ≡ x ++ y → 0 < length y → y ++ (p ++ b) ≡ p ++ rest → ⊥
 
 pub place-first : (a p b : List ℕ) → NoEarlier a p b → place_of p (a ++ (p ++ b)) ≡ Some (length a)
@@ -60,11 +60,11 @@ place-first [] p b none = at_start (p ++ b) refl
     at_start : (cs : List ℕ) → cs ≡ p ++ b → place_of p cs ≡ Some 0
     at_start [] h = rw (starts-true [] p b h) refl
     at_start (c ∷ cs) h = rw (starts-true (c ∷ cs) p b h) refl
-place-first (c ∷ a) p b none = go (starts_with eqb (c ∷ (a ++ (p ++ b))) p) refl
+place-first (c ∷ a) p b none = go (place-first a p b (λ x y rest is some same. none (c ∷ x) y rest (ap (λ (t : List ℕ). c ∷ t) is) some same)) (starts_with eqb (c ∷ (a ++ (p ++ b))) p) refl
   where
-    go : (t : Bool) → starts_with eqb (c ∷ (a ++ (p ++ b))) p ≡ t → cond t (Some 0) (option_map suc (place_of p (a ++ (p ++ b)))) ≡ Some (suc (length a))
-    go true e = absurd (none [] (c ∷ a) (drop (length p) (c ∷ (a ++ (p ++ b)))) refl (omega arith) (starts-parts (c ∷ (a ++ (p ++ b))) p e))
-    go false e = ap (λ (o : Option ℕ). option_map suc o) (place-first a p b (λ x y rest is some same. none (c ∷ x) y rest (ap (λ (t : List ℕ). c ∷ t) is) some same))
+    go : place_of p (a ++ (p ++ b)) ≡ Some (length a) → (t : Bool) → starts_with eqb (c ∷ (a ++ (p ++ b))) p ≡ t → cond t (Some 0) (option_map suc (place_of p (a ++ (p ++ b)))) ≡ Some (suc (length a))
+    go ih true e = absurd (none [] (c ∷ a) (drop (length p) (c ∷ (a ++ (p ++ b)))) refl (omega arith) (starts-parts (c ∷ (a ++ (p ++ b))) p e))
+    go ih false e = ap (λ (o : Option ℕ). option_map suc o) ih
 
 pub place-some : (a p b : List ℕ) → is_some (place_of p (a ++ (p ++ b))) ≡ true
 place-some [] p b = at_start (p ++ b) refl
@@ -72,14 +72,14 @@ place-some [] p b = at_start (p ++ b) refl
     at_start : (cs : List ℕ) → cs ≡ p ++ b → is_some (place_of p cs) ≡ true
     at_start [] h = rw (starts-true [] p b h) refl
     at_start (c ∷ cs) h = rw (starts-true (c ∷ cs) p b h) refl
-place-some (c ∷ a) p b = go (starts_with eqb (c ∷ (a ++ (p ++ b))) p)
+place-some (c ∷ a) p b = go (place-some a p b) (starts_with eqb (c ∷ (a ++ (p ++ b))) p)
   where
     some : (o : Option ℕ) → is_some o ≡ true → is_some (option_map suc o) ≡ true
     some None h = h
     some (Some n) h = refl
-    go : (t : Bool) → is_some (cond t (Some 0) (option_map suc (place_of p (a ++ (p ++ b))))) ≡ true
-    go true = refl
-    go false = some (place_of p (a ++ (p ++ b))) (place-some a p b)
+    go : is_some (place_of p (a ++ (p ++ b))) ≡ true → (t : Bool) → is_some (cond t (Some 0) (option_map suc (place_of p (a ++ (p ++ b))))) ≡ true
+    go ih true = refl
+    go ih false = some (place_of p (a ++ (p ++ b))) ih
 
 -- ---- bytes and characters
 

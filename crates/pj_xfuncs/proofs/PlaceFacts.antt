@@ -18,53 +18,53 @@ kept-same keeps test same n (x ∷ xs) = ap₂ (λ (b : Bool) (t : List _). cond
 
 le-natural : (s : ℤ) (k : ℕ) → int_le s (pos k) ≡ leb (natural s) k
 le-natural (pos n) k = refl
-le-natural (negsuc n) k = refl
+le-natural (negsuc n) k = let least : leb 0 k ≡ true = grind (arith, nat_tests) in sym least
 
 lt-natural : (k : ℕ) (e : ℤ) → int_lt (pos k) e ≡ ltb k (natural e)
 lt-natural k (pos n) = refl
-lt-natural k (negsuc n) = refl
+lt-natural k (negsuc n) = let least : ltb k 0 ≡ false = grind (arith, nat_tests) in sym least
 
 -- from a place on
 kept-from : {A : Type 0} (s n : ℕ) (xs : List A) → kept (λ k. leb s k) n xs ≡ drop (s - n) xs
 kept-from s n [] = sym (drop-nil (s - n))
-kept-from {A = A} s n (x ∷ xs) = go (leb s n) refl
+kept-from {A = A} s n (x ∷ xs) = go (kept-from s (suc n) xs) (leb s n) refl
   where
-    go : (b : Bool) → leb s n ≡ b → cond b (x ∷ kept (λ k. leb s k) (suc n) xs) (kept (λ k. leb s k) (suc n) xs) ≡ drop (s - n) (x ∷ xs)
-    go true e =
+    go : kept (λ k. leb s k) (suc n) xs ≡ drop (s - suc n) xs → (b : Bool) → leb s n ≡ b → cond b (x ∷ kept (λ k. leb s k) (suc n) xs) (kept (λ k. leb s k) (suc n) xs) ≡ drop (s - n) (x ∷ xs)
+    go ih true e =
         let le : s ≤ n = grind (arith, nat_tests) in
         let here : s - n ≡ 0 = omega arith in
         let next : s - suc n ≡ 0 = omega arith in
-        rw here (ap (λ (t : List A). x ∷ t) (kept-from s (suc n) xs ∙ ap (λ (m : ℕ). drop m xs) next))
-    go false e =
+        rw here (ap (λ (t : List A). x ∷ t) (ih ∙ ap (λ (m : ℕ). drop m xs) next))
+    go ih false e =
         let lt : n < s = grind (arith, nat_tests) in
         let here : s - n ≡ suc (s - suc n) = omega arith in
-        rw here (kept-from s (suc n) xs)
+        rw here (ih)
 
 -- from a place on, and before another
 kept-within : {A : Type 0} (s e n : ℕ) (xs : List A) → kept (λ k. leb s k && ltb k e) n xs ≡ take (e - max s n) (drop (s - n) xs)
 kept-within s e n [] = sym (ap (λ t. take (e - max s n) t) (drop-nil (s - n)) ∙ take-nil (e - max s n))
-kept-within {A = A} s e n (x ∷ xs) = go (leb s n) (ltb n e) refl refl
+kept-within {A = A} s e n (x ∷ xs) = go (kept-within s e (suc n) xs) (leb s n) (ltb n e) refl refl
   where
-    go : (a b : Bool) → leb s n ≡ a → ltb n e ≡ b → cond (a && b) (x ∷ kept (λ k. leb s k && ltb k e) (suc n) xs) (kept (λ k. leb s k && ltb k e) (suc n) xs) ≡ take (e - max s n) (drop (s - n) (x ∷ xs))
-    go true true f g =
+    go : kept (λ k. leb s k && ltb k e) (suc n) xs ≡ take (e - max s (suc n)) (drop (s - suc n) xs) → (a b : Bool) → leb s n ≡ a → ltb n e ≡ b → cond (a && b) (x ∷ kept (λ k. leb s k && ltb k e) (suc n) xs) (kept (λ k. leb s k && ltb k e) (suc n) xs) ≡ take (e - max s n) (drop (s - n) (x ∷ xs))
+    go ih true true f g =
         let le : s ≤ n = grind (arith, nat_tests) in
         let lt : n < e = grind (arith, nat_tests) in
         let here : s - n ≡ 0 = omega arith in
         let next : s - suc n ≡ 0 = omega arith in
         let more : e - max s n ≡ suc (e - suc n) = omega arith in
         let left : e - max s (suc n) ≡ e - suc n = omega arith in
-        rw (more, here) (ap (λ (t : List A). x ∷ t) (kept-within s e (suc n) xs ∙ ap₂ (λ (p q : ℕ). take p (drop q xs)) left next))
-    go true false f g =
+        rw (more, here) (ap (λ (t : List A). x ∷ t) (ih ∙ ap₂ (λ (p q : ℕ). take p (drop q xs)) left next))
+    go ih true false f g =
         let le : s ≤ n = grind (arith, nat_tests) in
         let ge : e ≤ n = grind (arith, nat_tests) in
         let here : e - max s n ≡ 0 = omega arith in
         let next : e - max s (suc n) ≡ 0 = omega arith in
-        rw here (kept-within s e (suc n) xs ∙ ap (λ (p : ℕ). take p (drop (s - suc n) xs)) next)
-    go false b f g =
+        rw here (ih ∙ ap (λ (p : ℕ). take p (drop (s - suc n) xs)) next)
+    go ih false b f g =
         let lt : n < s = grind (arith, nat_tests) in
         let here : s - n ≡ suc (s - suc n) = omega arith in
         let same : e - max s n ≡ e - max s (suc n) = omega arith in
-        rw (same, here) (kept-within s e (suc n) xs)
+        rw (same, here) (ih)
 
 pub from-places : {A : Type 0} (start : ℤ) (xs : List A) → at_places (is_from start) xs ≡ drop (places_before start) xs
 from-places start xs = kept-same (is_from start) (λ k. leb (natural start) k) (le-natural start) 1 xs ∙ kept-from (natural start) 1 xs
@@ -72,12 +72,20 @@ from-places start xs = kept-same (is_from start) (λ k. leb (natural start) k) (
 -- the number of places
 number : (start length : ℤ) → natural (start +ℤ length) - max (natural start) 1 ≡ places_within start length
 number (pos zero) length = refl
-number (pos (suc a)) (pos b) = omega arith
-number (pos (suc a)) (negsuc b) = go (pos (suc a) +ℤ negsuc b) refl
+number (pos (suc a)) (pos b) =
+    let later : ltb (suc a) 1 ≡ false = grind (arith, nat_tests) in
+    let same : (suc a + b) - max (suc a) 1 ≡ b = omega arith in
+    rw later same
+number (pos (suc a)) (negsuc b) =
+    let later : ltb (suc a) 1 ≡ false = grind (arith, nat_tests) in
+    rw later (go (pos (suc a) +ℤ negsuc b) refl)
   where
     go : (z : ℤ) → pos (suc a) +ℤ negsuc b ≡ z → natural z - max (suc a) 1 ≡ 0
-    go (pos n) h = omega (arith, ints)
-    go (negsuc n) h = omega arith
+    go (pos n) h =
+        let small : n ≤ a = omega (arith, ints, h) in
+        let same : n - max (suc a) 1 ≡ 0 = omega arith in
+        same
+    go (negsuc n) h = let same : 0 - max (suc a) 1 ≡ 0 = omega arith in same
 number (negsuc a) length = refl
 
 pub within-places : {A : Type 0} (start length : ℤ) (xs : List A) → at_places (is_within start length) xs ≡ take (places_within start length) (drop (places_before start) xs)

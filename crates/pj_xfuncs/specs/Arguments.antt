@@ -69,8 +69,8 @@ item_or_nothing (item ∷ []) = Ok (item ∷ [])
 item_or_nothing _ = Err XPTY0004
 
 abbrev pub integer_before : ItemValue → Result (List ℤ) XCode → Result (List ℤ) XCode
-integer_before (Integer z) (Ok rest) = Ok (z ∷ rest)
-integer_before _ _ = Err XPTY0004
+integer_before (Integer z) rest = and_then rest (λ more. Ok (z ∷ more))
+integer_before _ rest = Err XPTY0004
 
 -- integers alone
 abbrev pub integers : List ItemValue → Result (List ℤ) XCode

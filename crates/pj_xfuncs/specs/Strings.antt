@@ -1,5 +1,5 @@
 -- Functions of strings (XPath Functions and Operators, 7.4 and 7.5). A string is a list of characters, that is of code points.
-use Rattle.std.specs.Prelude.{ℕ, suc, ◌+◌, ℤ, pos, Bool, not, ◌||◌, List, [], ◌∷◌, map, length, take, drop, flat_map, filter, position, Option, Some, None, Result, Ok, Err, nat_eq, ◌==◌, is_some, option_map, option_to_list, slice_get, MatchOption, if◌then◌else◌, chars, encode_utf8_all}
+use Rattle.std.specs.Prelude.{ℕ, suc, ◌+◌, ℤ, pos, Bool, true, false, ◌||◌, List, [], ◌∷◌, map, length, take, drop, flat_map, filter, position, Option, Some, None, Result, Ok, Err, nat_eq, ◌==◌, is_some, option_map, option_to_list, slice_get, MatchOption, if◌then◌else◌, chars, encode_utf8_all}
 use Rattle.std.specs.List.{starts_with, ends_with, slice_split, join_with_byte}
 use Rattle.std.specs.Option.{option_map_or}
 use Rattle.std.specs.Char.{to_ascii_uppercase, to_ascii_lowercase}
@@ -78,9 +78,13 @@ string_length text = and_then (optional_string text) (λ t. one (Integer (pos (l
 abbrev pub is_space : ℕ → Bool
 is_space c = c == 32 || (c == 9 || (c == 10 || c == 13))
 
+abbrev pub is_word : Characters → Bool
+is_word [] = false
+is_word (c ∷ cs) = true
+
 -- the characters between white space
 abbrev pub words : Characters → List Characters
-words text = filter (λ word. not (length word == 0)) (slice_split is_space text)
+words text = filter is_word (slice_split is_space text)
 
 -- `normalize-space` of an argument (7.4.5): the words with one space between each two
 abbrev pub normalize_space : List ItemValue → Result (List ItemValue) XCode

@@ -2,6 +2,8 @@
 #![tactic(auto)]
 
 mod arguments;
+mod cases;
+mod characters;
 mod general;
 mod library;
 mod matching;

@@ -7,14 +7,15 @@ ghost use Rattle.pj_xfuncs.specs.Arguments.{IsGiven};
 ghost use Rattle.pj_xfuncs.specs.Library.{by_number as by_number_of, called, is_concat, of_four as of_four_of, of_none as of_none_of, of_one as of_one_of, of_several as of_several_of, of_three as of_three_of, of_two as of_two_of};
 
 use crate::arguments::truth;
+use crate::cases::{lower_case, upper_case};
 use crate::general::{boolean, concat, count, data, exists, is_empty, negated, string_join, string_of};
 use crate::matching::{matches, replace, tokenize};
 use crate::numbers::{magnitude, maximum, minimum, sum, sum_with};
 use crate::sequences::{distinct_values, index_of, reversed, subsequence, subsequence_from};
 use crate::spaces::{normalize_space, translate};
 use crate::strings::{
-    contains, ends, lower_case, starts, string_length, substring, substring_after, substring_before,
-    substring_from, upper_case,
+    contains, ends, starts, string_length, substring, substring_after, substring_before,
+    substring_from,
 };
 use pj_xpatterns::Patterns;
 use pj_xvalue::{Arguments, Function, Sequence, XCode, XFault};
@@ -35,10 +36,22 @@ pub fn call<'t>(
     ensures value { IsGiven (called patterns.now function (map values_of arguments.now)) (outcome values_of result) }
     ensures of_tree { (nodes : ℕ) → ArgumentsOfTree nodes (map values_of arguments.now) → IfOk result (λ items. OfTree nodes (values_of items)) }
 {
+    given(alloc, function, arguments.as_slice(), patterns)
+}
+
+/// The same of a slice.
+fn given<'t>(
+    alloc: Global,
+    function: Function,
+    arguments: &[Sequence<'t>],
+    patterns: &Patterns,
+) -> Result<Sequence<'t>, XFault>
+    ensures { IsGiven (called patterns.now function (map values_of arguments.now)) (outcome values_of result) }
+{
     if is_concat(function) {
-        return of_several(alloc, arguments.as_slice());
+        return of_several(alloc, arguments);
     }
-    by_number(alloc, function, arguments.as_slice(), patterns)
+    by_number(alloc, function, arguments, patterns)
 }
 
 fn is_concat(function: Function) -> bool

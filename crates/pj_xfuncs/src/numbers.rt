@@ -3,6 +3,7 @@ ghost use Rattle.std.specs.Prelude.{◌≡◌, ◌+ℤ◌, nat_abs, pos};
 ghost use Rattle.pj_xvalue.specs.Items.{values_of};
 ghost use Rattle.pj_xvalue.specs.Replies.{outcome};
 ghost use Rattle.pj_xfuncs.specs.Arguments.{IsGiven, item_or_nothing};
+ghost use Rattle.pj_xfuncs.specs.Gathered.{added};
 ghost use Rattle.pj_xfuncs.specs.Numbers.{absolute, best, greater as greater_of, held, lesser as lesser_of, maximum as maximum_of, minimum as minimum_of, sum as sum_of, sum_from, sum_with as sum_with_of};
 
 use crate::arguments::{all_integers, number, optional_integer};
@@ -54,11 +55,21 @@ fn item_or_nothing<'t>(alloc: Global, items: &[Item<'t>]) -> Result<Sequence<'t>
 fn sum_from(numbers: &[i64]) -> Result<i64, XCode>
     ensures { result ≡ sum_from (pos 0) numbers.now }
 {
-    let mut total = 0i64;
+    let mut total = Ok(0i64);
     for z in numbers {
-        total = plus(total, *z)?;
+        total = added(total, *z);
     }
-    Ok(total)
+    total
+}
+
+/// A sum with one more integer, where there is no code.
+fn added(total: Result<i64, XCode>, z: i64) -> Result<i64, XCode>
+    ensures { result ≡ added total z }
+{
+    match total {
+        Ok(sum) => plus(sum, z),
+        Err(code) => Err(code),
+    }
 }
 
 /// A sum of two.

@@ -1,5 +1,5 @@
 //! Places of a list, counted from 1.
-ghost use Rattle.std.specs.Prelude.{◌≡◌};
+ghost use Rattle.std.specs.Prelude.{◌≡◌, drop, take};
 ghost use Rattle.pj_xfuncs.specs.Places.{places_before, places_within};
 
 /// How many places stand before one.
@@ -21,4 +21,24 @@ pub(crate) fn within(start: i64, length: i64) -> usize
         let end = start + length;
         if end <= 1 { 0 } else { (end - 1) as usize }
     }
+}
+
+/// The members behind so many.
+pub(crate) fn behind<T>(members: &[T], skipped: usize) -> &[T]
+    ensures { result.now ≡ drop skipped members.now }
+{
+    if skipped >= members.len() {
+        return &members[members.len()..];
+    }
+    &members[skipped..]
+}
+
+/// The first so many members, or all.
+pub(crate) fn first_of<T>(members: &[T], count: usize) -> &[T]
+    ensures { result.now ≡ take count members.now }
+{
+    if count >= members.len() {
+        return members;
+    }
+    &members[..count]
 }

@@ -1,14 +1,13 @@
 //! Functions of strings.
-ghost use Rattle.std.specs.Prelude.{◌≡◌, ◌∷◌, [], map, take, drop, chars, encode_utf8_all, IfOk, string_bytes, length, is_some, nat_eq};
+ghost use Rattle.std.specs.Prelude.{◌≡◌, ◌∷◌, [], chars, encode_utf8_all, IfOk, length, is_some, nat_eq};
 ghost use Rattle.std.specs.List.{starts_with as starts_with_part, ends_with as ends_with_part};
-ghost use Rattle.std.specs.Char.{to_ascii_uppercase, to_ascii_lowercase};
 ghost use Rattle.pj_xvalue.specs.Items.{String as StringValue, values_of};
 ghost use Rattle.pj_xvalue.specs.Replies.{outcome};
 ghost use Rattle.pj_xfuncs.specs.Arguments.{IsGiven};
-ghost use Rattle.pj_xfuncs.specs.Strings.{before as before_of, behind as behind_of, contains as contains_of, ends as ends_of, lower_case as lower_case_of, place_of, starts as starts_of, string_length as string_length_of, substring as substring_of, substring_after as substring_after_of, substring_before as substring_before_of, substring_from as substring_from_of, upper_case as upper_case_of};
+ghost use Rattle.pj_xfuncs.specs.Strings.{before as before_of, behind as behind_of, contains as contains_of, ends as ends_of, place_of, starts as starts_of, string_length as string_length_of, substring as substring_of, substring_after as substring_after_of, substring_before as substring_before_of, substring_from as substring_from_of};
 
 use crate::arguments::{counted, integer, optional_string, spelled, truth};
-use crate::places::{before, within};
+use crate::characters::{characters, text_from, text_within};
 use pj_base::NoMemory;
 use pj_xvalue::{Sequence, XFault};
 use std::alloc::Global;
@@ -131,7 +130,8 @@ pub(crate) fn substring_from<'t>(
 {
     let whole = optional_string(text)?;
     let first = integer(start)?;
-    let kept = text_from(alloc, whole, before(first))?;
+    let all = characters(alloc, whole)?;
+    let kept = text_from(alloc, &all, first)?;
     Ok(spelled(alloc, kept)?)
 }
 
@@ -147,28 +147,9 @@ pub(crate) fn substring<'t>(
     let whole = optional_string(text)?;
     let first = integer(start)?;
     let number = integer(length)?;
-    let kept = text_within(alloc, whole, before(first), within(first, number))?;
+    let all = characters(alloc, whole)?;
+    let kept = text_within(alloc, &all, first, number)?;
     Ok(spelled(alloc, kept)?)
-}
-
-fn text_from(alloc: Global, text: &str, skipped: usize) -> Result<String, NoMemory>
-    ensures { IfOk result (λ kept. string_bytes kept ≡ encode_utf8_all (drop skipped (chars text.now))) }
-{
-    let mut kept = String::new(alloc);
-    for c in text.chars().skip(skipped) {
-        kept.push(c)?;
-    }
-    Ok(kept)
-}
-
-fn text_within(alloc: Global, text: &str, skipped: usize, count: usize) -> Result<String, NoMemory>
-    ensures { IfOk result (λ kept. string_bytes kept ≡ encode_utf8_all (take count (drop skipped (chars text.now)))) }
-{
-    let mut kept = String::new(alloc);
-    for c in text.chars().skip(skipped).take(count) {
-        kept.push(c)?;
-    }
-    Ok(kept)
 }
 
 /// `string-length` of an argument.
@@ -183,42 +164,4 @@ fn count_characters(text: &str) -> usize
     ensures { result ≡ length (chars text.now) }
 {
     text.chars().count()
-}
-
-/// `upper-case`.
-pub(crate) fn upper_case<'t>(alloc: Global, text: &Sequence<'_>) -> Result<Sequence<'t>, XFault>
-    ensures { IsGiven (upper_case_of (values_of text.now)) (outcome values_of result) }
-{
-    let whole = optional_string(text)?;
-    let changed = raised(alloc, whole)?;
-    Ok(spelled(alloc, changed)?)
-}
-
-fn raised(alloc: Global, text: &str) -> Result<String, NoMemory>
-    ensures { IfOk result (λ changed. string_bytes changed ≡ encode_utf8_all (map to_ascii_uppercase (chars text.now))) }
-{
-    let mut changed = String::new(alloc);
-    for c in text.chars() {
-        changed.push(c.to_ascii_uppercase())?;
-    }
-    Ok(changed)
-}
-
-/// `lower-case`.
-pub(crate) fn lower_case<'t>(alloc: Global, text: &Sequence<'_>) -> Result<Sequence<'t>, XFault>
-    ensures { IsGiven (lower_case_of (values_of text.now)) (outcome values_of result) }
-{
-    let whole = optional_string(text)?;
-    let changed = lowered(alloc, whole)?;
-    Ok(spelled(alloc, changed)?)
-}
-
-fn lowered(alloc: Global, text: &str) -> Result<String, NoMemory>
-    ensures { IfOk result (λ changed. string_bytes changed ≡ encode_utf8_all (map to_ascii_lowercase (chars text.now))) }
-{
-    let mut changed = String::new(alloc);
-    for c in text.chars() {
-        changed.push(c.to_ascii_lowercase())?;
-    }
-    Ok(changed)
 }

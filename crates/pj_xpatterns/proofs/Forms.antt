@@ -1,5 +1,6 @@
 -- What each form of an expression is seen as, by what its parts are seen as.
-use Rattle.std.proofs.Common.{◌≡◌, ℕ, ℤ, ◌++◌, List, [], map, Option, Vec, Box, Global}
+use Rattle.std.proofs.Common.{◌≡◌, ◌∙◌, ℕ, ℤ, ◌++◌, ◌∷◌, List, [], map, Option, Some, None, Vec, Box, Global, refl, ap}
+use Rattle.std.proofs.lemmas.List.{append-nil, append_assoc}
 use Rattle.pj_xvalue.specs.declared.axis.Axis.{Axis}
 use Rattle.pj_xvalue.specs.declared.function.Function.{Function}
 use Rattle.pj_xvalue.specs.declared.operator.Compare.{Compare}
@@ -15,8 +16,9 @@ use Rattle.pj_xvalue.specs.declared.expr.Expr.TheOpen.{Expr-F}
 use Rattle.pj_xvalue.specs.declared.expr.Expr.TheVariants as expr
 use Rattle.pj_xvalue.specs.declared.expr.Expr.TheViews.{roll-Expr}
 use Rattle.pj_xvalue.specs.declared.expr.Expr.TheFolds.{fold-roll-Expr}
-use Rattle.pj_xvalue.specs.Expressions.{Literal, Number, Name, Other}
-use Rattle.pj_xpatterns.specs.Written.{Variables, Seen, bound_seen, next_seen, of_each, of_second, of_call, seen_step, seen_of}
+use Rattle.pj_xvalue.specs.Expressions.{Written, Literal, Number, Name, Other}
+use Rattle.pj_xpatterns.specs.Meaning.{Pattern}
+use Rattle.pj_xpatterns.specs.Written.{Variables, Seen, bound_seen, next_seen, of_each, of_second, of_call, own_pattern, pattern_at, flags_place, seen_step, seen_of}
 
 pub seen_of-Comma : (variables : Variables) (parts : Vec Expr Global) → seen_of variables (expr.Comma parts) ≡ record { written = Other; patterns = of_each (map (seen_of variables) parts.items) }
 unfolding seen_of roll-Expr denote.Hole.Carrier.roll
@@ -74,7 +76,7 @@ pub seen_of-IntersectExcept : (variables : Variables) (first : Box Expr Global) 
 unfolding seen_of roll-Expr denote.Hole.Carrier.roll
 seen_of-IntersectExcept variables first rest = fold-roll-Expr Seen (seen_step variables) (Expr-F.IntersectExcept first rest)
 
-pub seen_of-Unary : (variables : Variables) (sign : Sign) (part : Box Expr Global) → seen_of variables (expr.Unary sign part) ≡ record { written = Other; patterns = (seen_of variables inner.value).patterns }
+pub seen_of-Unary : (variables : Variables) (sign : Sign) (part : Box Expr Global) → seen_of variables (expr.Unary sign part) ≡ record { written = Other; patterns = (seen_of variables part.value).patterns }
 unfolding seen_of roll-Expr denote.Hole.Carrier.roll
 seen_of-Unary variables sign part = fold-roll-Expr Seen (seen_step variables) (Expr-F.Unary sign part)
 
@@ -127,4 +129,29 @@ unfolding seen_of roll-Expr denote.Hole.Carrier.roll
 seen_of-PmdCall variables function arguments = fold-roll-Expr Seen (seen_step variables) (Expr-F.PmdCall function arguments)
 
 -- the equations, for the proofs of what reads expressions
-pub ruleset seen_forms = (seen_of-Comma, seen_of-For, seen_of-Let, seen_of-Quantified, seen_of-If, seen_of-Or, seen_of-And, seen_of-Comparison, seen_of-Concatenation, seen_of-Range, seen_of-Additive, seen_of-Multiplicative, seen_of-Union, seen_of-IntersectExcept, seen_of-Unary, seen_of-SimpleMap, seen_of-Path, seen_of-Root, seen_of-Step, seen_of-AttributeStep, seen_of-Filter, seen_of-Integer, seen_of-String, seen_of-Variable, seen_of-ContextItem, seen_of-Call, seen_of-PmdCall)
+pub ruleset seen_forms = (seen_of-Comma, seen_of-For, seen_of-Let, seen_of-Quantified, seen_of-If, seen_of-Or, seen_of-And, seen_of-Comparison, seen_of-Concatenation, seen_of-Range, seen_of-Additive, seen_of-Multiplicative, seen_of-Union, seen_of-IntersectExcept, seen_of-Unary, seen_of-SimpleMap, seen_of-Path, seen_of-Root, seen_of-Step, seen_of-AttributeStep, seen_of-Filter, seen_of-Integer, seen_of-String, seen_of-Variable, seen_of-ContextItem, seen_of-Call, seen_of-PmdCall, append-nil, append_assoc)
+
+-- ---- calls
+
+own-empty : (variables : Variables) (function : Function) → own_pattern variables function [] ≡ []
+own-empty variables function = go (flags_place function)
+  where
+    go : (o : Option ℕ) → pattern_at variables o [] ≡ []
+    go None = refl
+    go (Some place) = refl
+
+pub of_call-empty : (variables : Variables) (function : Function) → of_call variables function [] ≡ []
+of_call-empty variables function = rw (own-empty variables function) refl
+
+pub of_call-some : (variables : Variables) (function : Function) (first : Seen) (rest : List Seen) → of_call variables function (first ∷ rest) ≡ first.patterns ++ (own_pattern variables function (first.written ∷ map (λ argument. argument.written) rest) ++ of_each rest)
+of_call-some variables function first rest = ap (λ (t : List Pattern). t ++ (own_pattern variables function (first.written ∷ map (λ argument. argument.written) rest) ++ of_each rest)) (append-nil first.patterns)
+
+written-map : (variables : Variables) (es : List Expr) → map (λ (argument : Seen). argument.written) (map (seen_of variables) es) ≡ map (λ (argument : Expr). (seen_of variables argument).written) es
+written-map variables [] = refl
+written-map variables (e ∷ es) = ap (λ (t : List Written). (seen_of variables e).written ∷ t) (written-map variables es)
+
+-- the same of the expressions
+pub of_call-exprs : (variables : Variables) (function : Function) (e : Expr) (es : List Expr) → of_call variables function (map (seen_of variables) (e ∷ es)) ≡ (seen_of variables e).patterns ++ (own_pattern variables function (map (λ argument. (seen_of variables argument).written) (e ∷ es)) ++ of_each (map (seen_of variables) es))
+of_call-exprs variables function e es = of_call-some variables function (seen_of variables e) (map (seen_of variables) es) ∙ ap (λ (t : List Written). (seen_of variables e).patterns ++ (own_pattern variables function ((seen_of variables e).written ∷ t) ++ of_each (map (seen_of variables) es))) (written-map variables es)
+
+pub ruleset call_forms = (of_call-empty, of_call-exprs, append-nil, append_assoc)

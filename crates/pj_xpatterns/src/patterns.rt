@@ -1,7 +1,8 @@
 //! The patterns of an expression.
-ghost use Rattle.std.specs.Prelude.{◌≡◌, true, false, IfOk, IfErr, OnOk, MatchOption};
-ghost use Rattle.pj_xpatterns.specs.Keys.{key_of};
-ghost use Rattle.pj_xpatterns.specs.Meaning.{Pattern, has};
+ghost use Rattle.std.specs.Prelude.{◌≡◌, ◌||◌, true, false, IfOk, IfErr, OnOk, MatchOption};
+ghost use Rattle.std.specs.Map.{values_of};
+ghost use Rattle.pj_xpatterns.specs.Keys.{AreKeyed, key_of};
+ghost use Rattle.pj_xpatterns.specs.Meaning.{IsNoPattern, Pattern, has, same_pattern};
 ghost use Rattle.pj_xpatterns.specs.Refusing.{AreTaken, IfRefused, IsFirstRefused};
 ghost use Rattle.pj_xpatterns.specs.Written.{patterns_in, variables_of};
 
@@ -76,14 +77,34 @@ fn compiled(alloc: Global, found: &[(Text, PatternFlags)]) -> Result<Patterns, P
 {
     let mut held = BTreeMap::new(alloc);
     for pattern in found {
-        let (text, flags) = (pattern.0.as_str(), pattern.1);
-        let key = key_of(alloc, text, flags)?;
-        if !held.contains_key(&key) {
-            let compiled = CompiledPattern::of(alloc, text, flags)?;
-            let _ = held.insert(key, compiled)?;
+        match keep(alloc, &mut held, pattern) {
+            Ok(()) => {}
+            Err(fault) => return Err(fault),
         }
     }
     Ok(Patterns { held })
+}
+
+/// Compiles the pattern, unless it is held.
+fn keep(
+    alloc: Global,
+    held: &mut BTreeMap<Text, CompiledPattern>,
+    pattern: &(Text, PatternFlags),
+) -> Result<(), PatternFault>
+    requires { AreKeyed held.old.entries }
+    ensures keyed { OnOk result (AreKeyed held.new.entries) }
+    ensures value { OnOk result ((other : Pattern) → has (values_of held.new.entries) other ≡ (same_pattern pattern.now other || has (values_of held.old.entries) other)) }
+    ensures taken { OnOk result (has (values_of held.old.entries) pattern.now ≡ false → ¬ IsNoPattern pattern.now) }
+    ensures refused { IfErr result (λ fault. IfRefused fault (λ text. (text ≡ pattern.now.0) × IsNoPattern pattern.now)) }
+{
+    let (text, flags) = (pattern.0.as_str(), pattern.1);
+    let key = key_of(alloc, text, flags)?;
+    if held.contains_key(&key) {
+        return Ok(());
+    }
+    let compiled = CompiledPattern::of(alloc, text, flags)?;
+    let _ = held.insert(key, compiled)?;
+    Ok(())
 }
 
 /// The key of a pattern: its flags, each as its letter or `-`, and its text.
