@@ -1,4 +1,5 @@
 pub mod Gathering
+pub mod More
 pub mod OfTree
 pub mod Utf8Parts
 pub mod Parts

@@ -1,7 +1,7 @@
 -- What the functions give is of the tree that the arguments are of.
 use Rattle.std.proofs.Common.{◌≡◌, ◌∙◌, ℕ, suc, ℤ, pos, Bool, true, false, cond, List, [], ◌∷◌, ◌++◌, map, Option, Some, None, Result, Ok, Err, IfOk, refl, sym, ap, subst, rules}
-use Rattle.std.specs.Prelude.{reverse}
-use Rattle.std.specs.List.{AllByRecursion, list_any}
+use Rattle.std.specs.Prelude.{reverse, nat_abs, is_some, nat_eq, length, ◌==◌}
+use Rattle.std.specs.List.{AllByRecursion, ends_with, list_any, starts_with}
 use Rattle.std.proofs.lemmas.List.{reverse-append}
 use Rattle.pj_xvalue.specs.declared.fault.XCode.{XCode}
 use Rattle.pj_xvalue.specs.declared.fault.XCode.TheVariants.{FOTY0012}
@@ -22,8 +22,8 @@ use Rattle.pj_xfuncs.specs.General.{texts_joined, concatenated, string_join, dat
 use Rattle.pj_xfuncs.specs.Library.{called, by_number, of_none, of_one, of_two, of_three, of_four, of_several, is_concat}
 use Rattle.pj_xfuncs.specs.Numbers.{held, sum_from, sum_or, integer_items, best_item, magnitude, lesser, greater}
 use Rattle.pj_xfuncs.specs.Patterns.{flags_in, known, matches, never_empty, plain, replace, tokenize, tokens}
-use Rattle.pj_xfuncs.specs.Sequences.{kept_from, first_occurrences, places_from, same}
-use Rattle.pj_xfuncs.specs.Strings.{Characters, tested, cut, spelled, characters}
+use Rattle.pj_xfuncs.specs.Sequences.{kept_from, first_occurrences, is_from, is_within, places_from, same}
+use Rattle.pj_xfuncs.specs.Strings.{Characters, before, behind, place_of, tested, cut}
 
 -- the items of a value are of a tree
 abbrev Gives : ℕ → Result (List ItemValue) XCode → Type 0
@@ -100,8 +100,11 @@ strings-each n [] = tt
 strings-each n (text ∷ texts) = (tt, strings-each n texts)
 
 tokens-of_tree : (n : ℕ) (pattern : Pattern) (text : Text) → OfTree n (tokens pattern text)
-tokens-of_tree n pattern [] = of_tree-nil n
-tokens-of_tree n pattern (c ∷ text) = of_tree-each n _ (strings-each n (pieces_between pattern (c ∷ text)))
+tokens-of_tree n pattern text = go (length text == 0)
+  where
+    go : (b : Bool) → OfTree n (cond b [] (map String (pieces_between pattern text)))
+    go true = of_tree-nil n
+    go false = of_tree-each n (map String (pieces_between pattern text)) (strings-each n (pieces_between pattern text))
 
 sum-gives : (n : ℕ) (zero : List ItemValue) (numbers : List ℤ) → OfTree n zero → Gives n (sum_or zero numbers)
 sum-gives n zero [] h = h
@@ -113,7 +116,7 @@ best-gives n choice (z ∷ zs) = one_integer n _
 
 magnitude-gives : (n : ℕ) (o : Option ℤ) → Gives n (magnitude o)
 magnitude-gives n None = of_tree-nil n
-magnitude-gives n (Some z) = then n (held _) _ (λ v _. one_integer n v)
+magnitude-gives n (Some z) = then n (held (pos (nat_abs z))) _ (λ v _. one_integer n v)
 
 -- ---- the functions
 
@@ -160,12 +163,12 @@ module _ (n : ℕ) (patterns : List Pattern) where
 
   of_two-gives : (function : Function) (a b : List ItemValue) → OfTree n a → OfTree n b → Gives n (of_two patterns function a b)
   of_two-gives f.StringJoin a b h k = then n (only_atomic a) _ (λ values _. then n (string b) _ (λ between _. one_string n _))
-  of_two-gives f.Contains a b h k = tested-gives _ a b
-  of_two-gives f.StartsWith a b h k = tested-gives _ a b
-  of_two-gives f.EndsWith a b h k = tested-gives _ a b
+  of_two-gives f.Contains a b h k = tested-gives (λ text part. is_some (place_of part text)) a b
+  of_two-gives f.StartsWith a b h k = tested-gives (λ text part. starts_with nat_eq text part) a b
+  of_two-gives f.EndsWith a b h k = tested-gives (λ text part. ends_with nat_eq text part) a b
   of_two-gives f.Substring a b h k = then n (optional_string a) _ (λ t _. then n (integer b) _ (λ first _. one_string n _))
-  of_two-gives f.SubstringBefore a b h k = cut-gives _ a b
-  of_two-gives f.SubstringAfter a b h k = cut-gives _ a b
+  of_two-gives f.SubstringBefore a b h k = cut-gives before a b
+  of_two-gives f.SubstringAfter a b h k = cut-gives behind a b
   of_two-gives f.Matches a b h k = matches-gives a b None
   of_two-gives f.Tokenize a b h k = tokenize-gives a b None
   of_two-gives f.Sum a b h k = then n (all_integers a) _ (λ numbers _. then n (optional_atomic b) _ (λ nothing is. sum-gives n nothing numbers (optional-values b nothing is k)))
@@ -177,7 +180,7 @@ module _ (n : ℕ) (patterns : List Pattern) where
           go (Ok atoms) e g = nothing-values n atoms values g (atomic-values n items atoms e h)
           go (Err code) e g = absurd (cc)
   of_two-gives f.IndexOf a b h k = then n (only_atomic a) _ (λ values _. then n (atomic b) _ (λ value _. of_tree-each n _ (places-each n value 1 values)))
-  of_two-gives f.Subsequence a b h k = then n (integer b) _ (λ first _. kept-of_tree n _ a h)
+  of_two-gives f.Subsequence a b h k = then n (integer b) _ (λ first _. kept-of_tree n (is_from first) a h)
   of_two-gives _ a b h k = tt
 
   of_three-gives : (function : Function) (a b c : List ItemValue) → OfTree n a → Gives n (of_three patterns function a b c)
@@ -186,7 +189,7 @@ module _ (n : ℕ) (patterns : List Pattern) where
   of_three-gives f.Matches a b c h = matches-gives a b (Some c)
   of_three-gives f.Replace a b c h = replace-gives a b c None
   of_three-gives f.Tokenize a b c h = tokenize-gives a b (Some c)
-  of_three-gives f.Subsequence a b c h = then n (integer b) _ (λ first _. then n (integer c) _ (λ number _. kept-of_tree n _ a h))
+  of_three-gives f.Subsequence a b c h = then n (integer b) _ (λ first _. then n (integer c) _ (λ number _. kept-of_tree n (is_within first number) a h))
   of_three-gives _ a b c h = tt
 
   of_four-gives : (function : Function) (a b c d : List ItemValue) → Gives n (of_four patterns function a b c d)

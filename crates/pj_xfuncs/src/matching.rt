@@ -1,10 +1,11 @@
 //! Functions of strings that use a pattern.
 ghost use Rattle.std.specs.Prelude.{◌≡◌, map, IfOk};
+ghost use Rattle.std.specs.List.{list_any};
 ghost use Rattle.std.specs.Option.{option_map};
 ghost use Rattle.pj_xvalue.specs.Items.{String as StringValue, values_of};
 ghost use Rattle.pj_xvalue.specs.Replies.{outcome};
 ghost use Rattle.pj_xfuncs.specs.Arguments.{IsGiven, seen_as};
-ghost use Rattle.pj_xfuncs.specs.Patterns.{flags_in as flags_in_of, known as known_of, matches as matches_of, never_empty, plain, replace as replace_of, tokenize as tokenize_of};
+ghost use Rattle.pj_xfuncs.specs.Patterns.{flags_in as flags_in_of, is_mark, known as known_of, matches as matches_of, never_empty, plain, replace as replace_of, tokenize as tokenize_of};
 
 use crate::arguments::{one, optional_string, string, truth};
 use pj_base::{Names, NoMemory};
@@ -113,10 +114,22 @@ fn never_empty<'a>(alloc: Global, pattern: &'a CompiledPattern) -> Result<&'a Co
 fn plain(text: &str) -> Result<&str, XCode>
     ensures { seen_as (λ by. by.now) result ≡ plain text.now }
 {
-    if text.as_bytes().iter().any(|byte| *byte == b'$' || *byte == b'\\') {
+    if has_mark(text.as_bytes()) {
         return Err(XCode::XPTY0004);
     }
     Ok(text)
+}
+
+fn has_mark(bytes: &[u8]) -> bool
+    ensures { result ≡ list_any is_mark bytes.now }
+{
+    bytes.iter().any(|byte| is_mark(*byte))
+}
+
+fn is_mark(byte: u8) -> bool
+    ensures { result ≡ is_mark byte }
+{
+    byte == b'$' || byte == b'\\'
 }
 
 /// The texts as strings.

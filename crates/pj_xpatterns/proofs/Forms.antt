@@ -1,6 +1,8 @@
 -- What each form of an expression is seen as, by what its parts are seen as.
-use Rattle.std.proofs.Common.{◌≡◌, ◌∙◌, ℕ, ℤ, ◌++◌, ◌∷◌, List, [], map, Option, Some, None, Vec, Box, Global, refl, ap}
+use Rattle.std.proofs.Common.{◌≡◌, ◌∙◌, ℕ, ℤ, ◌++◌, ◌∷◌, List, [], map, Option, Some, None, Vec, Box, Global, Result, Ok, Err, OnOk, ◌≤◌, ◌-◌, length, get_or, drop, take, refl, sym, ap, ap₂, arith}
+use Rattle.pj_base.specs.declared.memory.NoMemory.{NoMemory}
 use Rattle.std.proofs.lemmas.List.{append-nil, append_assoc}
+use Rattle.std.proofs.Math.Seq.{take-length}
 use Rattle.pj_xvalue.specs.declared.axis.Axis.{Axis}
 use Rattle.pj_xvalue.specs.declared.function.Function.{Function}
 use Rattle.pj_xvalue.specs.declared.operator.Compare.{Compare}
@@ -154,4 +156,27 @@ written-map variables (e ∷ es) = ap (λ (t : List Written). (seen_of variables
 pub of_call-exprs : (variables : Variables) (function : Function) (e : Expr) (es : List Expr) → of_call variables function (map (seen_of variables) (e ∷ es)) ≡ (seen_of variables e).patterns ++ (own_pattern variables function (map (λ argument. (seen_of variables argument).written) (e ∷ es)) ++ of_each (map (seen_of variables) es))
 of_call-exprs variables function e es = of_call-some variables function (seen_of variables e) (map (seen_of variables) es) ∙ ap (λ (t : List Written). (seen_of variables e).patterns ++ (own_pattern variables function ((seen_of variables e).written ∷ t) ++ of_each (map (seen_of variables) es))) (written-map variables es)
 
-pub ruleset call_forms = (of_call-empty, of_call-exprs, append-nil, append_assoc)
+patterns-call : (variables : Variables) (function : Function) (arguments : Vec Expr Global) (e : Expr) (items : List Expr) → e ≡ expr.Call function arguments → arguments.items ≡ items → (seen_of variables e).patterns ≡ of_call variables function (map (seen_of variables) items)
+patterns-call variables function arguments e items is are =
+    ap (λ (x : Expr). (seen_of variables x).patterns) is ∙ ap (λ (seen : Seen). seen.patterns) (seen_of-Call variables function arguments) ∙ ap (λ (xs : List Expr). of_call variables function (map (seen_of variables) xs)) are
+
+pub empty_call : (variables : Variables) (function : Function) (arguments : Vec Expr Global) (e : Expr) (items : List Expr) (old : List Pattern) → e ≡ expr.Call function arguments → items ≡ arguments.items → length items ≡ 0 → old ≡ old ++ (seen_of variables e).patterns
+empty_call variables function arguments e [] old is are none = sym (ap (λ (ps : List Pattern). old ++ ps) (patterns-call variables function arguments e [] is (sym are) ∙ of_call-empty variables function) ∙ append-nil old)
+empty_call variables function arguments e (x ∷ xs) old is are none = absurd (omega (arith, none))
+
+weaker : (P Q : Type 0) (r : Result (Unit {0}) NoMemory) → (P → Q) → OnOk r P → OnOk r Q
+weaker P Q (Ok x) f h = f h
+weaker P Q (Err e) f h = tt
+
+pub some_call : (variables : Variables) (function : Function) (arguments : Vec Expr Global) (e first : Expr) (items again : List Expr) (old a b new : List Pattern) (r : Result (Unit {0}) NoMemory)
+    → e ≡ expr.Call function arguments → items ≡ arguments.items → again ≡ arguments.items → 1 ≤ length items → first ≡ get_or items 0 first
+    → a ≡ old ++ (seen_of variables first).patterns → b ≡ a ++ own_pattern variables function (map (λ argument. (seen_of variables argument).written) again)
+    → OnOk r (new ≡ b ++ of_each (map (seen_of variables) (take (length items - 1) (drop 1 items)))) → OnOk r (new ≡ old ++ (seen_of variables e).patterns)
+some_call variables function arguments e first [] again old a b new r is are same some at_first h k all = absurd (omega (arith, some))
+some_call variables function arguments e first (x ∷ xs) again old a b new r is are same some at_first h k all =
+    let count : length (x ∷ xs) - 1 ≡ length xs = omega arith in
+    let whole : take (length (x ∷ xs) - 1) xs ≡ xs = ap (λ (n : ℕ). take n xs) count ∙ take-length xs in
+    weaker _ _ r (λ rest. rest ∙ ap (λ (es : List Expr). b ++ of_each (map (seen_of variables) es)) whole ∙ ap (λ (ps : List Pattern). ps ++ of_each (map (seen_of variables) xs)) (k ∙ ap₂ (λ (ps : List Pattern) (es : List Expr). ps ++ own_pattern variables function (map (λ argument. (seen_of variables argument).written) es)) (h ∙ ap (λ (y : Expr). old ++ (seen_of variables y).patterns) at_first) (same ∙ sym are))
+      ∙ append_assoc (old ++ (seen_of variables x).patterns) (own_pattern variables function (map (λ argument. (seen_of variables argument).written) (x ∷ xs))) (of_each (map (seen_of variables) xs))
+      ∙ append_assoc old (seen_of variables x).patterns (own_pattern variables function (map (λ argument. (seen_of variables argument).written) (x ∷ xs)) ++ of_each (map (seen_of variables) xs))
+      ∙ sym (ap (λ (ps : List Pattern). old ++ ps) (patterns-call variables function arguments e (x ∷ xs) is (sym are) ∙ of_call-exprs variables function x xs))) all
