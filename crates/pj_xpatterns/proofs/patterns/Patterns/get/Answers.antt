@@ -1,0 +1,9 @@
+use Rattle.std.proofs.Common.{◌≡◌, ◌∙◌, Bool, true, false, List, Option, Some, None, MatchOption, sym, subst, option_copied}
+use Rattle.std.proofs.Math.Bool.{Bool-set}
+use Rattle.std.proofs.Math.Logic.{∥∥₁_elim}
+use Rattle.pj_xpatterns.specs.Meaning.{Pattern, has}
+use Rattle.pj_xpatterns.proofs.Lookups.{FoundIs, found_by_key, got}
+use Rattle.pj_xpatterns.proofs.patterns.Patterns.get.Goals as goal
+
+pub returns : goal.returns
+returns c = got c.self.inside.held.entries c.args.self.now (c.args.pattern.now, c.args.flags) c.in_ok-key.key c.get.result c.self.invariant c.self.view_is c.in_ok-key.ensures c.get.ensures.value
