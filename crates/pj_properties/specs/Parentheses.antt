@@ -1,5 +1,5 @@
 -- How many parentheses stand directly around an expression (JLS 15.8.5), by the tokens of the file.
-use Rattle.std.specs.Prelude.{ℕ, ◌+◌, ◌-◌, nat_lt, nat_le, min, Bool, true, false, ◌&&◌, Option, None, Some, is_some, if◌then◌else◌, List, [], ◌∷◌, filter, reverse}
+use Rattle.std.specs.Prelude.{ℕ, ◌+◌, ◌-◌, nat_lt, nat_le, min, Bool, true, false, not, ◌&&◌, Option, None, Some, is_some, if◌then◌else◌, List, [], ◌∷◌, filter, reverse}
 use Rattle.std.specs.Option.{option_map, option_map_or, option_and_then}
 use Rattle.pj_tree.specs.Tree.{Tree, kind_of, parent_of, span_of}
 use Rattle.pj_tree.specs.declared.kind.Kind.{Kind}
@@ -30,7 +30,7 @@ abbrev pub before : ℕ → List TokenSeen → List TokenSeen
 before offset ts = filter (λ t. nat_lt t.span.from offset) ts
 
 abbrev pub behind : ℕ → List TokenSeen → List TokenSeen
-behind offset ts = filter (λ t. nat_le offset t.span.from) ts
+behind offset ts = filter (λ t. not (nat_lt t.span.from offset)) ts
 
 -- the parentheses that open directly before the node, within the node above
 abbrev pub opened : Span → Span → List TokenSeen → ℕ
