@@ -1,13 +1,17 @@
-// A library with one function.
+//! Tests of the attributes of nodes, through what parsing, declarations and attributes show of Java texts.
 #![tactic(auto)]
 
-ghost use Rattle.std.specs.Prelude.{◌≡◌};
-ghost use Rattle.tests_attrs.specs.Echo.{echo_of};
-
-// The `ensures` clause is the contract: what `echo` returns is `echo_of` of its argument, a definition
-// in `specs/Echo.antt`, which a caller's clause can cite too.
-pub fn echo(x: usize) -> usize
-    ensures { result ≡ echo_of x }
-{
-    x
-}
+#[cfg(test)]
+mod rows_declarations;
+#[cfg(test)]
+mod rows_expressions;
+#[cfg(test)]
+mod rows_literals;
+#[cfg(test)]
+mod rows_parentheses;
+#[cfg(test)]
+mod rows_statements;
+#[cfg(test)]
+mod rows_variables;
+#[cfg(test)]
+mod tests;
