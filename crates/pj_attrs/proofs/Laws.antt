@@ -2,7 +2,7 @@
 use Rattle.std.proofs.Common.{ℕ, ℤ, ◌≡◌, ◌<◌, ◌^◌, ◌-◌, Bool, true, false, cond, not, ◌&&◌, IsTrue, List, [], ◌∷◌, length, map, Option, None, Some, refl, ap, sym, ◌∙◌, subst, arith, inl, inr, nat_eq}
 use Rattle.std.proofs.Math.Dec.{ltb}
 use Rattle.std.specs.List.{list_all, list_any}
-use Rattle.std.specs.Option.{ForSome, option_map, option_map_or, option_and_then}
+use Rattle.std.specs.Option.{ForSome, IfSome, option_map, option_map_or, option_and_then}
 use Rattle.std.specs.Cmp.Lexicographic.{pointwise}
 use Rattle.std.proofs.lemmas.Bool.{cases_Bool, and_parts, eqb-true, or_left, or_right, ltb-true}
 use Rattle.pj_tree.specs.Tree.{Tree, kind_of}
@@ -15,7 +15,8 @@ use Rattle.pj_properties.specs.Numbers.{number_value}
 use Rattle.pj_properties.specs.Flags.{flag_value}
 use Rattle.pj_properties.specs.declared.property.Property.{Property}
 use Rattle.pj_properties.specs.declared.property.Property.TheVariants.{Text, Number, Flag}
-use Rattle.pj_xvalue.specs.Attributes.{is_typed, is_among, are_different, boolean_attributes, integer_attributes, string_attributes}
+use Rattle.pj_xvalue.specs.declared.value.Value.{Value}
+use Rattle.pj_xvalue.specs.Attributes.{attribute_value, is_typed, is_among, are_different, boolean_attributes, integer_attributes, string_attributes}
 use Rattle.pj_xvalue.specs.Items.{ItemValue, String, Integer, Boolean}
 use Rattle.pj_attrs.specs.Attribute.{value_of, property_named, names_in, attribute_names, value_named, attribute}
 use Rattle.pj_attrs.specs.FileFacts.{FileFacts, attribute_in, names_at}
@@ -266,3 +267,9 @@ names_are_all facts n name inside value is = by_kind (kind_of facts.file.tree n)
     by_kind (Some kind) e =
         let found = property_of_value kind facts.file n name value (property_named name (attributes kind)) refl e in
         named_row name (attributes kind) found.0 found.1
+
+-- ---- of the values of the program
+
+pub typed_of : (r : Option Value) (f : FileParsed) (n : Node) (name : List ℕ) → option_map attribute_value r ≡ attribute f n name → IfSome r (λ value. IsTrue (is_typed name (attribute_value value)))
+typed_of None f n name e = tt
+typed_of (Some v) f n name e = attribute_typed_at f n name (attribute_value v) (sym e)

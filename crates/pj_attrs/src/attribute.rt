@@ -39,6 +39,23 @@ fn value_of<'t>(
     }
 }
 
+/// The value that the table has under the name.
+fn value_named<'t>(
+    parsed: &'t Parsed<'t>,
+    symbols: &'t Symbols,
+    n: Node,
+    name: &str,
+) -> Option<Value<'t>>
+    requires inside { n.0 < length parsed.now.tree.nodes }
+    requires one_file { IsOneFile parsed.now symbols.now }
+    ensures { option_map attribute_value result ≡ attribute (file_parsed parsed.now) n name.now }
+{
+    match property_named(parsed.tree.kind(n), name) {
+        Some(property) => value_of(property, parsed, symbols, n),
+        None => None,
+    }
+}
+
 /// The value of the node's attribute of the name. `None` comes exactly where the node has none: where nodes of its kind have
 /// no attribute of the name, or where this one is absent.
 pub fn attribute<'t>(
@@ -52,8 +69,5 @@ pub fn attribute<'t>(
     ensures value { option_map attribute_value result ≡ attribute (file_parsed parsed.now) n name.now }
     ensures typed { IfSome result (λ value. IsTrue (is_typed name.now (attribute_value value))) }
 {
-    match property_named(parsed.tree.kind(n), name) {
-        Some(property) => value_of(property, parsed, symbols, n),
-        None => None,
-    }
+    value_named(parsed, symbols, n, name)
 }

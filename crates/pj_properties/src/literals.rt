@@ -1,6 +1,7 @@
 //! What literals tell by how they are written.
 
 ghost use Rattle.std.specs.Prelude.{◌≡◌, ◌<◌, length, IfSome, pos};
+ghost use Rattle.std.specs.List.{list_any};
 ghost use Rattle.pj_properties.specs.Literals.{either, mark_of, is_hexadecimal_mark, is_hexadecimal, is_decimal_sign, is_floating, ends_in, is_int_literal, is_long_literal, is_float_literal, is_double_literal, radix_behind, radix_by, radix_of, constant_integer, is_text_block};
 
 use pj_literals::value_of_any;
@@ -15,11 +16,18 @@ fn mark_of(text: &str) -> Option<u8>
     }
 }
 
+/// Whether the byte is one of two.
+fn is_either(small: u8, large: u8, byte: u8) -> bool
+    ensures { result ≡ either small large byte }
+{
+    byte == small || byte == large
+}
+
 fn is_hexadecimal_mark(mark: Option<u8>) -> bool
     ensures { result ≡ is_hexadecimal_mark mark }
 {
     match mark {
-        Some(mark) => mark == b'x' || mark == b'X',
+        Some(mark) => is_either(b'x', b'X', mark),
         None => false,
     }
 }
@@ -34,20 +42,33 @@ fn is_decimal_sign(byte: u8) -> bool
     ensures { result ≡ is_decimal_sign byte }
 {
     byte == b'.'
-        || (byte == b'e' || byte == b'E')
-        || (byte == b'f' || byte == b'F')
-        || (byte == b'd' || byte == b'D')
+        || is_either(b'e', b'E', byte)
+        || is_either(b'f', b'F', byte)
+        || is_either(b'd', b'D', byte)
+}
+
+/// Whether a hexadecimal number has an exponent.
+fn has_exponent(bytes: &[u8]) -> bool
+    ensures { result ≡ list_any (either 112 80) bytes.now }
+{
+    bytes.iter().any(|byte| is_either(b'p', b'P', *byte))
+}
+
+/// Whether any other number has a sign of a floating point one.
+fn has_decimal_sign(bytes: &[u8]) -> bool
+    ensures { result ≡ list_any is_decimal_sign bytes.now }
+{
+    bytes.iter().any(|byte| is_decimal_sign(*byte))
 }
 
 /// Whether a number is a floating point one.
 fn is_floating(text: &str) -> bool
     ensures { result ≡ is_floating text.now }
 {
-    let bytes = text.as_bytes();
     if is_hexadecimal(text) {
-        bytes.iter().any(|byte| *byte == b'p' || *byte == b'P')
+        has_exponent(text.as_bytes())
     } else {
-        bytes.iter().any(|byte| is_decimal_sign(*byte))
+        has_decimal_sign(text.as_bytes())
     }
 }
 
@@ -56,7 +77,7 @@ fn ends_in(text: &str, small: u8, large: u8) -> bool
     ensures { result ≡ ends_in (either small large) text.now }
 {
     match text.as_bytes() {
-        [.., last] => *last == small || *last == large,
+        [.., last] => is_either(small, large, *last),
         _ => false,
     }
 }
@@ -88,9 +109,9 @@ pub fn is_double_literal(text: &str) -> bool
 fn radix_behind(is_floating: bool, mark: u8) -> i64
     ensures { result ≡ pos (radix_behind is_floating mark) }
 {
-    if mark == b'x' || mark == b'X' {
+    if is_either(b'x', b'X', mark) {
         16
-    } else if mark == b'b' || mark == b'B' {
+    } else if is_either(b'b', b'B', mark) {
         2
     } else if ((b'0' <= mark && mark <= b'9') || mark == b'_') && !is_floating {
         8

@@ -1,6 +1,6 @@
 //! The numbers that nodes tell.
 
-ghost use Rattle.std.specs.Prelude.{◌≡◌, ◌<◌, length, pos};
+ghost use Rattle.std.specs.Prelude.{◌≡◌, ◌<◌, ◌^◌, length, pos};
 ghost use Rattle.std.specs.Str.{chars};
 ghost use Rattle.pj_parse.specs.Parses.{file_parsed};
 ghost use Rattle.pj_pool.specs.PoolText.{IsPoolOf};
@@ -74,16 +74,17 @@ fn value_length(tree: &SyntaxTree<'_>, pool: &Pool, n: Node) -> Option<i64>
 {
     let _ = tree;
     match pool.text(n) {
-        Some(text) => Some(character_count(text)),
+        Some(text) => Some(character_count(text) as i64),
         None => None,
     }
 }
 
 /// How many characters a text has.
-fn character_count(text: &str) -> i64
-    ensures { result ≡ pos (length (chars text.now)) }
+fn character_count(text: &str) -> usize
+    ensures value { result ≡ length (chars text.now) }
+    ensures small { result < 2 ^ 63 }
 {
-    text.chars().count() as i64
+    text.chars().count()
 }
 
 /// The number that the node tells, if it tells one.

@@ -41,7 +41,8 @@ fn is_comment(kind: TokenKind) -> bool
 
 /// How many parentheses open at the end of the tokens, from an offset on, comments not seen.
 fn opened_last(tokens: &[Token<'_>], from: u32) -> usize
-    ensures { result ≡ run (λ t. is_left t.kind && nat_le from t.span.from) (reverse (map seen tokens.now)) }
+    ensures value { result ≡ run (λ t. is_left t.kind && nat_le from t.span.from) (reverse (map seen tokens.now)) }
+    ensures few { result ≤ length tokens.now }
 {
     let mut count = 0;
     for i in (0..tokens.len()).rev() {
@@ -77,7 +78,8 @@ fn closed_first(tokens: &[Token<'_>], to: u32) -> usize
 /// The parentheses that open directly before the stretch, within the one around it.
 fn opened(tokens: &[Token<'_>], above: Span, span: Span) -> usize
     requires in_order { IsNonDecreasingBy (λ (t : Token). t.span.from) tokens.now }
-    ensures { result ≡ opened above span (map seen tokens.now) }
+    ensures value { result ≡ opened above span (map seen tokens.now) }
+    ensures few { result ≤ length tokens.now }
 {
     let place = tokens.partition_point(|token| token.span.from < span.from);
     opened_last(&tokens[..place], above.from)
@@ -94,7 +96,8 @@ fn closed(tokens: &[Token<'_>], above: Span, span: Span) -> usize
 
 fn pairs_within(tokens: &[Token<'_>], above: Span, span: Span) -> usize
     requires in_order { IsNonDecreasingBy (λ (t : Token). t.span.from) tokens.now }
-    ensures { result ≡ pairs_within (map seen tokens.now) above span }
+    ensures value { result ≡ pairs_within (map seen tokens.now) above span }
+    ensures few { result ≤ length tokens.now }
 {
     opened(tokens, above, span).min(closed(tokens, above, span))
 }
@@ -133,7 +136,8 @@ fn depth_below(parsed: &Parsed<'_>, n: Node, above: Node) -> usize
     requires inside { n.0 < length parsed.now.tree.nodes }
     requires inside_above { above.0 < length parsed.now.tree.nodes }
     requires in_order { IsNonDecreasingBy (λ (t : Token). t.span.from) parsed.now.tokens.items }
-    ensures { result ≡ depth_below (file_parsed parsed.now) n above }
+    ensures value { result ≡ depth_below (file_parsed parsed.now) n above }
+    ensures few { result ≤ length parsed.now.tokens.items }
 {
     let tree = &parsed.tree;
     let pairs = pairs_within(parsed.tokens.as_slice(), tree.span(above), tree.span(n));
@@ -144,7 +148,8 @@ fn depth_below(parsed: &Parsed<'_>, n: Node, above: Node) -> usize
 pub fn parenthesis_depth(parsed: &Parsed<'_>, n: Node) -> usize
     requires inside { n.0 < length parsed.now.tree.nodes }
     requires in_order { IsNonDecreasingBy (λ (t : Token). t.span.from) parsed.now.tokens.items }
-    ensures { result ≡ parenthesis_depth (file_parsed parsed.now) n }
+    ensures value { result ≡ parenthesis_depth (file_parsed parsed.now) n }
+    ensures few { result ≤ length parsed.now.tokens.items }
 {
     match parsed.tree.parent(n) {
         Some(above) => depth_below(parsed, n, above),
