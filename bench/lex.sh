@@ -4,26 +4,42 @@
 # It makes a scratch repository of the libraries and of a small program, proves them (which takes minutes where nothing of them
 # is kept on this machine), and runs the program. A row has the files, their bytes and tokens, the milliseconds of processor
 # time of reading the text (Source::read) and of scanning it (Lexer::next_token, best of five walks over all tokens), the tokens
-# and bytes of a second of scanning, and the peak of resident memory. Twice the text should take twice the time. That scanning
-# allocates nothing for a token needs no measure: next_token takes no allocator, and nothing in Rattle allocates without one.
+# and bytes of a second of scanning, how many tokens are comments and the sum of all ends, and the peak of resident memory. The
+# walk looks at the kind and the end of each token, as whoever uses tokens does: what nobody looks at need not be computed. Twice
+# the text should take twice the time. That scanning allocates nothing for a token needs no measure: next_token takes no
+# allocator, and nothing in Rattle allocates without one.
 set -euo pipefail
 . "$(dirname "$0")/scratch.sh"
-scratch_repository lex_bench 'pj_lex' pj_tree pj_lex
+scratch_repository lex_bench 'pj_lex' pj_base pj_tree pj_lex
 cat > "$bench/src/main.rt" <<'PROGRAM'
 // Rows of time and memory.
 #![tactic(auto)]
 
-use pj_lex::{Source, tokens};
+use pj_lex::{Source, TokenKind, tokens};
 use std::alloc::Global;
 use std::time::CpuClock;
 use std::{env, fs, io};
+
+// What a walk over tokens saw: how many there are, how many of them are comments, and the sum of their ends.
+#[derive(Clone, Copy)]
+struct Seen {
+    tokens: u64,
+    comments: u64,
+    ends: u64,
+}
+
+const NOTHING: Seen = Seen {
+    tokens: 0,
+    comments: 0,
+    ends: 0,
+};
 
 // What was read and scanned. Times are in microseconds.
 #[derive(Clone, Copy)]
 struct Sums {
     files: u64,
     bytes: u64,
-    tokens: u64,
+    seen: Seen,
     reading: u64,
     scanning: u64,
 }
@@ -33,16 +49,22 @@ fn now(rt: &HostRuntime) -> io::Result<u64> {
 }
 
 // The tokens of a source, up to its end or a fault.
-fn scanned(source: &Source) -> u64 {
-    let mut count = 0u64;
+fn scanned(source: &Source) -> Seen {
+    let mut seen = NOTHING;
     let mut lexer = tokens(source);
     for _ in 0..1_000_000_000u64 {
         match lexer.next_token() {
-            Some(Ok(_)) => count = count.saturating_add(1),
-            _ => return count,
+            Some(Ok(token)) => {
+                seen.tokens = seen.tokens.saturating_add(1);
+                seen.ends = seen.ends.wrapping_add(token.span.to as u64);
+                if token.kind == TokenKind::Comment {
+                    seen.comments = seen.comments.saturating_add(1);
+                }
+            }
+            _ => return seen,
         }
     }
-    count
+    seen
 }
 
 fn source_of(alloc: Global, bytes: &[u8]) -> Option<Source> {
@@ -52,15 +74,15 @@ fn source_of(alloc: Global, bytes: &[u8]) -> Option<Source> {
     Source::read(alloc, bytes).ok()
 }
 
-fn best_of_five(rt: &HostRuntime, source: &Source) -> io::Result<(u64, u64)> {
+fn best_of_five(rt: &HostRuntime, source: &Source) -> io::Result<(Seen, u64)> {
     let mut best = u64::MAX;
-    let mut count = 0;
+    let mut seen = NOTHING;
     for _ in 0..5 {
         let start = now(rt)?;
-        count = scanned(source);
+        seen = scanned(source);
         best = best.min(now(rt)?.saturating_sub(start));
     }
-    Ok((count, best))
+    Ok((seen, best))
 }
 
 fn add_file(rt: &HostRuntime, path: &str, sums: Sums) -> io::Result<Sums> {
@@ -70,11 +92,15 @@ fn add_file(rt: &HostRuntime, path: &str, sums: Sums) -> io::Result<Sums> {
         return Ok(sums);
     };
     let reading = now(rt)?.saturating_sub(start);
-    let (tokens, scanning) = best_of_five(rt, &source)?;
+    let (seen, scanning) = best_of_five(rt, &source)?;
     Ok(Sums {
         files: sums.files.saturating_add(1),
         bytes: sums.bytes.saturating_add(bytes.len() as u64),
-        tokens: sums.tokens.saturating_add(tokens),
+        seen: Seen {
+            tokens: sums.seen.tokens.saturating_add(seen.tokens),
+            comments: sums.seen.comments.saturating_add(seen.comments),
+            ends: sums.seen.ends.wrapping_add(seen.ends),
+        },
         reading: sums.reading.saturating_add(reading),
         scanning: sums.scanning.saturating_add(scanning),
     })
@@ -99,7 +125,7 @@ fn row(rt: &HostRuntime, list: &str) -> io::Result<()> {
     let mut sums = Sums {
         files: 0,
         bytes: 0,
-        tokens: 0,
+        seen: NOTHING,
         reading: 0,
         scanning: 0,
     };
@@ -109,11 +135,12 @@ fn row(rt: &HostRuntime, list: &str) -> io::Result<()> {
     }
     let reading = sums.reading / 1000;
     let scanning = sums.scanning / 1000;
-    let tokens = rate(sums.tokens.saturating_mul(10), sums.scanning);
+    let tokens = rate(sums.seen.tokens.saturating_mul(10), sums.scanning);
     let bytes = rate(sums.bytes, sums.scanning);
     let peak = peak(rt)?;
-    let (files, all_bytes, all_tokens) = (sums.files, sums.bytes, sums.tokens);
-    println!(rt; "{files} files, {all_bytes} bytes, {all_tokens} tokens, reading {reading} ms, scanning {scanning} ms, {tokens} tenths of a million tokens/s, {bytes} MB/s, {peak}")
+    let (files, all_bytes, all_tokens) = (sums.files, sums.bytes, sums.seen.tokens);
+    let (comments, ends) = (sums.seen.comments, sums.seen.ends);
+    println!(rt; "{files} files, {all_bytes} bytes, {all_tokens} tokens ({comments} comments, ends {ends}), reading {reading} ms, scanning {scanning} ms, {tokens} tenths of a million tokens/s, {bytes} MB/s, {peak}")
 }
 
 fn main(rt: HostRuntime) -> io::Result<()> {

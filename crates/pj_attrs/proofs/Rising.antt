@@ -6,7 +6,7 @@ use Rattle.pj_lex.specs.Size.{size}
 use Rattle.pj_lex.specs.Tokens.{Lexed, Tokens, ended, token, fault}
 use Rattle.pj_lex.specs.declared.token.Token.{Token}
 use Rattle.pj_parse.specs.Parses.{Parses, FileParsed, lexical_fault, too_many_tokens, syntax_fault, too_deep, too_many, parsed}
-use Rattle.pj_parse.specs.Words.{TokenSeen, seen, as_lexed}
+use Rattle.pj_grammar.specs.Words.{TokenSeen, seen, as_lexed}
 use Rattle.pj_parse.specs.declared.fault.ParseFault.{ParseFault}
 
 -- each begins where the one before begins, or behind that, and the first at an offset or behind it

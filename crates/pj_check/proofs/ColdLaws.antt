@@ -4,7 +4,7 @@ use Rattle.std.proofs.lemmas.Grind.{flat_map-append}
 use Rattle.std.proofs.lemmas.List.{append-nil}
 use Rattle.std.specs.List.{enumerate_from}
 use Rattle.pj_tree.specs.Tree.{TreeNode}
-use Rattle.pj_check.specs.FileTree.{SourceTree}
+use Rattle.pj_parse.specs.JavaFile.{JavaFile}
 use Rattle.pj_outside.specs.Files.{Bytes}
 use Rattle.pj_check.specs.Query.{denotes}
 use Rattle.pj_check.specs.ReportText.{finding_line, finding_text, report_text}
@@ -12,21 +12,21 @@ use Rattle.pj_check.specs.Cold.{found_by, cold_report, finding, place_in}
 use Rattle.pj_check.specs.CheckFile.{query_rule, rules_for}
 use Rattle.pj_check.specs.Lines.{node_line, lines_of}
 
-node_lines : (path name : Bytes) (file : SourceTree) (n : ℕ) (x : TreeNode) →
+node_lines : (path name : Bytes) (file : JavaFile) (n : ℕ) (x : TreeNode) →
     flat_map (finding_text (cold_report (rules_for name) ((path, file) ∷ [])) path) (found_by file.source.places 0 (rules_for name) n x) ≡ node_line path name file.source.places x
 node_lines path name file n x =
     let line : Bytes = finding_line path (place_in file.source.places x.span.from).line query_rule in
     elim (denotes name x) as (λ t. flat_map (finding_text (cold_report (rules_for name) ((path, file) ∷ [])) path) ((if t then finding file.source.places 0 n x ∷ [] else []) ++ []) ≡ (if t then line else []))
     [ true ↦ append-nil line | false ↦ refl ]
 
-numbered_lines : (path name : Bytes) (file : SourceTree) (n : ℕ) (nodes : List TreeNode) →
+numbered_lines : (path name : Bytes) (file : JavaFile) (n : ℕ) (nodes : List TreeNode) →
     flat_map (finding_text (cold_report (rules_for name) ((path, file) ∷ [])) path) (flat_map (λ p. found_by file.source.places 0 (rules_for name) p.0 p.1) (enumerate_from n nodes)) ≡ lines_of path name file.source.places nodes
 numbered_lines path name file n [] = refl
 numbered_lines path name file n (x ∷ xs) =
     flat_map-append (finding_text (cold_report (rules_for name) ((path, file) ∷ [])) path) (found_by file.source.places 0 (rules_for name) n x) (flat_map (λ p. found_by file.source.places 0 (rules_for name) p.0 p.1) (enumerate_from (n + 1) xs))
     ∙ (λ i. node_lines path name file n x i ++ numbered_lines path name file (n + 1) xs i)
 
-pub report_text-cold : (path name : Bytes) (file : SourceTree) → report_text (cold_report (rules_for name) ((path, file) ∷ [])) ≡ lines_of path name file.source.places file.tree.nodes
+pub report_text-cold : (path name : Bytes) (file : JavaFile) → report_text (cold_report (rules_for name) ((path, file) ∷ [])) ≡ lines_of path name file.source.places file.tree.nodes
 report_text-cold path name file =
     append-nil _ ∙ append-nil _ ∙ numbered_lines path name file 0 file.tree.nodes
 

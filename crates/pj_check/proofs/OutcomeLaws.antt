@@ -8,7 +8,8 @@ use Rattle.pj_outside.specs.Putting.{Gets, GetsPrefix}
 use Rattle.pj_tree.specs.Tree.{TreeNode}
 use Rattle.pj_check.specs.declared.outcome.FileOutcome.{FileOutcome}
 use Rattle.pj_check.specs.declared.outcome.FileOutcome.TheVariants.{Clean, Violations, NotBuilt, TreeFault, SinkFault, Memory}
-use Rattle.pj_check.specs.FileTree.{SourceTree, IsTaken}
+use Rattle.pj_parse.specs.JavaFile.{JavaFile}
+use Rattle.pj_check.specs.FileTree.{IsTaken}
 use Rattle.pj_check.specs.Query.{denotes}
 use Rattle.pj_check.specs.Report.{Finding, is_shown, shown}
 use Rattle.pj_check.specs.ReportText.{finding_line, report_text}
@@ -20,7 +21,7 @@ use Rattle.pj_check.proofs.ColdLaws.{report_text-cold}
 
 -- ---- a finding is a line
 
-abbrev Shown : Bytes → SourceTree → ℕ → List TreeNode → List Finding
+abbrev Shown : Bytes → JavaFile → ℕ → List TreeNode → List Finding
 Shown name file n nodes = filter is_shown (flat_map (λ p. found_by file.source.places 0 (rules_for name) p.0 p.1) (enumerate_from n nodes))
 
 abbrev Agree : List Finding → Bytes → Type 0
@@ -34,7 +35,7 @@ lines_some : (path rest : Bytes) (line : ℕ) → finding_line path line query_r
 lines_some [] rest line e = cc
 lines_some (b ∷ bs) rest line e = cc
 
-findings_agree : (path name : Bytes) (file : SourceTree) (n : ℕ) (nodes : List TreeNode) → Agree (Shown name file n nodes) (lines_of path name file.source.places nodes)
+findings_agree : (path name : Bytes) (file : JavaFile) (n : ℕ) (nodes : List TreeNode) → Agree (Shown name file n nodes) (lines_of path name file.source.places nodes)
 findings_agree path name file n [] = inl (refl, refl)
 findings_agree path name file n (x ∷ xs) =
     let line : Bytes = finding_line path (place_in file.source.places x.span.from).line query_rule in
@@ -44,16 +45,16 @@ findings_agree path name file n (x ∷ xs) =
       | false ↦ findings_agree path name file (n + 1) xs
     ]
 
-shown_agree : (path name : Bytes) (file : SourceTree) → Agree (shown (cold_report (rules_for name) ((path, file) ∷ []))) (report_text (cold_report (rules_for name) ((path, file) ∷ [])))
+shown_agree : (path name : Bytes) (file : JavaFile) → Agree (shown (cold_report (rules_for name) ((path, file) ∷ []))) (report_text (cold_report (rules_for name) ((path, file) ∷ [])))
 shown_agree path name file =
     let later : List Finding = flat_map (λ p. found_by file.source.places 0 (rules_for name) p.0 p.1) (enumerate_from 0 file.tree.nodes) in
     subst (λ l. Agree (filter is_shown l) (report_text (cold_report (rules_for name) ((path, file) ∷ [])))) (sym (append-nil later))
     (subst (λ l. Agree (filter is_shown later) l) (sym (report_text-cold path name file)) (findings_agree path name file 0 file.tree.nodes))
 
-none_shown : (path name : Bytes) (file : SourceTree) → report_text (cold_report (rules_for name) ((path, file) ∷ [])) ≡ [] → shown (cold_report (rules_for name) ((path, file) ∷ [])) ≡ []
+none_shown : (path name : Bytes) (file : JavaFile) → report_text (cold_report (rules_for name) ((path, file) ∷ [])) ≡ [] → shown (cold_report (rules_for name) ((path, file) ∷ [])) ≡ []
 none_shown path name file e = elim (shown_agree path name file) [ inl both ↦ both.0 | inr both ↦ absurd (both.1 e) ]
 
-some_shown : (path name : Bytes) (file : SourceTree) → report_text (cold_report (rules_for name) ((path, file) ∷ [])) ≢ [] → shown (cold_report (rules_for name) ((path, file) ∷ [])) ≢ []
+some_shown : (path name : Bytes) (file : JavaFile) → report_text (cold_report (rules_for name) ((path, file) ∷ [])) ≢ [] → shown (cold_report (rules_for name) ((path, file) ∷ [])) ≢ []
 some_shown path name file e = elim (shown_agree path name file) [ inl both ↦ absurd (e both.1) | inr both ↦ both.0 ]
 
 -- ---- from lines to bytes

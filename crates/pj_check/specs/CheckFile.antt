@@ -1,7 +1,8 @@
 -- What a check of one file answers.
 use Rattle.std.specs.Prelude.{◌≡◌, ◌≤◌, ℕ, List, [], ◌∷◌, length, codes, Some}
 use Rattle.pj_outside.specs.Files.{Files, bytes_at, Bytes}
-use Rattle.pj_check.specs.FileTree.{SourceTree, IsTaken}
+use Rattle.pj_parse.specs.JavaFile.{JavaFile}
+use Rattle.pj_check.specs.FileTree.{IsTaken}
 use Rattle.pj_check.specs.Query.{IsQuery}
 use Rattle.pj_check.specs.Report.{RuleRow, Report}
 use Rattle.pj_check.specs.Cold.{Rule, cold_report}
@@ -27,8 +28,8 @@ pub record IsJob (words : List Bytes) (path name : Bytes) : Type 0 where
 abbrev pub IsNoJob : List Bytes → Type 0
 IsNoJob words = (path name : Bytes) → IsJob words path name → ⊥
 
--- The file of the path is there, is not too long, has this tree, and speaks of no suppression.
-pub record IsFile (files : Files) (path : Bytes) (file : SourceTree) : Type 0 where
+-- The file of the path is there, is not too long, is this Java file, and speaks of no suppression.
+pub record IsFile (files : Files) (path : Bytes) (file : JavaFile) : Type 0 where
   pub bytes : Bytes
   pub found : bytes_at files path ≡ Some bytes
   pub short : length bytes ≤ most_bytes
@@ -38,11 +39,11 @@ pub record IsFile (files : Files) (path : Bytes) (file : SourceTree) : Type 0 wh
 pub record HasReport (words : List Bytes) (files : Files) (report : Report) : Type 0 where
   pub path : Bytes
   pub name : Bytes
-  pub file : SourceTree
+  pub file : JavaFile
   pub job : IsJob words path name
   pub is_file : IsFile files path file
   pub report_is : report ≡ cold_report (rules_for name) ((path, file) ∷ [])
 
--- They have none: the words are no job, or the file is not there, is too long, has no tree, or may suppress findings.
+-- They have none: the words are no job, or the file is not there, is too long, is no Java file, or may suppress findings.
 abbrev pub HasNoReport : List Bytes → Files → Type 0
 HasNoReport words files = (report : Report) → HasReport words files report → ⊥

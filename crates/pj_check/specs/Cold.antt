@@ -1,4 +1,4 @@
--- The cold report: what the rules find in files, worked out from their trees alone.
+-- The cold report: what the rules find in files, worked out from them alone.
 use Rattle.std.specs.Prelude.{ℕ, ◌+◌, ◌-◌, List, [], ◌∷◌, ◌++◌, None, nat_lt, if◌then◌else◌, flat_map, map}
 use Rattle.std.specs.List.{enumerate_from, slice_index_or}
 use Rattle.pj_tree.specs.Places.{first_place}
@@ -6,7 +6,7 @@ use Rattle.pj_tree.specs.declared.node.Place.{Place}
 use Rattle.pj_tree.specs.Tree.{TreeNode}
 use Rattle.pj_tree.specs.declared.node.Span.{Span}
 use Rattle.pj_outside.specs.Files.{Bytes}
-use Rattle.pj_check.specs.FileTree.{SourceTree}
+use Rattle.pj_parse.specs.JavaFile.{JavaFile}
 use Rattle.pj_check.specs.Package.{package_of}
 use Rattle.pj_check.specs.Query.{denotes}
 use Rattle.pj_check.specs.Report.{RuleRow, Finding, FileRows, Report}
@@ -41,13 +41,13 @@ found_by places r (q ∷ qs) n x =
     (if denotes q.query x then finding places r n x ∷ [] else []) ++ found_by places (r + 1) qs n x
 
 -- what the rules find in a file, in the order of the node, then of the rule
-abbrev pub findings_of : List Rule → SourceTree → List Finding
+abbrev pub findings_of : List Rule → JavaFile → List Finding
 findings_of rules file = flat_map (λ p. found_by file.source.places 0 rules p.0 p.1) (enumerate_from 0 file.tree.nodes)
 
 -- the rows of a file: queries of this form have no errors
-abbrev pub rows_of : List Rule → SourceTree → FileRows
+abbrev pub rows_of : List Rule → JavaFile → FileRows
 rows_of rules file = record { «package» = package_of file.tree; findings = findings_of rules file; errors = [] }
 
--- the cold report of files, each with its path and its tree
-abbrev pub cold_report : List Rule → List (Bytes × SourceTree) → Report
+-- the cold report of files, each with its path
+abbrev pub cold_report : List Rule → List (Bytes × JavaFile) → Report
 cold_report rules files = record { rules = map (λ q. q.row) rules; files = map (λ f. (f.0, rows_of rules f.1)) files; errors = [] }

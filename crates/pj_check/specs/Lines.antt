@@ -1,14 +1,11 @@
 -- What the writer of reports computes, for its private clauses.
 use Rattle.std.specs.Prelude.{◌≡◌, ◌≢◌, Bool, true, false, Option, Ok, List, [], ◌∷◌, flat_map, if◌then◌else◌}
 use Rattle.pj_lex.specs.SourceText.{SourceText}
-use Rattle.pj_parse.specs.declared.fault.ParseFault.{ParseFault}
-use Rattle.pj_parse.specs.declared.fault.ParseFault.TheVariants as fault
-use Rattle.pj_parse.specs.Words.{TokenSeen}
-use Rattle.pj_parse.specs.Parses.{Parses}
-use Rattle.pj_tree.specs.Tree.{TreeNode, Tree}
+use Rattle.pj_parse.specs.JavaFile.{JavaFile, IsJavaFile}
+use Rattle.pj_tree.specs.Tree.{TreeNode}
 use Rattle.pj_tree.specs.declared.node.Place.{Place}
 use Rattle.pj_outside.specs.Files.{Bytes}
-use Rattle.pj_check.specs.FileTree.{SourceTree, IsTaken, IsNotTaken}
+use Rattle.pj_check.specs.FileTree.{IsTaken, IsNotTaken}
 use Rattle.pj_check.specs.Query.{denotes}
 use Rattle.pj_check.specs.Report.{shown}
 use Rattle.pj_check.specs.ReportText.{finding_line, report_text}
@@ -25,34 +22,30 @@ node_line path name places x = if denotes name x then finding_line path (place_i
 abbrev pub lines_of : Bytes → Bytes → List Place → List TreeNode → Bytes
 lines_of path name places nodes = flat_map (node_line path name places) nodes
 
-abbrev pub is_memory : ParseFault → Bool
-is_memory fault.Memory = true
-is_memory other = false
+-- The bytes of a file are no Java file.
+abbrev pub IsNoFile : Bytes → Type 0
+IsNoFile bytes = (file : JavaFile) → IsJavaFile bytes (Ok file) → ⊥
 
--- The text of a file has no tree.
-abbrev pub HasNoTree : SourceText → Type 0
-HasNoTree source = (tree : Tree) (tokens : List TokenSeen) → Parses source.text (Ok (record { tree = tree; tokens = tokens })) → ⊥
-
--- The lines are those of the nodes of the tree of a file that the query for a name denotes.
-pub record AreLinesOf (path name : Bytes) (source : SourceText) (lines : Bytes) : Type 0 where
-  pub tree : Tree
-  pub tokens : List TokenSeen
-  pub parsed : Parses source.text (Ok (record { tree = tree; tokens = tokens }))
-  pub lines_are : lines ≡ lines_of path name source.places tree.nodes
+-- The lines are those of the nodes that the query for a name denotes in the tree of a file of this text.
+pub record AreLinesOf (path name bytes : Bytes) (source : SourceText) (lines : Bytes) : Type 0 where
+  pub file : JavaFile
+  pub is_file : IsJavaFile bytes (Ok file)
+  pub source_is : file.source ≡ source
+  pub lines_are : lines ≡ lines_of path name file.source.places file.tree.nodes
 
 -- The text is that of the cold report of the query for a name in a file of these bytes.
 pub record IsReportText (path name bytes text : Bytes) : Type 0 where
-  pub file : SourceTree
+  pub file : JavaFile
   pub taken : IsTaken bytes file
   pub text_is : text ≡ report_text (cold_report (rules_for name) ((path, file) ∷ []))
 
 -- what an outcome says of a file of these bytes, and of what the sink held before and holds now
 abbrev pub SaysOfBytes : FileOutcome → Bytes → Bytes → Bytes → Option Bytes → Option Bytes → Type 0
-SaysOfBytes Clean path name bytes old new = (file : SourceTree) × IsTaken bytes file × (shown (cold_report (rules_for name) ((path, file) ∷ [])) ≡ []) × Gets old new (report_text (cold_report (rules_for name) ((path, file) ∷ [])))
-SaysOfBytes Violations path name bytes old new = (file : SourceTree) × IsTaken bytes file × (shown (cold_report (rules_for name) ((path, file) ∷ [])) ≢ []) × Gets old new (report_text (cold_report (rules_for name) ((path, file) ∷ [])))
+SaysOfBytes Clean path name bytes old new = (file : JavaFile) × IsTaken bytes file × (shown (cold_report (rules_for name) ((path, file) ∷ [])) ≡ []) × Gets old new (report_text (cold_report (rules_for name) ((path, file) ∷ [])))
+SaysOfBytes Violations path name bytes old new = (file : JavaFile) × IsTaken bytes file × (shown (cold_report (rules_for name) ((path, file) ∷ [])) ≢ []) × Gets old new (report_text (cold_report (rules_for name) ((path, file) ∷ [])))
 SaysOfBytes NotBuilt path name bytes old new = IsNotTaken bytes × (new ≡ old)
 SaysOfBytes TreeFault path name bytes old new = ⊥
-SaysOfBytes SinkFault path name bytes old new = (file : SourceTree) × IsTaken bytes file × GetsPrefix old new (report_text (cold_report (rules_for name) ((path, file) ∷ [])))
+SaysOfBytes SinkFault path name bytes old new = (file : JavaFile) × IsTaken bytes file × GetsPrefix old new (report_text (cold_report (rules_for name) ((path, file) ∷ [])))
 SaysOfBytes Memory path name bytes old new = new ≡ old
 
 -- what an outcome says of the putting of lines

@@ -1,7 +1,7 @@
 -- The package of a file.
 use Rattle.std.specs.Prelude.{Bool, true, false, List, [], ◌∷◌, map, if◌then◌else◌}
 use Rattle.pj_outside.specs.Files.{Bytes}
-use Rattle.pj_pool.specs.Names.{identifiers, dotted}
+use Rattle.pj_parse.specs.Names.{identifiers, dotted}
 use Rattle.pj_tree.specs.Tree.{TreeNode, Tree, slice_at}
 use Rattle.pj_tree.specs.declared.kind.Kind.{Kind}
 use Rattle.pj_tree.specs.declared.kind.Kind.TheVariants.{PackageDeclaration}

@@ -1,19 +1,19 @@
 //! Why a check does not take words or a file.
-ghost use Rattle.std.specs.Prelude.{◌≡◌, ◌≢◌, ◌≤◌, ◌↔◌, length, IfOk, IfSome, IsSome, IsTrue, IsFalse, MatchOption, Ok, Err, Some};
+ghost use Rattle.std.specs.Prelude.{◌≡◌, ◌≢◌, ◌≤◌, ◌↔◌, List, ℕ, length, IfOk, IfSome, IsSome, IsTrue, IsFalse, MatchOption, Ok, Err, Some};
 ghost use Rattle.pj_outside.specs.Faults.{CountsFaults};
+ghost use Rattle.pj_lex.specs.SourceText.{IsRead};
 ghost use Rattle.pj_check.specs.CheckFile.{IsNoJob, HasNoReport};
 ghost use Rattle.pj_check.specs.FileTree.{may_suppress};
-ghost use Rattle.pj_check.specs.Lack.{lack_by, lack_unread, IsTakenSo, IsPlainTree, IsMemoryOr, HasFile, Lacks, LacksTree, LacksFile, LacksFor};
+ghost use Rattle.pj_check.specs.Lack.{IsTakenSo, HasFile, Lacks, LacksFile, LacksFor};
 ghost use Rattle.pj_check.specs.declared.lack.Lack.{Lack as AnyLack};
 
 use crate::check::{MOST_BYTES, read_job};
 use crate::laws::one_lack;
 use crate::suppression::may_suppress;
 use pj_base::{NoMemory, Words};
-use pj_lex::{Source, SourceFault};
+use pj_lex::Source;
 use pj_outside::{Reading, Refused, Tree};
-use pj_parse::{ParseFault, faults_stand_in_text, parse};
-use pj_tree::Place;
+use pj_parse::{FileFault, FileRefused, parse_file, read_file};
 use std::alloc::Global;
 use std::fmt;
 use std::fmt::{Display, Formatter, Write};
@@ -27,20 +27,8 @@ pub enum Lack {
     Absent,
     /// The file is longer than 1,048,576 bytes.
     Longer,
-    /// The file is not UTF-8 from this byte on, counted from 0.
-    NotUtf8(u32),
-    /// At this place a Unicode escape ought to stand, and does not (JLS 3.3).
-    Escape(Place),
-    /// A fault of this kind among the tokens, with the place where it stands (JLS 3; the kinds are those of `LexFault`).
-    Lexical(u8, Place),
-    /// The tokens without comments are more than 200,000.
-    TooManyTokens,
-    /// The grammar does not derive the tokens.
-    Syntax,
-    /// A node is deeper than 1,000.
-    TooDeep,
-    /// There are more than 2,000,000 nodes.
-    TooManyNodes,
+    /// The file is no Java file.
+    NoFile(FileFault),
     /// `NOPMD` or `SuppressWarnings` stands in the text.
     MaySuppress,
 }
@@ -51,69 +39,31 @@ impl Display for Lack {
             Lack::Words => f.write_str("wanted are the words check FILE //NAME"),
             Lack::Absent => f.write_str("no such file"),
             Lack::Longer => f.write_str("the file has more than 1,048,576 bytes"),
-            Lack::NotUtf8(offset) => write!(f, "not UTF-8 at byte {offset}"),
-            Lack::Escape(place) => {
-                write!(f, "bad unicode escape at {}:{}", place.line, place.column)
-            }
-            Lack::Lexical(kind, place) => {
-                write!(f, "lexical fault {kind} at {}:{}", place.line, place.column)
-            }
-            Lack::TooManyTokens => f.write_str("too many tokens"),
-            Lack::Syntax => f.write_str("syntax fault"),
-            Lack::TooDeep => f.write_str("too deep"),
-            Lack::TooManyNodes => f.write_str("too many nodes"),
+            Lack::NoFile(fault) => write!(f, "{fault}"),
             Lack::MaySuppress => f.write_str("the file speaks of NOPMD or SuppressWarnings"),
         }
     }
 }
 
-/// What a fault of a text is, in a file.
-fn lack_by(source: &Source, fault: ParseFault) -> Result<Lack, NoMemory>
-    requires fault { IsMemoryOr source.now fault }
-    ensures { IfOk result (λ lack. lack_by source.now fault ≡ Some lack) }
+/// Why a check does not take a Java file of this text, or `None` where it does.
+fn lack_of_text(text: &str) -> Option<Lack>
+    ensures { MatchOption result (IsFalse (may_suppress text.now)) (λ lack. (lack ≡ Lack.MaySuppress) × IsTrue (may_suppress text.now)) }
 {
-    match fault {
-        ParseFault::Lex(fault) => Ok(Lack::Lexical(fault.kind, source.place(fault.offset))),
-        ParseFault::TooManyTokens(_) => Ok(Lack::TooManyTokens),
-        ParseFault::Syntax => Ok(Lack::Syntax),
-        ParseFault::TooDeep(_) => Ok(Lack::TooDeep),
-        ParseFault::TooMany(_) => Ok(Lack::TooManyNodes),
-        ParseFault::Memory => Err(NoMemory),
-    }
-}
-
-/// Why a check does not take a file of this text, which has a tree, or `None` where it does.
-fn lack_of_tree(source: &Source) -> Option<Lack>
-    ensures { MatchOption result (IsFalse (may_suppress source.now.text)) (λ lack. (lack ≡ Lack.MaySuppress) × IsTrue (may_suppress source.now.text)) }
-{
-    if may_suppress(source.text()) {
+    if may_suppress(text) {
         Some(Lack::MaySuppress)
     } else {
         None
     }
 }
 
-/// Why a check does not take a file of this text, or `None` where it does.
+/// Why a check does not take a file of which this was read, or `None` where it does.
 fn lack_of_source(alloc: Global, source: &Source) -> Result<Option<Lack>, NoMemory>
-    ensures { IfOk result (λ found. MatchOption found (IsPlainTree source.now) (LacksTree source.now)) }
+    ensures { (bytes : List ℕ) → IsRead bytes (Ok source.now) → IfOk result (λ found. MatchOption found (IsTakenSo bytes) (Lacks bytes)) }
 {
-    faults_stand_in_text(source.text());
-    let fault = match parse(alloc, source) {
-        Ok(_) => return Ok(lack_of_tree(source)),
-        Err(fault) => fault,
-    };
-    let lack = lack_by(source, fault)?;
-    Ok(Some(lack))
-}
-
-/// What a fault of bytes is, in a file.
-fn lack_unread(fault: SourceFault) -> Result<Lack, NoMemory>
-    ensures { IfOk result (λ lack. lack_unread fault ≡ Some lack) }
-{
-    match fault {
-        SourceFault::NotUtf8(offset) => Ok(Lack::NotUtf8(offset)),
-        SourceFault::Escape(place) => Ok(Lack::Escape(place)),
-        SourceFault::Memory => Err(NoMemory),
+    match parse_file(alloc, source) {
+        Ok(_) => Ok(lack_of_text(source.text())),
+        Err(FileRefused::Fault(fault)) => Ok(Some(Lack::NoFile(fault))),
+        Err(FileRefused::Memory) => Err(NoMemory),
     }
 }
 
@@ -122,12 +72,10 @@ fn lack_of_bytes(alloc: Global, bytes: &[u8]) -> Result<Option<Lack>, NoMemory>
     requires { length bytes.now ≤ 1048576 }
     ensures { IfOk result (λ found. MatchOption found (IsTakenSo bytes.now) (Lacks bytes.now)) }
 {
-    match Source::read(alloc, bytes) {
+    match read_file(alloc, bytes) {
         Ok(source) => lack_of_source(alloc, &source),
-        Err(fault) => {
-            let lack = lack_unread(fault)?;
-            Ok(Some(lack))
-        }
+        Err(FileRefused::Fault(unread)) => Ok(Some(Lack::NoFile(unread))),
+        Err(FileRefused::Memory) => Err(NoMemory),
     }
 }
 
@@ -152,8 +100,8 @@ fn lack_of_file<T: Tree>(alloc: Global, path: &str, tree: &mut T) -> Result<Opti
 /// What the words and the files of the tree lack, or `None` where they have a report. It reads the file anew.
 ///
 /// Of several things the first in this order is named: the words are no job; the file is absent, or too long; its bytes
-/// are not UTF-8, or have a bad Unicode escape; its text has a fault, of those of `ParseFault` the first; its text has a
-/// tree and speaks of suppression. So something is named exactly where a check comes to `NotBuilt`.
+/// have a fault, of those of `FileFault` the first; they are a Java file and it speaks of suppression. So something is
+/// named exactly where a check comes to `NotBuilt`.
 pub fn lack_of<T: Tree>(alloc: Global, words: &Words, tree: &mut T) -> Result<Option<Lack>, Refused>
     ensures named { IfSome (T.holds tree.old) (λ files. IfOk result (λ found. (lack : AnyLack) → (found ≡ Some lack) ↔ LacksFor words.now files lack)) }
     ensures not_built { IfSome (T.holds tree.old) (λ files. IfOk result (λ found. IsSome found ↔ HasNoReport words.now files)) }

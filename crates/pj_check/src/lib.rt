@@ -11,5 +11,5 @@ mod suppression;
 
 pub use check::check_file;
 pub use lack::{Lack, lack_of};
-pub use laws::{one_lack, one_report, one_tree};
+pub use laws::{one_lack, one_report};
 pub use outcome::FileOutcome;

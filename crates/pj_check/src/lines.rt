@@ -1,15 +1,16 @@
 //! The lines of a report.
-ghost use Rattle.std.specs.Prelude.{◌≡◌, ◌++◌, ◌<◌, ◌≤◌, length, slice_get, Some, OnOk, IfOk, MatchOption, string_bytes};
+ghost use Rattle.std.specs.Prelude.{◌≡◌, ◌++◌, ◌<◌, ◌≤◌, length, slice_get, List, ℕ, Ok, Some, OnOk, IfOk, MatchOption, string_bytes};
+ghost use Rattle.pj_lex.specs.SourceText.{IsRead};
 ghost use Rattle.pj_check.specs.ReportText.{finding_line};
 ghost use Rattle.pj_check.specs.CheckFile.{query_rule};
 ghost use Rattle.pj_check.specs.FileTree.{IsNotTaken};
-ghost use Rattle.pj_check.specs.Lines.{node_line, lines_of, HasNoTree, AreLinesOf, IsReportText, is_memory};
+ghost use Rattle.pj_check.specs.Lines.{node_line, lines_of, IsNoFile, AreLinesOf, IsReportText};
 ghost use Rattle.pj_tree.specs.Tree.{TreeNode};
 
 use crate::suppression::may_suppress;
 use pj_base::NoMemory;
-use pj_lex::{Source, SourceFault};
-use pj_parse::{ParseFault, parse, text_has_one_outcome};
+use pj_lex::Source;
+use pj_parse::{FileRefused, file_has_one_outcome, parse_file, read_file};
 use pj_tree::{Node, SyntaxTree};
 use std::alloc::Global;
 
@@ -59,35 +60,20 @@ fn tree_lines(
     Ok(lines)
 }
 
-/// Whether memory was wanting.
-fn is_memory(fault: ParseFault) -> bool
-    ensures { result ≡ is_memory fault }
-{
-    match fault {
-        ParseFault::Memory => true,
-        _ => false,
-    }
-}
-
-/// The text of the report of the query for a name in a file of this text, or `None` where that has no tree.
+/// The text of the report of the query for a name in a file of which this was read, or `None` where that is no Java file.
 fn source_lines(
     alloc: Global,
     path: &str,
     name: &[u8],
     source: &Source,
 ) -> Result<Option<String>, NoMemory>
-    ensures { IfOk result (λ found. MatchOption found (HasNoTree source.now) (λ lines. AreLinesOf path.now name.now source.now (string_bytes lines))) }
+    ensures { (bytes : List ℕ) → IsRead bytes (Ok source.now) → IfOk result (λ found. MatchOption found (IsNoFile bytes) (λ lines. AreLinesOf path.now name.now bytes source.now (string_bytes lines))) }
 {
-    text_has_one_outcome();
-    match parse(alloc, source) {
+    file_has_one_outcome();
+    match parse_file(alloc, source) {
         Ok(parsed) => Ok(Some(tree_lines(alloc, path, name, source, &parsed.tree)?)),
-        Err(fault) => {
-            if is_memory(fault) {
-                Err(NoMemory)
-            } else {
-                Ok(None)
-            }
-        }
+        Err(FileRefused::Fault(_)) => Ok(None),
+        Err(FileRefused::Memory) => Err(NoMemory),
     }
 }
 
@@ -101,15 +87,15 @@ pub fn report_lines(
     requires { length bytes.now ≤ 1048576 }
     ensures { IfOk result (λ found. MatchOption found (IsNotTaken bytes.now) (λ lines. IsReportText path.now name.now bytes.now (string_bytes lines))) }
 {
-    match Source::read(alloc, bytes) {
+    file_has_one_outcome();
+    match read_file(alloc, bytes) {
         Ok(source) => {
             if may_suppress(source.text()) {
                 return Ok(None);
             }
             source_lines(alloc, path, name, &source)
         }
-        Err(SourceFault::Memory) => Err(NoMemory),
-        Err(SourceFault::NotUtf8(_)) => Ok(None),
-        Err(SourceFault::Escape(_)) => Ok(None),
+        Err(FileRefused::Fault(_)) => Ok(None),
+        Err(FileRefused::Memory) => Err(NoMemory),
     }
 }

@@ -6,7 +6,7 @@ use Rattle.pj_lex.specs.Words.{reserved_words}
 use Rattle.pj_grammar.specs.Java17.{java_17, rules, java_17_forms}
 use Rattle.pj_grammar.proofs.Places.{nullable, places}
 
-abbrev is_in : List ℕ → ℕ → Bool
+abbrev pub is_in : List ℕ → ℕ → Bool
 is_in [] r = false
 is_in (x ∷ xs) r = (x == r) || is_in xs r
 

@@ -1,6 +1,6 @@
 -- The tables of the code are the grammar.
 use Rattle.std.proofs.Common.{◌≡◌, refl}
-use Rattle.pj_pieces.specs.Piece.{decoded}
+use Rattle.pj_grammar.specs.Piece.{decoded}
 use Rattle.pj_lex.specs.Words.{reserved_words}
 use Rattle.pj_grammar.specs.declared.table.TheConstants.{PIECES, SHAPES}
 use Rattle.pj_grammar.specs.Java17.{java_17, rules, java_17_forms, java_17_shapes}

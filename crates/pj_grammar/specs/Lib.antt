@@ -2,3 +2,7 @@
 pub mod Terminal
 pub mod Notation
 pub mod Java17
+-- the tokens that the grammar sees
+pub mod Words
+-- what a table of pieces stands for
+pub mod Piece

@@ -3,13 +3,17 @@
 ghost use Rattle.std.specs.Prelude.{◌≡◌, ◌^◌, ◌<◌, ◌≤◌, length, IfOk};
 ghost use Rattle.pj_peg.specs.Form.{forms_of};
 ghost use Rattle.pj_peg.specs.WellFormed.{IsWellFormed};
-ghost use Rattle.pj_pieces.specs.Piece.{decoded};
+ghost use Rattle.pj_grammar.specs.Piece.{decoded};
 ghost use Rattle.pj_grammar.specs.Java17.{java_17_forms, java_17_shapes};
+ghost use Rattle.pj_shape.specs.Shaped.{shape_of};
+ghost use Rattle.pj_shape.specs.ShapedTree.{MakesNode};
 
+use crate::decoder::items_of;
+use crate::laws::rules_have_their_numbers;
+use crate::piece::Piece;
 use crate::table::{PIECES, SHAPES};
 use pj_base::NoMemory;
 use pj_peg::WellFormed;
-use pj_pieces::{Piece, items_of};
 use pj_shape::Shape;
 use std::alloc::Global;
 
@@ -38,4 +42,13 @@ pub fn shapes() -> &'static [Shape]
     ensures shapes { result.now ≡ java_17_shapes }
 {
     &SHAPES
+}
+
+/// What the rules make. The first one makes the root.
+pub fn java_shapes() -> &'static [Shape]
+    ensures shapes { result.now ≡ java_17_shapes }
+    ensures root { MakesNode (shape_of java_17_shapes 0) }
+{
+    rules_have_their_numbers();
+    shapes()
 }

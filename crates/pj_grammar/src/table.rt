@@ -1,10 +1,10 @@
 //! The grammar of Java 17 as tables, which are proved to be that of `specs/Java17.antt`.
 
+use crate::piece::Piece;
+use crate::piece::Piece::{And, Any, Choice, Maybe, Not, Rule, Seq, Star, Token};
 use crate::rule::Rule as R;
 use crate::terminal::{ContextualWord as W, WORDS};
 use pj_lex::TokenKind as T;
-use pj_pieces::Piece;
-use pj_pieces::Piece::{And, Any, Choice, Maybe, Not, Rule, Seq, Star, Token};
 use pj_shape::Shape;
 use pj_shape::Shape::{Joined, Node, Pass, Segment, Turn};
 use pj_tree::Kind as K;

@@ -7,6 +7,7 @@ pub mod Exists
 pub mod FaultKinds
 pub mod FaultsTakeNothing
 pub mod FileExists
+pub mod FileTexts
 pub mod FloatMeaning
 pub mod Follows
 pub mod HexMeaning

@@ -1,5 +1,5 @@
 -- What is read of the bytes of a source file: the translated text and the places of its bytes, or why there is none.
-use Rattle.std.specs.Prelude.{ℕ, ◌≡◌, ◌==◌, ◌&&◌, not, Bool, true, false, if◌then◌else◌, Result, Ok, Err, List, [], ◌∷◌, ◌++◌}
+use Rattle.std.specs.Prelude.{ℕ, ◌≡◌, ◌+◌, length, ◌==◌, ◌&&◌, not, Bool, true, false, if◌then◌else◌, Result, Ok, Err, List, [], ◌∷◌, ◌++◌}
 use Rattle.std.specs.Str.{chars, IsUtf8, IsValidUpTo}
 use Rattle.pj_tree.specs.Places.{first_place}
 use Rattle.pj_tree.specs.declared.node.Place.{Place}
@@ -55,6 +55,11 @@ pub data IsRead : List ℕ → Result SourceText SourceFault → Type 0 where
   -- the bytes before the first one that is not UTF-8 are the longest front of the file that is UTF-8
   not_utf8 : (bytes : List ℕ) (n : ℕ) → IsValidUpTo bytes n → IsRead bytes (Err (NotUtf8 n))
   translated : (bytes : List ℕ) (o : Result SourceText SourceFault) → IsUtf8 bytes → TranslatesFile (chars bytes) o → IsRead bytes o
+
+-- the text of a file is UTF-8, and has a place for each of its bytes and for its end
+pub record IsPlaced (s : SourceText) : Type 0 where
+  pub utf8 : IsUtf8 s.text
+  pub count : length s.places ≡ length s.text + 1
 
 -- ---- files that are their own translation
 

@@ -1,8 +1,8 @@
 //! What holds of the tokens of every text.
 
-ghost use Rattle.std.specs.Prelude.{◌≡◌, ℕ, List, Result};
+ghost use Rattle.std.specs.Prelude.{◌≡◌, ℕ, List, Ok, Result};
 ghost use Rattle.std.specs.Str.{chars};
-ghost use Rattle.pj_lex.specs.SourceText.{SourceText, IsRead};
+ghost use Rattle.pj_lex.specs.SourceText.{SourceText, IsPlaced, IsRead};
 ghost use Rattle.pj_lex.specs.Rules.{rules, token_rules, FirstOf};
 ghost use Rattle.pj_lex.specs.Tokens.{Tokens, Lexed, AreSlices, HaveKinds};
 ghost use Rattle.pj_lex.specs.declared.category.Category.{Category};
@@ -28,11 +28,13 @@ pub fn all_texts_have_tokens()
     ensures one { (at : ℕ) (text : List ℕ) (ls ms : List Lexed) → Tokens at text ls → Tokens at text ms → ls ≡ ms }
 {}
 
-/// Something comes of the bytes of every file, and it is one thing: a text, or the first fault.
+/// Something comes of the bytes of every file, and it is one thing: a text, or the first fault. A text is UTF-8 and has
+/// all its places.
 /// The call does nothing: its contract is the law.
 pub fn files_are_read()
     ensures there { (bytes : List ℕ) → (o : Result SourceText SourceFault) × IsRead bytes o }
     ensures one { (bytes : List ℕ) (o p : Result SourceText SourceFault) → IsRead bytes o → IsRead bytes p → o ≡ p }
+    ensures placed { (bytes : List ℕ) (s : SourceText) → IsRead bytes (Ok s) → IsPlaced s }
 {}
 
 /// The rules for faults take no word from the rules for tokens: what a word is by these alone it is by all.

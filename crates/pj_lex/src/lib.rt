@@ -26,4 +26,4 @@ mod token;
 pub use laws::{all_texts_have_tokens, faults_take_nothing, files_are_read, tokens_are_one};
 pub use lexer::{Lexer, tokens};
 pub use source::{Source, SourceFault};
-pub use token::{LexFault, Token, TokenKind};
+pub use token::{LexFault, Token, TokenKind, Tokens};

@@ -1,5 +1,6 @@
 //! The kinds of tokens, and tokens.
 
+use pj_base::ListOf;
 use pj_tree::Span;
 
 /// What a token is. White space is no token, a comment is one.
@@ -234,6 +235,9 @@ pub struct Token<'s> {
     /// Where they stand, in bytes of the text, counted from 0.
     pub span: Span,
 }
+
+/// A list of tokens.
+pub type Tokens<'s> = ListOf<Token<'s>>;
 
 /// What ends the tokens of a text before its end.
 #[derive(Clone, Copy, Debug, PartialEq, Eq)]

@@ -15,8 +15,6 @@ mod parser;
 mod reading;
 mod stack;
 mod table;
-#[cfg(test)]
-mod tests;
 
 pub use grammar::{Piece, Symbol};
 pub use law::{one_derivation, one_end};

@@ -11,8 +11,6 @@ pub mod laws;
 pub mod map_oracle;
 pub mod oracle;
 pub mod recorder;
-#[cfg(test)]
-mod tests;
 pub mod ty;
 
 pub use answer::{Answer, Broken, ClassFault, ClassInfo, Member, Members};

@@ -44,6 +44,11 @@ pub record TreeHeld : Type 0 where
   pub files : Files
   pub plan : FaultPlan
 
+-- a keeper in memory: names with their bytes
+pub record KeeperHeld : Type 0 where
+  pub files : Files
+  pub plan : FaultPlan
+
 -- a sink in memory
 pub record SinkHeld : Type 0 where
   pub bytes : Bytes

@@ -3,3 +3,4 @@ pub mod Files
 pub mod Putting
 pub mod Doors
 pub mod InMemory
+pub mod Keeping

@@ -4,7 +4,7 @@ use Rattle.std.proofs.lemmas.List.{append-nil, map-append}
 use Rattle.std.specs.Str.{chars}
 use Rattle.pj_lex.specs.Tokens.{Lexed, Tokens, Position, IsGap, ended, fault_of}
 use Rattle.pj_lex.specs.declared.token.LexFault.{LexFault}
-use Rattle.pj_parse.specs.Words.{TokenSeen, as_lexed, AreTokens, EndsInFault}
+use Rattle.pj_grammar.specs.Words.{TokenSeen, as_lexed, AreTokens, EndsInFault}
 
 -- what comes of the rest comes of the whole text
 pub record GoesOn (text : List ℕ) (found : List TokenSeen) (p : Position) : Type 0 where

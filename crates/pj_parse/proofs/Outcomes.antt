@@ -15,7 +15,7 @@ use Rattle.pj_shape.specs.ShapedTree.{IsDerived, shaped_tree, parts_of_derivatio
 use Rattle.pj_shape.specs.declared.shape.Shape.{Shape}
 use Rattle.pj_parse.specs.declared.fault.ParseFault.{ParseFault}
 use Rattle.pj_parse.specs.declared.fault.ParseFault.TheVariants.{Lex, TooManyTokens, Syntax, TooDeep, TooMany, Memory}
-use Rattle.pj_parse.specs.Words.{TokenSeen, AreTokens, words, spans, terminals}
+use Rattle.pj_grammar.specs.Words.{TokenSeen, AreTokens, words, spans, terminals}
 use Rattle.pj_grammar.specs.Java17.{java_17_forms, java_17_shapes}
 use Rattle.pj_grammar.specs.Terminal.{terminal_of, terminal_number}
 use Rattle.pj_parse.specs.Faults.{IsFaultOfTokens, of_shape}
@@ -33,19 +33,16 @@ fault_of_tokens text (TooDeep d) h = absurd h
 fault_of_tokens text (TooMany n) h = absurd h
 fault_of_tokens text Memory h = inl refl
 
-count_same : (ts : List TokenSeen) (ss : List Span) → ss ≡ spans (words ts) → length ss ≡ length (words ts)
-count_same ts ss e = ap length e ∙ length-map (words ts) (λ (t : TokenSeen). t.span)
+count_same : (ts : List TokenSeen) (ks : List ℕ) → ks ≡ terminals (words ts) → length ks ≡ length (words ts)
+count_same ts ks e = ap length e ∙ length-map (words ts) (λ (t : TokenSeen). terminal_number (terminal_of t.kind t.text))
 
-pub many_tokens : (text : List ℕ) (ts : List TokenSeen) (ss : List Span) → AreTokens text ts → ss ≡ spans (words ts) → (n : ℕ) → n ≡ length ss → 200000 < n → Faulty text (TooManyTokens n)
-many_tokens text ts ss tokens e n c many =
-    let same : length (words ts) ≡ n = sym (count_same ts ss e) ∙ sym c in
+pub many_tokens : (text : List ℕ) (ts : List TokenSeen) (ks : List ℕ) → AreTokens text ts → ks ≡ terminals (words ts) → (n : ℕ) → n ≡ length ks → 200000 < n → Faulty text (TooManyTokens n)
+many_tokens text ts ks tokens e n c many =
+    let same : length (words ts) ≡ n = sym (count_same ts ks e) ∙ sym c in
     inr (subst (λ k. Parses text (Err (TooManyTokens k))) same (too_many_tokens ts tokens (omega arith)))
 
-pub has_words : (text : List ℕ) (ts : List TokenSeen) (ss : List Span) → AreTokens text ts → ss ≡ spans (words ts) → length ss ≤ 200000 → HasWords text ts
-has_words text ts ss tokens e few = let same = count_same ts ss e in record { tokens = tokens; few = omega arith }
-
-pub terminal_count : (ts : List TokenSeen) (ss : List Span) (ks : List ℕ) → ss ≡ spans (words ts) → ks ≡ terminals (words ts) → length ks ≡ length ss
-terminal_count ts ss ks e f = ap length f ∙ length-map (words ts) (λ (t : TokenSeen). terminal_number (terminal_of t.kind t.text)) ∙ sym (count_same ts ss e)
+pub has_words : (text : List ℕ) (ts : List TokenSeen) (ks : List ℕ) → AreTokens text ts → ks ≡ terminals (words ts) → length ks ≤ 200000 → HasWords text ts
+has_words text ts ks tokens e few = let same = count_same ts ks e in record { tokens = tokens; few = omega arith }
 
 pub not_derived : (text : List ℕ) (ts : List TokenSeen) (ks : List ℕ) (f : ParseFault) → HasWords text ts → ks ≡ terminals (words ts) →
     ((f ≡ Memory) ⊎ ((f ≡ Syntax) × FailsAtStart java_17_forms ks)) → Faulty text f
@@ -57,24 +54,17 @@ pub derivation_of : (text : List ℕ) (ts : List TokenSeen) (ks : List ℕ) (ste
     (h : DerivesSteps java_17_forms ks steps) → HasDerivation text ts h.1
 derivation_of text ts ks steps h e d = record { words_are = h; end = d.0; derives = subst (λ l. Derives java_17_forms l (rule 0) 0 (To d.0 d.1)) e d.2 }
 
-pub is_derived : (ks : List ℕ) (count : ℕ) (steps : List Step) → length ks ≡ count → DerivesSteps java_17_forms ks steps → IsDerived count steps
-is_derived ks count steps e d = (java_17_forms, ks, e, d)
-
 -- ---- the tree
-
-pub tree_parsed : (text : List ℕ) (ts : List TokenSeen) (ss : List Span) (d : Forest) (tree : Tree) → HasDerivation text ts d → ss ≡ spans (words ts) →
-    shaped_tree text ss java_17_shapes d ≡ Ok tree → Parses text (Ok (record { tree = tree; tokens = ts }))
-tree_parsed text ts ss d tree h e f = parsed ts d tree h (subst (λ l. shaped_tree text l java_17_shapes d ≡ Ok tree) e f)
 
 no_memory_fault : (text : List ℕ) (ts : List TokenSeen) (d : Forest) (f : ShapeFault) → HasDerivation text ts d → shaped_tree text (spans (words ts)) java_17_shapes d ≡ Err f → Faulty text (of_shape f)
 no_memory_fault text ts d (shape.TooDeep depth) h e = inr (too_deep ts d depth h e)
 no_memory_fault text ts d (shape.TooMany count) h e = inr (too_many ts d count h e)
 no_memory_fault text ts d shape.Memory h e = inl refl
 
-pub tree_faulty : (text : List ℕ) (ts : List TokenSeen) (ss : List Span) (d : Forest) (f : ShapeFault) (g : ParseFault) → HasDerivation text ts d → ss ≡ spans (words ts) → g ≡ of_shape f →
-    ((f ≡ shape.Memory) ⊎ (shaped_tree text ss java_17_shapes d ≡ Err f)) → Faulty text g
-tree_faulty text ts ss d f g h e k (inl m) = inl (k ∙ ap of_shape m)
-tree_faulty text ts ss d f g h e k (inr s) = subst (Faulty text) (sym k) (no_memory_fault text ts d f h (subst (λ l. shaped_tree text l java_17_shapes d ≡ Err f) e s))
+pub tree_faulty : (text : List ℕ) (ts : List TokenSeen) (d : Forest) (f : ShapeFault) (g : ParseFault) → HasDerivation text ts d → g ≡ of_shape f →
+    ((f ≡ shape.Memory) ⊎ (shaped_tree text (spans (words ts)) java_17_shapes d ≡ Err f)) → Faulty text g
+tree_faulty text ts d f g h k (inl m) = inl (k ∙ ap of_shape m)
+tree_faulty text ts d f g h k (inr s) = subst (Faulty text) (sym k) (no_memory_fault text ts d f h s)
 
 -- the tree is one of the text
 pub tree_text : (text : List ℕ) (ss : List Span) (shapes : List Shape) (d : Forest) (tree : Tree) → shaped_tree text ss shapes d ≡ Ok tree → tree.text ≡ text

@@ -1,6 +1,6 @@
 -- Which fault comes when, for the private clauses.
 use Rattle.std.specs.Prelude.{⊤, ℕ, List}
-use Rattle.pj_parse.specs.Words.{EndsInFault}
+use Rattle.pj_grammar.specs.Words.{EndsInFault}
 use Rattle.pj_tree.specs.declared.shape_fault.ShapeFault.{ShapeFault}
 use Rattle.pj_tree.specs.declared.shape_fault.ShapeFault.TheVariants as shape
 use Rattle.pj_parse.specs.declared.fault.ParseFault.{ParseFault}

@@ -10,7 +10,7 @@ use Rattle.pj_lex.specs.declared.token.LexFault.{LexFault}
 use Rattle.pj_parse.specs.declared.fault.ParseFault.{ParseFault}
 use Rattle.pj_parse.specs.declared.fault.ParseFault.TheVariants.{Lex, TooManyTokens, Syntax, TooDeep, TooMany}
 use Rattle.pj_parse.specs.declared.parsing.Parsed.{Parsed}
-use Rattle.pj_parse.specs.Words.{TokenSeen, seen, AreTokens, EndsInFault, words, spans, terminals}
+use Rattle.pj_grammar.specs.Words.{TokenSeen, seen, AreTokens, EndsInFault, words, spans, terminals}
 use Rattle.pj_grammar.specs.Java17.{java_17_forms, java_17_shapes}
 
 -- a syntax tree, and all tokens of its text, comments included
@@ -20,7 +20,7 @@ pub record FileParsed : Type 0 where
 
 -- what a parsed file of the program is
 abbrev pub file_parsed : Parsed → FileParsed
-file_parsed p = record { tree = p.tree; tokens = map seen p.tokens.items }
+file_parsed p = record { tree = p.tree; tokens = map seen p.tokens }
 
 -- how many words a file may have
 abbrev pub most_words : ℕ

@@ -3,20 +3,16 @@
 ghost use Rattle.std.specs.Prelude.{◌≡◌, ◌≤◌, ◌⊎◌, length, Ok, Err, IfOk, IfErr, MatchResult};
 ghost use Rattle.pj_peg.specs.Form.{forms_of};
 ghost use Rattle.pj_peg.specs.Derives.{DerivesSteps, FailsAtStart};
-ghost use Rattle.pj_grammar.specs.Java17.{java_17_forms, java_17_shapes};
-ghost use Rattle.pj_shape.specs.Shaped.{shape_of};
-ghost use Rattle.pj_shape.specs.ShapedTree.{MakesNode};
-ghost use Rattle.pj_pool.specs.PoolText.{IsPoolOf};
+ghost use Rattle.pj_grammar.specs.Java17.{java_17_forms};
+ghost use Rattle.pj_parse.specs.PoolText.{pool_of, IsPoolOf};
 ghost use Rattle.pj_parse.specs.Parses.{Parses, file_parsed};
 
 use crate::fault::ParseFault;
+use crate::pool::Pool;
 use crate::tokens::collect_tokens;
-use crate::words::{word_spans, word_terminals};
-use pj_grammar::{java_17, rules_have_their_numbers, shapes};
-use pj_lex::{Source, Token};
+use pj_grammar::{java_17, shape, word_terminals};
+use pj_lex::{Source, Tokens};
 use pj_peg::{Derivation, WellFormed, run};
-use pj_pool::Pool;
-use pj_shape::{Shape, shape_derivation};
 use pj_tree::SyntaxTree;
 use std::alloc::Global;
 
@@ -29,18 +25,9 @@ pub struct Parsed<'s> {
     /// The syntax tree.
     pub tree: SyntaxTree<'s>,
     /// All tokens in the order of the text, comments included.
-    pub tokens: Vec<Token<'s>>,
+    pub tokens: Tokens<'s>,
     /// The texts of the tree's nodes that are no stretches of the text: values of literals, and joined names.
     pub pool: Pool,
-}
-
-/// What the rules make. The first one makes the root.
-fn java_shapes() -> &'static [Shape]
-    ensures shapes { result.now ≡ java_17_shapes }
-    ensures root { MakesNode (shape_of java_17_shapes 0) }
-{
-    rules_have_their_numbers();
-    shapes()
 }
 
 /// The derivation of words from the first rule of the grammar, or that there is none.
@@ -66,22 +53,16 @@ pub fn parse_by<'s>(
     requires grammar { forms_of grammar.now ≡ java_17_forms }
     ensures parses { MatchResult result (λ p. Parses source.now.text (Ok (file_parsed p))) (λ fault. (fault ≡ ParseFault.Memory) ⊎ Parses source.now.text (Err fault)) }
     ensures text { IfOk result (λ p. p.tree.text ≡ source.now.text) }
-    ensures pool { IfOk result (λ p. IsPoolOf p.tree p.pool) }
+    ensures pool { IfOk result (λ p. p.pool ≡ pool_of p.tree) }
+    ensures pool_texts { IfOk result (λ p. IsPoolOf p.tree p.pool) }
 {
     let tokens = collect_tokens(alloc, source)?;
-    let spans = word_spans(alloc, tokens.as_slice())?;
-    if spans.len() > MOST_WORDS {
-        return Err(ParseFault::TooManyTokens(spans.len() as u32));
-    }
     let terminals = word_terminals(alloc, tokens.as_slice())?;
+    if terminals.len() > MOST_WORDS {
+        return Err(ParseFault::TooManyTokens(terminals.len() as u32));
+    }
     let derivation = derive(alloc, grammar, terminals.as_slice())?;
-    match shape_derivation(
-        alloc,
-        source.text(),
-        spans.as_slice(),
-        java_shapes(),
-        &derivation,
-    ) {
+    match shape(alloc, source, &derivation, &tokens) {
         Ok(tree) => {
             let pool = Pool::of(alloc, &tree)?;
             Ok(Parsed { tree, tokens, pool })
@@ -94,7 +75,8 @@ pub fn parse_by<'s>(
 pub fn parse<'s>(alloc: Global, source: &'s Source) -> Result<Parsed<'s>, ParseFault>
     ensures parses { MatchResult result (λ p. Parses source.now.text (Ok (file_parsed p))) (λ fault. (fault ≡ ParseFault.Memory) ⊎ Parses source.now.text (Err fault)) }
     ensures text { IfOk result (λ p. p.tree.text ≡ source.now.text) }
-    ensures pool { IfOk result (λ p. IsPoolOf p.tree p.pool) }
+    ensures pool { IfOk result (λ p. p.pool ≡ pool_of p.tree) }
+    ensures pool_texts { IfOk result (λ p. IsPoolOf p.tree p.pool) }
 {
     match java_17(alloc) {
         Ok(grammar) => parse_by(alloc, &grammar, source),

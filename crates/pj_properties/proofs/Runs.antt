@@ -4,7 +4,7 @@ use Rattle.std.specs.Prelude.{filter}
 use Rattle.std.proofs.Math.Seq.{take-suc, drop-cons}
 use Rattle.std.proofs.lemmas.List.{map-append, reverse-append}
 use Rattle.pj_lex.specs.declared.token.Token.{Token}
-use Rattle.pj_parse.specs.Words.{TokenSeen, seen, is_comment}
+use Rattle.pj_grammar.specs.Words.{TokenSeen, seen, is_comment}
 use Rattle.pj_properties.specs.Parentheses.{run}
 
 -- ---- the tokens that pass a test, where they are the first ones

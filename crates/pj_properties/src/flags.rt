@@ -2,7 +2,7 @@
 
 ghost use Rattle.std.specs.Prelude.{◌≡◌, ◌<◌, length};
 ghost use Rattle.pj_parse.specs.Parses.{file_parsed};
-ghost use Rattle.pj_pool.specs.PoolText.{IsPoolOf};
+ghost use Rattle.pj_parse.specs.PoolText.{IsPoolOf};
 ghost use Rattle.pj_properties.specs.Flags.{word_text, is_childless, is_nested_so, is_regular_class, is_regular_interface, is_variable_so, has_empty_value, is_constructor_reference, has_diamond, is_default_label, is_default_branch, has_default, flag_value, same_nesting, same_variable};
 ghost use Rattle.pj_properties.specs.OneFile.{IsOneFile};
 
@@ -18,7 +18,7 @@ use crate::types::{
 use pj_modifiers::{is_effective, is_interface};
 use pj_nodes::{child_of, first_child, has_child, has_word, is_kind, last_word};
 use pj_parse::Parsed;
-use pj_pool::Pool;
+use pj_parse::Pool;
 use pj_symbols::{Nesting, Symbols, VariableKind, nesting_of, variable_kind};
 use pj_tree::{Kind, Node, SyntaxTree};
 

@@ -3,7 +3,7 @@
 ghost use Rattle.std.specs.Prelude.{◌≡◌, ◌<◌, ◌^◌, length, pos};
 ghost use Rattle.std.specs.Str.{chars};
 ghost use Rattle.pj_parse.specs.Parses.{file_parsed};
-ghost use Rattle.pj_pool.specs.PoolText.{IsPoolOf};
+ghost use Rattle.pj_parse.specs.PoolText.{IsPoolOf};
 ghost use Rattle.pj_properties.specs.Numbers.{number_value, arity, lambda_arity, argument_count, dimension_count, array_depth, value_length};
 ghost use Rattle.pj_properties.specs.OneFile.{IsOneFile};
 ghost use Rattle.pj_symbols.specs.Symbols.{FileSymbols};
@@ -13,7 +13,7 @@ use crate::parentheses::parenthesis_depth;
 use crate::property::NumberProperty;
 use pj_nodes::{child_count, child_of, kind_count};
 use pj_parse::Parsed;
-use pj_pool::Pool;
+use pj_parse::Pool;
 use pj_symbols::Symbols;
 use pj_tree::{Kind, Node, SyntaxTree};
 

@@ -1,10 +1,10 @@
 //! Parentheses around expressions (JLS 15.8.5).
 
-ghost use Rattle.std.specs.Prelude.{◌≡◌, ◌<◌, ◌≤◌, ◌&&◌, nat_le, length, map, take, drop, reverse};
+ghost use Rattle.std.specs.Prelude.{◌≡◌, ◌<◌, ◌^◌, ◌Prelude.{◌≡◌, ◌<◌, ◌≤◌, ◌&&◌, nat_le, length, map, take, drop, reverse}Prelude.{◌≡◌, ◌<◌, ◌≤◌, ◌&&◌, nat_le, length, map, take, drop, reverse}◌, nat_le, length, map, reverse};
 ghost use Rattle.std.specs.List.Sorted.{IsNonDecreasingBy};
 ghost use Rattle.pj_lex.specs.declared.token.Token.{Token};
 ghost use Rattle.pj_parse.specs.Parses.{file_parsed};
-ghost use Rattle.pj_parse.specs.Words.{is_comment, seen};
+ghost use Rattle.pj_grammar.specs.Words.{is_comment, seen};
 ghost use Rattle.pj_properties.specs.Parentheses.{is_left, is_right, run, opened, closed, pairs_within, syntactic, syntactic_at, depth_below, parenthesis_depth};
 
 use pj_lex::{Token, TokenKind};
@@ -42,7 +42,7 @@ fn is_comment(kind: TokenKind) -> bool
 /// How many parentheses open at the end of the tokens, from an offset on, comments not seen.
 fn opened_last(tokens: &[Token<'_>], from: u32) -> usize
     ensures value { result ≡ run (λ t. is_left t.kind && nat_le from t.span.from) (reverse (map seen tokens.now)) }
-    ensures few { result ≤ length tokens.now }
+    ensures small { result < 2 ^ 63 }
 {
     let mut count = 0;
     for i in (0..tokens.len()).rev() {
@@ -79,7 +79,7 @@ fn closed_first(tokens: &[Token<'_>], to: u32) -> usize
 fn opened(tokens: &[Token<'_>], above: Span, span: Span) -> usize
     requires in_order { IsNonDecreasingBy (λ (t : Token). t.span.from) tokens.now }
     ensures value { result ≡ opened above span (map seen tokens.now) }
-    ensures few { result ≤ length tokens.now }
+    ensures small { result < 2 ^ 63 }
 {
     let place = tokens.partition_point(|token| token.span.from < span.from);
     opened_last(&tokens[..place], above.from)
@@ -97,7 +97,7 @@ fn closed(tokens: &[Token<'_>], above: Span, span: Span) -> usize
 fn pairs_within(tokens: &[Token<'_>], above: Span, span: Span) -> usize
     requires in_order { IsNonDecreasingBy (λ (t : Token). t.span.from) tokens.now }
     ensures value { result ≡ pairs_within (map seen tokens.now) above span }
-    ensures few { result ≤ length tokens.now }
+    ensures small { result < 2 ^ 63 }
 {
     opened(tokens, above, span).min(closed(tokens, above, span))
 }
@@ -135,9 +135,9 @@ fn syntactic(kind: Kind, tree: &SyntaxTree<'_>, above: Node) -> usize
 fn depth_below(parsed: &Parsed<'_>, n: Node, above: Node) -> usize
     requires inside { n.0 < length parsed.now.tree.nodes }
     requires inside_above { above.0 < length parsed.now.tree.nodes }
-    requires in_order { IsNonDecreasingBy (λ (t : Token). t.span.from) parsed.now.tokens.items }
+    requires in_order { IsNonDecreasingBy (λ (t : Token). t.span.from) parsed.now.tokens }
     ensures value { result ≡ depth_below (file_parsed parsed.now) n above }
-    ensures few { result ≤ length parsed.now.tokens.items }
+    ensures small { result < 2 ^ 63 }
 {
     let tree = &parsed.tree;
     let pairs = pairs_within(parsed.tokens.as_slice(), tree.span(above), tree.span(n));
@@ -147,9 +147,9 @@ fn depth_below(parsed: &Parsed<'_>, n: Node, above: Node) -> usize
 /// How many pairs of parentheses stand directly around the node.
 pub fn parenthesis_depth(parsed: &Parsed<'_>, n: Node) -> usize
     requires inside { n.0 < length parsed.now.tree.nodes }
-    requires in_order { IsNonDecreasingBy (λ (t : Token). t.span.from) parsed.now.tokens.items }
+    requires in_order { IsNonDecreasingBy (λ (t : Token). t.span.from) parsed.now.tokens }
     ensures value { result ≡ parenthesis_depth (file_parsed parsed.now) n }
-    ensures few { result ≤ length parsed.now.tokens.items }
+    ensures small { result < 2 ^ 63 }
 {
     match parsed.tree.parent(n) {
         Some(above) => depth_below(parsed, n, above),

@@ -13,3 +13,7 @@ pub mod Laying
 pub mod Spanning
 pub mod TreeShaping
 pub mod TestTokens
+pub mod Shutting
+pub mod Nesting
+pub mod Following
+pub mod Derived

@@ -17,11 +17,11 @@ use Rattle.pj_shape.specs.Written.{begin_of, end_of, tokens_then, parts_of}
 use Rattle.pj_shape.proofs.Laying.{AreIn}
 
 -- each of the spans is one of the text
-abbrev Each : List ℕ → List Span → Type 0
+abbrev pub Each : List ℕ → List Span → Type 0
 Each text [] = Unit {0}
 Each text (s ∷ ss) = IsSpanOf text s × Each text ss
 
-each_of : (text : List ℕ) (ss : List Span) → All (IsSpanOf text) ss → Each text ss
+pub each_of : (text : List ℕ) (ss : List Span) → All (IsSpanOf text) ss → Each text ss
 each_of text [] all = tt
 each_of text (s ∷ ss) all =
     (all 0 s (let l : length (s ∷ ss) ≡ suc (length ss) = refl in omega arith), each_of text ss (λ k d lt. all (suc k) d (let l : length (s ∷ ss) ≡ suc (length ss) = refl in omega arith)))
@@ -43,7 +43,7 @@ tokens_spans text [] rest e h = h
 tokens_spans text (s ∷ ss) rest e h = (e.0, tokens_spans text ss rest e.1 h)
 
 -- the place has a token, or none is there
-got : (spans : List Span) (i : ℕ) → ((s : Span) × (slice_get spans i ≡ Some s)) ⊎ ((slice_get spans i ≡ None) × (length spans ≤ i))
+pub got : (spans : List Span) (i : ℕ) → ((s : Span) × (slice_get spans i ≡ Some s)) ⊎ ((slice_get spans i ≡ None) × (length spans ≤ i))
 got [] zero = inr (refl, omega arith)
 got [] (suc i) = inr (refl, omega arith)
 got (s ∷ ss) zero = inl (s, refl)
@@ -53,7 +53,7 @@ got (s ∷ ss) (suc i) = go (got ss i)
     go (inl h) = inl h
     go (inr h) = inr (h.0, let le = h.1 in omega arith)
 
-span_at : (text : List ℕ) (spans : List Span) (i : ℕ) (s : Span) → All (IsSpanOf text) spans → slice_get spans i ≡ Some s → IsSpanOf text s
+pub span_at : (text : List ℕ) (spans : List Span) (i : ℕ) (s : Span) → All (IsSpanOf text) spans → slice_get spans i ≡ Some s → IsSpanOf text s
 span_at text spans i s all is = subst (IsSpanOf text) (get_or_from_slice_get spans i s s is) (all i s (slice_get_within spans i s is))
 
 -- a later token ends no sooner than an earlier one begins

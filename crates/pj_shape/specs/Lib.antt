@@ -1,6 +1,7 @@
 pub mod Body
 pub mod NameLists
 pub mod Flat
+pub mod InOrder
 pub mod Kinds
 pub mod Marks
 pub mod Shaped

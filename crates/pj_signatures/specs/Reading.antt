@@ -1,5 +1,6 @@
 -- Descriptors and signatures read from the left: the value that the front of a text makes, and what stands behind it.
--- The readers are proved to be this reading, and the reading to be what `Spelled` says: no public clause stands on it alone.
+-- The readers are this reading by their private clauses, and their public clauses say by `Spelled` what it gives. What a class file
+-- takes as a descriptor or a signature is said by this reading itself.
 use Rattle.std.specs.Prelude.{◌&&◌, ◌==◌, ◌++◌, Bool, true, false, not, ℕ, zero, suc, List, [], ◌∷◌, Option, Some, None, length, codes, if◌then◌else◌, nat_lt, nat_le}
 use Rattle.pj_names.specs.declared.ty.PrimitiveType.{PrimitiveType}
 use Rattle.pj_names.specs.declared.ty.PrimitiveType.TheVariants.{Boolean, Byte, Short, Int, Long, Char, Float, Double}

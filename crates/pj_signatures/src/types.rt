@@ -264,7 +264,11 @@ fn listed_at<'s>(
             return Err(NoMemory);
         }
         room -= 1;
-        let below = Declared { own: declared.own, around: declared.around, room };
+        let below = Declared {
+            own: declared.own,
+            around: declared.around,
+            room,
+        };
         let Some((argument, after)) = argument_at(alloc, &below, open_signs, rest)? else {
             return Ok(None);
         };

@@ -34,6 +34,10 @@ abbrev pub is_suppress_warnings : List Text → Bool
 is_suppress_warnings words = same_texts words (codes "SuppressWarnings" ∷ [])
     || same_texts words (codes "java" ∷ codes "." ∷ codes "lang" ∷ codes "." ∷ codes "SuppressWarnings" ∷ [])
 
+-- the words of a node: the texts of its own tokens, in order
+abbrev pub words_of : Tree → Node → List Text
+words_of tree n = unwrap_or (own_of tree n) []
+
 abbrev pub is_empty : List Node → Bool
 is_empty [] = true
 is_empty (n ∷ ns) = false
@@ -62,7 +66,7 @@ module _ (tree : Tree) (value_of : Node → Text → Option ItemValue) (rule : T
 
   -- the type of an annotation that is written `SuppressWarnings` or `java.lang.SuppressWarnings`
   abbrev pub is_named : Node → Bool
-  is_named n = is_kind tree kind.ClassType n && (is_empty (children_of tree n) && is_suppress_warnings (unwrap_or (own_of tree n) []))
+  is_named n = is_kind tree kind.ClassType n && (is_empty (children_of tree n) && is_suppress_warnings (words_of tree n))
 
   abbrev pub annotation_names : Node → Bool
   annotation_names n = is_kind tree kind.Annotation n && (list_any is_named (children_of tree n) && list_any members_name (children_of tree n))

@@ -1,11 +1,13 @@
 //! Annotations that suppress findings.
-ghost use Rattle.std.specs.Prelude.{◌≡◌, ◌<◌, ℕ, length, IfSome, option_map};
-ghost use Rattle.pj_suppress.specs.Annotation.{annotation_names, by_annotation, declaration_names, is_kind, is_named, is_string, is_suppress_warnings, literal_names, member_names, members_name, modifiers_name, names_rule, same_kind, value_names};
+ghost use Rattle.std.specs.Prelude.{◌≡◌, ◌<◌, ◌&&◌, ◌∷◌, [], IfSome, IsTrue, MatchOption, codes, drop, length, nat_eq, option_to_list};
+ghost use Rattle.std.specs.List.{list_any, starts_with};
+ghost use Rattle.pj_tree.specs.Tree.{ancestors_of, children_of};
+ghost use Rattle.pj_suppress.specs.Annotation.{annotation_names, by_annotation, declaration_names, first_of, is_empty, is_kind, is_named, is_string, is_suppress_warnings, literal_names, member_names, members_name, modifiers_name, names_rule, same_kind, value_names, words_of};
 ghost use Rattle.pj_suppress.specs.Words.{same_text};
 
 use crate::words::are_words;
 use pj_base::Text;
-use pj_tree::{Kind, Node, OwnTokens, SyntaxTree};
+use pj_tree::{Kind, Node, SyntaxTree};
 use pj_xvalue::{Attributes, Value};
 
 fn same_kind(one: Kind, other: Kind) -> bool
@@ -21,11 +23,28 @@ fn is_kind(tree: &SyntaxTree<'_>, kind: Kind, n: Node) -> bool
     same_kind(tree.kind(n), kind)
 }
 
+fn behind<'a>(text: &'a [u8], front: &[u8]) -> &'a [u8]
+    requires { IsTrue (starts_with nat_eq text.now front.now) }
+    ensures { result.now ≡ drop (length front.now) text.now }
+{
+    text.split_at(front.len()).1
+}
+
+/// Whether it is `PMD.` with the rule's name behind it.
+fn names_one_rule(rule: &[u8], value: &[u8]) -> bool
+    ensures { result ≡ (starts_with nat_eq value.now (codes "PMD.") && same_text (drop 4 value.now) rule.now) }
+{
+    value.starts_with(b"PMD.") && behind(value, b"PMD.") == rule
+}
+
 /// Whether the string suppresses the rule.
-fn names_rule(rule: &[u8], value: &[u8]) -> bool
+fn names_rule(rule: &str, value: &str) -> bool
     ensures { result ≡ names_rule rule.now value.now }
 {
-    value == b"PMD" || value == b"all" || (value.starts_with(b"PMD.") && &value[4..] == rule)
+    match value {
+        "PMD" | "all" => true,
+        _ => names_one_rule(rule.as_bytes(), value.as_bytes()),
+    }
 }
 
 /// Whether the node's attribute is a string that suppresses the rule.
@@ -34,7 +53,7 @@ fn has_rule<A: Attributes>(facts: &A, n: Node, rule: &Text) -> bool
     ensures { result ≡ is_string (names_rule rule.now) (A.attribute_of facts.now n (codes "ConstValue")) }
 {
     match facts.attribute(n, "ConstValue") {
-        Some(Value::Str(text)) => names_rule(rule.as_str().as_bytes(), text.as_bytes()),
+        Some(Value::Str(text)) => names_rule(rule.as_str(), text),
         _ => false,
     }
 }
@@ -136,4 +155,126 @@ fn some_members_name<A: Attributes>(tree: &SyntaxTree<'_>, facts: &A, rule: &Tex
         }
     }
     false
+}
+
+/// Whether the node is the type of an annotation `SuppressWarnings` of `java.lang`, as it is written.
+fn is_named(tree: &SyntaxTree<'_>, n: Node) -> bool
+    requires inside { n.0 < length tree.now.nodes }
+    ensures { result ≡ is_named tree.now n }
+{
+    is_kind(tree, Kind::ClassType, n) && has_no_children(tree, n) && has_written_name(tree, n)
+}
+
+fn first_child(tree: &SyntaxTree<'_>, n: Node) -> Option<Node>
+    requires inside { n.0 < length tree.now.nodes }
+    ensures value { option_to_list result ≡ first_of (children_of tree.now n) }
+    ensures inside { IfSome result (λ child. child.0 < length tree.now.nodes) }
+{
+    let mut children = tree.children(n);
+    children.next()
+}
+
+fn has_no_children(tree: &SyntaxTree<'_>, n: Node) -> bool
+    requires inside { n.0 < length tree.now.nodes }
+    ensures { result ≡ is_empty (children_of tree.now n) }
+{
+    first_child(tree, n).is_none()
+}
+
+fn has_written_name(tree: &SyntaxTree<'_>, n: Node) -> bool
+    requires inside { n.0 < length tree.now.nodes }
+    ensures { result ≡ is_suppress_warnings (words_of tree.now n) }
+{
+    let simple: [&str; 1] = ["SuppressWarnings"];
+    let qualified: [&str; 5] = ["java", ".", "lang", ".", "SuppressWarnings"];
+    are_words(tree.own(n), simple.as_slice()) || are_words(tree.own(n), qualified.as_slice())
+}
+
+fn some_is_named(tree: &SyntaxTree<'_>, n: Node) -> bool
+    requires inside { n.0 < length tree.now.nodes }
+    ensures { result ≡ list_any (is_named tree.now) (children_of tree.now n) }
+{
+    for child in tree.children(n) {
+        if is_named(tree, child) {
+            return true;
+        }
+    }
+    false
+}
+
+fn annotation_names<A: Attributes>(tree: &SyntaxTree<'_>, facts: &A, rule: &Text, n: Node) -> bool
+    requires inside { n.0 < length tree.now.nodes }
+    requires facts { A.nodes facts.now ≡ length tree.now.nodes }
+    ensures { result ≡ annotation_names tree.now (A.attribute_of facts.now) rule.now n }
+{
+    is_kind(tree, Kind::Annotation, n)
+        && some_is_named(tree, n)
+        && some_members_name(tree, facts, rule, n)
+}
+
+fn some_annotation_names<A: Attributes>(
+    tree: &SyntaxTree<'_>,
+    facts: &A,
+    rule: &Text,
+    n: Node,
+) -> bool
+    requires inside { n.0 < length tree.now.nodes }
+    requires facts { A.nodes facts.now ≡ length tree.now.nodes }
+    ensures { result ≡ list_any (annotation_names tree.now (A.attribute_of facts.now) rule.now) (children_of tree.now n) }
+{
+    for child in tree.children(n) {
+        if annotation_names(tree, facts, rule, child) {
+            return true;
+        }
+    }
+    false
+}
+
+fn modifiers_name<A: Attributes>(tree: &SyntaxTree<'_>, facts: &A, rule: &Text, n: Node) -> bool
+    requires inside { n.0 < length tree.now.nodes }
+    requires facts { A.nodes facts.now ≡ length tree.now.nodes }
+    ensures { result ≡ modifiers_name tree.now (A.attribute_of facts.now) rule.now n }
+{
+    is_kind(tree, Kind::ModifierList, n) && some_annotation_names(tree, facts, rule, n)
+}
+
+fn declaration_names<A: Attributes>(tree: &SyntaxTree<'_>, facts: &A, rule: &Text, n: Node) -> bool
+    requires inside { n.0 < length tree.now.nodes }
+    requires facts { A.nodes facts.now ≡ length tree.now.nodes }
+    ensures { result ≡ declaration_names tree.now (A.attribute_of facts.now) rule.now n }
+{
+    match first_child(tree, n) {
+        Some(first) => modifiers_name(tree, facts, rule, first),
+        None => false,
+    }
+}
+
+/// The parent of a node, with what a tree says of ancestors.
+fn above(tree: &SyntaxTree<'_>, n: Node) -> Option<Node>
+    requires inside { n.0 < length tree.now.nodes }
+    ensures ancestors { MatchOption result (ancestors_of tree.now n ≡ []) (λ p. ancestors_of tree.now n ≡ p ∷ ancestors_of tree.now p) }
+    ensures before { IfSome result (λ p. p.0 < n.0) }
+{
+    // The contract of `len` says that the nodes are a tree.
+    let _count = tree.len();
+    tree.parent(n)
+}
+
+/// Whether an annotation `SuppressWarnings` on the node or on an ancestor of it suppresses the rule of this name. It
+/// looks at the node, its ancestors and the annotations of their modifiers, and takes no memory.
+pub fn by_annotation<A: Attributes>(tree: &SyntaxTree<'_>, facts: &A, n: Node, rule: &Text) -> bool
+    requires inside { n.0 < length tree.now.nodes }
+    requires facts { A.nodes facts.now ≡ length tree.now.nodes }
+    ensures { result ≡ by_annotation tree.now (A.attribute_of facts.now) rule.now n }
+{
+    let mut at = n;
+    loop {
+        if declaration_names(tree, facts, rule, at) {
+            return true;
+        }
+        match above(tree, at) {
+            Some(parent) => at = parent,
+            None => return false,
+        }
+    }
 }

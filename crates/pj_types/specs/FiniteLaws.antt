@@ -44,9 +44,9 @@ fewer_by (pair ∷ rest) names more name there new now keeps = at (pointwise nat
   where
     here : (before after : Bool) → before ≡ false → after ≡ true
         → (let n : ℕ = (if after then remaining rest more else suc (remaining rest more)) in n) < (if before then remaining rest names else suc (remaining rest names))
-    here true after no yes = absurd (cc no)
-    here false false no yes = absurd (cc yes)
-    here false true no yes = omega (arith, fewer rest names more keeps)
+    here true after fresh seen = absurd (cc fresh)
+    here false false fresh seen = absurd (cc seen)
+    here false true fresh seen = omega (arith, fewer rest names more keeps)
 
     later : (before after : Bool) → (before ≡ true → after ≡ true) → remaining rest more < remaining rest names
         → (let n : ℕ = (if after then remaining rest more else suc (remaining rest more)) in n) < (if before then remaining rest names else suc (remaining rest names))
@@ -141,4 +141,4 @@ module _ (answers : List (Name × Answer)) where
   pub list-there : (name : Name) → (types : List JavaType) × AreSupertypes (list_world answers).answer name types
   list-there name =
       let found = leads (remaining answers []) [] (first_listed name ∷ []) (omega arith) in
-      (map given_type found.0, found.0, found.1, refl)
+      (map given_type found.0, (found.0, found.1, refl))

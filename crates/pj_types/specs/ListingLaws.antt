@@ -213,7 +213,7 @@ module _ (d : ℕ) (w : Name → Answer) where
           ap (λ r. in_front (asked_of visited) r) (goes-new n visited (xs ++ rest) class new)
           ∙ sym (in_front-append (asked_of visited) (asked_names (class.name ∷ [])) (goes n (visited ++ class ∷ []) (direct_in w class ++ (xs ++ rest))))
           ∙ ap (λ l. in_front l (goes n (visited ++ class ∷ []) (direct_in w class ++ (xs ++ rest))))
-            (sym (asked-append (map name_of visited) (class.name ∷ [])) ∙ ap (λ l. asked_names l) (sym (map-append name_of visited (class ∷ []))))
+          (sym (asked-append (map name_of visited) (class.name ∷ [])) ∙ ap (λ l. asked_names l) (sym (map-append name_of visited (class ∷ []))))
           ∙ first n between (omega (arith, is, grows, length-append visited (class ∷ [])))
           ∙ second between (omega (arith, grows))
 
@@ -238,9 +238,9 @@ module _ (d : ℕ) (w : Name → Answer) where
       over-bind d (whole w) (search_within n no_hit name) (λ outcome. Return outcome.1)
       ∙ ap (λ (m : Asking (Option (Unit {0}) × List JavaType)). after (over d (whole w) m) (λ outcome. over d (whole w) (Return outcome.1))) (search-onward n no_hit name)
       ∙ ap (λ r. after r (λ (outcome : Option (Unit {0}) × List JavaType). over d (whole w) (Return outcome.1)))
-        (over-bind d (whole w) (onward no_hit n (begin name)) (λ o. Return (as_types o))
-        ∙ ap (λ r. after r (λ o. over d (whole w) (Return (as_types o)))) (list-goes (first_listed name ∷ []) list n leads enough)
-        ∙ in_front-done (asked_of list) (None, map given_type list) [])
+      (over-bind d (whole w) (onward no_hit n (begin name)) (λ o. Return (as_types o))
+      ∙ ap (λ r. after r (λ o. over d (whole w) (Return (as_types o)))) (list-goes (first_listed name ∷ []) list n leads enough)
+      ∙ in_front-done (asked_of list) (None, map given_type list) [])
       ∙ in_front-done (asked_of list ++ []) (map given_type list) []
       ∙ ap (λ l. Done (map given_type list) l) (append-nil (asked_of list ++ []) ∙ append-nil (asked_of list))
 

@@ -94,10 +94,7 @@ fn substitute_arguments(
             take_room(room)?;
             Ok(Types::More(
                 Box::new(alloc, substitute_within(alloc, first, bindings, room)?)?,
-                Box::new(
-                    alloc,
-                    substitute_arguments(alloc, rest, bindings, room)?,
-                )?,
+                Box::new(alloc, substitute_arguments(alloc, rest, bindings, room)?)?,
             ))
         }
     }
@@ -114,10 +111,7 @@ fn copied_within(alloc: Global, ty: &Ty, room: &mut u32) -> Result<Ty, NoMemory>
             name.copied()?,
             arguments_within(alloc, arguments, room)?,
         )),
-        Ty::Array(member) => Ok(Ty::Array(Box::new(
-            alloc,
-            copied_within(alloc, member, room)?,
-        )?)),
+        Ty::Array(member) => Ok(Ty::Array(Box::new(alloc, copied_within(alloc, member, room)?)?)),
         Ty::Var(name, bound) => Ok(Ty::Var(
             name.copied()?,
             Box::new(alloc, copied_within(alloc, bound, room)?)?,

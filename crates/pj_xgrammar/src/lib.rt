@@ -12,8 +12,6 @@ mod laws;
 mod rule;
 mod table;
 mod terminal;
-#[cfg(test)]
-mod tests;
 mod word;
 
 pub use derive::derivation;

@@ -16,13 +16,9 @@ mod name;
 mod operation;
 mod part;
 mod parts;
-#[cfg(test)]
-mod printed;
 mod rest;
 mod step;
 mod table;
-#[cfg(test)]
-mod tests;
 
 pub use action::{Action, Binder, Chain, Change, Kind, Leaf, Operation, Rest, Single, Step};
 pub use beginning::{Begun, beginnings};

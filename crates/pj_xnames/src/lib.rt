@@ -12,8 +12,6 @@ mod operand;
 mod part;
 mod parts;
 mod role;
-#[cfg(test)]
-mod tests;
 mod token;
 mod written;
 

@@ -8,14 +8,6 @@ mod expression;
 mod fault;
 mod laws;
 mod syntax;
-#[cfg(test)]
-mod tests;
-#[cfg(test)]
-mod tests_faults;
-#[cfg(test)]
-mod tests_names;
-#[cfg(test)]
-mod tests_nesting;
 
 pub use expression::parse;
 pub use fault::XSyntax;

@@ -9,8 +9,6 @@ mod gap;
 mod laws;
 mod scan;
 mod state;
-#[cfg(test)]
-mod tests;
 mod text;
 mod token;
 mod token_list;

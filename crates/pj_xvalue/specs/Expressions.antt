@@ -1,4 +1,5 @@
--- Which values of `Expr` are expressions: what a text of the language can spell.
+-- Which values of `Expr` are expressions. What the parser reads of a text is one. That each of them is what some text spells is said
+-- nowhere: the printer says under which further conditions its text is read as the value again.
 use Rattle.std.specs.Prelude.{ℕ, ◌+◌, ◌≤◌, ℤ, pos, negsuc, Bool, true, false, not, ◌&&◌, ◌||◌, List, [], ◌∷◌, length, map, Option, Some, None, IsTrue, if◌then◌else◌, nat_le, nat_lt, nat_eq, max, codes}
 use Rattle.std.specs.List.{list_all, list_any}
 use Rattle.pj_xvalue.specs.declared.function.Function.{Function}

@@ -54,8 +54,48 @@ fn read_whole<F: Read>(alloc: Global, file: &mut F, most: u64) -> io::Result<Opt
     Ok(None)
 }
 
-/// Puts the files of a folder to the paths, and its folders to those that are left. A link to a folder is passed over,
-/// so that a circle of links ends.
+/// What a call found, or `None` where what it was to look at is not there.
+fn if_there<T: Drop>(found: io::Result<T>) -> io::Result<Option<T>> {
+    match found {
+        Ok(found) => Ok(Some(found)),
+        Err(error) => match error.kind() {
+            io::ErrorKind::NotFound => Ok(None),
+            _ => Err(error),
+        },
+    }
+}
+
+/// Whether a file stands at the path, or a link that leads to one. A link that leads nowhere is none, nor is what went
+/// away since it was listed.
+fn is_file_there<R: Files>(rt: &R, path: &str) -> io::Result<bool> {
+    match if_there(fs::metadata(rt, path))? {
+        Some(found) => Ok(found.is_file()),
+        None => Ok(false),
+    }
+}
+
+/// Puts an entry of a folder to the paths where it is a file, and to the folders that are left where it is a folder. A
+/// link to a folder is passed over, so that a circle of links ends, and so is a link that leads nowhere.
+fn list_entry<R: Files + AllocGlobal + Clone + Drop>(
+    rt: &R,
+    path: String,
+    is_folder: bool,
+    paths: &mut Names,
+    folders: &mut Vec<String>,
+) -> io::Result<()> {
+    if is_folder {
+        folders.push(path)?;
+    } else if is_file_there(rt, path.as_str())? {
+        let path = Text::from_string(path);
+        if paths.push(path).is_err() {
+            return Err(io::Error::from(io::ErrorKind::OutOfMemory));
+        }
+    }
+    Ok(())
+}
+
+/// Puts the files of a folder to the paths, and its folders to those that are left. A folder that went away since it was
+/// listed has none.
 fn list_folder<R: Files + AllocGlobal + Clone + Drop>(
     rt: &R,
     folder: &str,
@@ -63,17 +103,16 @@ fn list_folder<R: Files + AllocGlobal + Clone + Drop>(
     folders: &mut Vec<String>,
 ) -> io::Result<()> {
     let alloc = rt.alloc();
-    for entry in fs::read_dir(rt, folder)? {
+    let entries = match if_there(fs::read_dir(rt, folder))? {
+        Some(entries) => entries,
+        None => return Ok(()),
+    };
+    for entry in entries {
         let entry = entry?;
         let name = entry.file_name();
         let path = format!(in alloc; "{folder}/{name}")?;
-        if entry.file_type()?.is_dir() {
-            folders.push(path)?;
-        } else if fs::metadata(rt, path.as_str())?.is_file() {
-            let path = Text::from_string(path);
-            if paths.push(path).is_err() {
-                return Err(io::Error::from(io::ErrorKind::OutOfMemory));
-            }
+        if let Some(kind) = if_there(entry.file_type())? {
+            list_entry(rt, path, kind.is_dir(), paths, folders)?;
         }
     }
     Ok(())

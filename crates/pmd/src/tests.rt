@@ -5,10 +5,11 @@ ghost use Rattle.pj_check.specs.Outcome.{Says};
 use crate::real_sink::RealSink;
 use crate::real_tree::RealTree;
 use crate::run;
-use pj_base::{Bytes, Numbers, Text, Words};
+use pj_base::{Bytes, Names, Numbers, Text, Words};
 use pj_check::{FileOutcome, lack_of};
 use pj_outside::{Files, MemSink, MemTree, Reading, Refused, Sink, Tree};
 use std::alloc::Global;
+use std::os::unix;
 use std::test::Fail;
 use std::{fs, process};
 
@@ -242,6 +243,63 @@ fn the_real_tree_reads_and_lists_a_file(rt: HostRuntime) -> Result<(), Fail> {
     assert_eq!(rt; word(tree.read(path.as_str(), 3)), "absent");
     assert!(rt; matches!(listed, Ok(Some(_))));
     assert!(rt; matches!(tree.list(path.as_str()), Ok(None)));
+    Ok(())
+}
+
+/// Folders below the one that is listed, each behind the one that it lies in.
+static FOLDERS: [&str; 3] = ["sub", "sub/deep", "empty"];
+
+/// Files in them.
+static FILES: [&str; 3] = ["A.java", "sub/B.java", "sub/deep/C.java"];
+
+/// Links in it: to a file, to nothing, and to the folder around it.
+static LINKS: [(&str, &str); 3] = [("A.java", "L.java"), ("none", "M.java"), ("..", "sub/up")];
+
+/// What is listed.
+static LISTED: [&str; 4] = ["A.java", "L.java", "sub/B.java", "sub/deep/C.java"];
+
+fn make_folder(rt: &HostRuntime, top: &str) -> Result<(), Fail> {
+    let alloc = rt.alloc();
+    fs::create_dir(rt, top)?;
+    for folder in FOLDERS {
+        fs::create_dir(rt, format!(in alloc; "{top}/{folder}")?.as_str())?;
+    }
+    for file in FILES {
+        fs::write(rt, format!(in alloc; "{top}/{file}")?.as_str(), "x")?;
+    }
+    for (to, link) in LINKS {
+        unix::fs::symlink(rt, to, format!(in alloc; "{top}/{link}")?.as_str())?;
+    }
+    Ok(())
+}
+
+/// Whether these paths are those that are to be listed, in any order.
+fn are_listed(alloc: Global, top: &str, paths: Names) -> Result<bool, Fail> {
+    let mut paths = paths.into_vec();
+    paths.sort()?;
+    let mut wanted = Vec::new(alloc);
+    for path in LISTED {
+        wanted.push(Text::from_string(format!(in alloc; "{top}/{path}")?))?;
+    }
+    Ok(paths == wanted)
+}
+
+#[test]
+fn the_real_tree_lists_a_folder(rt: HostRuntime) -> Result<(), Fail> {
+    let alloc = rt.alloc();
+    let id = process::id(rt.process());
+    let top = format!(in alloc; "/tmp/pmd-test-folder-{id}")?;
+    let empty = format!(in alloc; "/tmp/pmd-test-folder-{id}/empty")?;
+    make_folder(&rt, top.as_str())?;
+    let mut tree = RealTree::new(rt);
+    let listed = tree.list(top.as_str());
+    let none = tree.list(empty.as_str());
+    fs::remove_dir_all(&rt, top.as_str())?;
+    match listed {
+        Ok(Some(paths)) => assert!(rt; are_listed(alloc, top.as_str(), paths)?),
+        _ => assert!(rt; false),
+    }
+    assert!(rt; matches!(none, Ok(None)));
     Ok(())
 }
 

@@ -12,6 +12,8 @@ mod parse;
 #[cfg(test)]
 mod peg;
 #[cfg(test)]
+mod pieces;
+#[cfg(test)]
 mod rows_expressions;
 #[cfg(test)]
 mod rows_members;

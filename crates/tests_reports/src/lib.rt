@@ -3,3 +3,5 @@
 
 #[cfg(test)]
 mod reports;
+#[cfg(test)]
+mod words;

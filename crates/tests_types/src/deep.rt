@@ -74,9 +74,7 @@ fn nest(alloc: Global, classes: u32, depth: u32, name: &ClassName) -> Result<Ans
 
 /// The signature of a generic class whose superclass is `d.NUMBER`.
 fn generic(alloc: Global, number: u32, depth: u32) -> Result<Text, NoMemory> {
-    let mut text = Text::from_string(
-        format!(in alloc; "<T:Ljava/lang/Object;>Ld/{}<", number)?,
-    );
+    let mut text = Text::from_string(format!(in alloc; "<T:Ljava/lang/Object;>Ld/{}<", number)?);
     text.push_str(nested(alloc, depth, 0, "TT;")?.as_str())?;
     text.push_str(">;")?;
     Ok(text)
@@ -84,7 +82,11 @@ fn generic(alloc: Global, number: u32, depth: u32) -> Result<Text, NoMemory> {
 
 /// How many names a list of supertypes has, or 0 where memory is wanted.
 fn listed(alloc: Global, classes: u32, depth: u32) -> Result<usize, Fail> {
-    let mut oracle = Nests { alloc, classes, depth };
+    let mut oracle = Nests {
+        alloc,
+        classes,
+        depth,
+    };
     match supertypes(alloc, &mut oracle, &name(alloc, "d.0")?) {
         Ok(names) => Ok(names.len()),
         Err(AskFault::Memory) => Ok(0),
@@ -110,7 +112,11 @@ fn nests_that_add_up_end_well(rt: HostRuntime) -> Result<(), Fail> {
 
 /// How many steps a walk along such classes takes before memory is wanted.
 fn steps(alloc: Global, depth: u32) -> Result<u32, Fail> {
-    let mut oracle = Nests { alloc, classes: 1000, depth };
+    let mut oracle = Nests {
+        alloc,
+        classes: 1000,
+        depth,
+    };
     let mut walk = Walk::of(alloc, &name(alloc, "d.0")?)?;
     for step in 0..1002u32 {
         if walk.next_class(&mut oracle).is_err() {
@@ -131,7 +137,12 @@ fn a_walk_stops_where_types_are_deepest(rt: HostRuntime) -> Result<(), Fail> {
 #[test]
 fn signatures_of_many_arguments(rt: HostRuntime) -> Result<(), Fail> {
     let alloc = rt.alloc();
-    for (depth, wildcards, is_read) in [(250, 0, true), (7, 254, true), (8, 254, false), (250, 254, false)] {
+    for (depth, wildcards, is_read) in [
+        (250, 0, true),
+        (7, 254, true),
+        (8, 254, false),
+        (250, 254, false),
+    ] {
         let text = nested(alloc, depth, wildcards, "Lp/X;")?;
         let read = field_signature(alloc, text.as_str());
         assert_eq!(rt; matches!(read, Ok(Some(_))), is_read, "{depth} {wildcards}");

@@ -4,4 +4,4 @@ use Rattle.pj_attrs.proofs.Rising.{parsed_in_order}
 use Rattle.pj_attrs.proofs.laws.tokens_are_in_order.Goals as goal
 
 pub returns : goal.returns
-returns c = parsed_in_order c.args.text.now c.args.parsed.now.tokens.items (file_parsed c.args.parsed.now) c.requires refl
+returns c = parsed_in_order c.args.text.now c.args.parsed.now.tokens (file_parsed c.args.parsed.now) c.requires refl

@@ -3,6 +3,6 @@ use Rattle.pj_check.proofs.laws.one_lack.Goals as goal
 
 pub returns : goal.returns
 returns c = record {
-  one = one_lack c.files_are_read.ensures.one c.text_has_one_outcome.ensures;
-  not_built = lacking_is_not_built c.files_are_read.ensures.one c.text_has_one_outcome.ensures;
+  one = one_lack c.file_has_one_outcome.ensures.one;
+  not_built = lacking_is_not_built c.file_has_one_outcome.ensures.one;
 }

@@ -1,4 +1,4 @@
-use Rattle.pj_grammar.proofs.Words.{word_is, no_word, same_false, none, other}
+use Rattle.pj_grammar.proofs.ContextualWords.{word_is, no_word, same_false, none, other}
 use Rattle.pj_grammar.proofs.terminal.word_of.Goals as goal
 
 pub returns-in-non : goal.returns-in-non

@@ -1,5 +1,5 @@
-use Rattle.pj_parse.proofs.One.{ends_in_fault}
-use Rattle.pj_parse.proofs.Stretches.{fault_stands}
+use Rattle.pj_parse.specs.OneOutcome.{ends_in_fault}
+use Rattle.pj_grammar.proofs.Stretches.{fault_stands}
 use Rattle.pj_parse.proofs.laws.faults_stand_in_text.Goals as goal
 
 pub returns : goal.returns

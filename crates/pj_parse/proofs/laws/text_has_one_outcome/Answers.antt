@@ -1,7 +1,7 @@
 use Rattle.std.proofs.Common.{◌<◌, length, arith}
 use Rattle.std.specs.Str.{chars}
 use Rattle.pj_grammar.specs.Java17.{java_17_forms}
-use Rattle.pj_parse.proofs.One.{one_of_text}
+use Rattle.pj_parse.specs.OneOutcome.{one_of_text}
 use Rattle.pj_parse.proofs.laws.text_has_one_outcome.Goals as goal
 
 pub returns : goal.returns

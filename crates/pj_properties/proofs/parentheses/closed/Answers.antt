@@ -4,7 +4,7 @@ use Rattle.std.specs.Prelude.{◌&&◌, nat_le}
 use Rattle.std.specs.List.Sorted.{IsPartitionPoint}
 use Rattle.std.proofs.lemmas.List.Sorted.{IsPartitionPoint-from_clause, IsPartitionedBy-ltb}
 use Rattle.pj_lex.specs.declared.token.Token.{Token}
-use Rattle.pj_parse.specs.Words.{TokenSeen, seen}
+use Rattle.pj_grammar.specs.Words.{TokenSeen, seen}
 use Rattle.pj_properties.specs.Parentheses.{run, is_right, behind}
 use Rattle.pj_properties.proofs.Runs.{later_pass}
 use Rattle.pj_properties.proofs.parentheses.closed.Goals as goal

@@ -1,6 +1,6 @@
 use Rattle.std.proofs.Common.{◌≡◌, ◌+◌, ◌≤◌, length, map, drop}
 use Rattle.std.specs.Prelude.{◌&&◌, nat_le}
-use Rattle.pj_parse.specs.Words.{seen}
+use Rattle.pj_grammar.specs.Words.{seen}
 use Rattle.pj_properties.specs.Parentheses.{run, is_right}
 use Rattle.pj_properties.proofs.parentheses.closed_first.Given as goal
 

@@ -1,6 +1,6 @@
 use Rattle.std.proofs.Common.{◌≡◌, ◌+◌, ◌≤◌, length, map, take, reverse}
 use Rattle.std.specs.Prelude.{◌&&◌, nat_le}
-use Rattle.pj_parse.specs.Words.{seen}
+use Rattle.pj_grammar.specs.Words.{seen}
 use Rattle.pj_properties.specs.Parentheses.{run, is_left}
 use Rattle.pj_properties.proofs.parentheses.opened_last.Given as goal
 

@@ -12,7 +12,7 @@ returns-in_err-walk g c = asks-stop (search rules)
 pub loop-class-init : goal.loop-class-init
 loop-class-init g c =
     subst (λ m. ComesTo (is_on_list c.args.lower.now c.args.upper.now) (g.O.Oracle.tells c.args.oracle.now) m (g.O.Oracle.tells c.args.oracle.now))
-        (hit-begin c.args.lower.now c.args.upper.now (standing c.in_ok-walk.walk) c.in_ok-walk.ensures) comes-begin
+    (hit-begin c.args.lower.now c.args.upper.now (standing c.in_ok-walk.walk) c.in_ok-walk.ensures) comes-begin
 
 pub returns-in_err-ty : goal.returns-in_err-ty
 returns-in_err-ty g c =

@@ -1,10 +1,10 @@
 use Rattle.std.proofs.Common.{refl, sym, subst}
 use Rattle.pj_ll.specs.Grammar.{entries_of}
 use Rattle.pj_ll.specs.Predictive.{IsPredictive}
-use Rattle.pj_ll.specs.declared.tests.TheConstants.{SUMS}
+use Rattle.tests_syntax.specs.declared.ll.TheConstants.{SUMS}
 use Rattle.pj_ll.proofs.Decided.{predictive_from_test}
-use Rattle.pj_ll.proofs.tests.gives.Invariants.{sums_facts}
-use Rattle.pj_ll.proofs.tests.gives.Goals as goal
+use Rattle.tests_syntax.proofs.ll.gives.Invariants.{sums_facts}
+use Rattle.tests_syntax.proofs.ll.gives.Goals as goal
 
 pub parse-requires : goal.parse-requires
 parse-requires c = (

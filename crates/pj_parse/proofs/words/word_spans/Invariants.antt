@@ -1,6 +1,0 @@
-use Rattle.std.proofs.Common.{◌≡◌, ◌≤◌, length, map, take}
-use Rattle.pj_parse.specs.Words.{seen, words, spans}
-use Rattle.pj_parse.proofs.words.word_spans.Given as goal
-
-abbrev pub invariant-loop-token : goal.invariant-loop-token
-invariant-loop-token l = (l.found.items ≡ spans (words (map seen (take l.token-index l.tokens))) × (length l.found.items ≤ l.token-index))

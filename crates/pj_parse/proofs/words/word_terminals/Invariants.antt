@@ -1,6 +1,0 @@
-use Rattle.std.proofs.Common.{◌≡◌, map, take}
-use Rattle.pj_parse.specs.Words.{seen, words, terminals}
-use Rattle.pj_parse.proofs.words.word_terminals.Given as goal
-
-abbrev pub invariant-loop-token : goal.invariant-loop-token
-invariant-loop-token l = l.found.items ≡ terminals (words (map seen (take l.token-index l.tokens)))

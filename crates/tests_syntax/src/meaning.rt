@@ -1,0 +1,54 @@
+//! The expressions that texts spell.
+
+use crate::meaning_rows::{
+    CLAUSES_1, LITERALS_AND_PRIMARIES_1, OPERATORS_1, OPERATORS_2, PATHS_1, PATHS_2, PATHS_3,
+    WORDS_AS_NAMES_1, WORDS_AS_NAMES_2,
+};
+use crate::printed::printed;
+use pj_ll::End;
+use pj_xgrammar::derivation;
+use pj_xmeaning::meaning;
+use pj_xtokens::tokens;
+use std::alloc::Global;
+use std::test::Fail;
+
+/// What the text spells, with each operator in parentheses.
+fn read(alloc: Global, text: &str) -> Result<String, Fail> {
+    if text.len() > 1_000_000 {
+        return Ok(String::new(alloc));
+    }
+    let found = tokens(alloc, text)?;
+    if found.list.len() > 1_000_000 {
+        return Ok(String::new(alloc));
+    }
+    let run = derivation(alloc, found.list.as_slice())?;
+    match run.end {
+        End::Whole => {
+            let expr = meaning(alloc, run.productions.as_slice(), found.list.as_slice())?;
+            printed(alloc, &expr)
+        }
+        other => Ok(format!(in alloc; "{other:?}")?),
+    }
+}
+
+#[test]
+fn meanings(rt: HostRuntime) -> Result<(), Fail> {
+    let tables: [&[(&str, &str)]; 9] = [
+        &LITERALS_AND_PRIMARIES_1,
+        &OPERATORS_1,
+        &OPERATORS_2,
+        &PATHS_1,
+        &PATHS_2,
+        &PATHS_3,
+        &WORDS_AS_NAMES_1,
+        &WORDS_AS_NAMES_2,
+        &CLAUSES_1,
+    ];
+    for table in tables {
+        for (text, wanted) in table {
+            let found = read(rt.alloc(), text)?;
+            assert_eq!(rt; found.as_str(), *wanted, "of {text:?}");
+        }
+    }
+    Ok(())
+}
