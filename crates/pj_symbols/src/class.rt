@@ -6,7 +6,7 @@ ghost use Rattle.pj_symbols.specs.Kinds.{declares_class};
 ghost use Rattle.pj_symbols.specs.Names.{package_name, package_prefix};
 
 use crate::kinds::is_class;
-use pj_names::{NoMemory, Text};
+use pj_base::{NoMemory, Text};
 use pj_nodes::{kind_above, last_word};
 use pj_tree::{Kind, Node, SyntaxTree};
 use std::alloc::Global;

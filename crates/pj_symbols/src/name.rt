@@ -3,7 +3,7 @@
 ghost use Rattle.std.specs.Prelude.{◌≡◌, ◌<◌, [], length, MatchOption, IfOk};
 ghost use Rattle.pj_symbols.specs.Names.{is_of_name, joined_name, package_of, package_name, package_prefix};
 
-use pj_names::{NoMemory, Text};
+use pj_base::{NoMemory, Text};
 use pj_tree::{Kind, Node, OwnTokens, SyntaxTree};
 use std::alloc::Global;
 

@@ -12,7 +12,7 @@ use crate::kinds::is_class;
 use crate::name::{package_name, package_prefix};
 use crate::search::find_class;
 use crate::variable::{Variable, variable_at};
-use pj_names::{ListOf, NoMemory, Text};
+use pj_base::{ListOf, NoMemory, Text};
 use pj_tree::{Node, SyntaxTree};
 use std::alloc::Global;
 use std::marker::Model;

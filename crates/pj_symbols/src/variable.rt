@@ -4,7 +4,7 @@ ghost use Rattle.std.specs.Prelude.{◌≡◌, ◌<◌, length, IfSome, IfOk};
 ghost use Rattle.pj_symbols.specs.Symbols.{variable_at};
 ghost use Rattle.pj_symbols.specs.Variables.{declaration_of, variable_kind, kind_in, local_kind, local_kind_in};
 
-use pj_names::{NoMemory, Text};
+use pj_base::{NoMemory, Text};
 use pj_nodes::{first_word, kind_above};
 use pj_tree::{Kind, Node, SyntaxTree};
 use std::alloc::Global;
