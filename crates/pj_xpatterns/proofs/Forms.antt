@@ -177,6 +177,6 @@ some_call variables function arguments e first (x ∷ xs) again old a b new r is
     let count : length (x ∷ xs) - 1 ≡ length xs = omega arith in
     let whole : take (length (x ∷ xs) - 1) xs ≡ xs = ap (λ (n : ℕ). take n xs) count ∙ take-length xs in
     weaker _ _ r (λ rest. rest ∙ ap (λ (es : List Expr). b ++ of_each (map (seen_of variables) es)) whole ∙ ap (λ (ps : List Pattern). ps ++ of_each (map (seen_of variables) xs)) (k ∙ ap₂ (λ (ps : List Pattern) (es : List Expr). ps ++ own_pattern variables function (map (λ argument. (seen_of variables argument).written) es)) (h ∙ ap (λ (y : Expr). old ++ (seen_of variables y).patterns) at_first) (same ∙ sym are))
-      ∙ append_assoc (old ++ (seen_of variables x).patterns) (own_pattern variables function (map (λ argument. (seen_of variables argument).written) (x ∷ xs))) (of_each (map (seen_of variables) xs))
-      ∙ append_assoc old (seen_of variables x).patterns (own_pattern variables function (map (λ argument. (seen_of variables argument).written) (x ∷ xs)) ++ of_each (map (seen_of variables) xs))
-      ∙ sym (ap (λ (ps : List Pattern). old ++ ps) (patterns-call variables function arguments e (x ∷ xs) is (sym are) ∙ of_call-exprs variables function x xs))) all
+    ∙ append_assoc (old ++ (seen_of variables x).patterns) (own_pattern variables function (map (λ argument. (seen_of variables argument).written) (x ∷ xs))) (of_each (map (seen_of variables) xs))
+    ∙ append_assoc old (seen_of variables x).patterns (own_pattern variables function (map (λ argument. (seen_of variables argument).written) (x ∷ xs)) ++ of_each (map (seen_of variables) xs))
+    ∙ sym (ap (λ (ps : List Pattern). old ++ ps) (patterns-call variables function arguments e (x ∷ xs) is (sym are) ∙ of_call-exprs variables function x xs))) all

@@ -93,6 +93,7 @@ found_by_key (e ∷ es) p keyed = go (found_by_key es p keyed.1) (same_pattern e
   where
     at_key : is_at (slice_cmp nat_cmp (key_of p)) e.0 ≡ same_pattern e.1 p
     at_key = ap (λ (k : Text). is_at (slice_cmp nat_cmp (key_of p)) k) keyed.0 ∙ key-tests p e.1
+
     go : FoundIs es p (lookup (is_at (slice_cmp nat_cmp (key_of p))) es) → (b : Bool) → same_pattern e.1 p ≡ b → FoundIs (e ∷ es) p (cond (is_at (slice_cmp nat_cmp (key_of p)) e.0) (Some e.1) (lookup (is_at (slice_cmp nat_cmp (key_of p))) es))
     go rest true h = rw (at_key, h) (same-pattern e.1 p h, refl)
     go rest false h = rw (at_key, h) rest
@@ -216,12 +217,12 @@ taken-more ps p taken fresh = taken-append ps p taken (go (has ps p) refl)
 pub first_refused : (ps : List Pattern) (i : ℕ) (p : Pattern) (fault : PatternFault) → i < length ps → p ≡ get_or ps i p → AreTaken (take i ps)
     → IfRefused fault (λ text. (text ≡ p.0) × IsNoPattern p) → IfRefused fault (IsFirstRefused ps)
 first_refused ps i p (Refused text) lt is taken h = record {
-      before = take i ps;
-      pattern = p;
-      behind = drop (i + 1) ps;
-      stands = sym (take-append-drop i ps) ∙ ap (λ (t : List Pattern). take i ps ++ t) (at_drop_more (λ (t : List Pattern). t) ps i p lt ∙ ap (λ (q : Pattern). q ∷ drop (i + 1) ps) (sym is));
-      taken = taken;
-      refused = h.1;
-      its_text = sym h.0;
-    }
+  before = take i ps;
+  pattern = p;
+  behind = drop (i + 1) ps;
+  stands = sym (take-append-drop i ps) ∙ ap (λ (t : List Pattern). take i ps ++ t) (at_drop_more (λ (t : List Pattern). t) ps i p lt ∙ ap (λ (q : Pattern). q ∷ drop (i + 1) ps) (sym is));
+  taken = taken;
+  refused = h.1;
+  its_text = sym h.0;
+}
 first_refused ps i p Memory lt is taken h = tt

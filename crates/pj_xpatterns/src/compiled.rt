@@ -69,7 +69,11 @@ impl Model for CompiledPattern {
 
 impl CompiledPattern {
     /// Compiles a pattern with its flags. One that `regex` finds too big is want of memory.
-    pub fn of(alloc: Global, pattern: &str, flags: PatternFlags) -> Result<CompiledPattern, PatternFault>
+    pub fn of(
+        alloc: Global,
+        pattern: &str,
+        flags: PatternFlags,
+    ) -> Result<CompiledPattern, PatternFault>
         ensures value { IfOk result (λ compiled. compiled ≡ (pattern.now, flags)) }
         ensures taken { OnOk result (¬ IsNoPattern (pattern.now, flags)) }
         ensures refused { IfErr result (λ fault. IfRefused fault (λ text. (text ≡ pattern.now) × IsNoPattern (pattern.now, flags))) }

@@ -65,7 +65,12 @@ pub(crate) fn gather(
         Expr::SimpleMap(parts) => gather_all(alloc, variables, parts.as_slice(), found),
         Expr::Path(steps) => gather_all(alloc, variables, steps.as_slice(), found),
         Expr::Step(_, _, predicates) => gather_all(alloc, variables, predicates.as_slice(), found),
-        Expr::AttributeStep(_, predicates) => gather_all(alloc, variables, predicates.as_slice(), found),
+        Expr::AttributeStep(_, predicates) => gather_all(
+            alloc,
+            variables,
+            predicates.as_slice(),
+            found,
+        ),
         Expr::Filter(primary, predicates) => {
             gather(alloc, variables, primary, found)?;
             gather_all(alloc, variables, predicates.as_slice(), found)

@@ -12,4 +12,4 @@ returns c =
     c.from_string.ensures ∙ c.in_ok-replace_all.ensures.value
     ∙ ap (λ (re : Re). with_replaced c.in_ok-matcher.matcher c.args.text.now c.in_ok-template.template (find_all_str re c.args.text.now)) c.in_ok-matcher.ensures.pattern
     ∙ ∥∥₁_elim c.self.invariant (hlevel props) (λ read.
-      replaced-compiled c.self.inside.regex c.self.inside.flags c.args.self.now read c.self.view_is c.args.text.now bytes c.in_ok-template.template.pieces.items c.args.by.now _ c.in_ok-template.ensures)
+    replaced-compiled c.self.inside.regex c.self.inside.flags c.args.self.now read c.self.view_is c.args.text.now bytes c.in_ok-template.template.pieces.items c.args.by.now _ c.in_ok-template.ensures)

@@ -1,6 +1,0 @@
-pub mod Flags
-pub mod Literals
-pub mod Numbers
-pub mod OneFile
-pub mod Parentheses
-pub mod Texts
