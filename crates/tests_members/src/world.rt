@@ -14,7 +14,7 @@ pub struct Class {
 }
 
 /// `p.Gone` is absent, `p.Broken` broken, and the signature of `p.Odd` is none.
-pub static CLASSES: &[Class] = &[
+pub static CLASSES: [Class; 18] = [
     Class {
         name: "p.Base",
         signature: "Ljava/lang/Object;",
@@ -193,7 +193,7 @@ fn found(alloc: Global, class: &Class) -> Result<Answer, Fail> {
 /// An oracle over these classes.
 pub fn oracle(alloc: Global) -> Result<MapOracle, Fail> {
     let mut answers = Answers::new(alloc);
-    for class in CLASSES {
+    for class in &CLASSES {
         answers.push(
             name(alloc, class.name)?,
             Arc::new(alloc, found(alloc, class)?)?,
@@ -208,7 +208,7 @@ pub fn oracle(alloc: Global) -> Result<MapOracle, Fail> {
 
 /// Whether just these of the classes were asked, and no others; names stand between spaces.
 pub fn has_asked(alloc: Global, oracle: &MapOracle, asked: &str) -> Result<bool, Fail> {
-    for class in CLASSES {
+    for class in &CLASSES {
         let is_wanted = asked.split(' ').any(|wanted| wanted == class.name);
         if oracle.asked().contains(&name(alloc, class.name)?) != is_wanted {
             return Ok(false);
