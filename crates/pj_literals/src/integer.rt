@@ -19,7 +19,7 @@ pub fn integer_value(text: &str) -> Option<i64>
     value(text)
 }
 
-/// The same, of any text.
+/// The same, of any text, read as an integer literal.
 pub fn value(text: &str) -> Option<i64>
     ensures value { SomeIff result (FitsSigned w64 (integer_value (chars text.now))) (integer_value (chars text.now)) }
 {

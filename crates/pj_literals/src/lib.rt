@@ -13,7 +13,7 @@ mod string;
 #[cfg(test)]
 mod tests;
 
-pub use integer::integer_value;
+pub use integer::{integer_value, value as value_of_any};
 pub use laws::{
     escapes_by_case, integers_count_by_their_rules, stripping_is_done_once, tokens_are_spelled,
 };

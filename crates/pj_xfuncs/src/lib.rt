@@ -1,0 +1,17 @@
+//! XPath: the functions that need neither the tree nor the focus.
+#![tactic(auto)]
+
+mod arguments;
+mod cases;
+mod characters;
+mod general;
+mod library;
+mod matching;
+mod numbers;
+mod places;
+mod sequences;
+mod spaces;
+mod strings;
+
+pub use library::call;
+pub use pj_xpatterns::{PatternFault, Patterns};
