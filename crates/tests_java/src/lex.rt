@@ -195,13 +195,39 @@ static FAULTS: [(&str, &str); 46] = [
     ("0x.p1", "fault 5 at 0;"),
 ];
 
-#[test]
-fn tokens_of_texts(rt: HostRuntime) -> Result<(), Fail> {
-    let tables: [&[(&str, &str)]; 5] = [&SIGNS, &WORDS, &NUMBERS, &QUOTES_AND_COMMENTS, &FAULTS];
-    for table in tables {
-        for (text, wanted) in table {
-            assert!(rt; has(rt.alloc(), text, wanted)?, "of {text:?}");
-        }
+/// Each row of a table.
+fn check_tokens_of_texts(
+    rt: &impl Abort,
+    alloc: Global,
+    table: &[(&str, &str)],
+) -> Result<(), Fail> {
+    for (text, wanted) in table {
+        assert!(rt; has(alloc, text, wanted)?, "of {text:?}");
     }
     Ok(())
+}
+
+#[test]
+fn tokens_of_texts_signs(rt: HostRuntime) -> Result<(), Fail> {
+    check_tokens_of_texts(&rt, rt.alloc(), &SIGNS)
+}
+
+#[test]
+fn tokens_of_texts_words(rt: HostRuntime) -> Result<(), Fail> {
+    check_tokens_of_texts(&rt, rt.alloc(), &WORDS)
+}
+
+#[test]
+fn tokens_of_texts_numbers(rt: HostRuntime) -> Result<(), Fail> {
+    check_tokens_of_texts(&rt, rt.alloc(), &NUMBERS)
+}
+
+#[test]
+fn tokens_of_texts_quotes_and_comments(rt: HostRuntime) -> Result<(), Fail> {
+    check_tokens_of_texts(&rt, rt.alloc(), &QUOTES_AND_COMMENTS)
+}
+
+#[test]
+fn tokens_of_texts_faults(rt: HostRuntime) -> Result<(), Fail> {
+    check_tokens_of_texts(&rt, rt.alloc(), &FAULTS)
 }

@@ -110,13 +110,20 @@ static TEXT_BLOCKS: [(&str, &str); 41] = [
     ("\"\"\"\n  \u{85}a \u{85}\n  b\"\"\"", "\u{85}a \u{85}\nb"),
 ];
 
-#[test]
-fn texts(rt: HostRuntime) -> Result<(), Fail> {
-    let tables: [&[(&str, &str)]; 2] = [&STRINGS, &TEXT_BLOCKS];
-    for table in tables {
-        for (text, wanted) in table {
-            assert!(rt; is_value(rt.alloc(), text, wanted)?, "of {text:?}");
-        }
+/// Each row of a table.
+fn check_texts(rt: &impl Abort, alloc: Global, table: &[(&str, &str)]) -> Result<(), Fail> {
+    for (text, wanted) in table {
+        assert!(rt; is_value(alloc, text, wanted)?, "of {text:?}");
     }
     Ok(())
+}
+
+#[test]
+fn texts_strings(rt: HostRuntime) -> Result<(), Fail> {
+    check_texts(&rt, rt.alloc(), &STRINGS)
+}
+
+#[test]
+fn texts_text_blocks(rt: HostRuntime) -> Result<(), Fail> {
+    check_texts(&rt, rt.alloc(), &TEXT_BLOCKS)
 }

@@ -122,35 +122,70 @@ static FAULTS: [(&str, &str); 4] = [
     ("class A { } }", "Syntax"),
 ];
 
-#[test]
-fn trees(rt: HostRuntime) -> Result<(), Fail> {
-    let tables: [&[(&str, &str)]; 8] = [
-        &FILES_AND_MEMBERS,
-        &MORE_FILES_AND_MEMBERS,
-        &STATEMENTS,
-        &MORE_STATEMENTS,
-        &FURTHER_STATEMENTS,
-        &EXPRESSIONS,
-        &MORE_EXPRESSIONS,
-        &FAULTS,
-    ];
-    for table in tables {
-        for (text, wanted) in table {
-            assert!(rt; ends_so(rt.alloc(), text, wanted)?, "of {text}");
-        }
+/// Each row of a table.
+fn check_trees(rt: &impl Abort, alloc: Global, table: &[(&str, &str)]) -> Result<(), Fail> {
+    for (text, wanted) in table {
+        assert!(rt; ends_so(alloc, text, wanted)?, "of {text}");
     }
     Ok(())
 }
 
 #[test]
-fn refused_texts(rt: HostRuntime) -> Result<(), Fail> {
-    let tables: [&[&str]; 2] = [&REFUSED, &MORE_REFUSED];
-    for table in tables {
-        for text in table {
-            assert!(rt; ends_so(rt.alloc(), text, "Syntax")?, "of {text}");
-        }
+fn trees_files_and_members(rt: HostRuntime) -> Result<(), Fail> {
+    check_trees(&rt, rt.alloc(), &FILES_AND_MEMBERS)
+}
+
+#[test]
+fn trees_more_files_and_members(rt: HostRuntime) -> Result<(), Fail> {
+    check_trees(&rt, rt.alloc(), &MORE_FILES_AND_MEMBERS)
+}
+
+#[test]
+fn trees_statements(rt: HostRuntime) -> Result<(), Fail> {
+    check_trees(&rt, rt.alloc(), &STATEMENTS)
+}
+
+#[test]
+fn trees_more_statements(rt: HostRuntime) -> Result<(), Fail> {
+    check_trees(&rt, rt.alloc(), &MORE_STATEMENTS)
+}
+
+#[test]
+fn trees_further_statements(rt: HostRuntime) -> Result<(), Fail> {
+    check_trees(&rt, rt.alloc(), &FURTHER_STATEMENTS)
+}
+
+#[test]
+fn trees_expressions(rt: HostRuntime) -> Result<(), Fail> {
+    check_trees(&rt, rt.alloc(), &EXPRESSIONS)
+}
+
+#[test]
+fn trees_more_expressions(rt: HostRuntime) -> Result<(), Fail> {
+    check_trees(&rt, rt.alloc(), &MORE_EXPRESSIONS)
+}
+
+#[test]
+fn trees_faults(rt: HostRuntime) -> Result<(), Fail> {
+    check_trees(&rt, rt.alloc(), &FAULTS)
+}
+
+/// Each row of a table.
+fn check_refused_texts(rt: &impl Abort, alloc: Global, table: &[&str]) -> Result<(), Fail> {
+    for text in table {
+        assert!(rt; ends_so(alloc, text, "Syntax")?, "of {text}");
     }
     Ok(())
+}
+
+#[test]
+fn refused_texts_refused(rt: HostRuntime) -> Result<(), Fail> {
+    check_refused_texts(&rt, rt.alloc(), &REFUSED)
+}
+
+#[test]
+fn refused_texts_more_refused(rt: HostRuntime) -> Result<(), Fail> {
+    check_refused_texts(&rt, rt.alloc(), &MORE_REFUSED)
 }
 
 static POOL_TEXTS: [(&str, &str); 22] = [

@@ -96,15 +96,31 @@ static NO_TEXTS: [(&[u8], &str); 4] = [
     (b"\\u00g0\xff", "not UTF-8 at 6"),
 ];
 
-#[test]
-fn texts_of_files(rt: HostRuntime) -> Result<(), Fail> {
-    let tables: [&[(&str, &str)]; 2] = [&ESCAPES, &FILES];
-    for table in tables {
-        for (file, wanted) in table {
-            let found = described(rt.alloc(), file.as_bytes())?;
-            assert_eq!(rt; found.as_str(), *wanted, "of {file:?}");
-        }
+/// Each row of a table.
+fn check_texts_of_files(
+    rt: &impl Abort,
+    alloc: Global,
+    table: &[(&str, &str)],
+) -> Result<(), Fail> {
+    for (file, wanted) in table {
+        let found = described(alloc, file.as_bytes())?;
+        assert_eq!(rt; found.as_str(), *wanted, "of {file:?}");
     }
+    Ok(())
+}
+
+#[test]
+fn texts_of_files_escapes(rt: HostRuntime) -> Result<(), Fail> {
+    check_texts_of_files(&rt, rt.alloc(), &ESCAPES)
+}
+
+#[test]
+fn texts_of_files_files(rt: HostRuntime) -> Result<(), Fail> {
+    check_texts_of_files(&rt, rt.alloc(), &FILES)
+}
+
+#[test]
+fn texts_of_files_others(rt: HostRuntime) -> Result<(), Fail> {
     for (file, wanted) in &NO_TEXTS {
         let found = described(rt.alloc(), file)?;
         assert_eq!(rt; found.as_str(), *wanted);

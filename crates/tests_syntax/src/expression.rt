@@ -100,54 +100,110 @@ static COMMENTS: [(&str, &str); 2] = [
     ),
 ];
 
-#[test]
-fn expressions(rt: HostRuntime) -> Result<(), Fail> {
-    let tables: [&[(&str, &str)]; 3] = [&EXPRESSIONS_1, &EXPRESSIONS_2, &COMMENTS];
-    for table in tables {
-        for (text, wanted) in table {
-            let found = read(rt.alloc(), text)?;
-            assert_eq!(rt; found.as_str(), *wanted, "of {text:?}");
-        }
+/// Each row of a table.
+fn check_expressions(rt: &impl Abort, alloc: Global, table: &[(&str, &str)]) -> Result<(), Fail> {
+    for (text, wanted) in table {
+        let found = read(alloc, text)?;
+        assert_eq!(rt; found.as_str(), *wanted, "of {text:?}");
     }
     Ok(())
 }
 
 #[test]
-fn faults(rt: HostRuntime) -> Result<(), Fail> {
-    let tables: [&[(&str, &str)]; 7] = [
-        &TOKENS,
-        &ENDS,
-        &PLACES_1,
-        &PLACES_2,
-        &LEFT_OUT_OPERATORS,
-        &LEFT_OUT_STEPS,
-        &OFFSETS_ARE_BYTES,
-    ];
-    for table in tables {
-        for (text, wanted) in table {
-            let found = read(rt.alloc(), text)?;
-            assert_eq!(rt; found.as_str(), *wanted, "of {text:?}");
-        }
+fn expressions_expressions_1(rt: HostRuntime) -> Result<(), Fail> {
+    check_expressions(&rt, rt.alloc(), &EXPRESSIONS_1)
+}
+
+#[test]
+fn expressions_expressions_2(rt: HostRuntime) -> Result<(), Fail> {
+    check_expressions(&rt, rt.alloc(), &EXPRESSIONS_2)
+}
+
+#[test]
+fn expressions_comments(rt: HostRuntime) -> Result<(), Fail> {
+    check_expressions(&rt, rt.alloc(), &COMMENTS)
+}
+
+/// Each row of a table.
+fn check_faults(rt: &impl Abort, alloc: Global, table: &[(&str, &str)]) -> Result<(), Fail> {
+    for (text, wanted) in table {
+        let found = read(alloc, text)?;
+        assert_eq!(rt; found.as_str(), *wanted, "of {text:?}");
     }
     Ok(())
 }
 
 #[test]
-fn faults_of_names(rt: HostRuntime) -> Result<(), Fail> {
-    let tables: [&[(&str, &str)]; 5] = [
-        &FUNCTIONS_1,
-        &FUNCTIONS_2,
-        &VARIABLES_1,
-        &VARIABLES_2,
-        &ARGUMENTS,
-    ];
-    for table in tables {
-        for (text, wanted) in table {
-            let found = read(rt.alloc(), text)?;
-            assert_eq!(rt; found.as_str(), *wanted, "of {text:?}");
-        }
+fn faults_tokens(rt: HostRuntime) -> Result<(), Fail> {
+    check_faults(&rt, rt.alloc(), &TOKENS)
+}
+
+#[test]
+fn faults_ends(rt: HostRuntime) -> Result<(), Fail> {
+    check_faults(&rt, rt.alloc(), &ENDS)
+}
+
+#[test]
+fn faults_places_1(rt: HostRuntime) -> Result<(), Fail> {
+    check_faults(&rt, rt.alloc(), &PLACES_1)
+}
+
+#[test]
+fn faults_places_2(rt: HostRuntime) -> Result<(), Fail> {
+    check_faults(&rt, rt.alloc(), &PLACES_2)
+}
+
+#[test]
+fn faults_left_out_operators(rt: HostRuntime) -> Result<(), Fail> {
+    check_faults(&rt, rt.alloc(), &LEFT_OUT_OPERATORS)
+}
+
+#[test]
+fn faults_left_out_steps(rt: HostRuntime) -> Result<(), Fail> {
+    check_faults(&rt, rt.alloc(), &LEFT_OUT_STEPS)
+}
+
+#[test]
+fn faults_offsets_are_bytes(rt: HostRuntime) -> Result<(), Fail> {
+    check_faults(&rt, rt.alloc(), &OFFSETS_ARE_BYTES)
+}
+
+/// Each row of a table.
+fn check_faults_of_names(
+    rt: &impl Abort,
+    alloc: Global,
+    table: &[(&str, &str)],
+) -> Result<(), Fail> {
+    for (text, wanted) in table {
+        let found = read(alloc, text)?;
+        assert_eq!(rt; found.as_str(), *wanted, "of {text:?}");
     }
     Ok(())
+}
+
+#[test]
+fn faults_of_names_functions_1(rt: HostRuntime) -> Result<(), Fail> {
+    check_faults_of_names(&rt, rt.alloc(), &FUNCTIONS_1)
+}
+
+#[test]
+fn faults_of_names_functions_2(rt: HostRuntime) -> Result<(), Fail> {
+    check_faults_of_names(&rt, rt.alloc(), &FUNCTIONS_2)
+}
+
+#[test]
+fn faults_of_names_variables_1(rt: HostRuntime) -> Result<(), Fail> {
+    check_faults_of_names(&rt, rt.alloc(), &VARIABLES_1)
+}
+
+#[test]
+fn faults_of_names_variables_2(rt: HostRuntime) -> Result<(), Fail> {
+    check_faults_of_names(&rt, rt.alloc(), &VARIABLES_2)
+}
+
+#[test]
+fn faults_of_names_arguments(rt: HostRuntime) -> Result<(), Fail> {
+    check_faults_of_names(&rt, rt.alloc(), &ARGUMENTS)
 }
 
 /// Names in expressions, variables that are bound around their place, and arguments that are written as the functions want them.

@@ -47,34 +47,62 @@ fn read(alloc: Global, text: &str) -> Result<String, Fail> {
     }
 }
 
-#[test]
-fn expressions(rt: HostRuntime) -> Result<(), Fail> {
-    let tables: [&[&str]; 5] = [
-        &EXPRESSIONS_1,
-        &EXPRESSIONS_2,
-        &EXPRESSIONS_3,
-        &EXPRESSIONS_4,
-        &EXPRESSIONS_5,
-    ];
-    for table in tables {
-        for text in table {
-            let found = read(rt.alloc(), text)?;
-            assert_eq!(rt; found.as_str(), "whole", "of {text:?}");
-        }
+/// Each row of a table.
+fn check_expressions(rt: &impl Abort, alloc: Global, table: &[&str]) -> Result<(), Fail> {
+    for text in table {
+        let found = read(alloc, text)?;
+        assert_eq!(rt; found.as_str(), "whole", "of {text:?}");
     }
     Ok(())
 }
 
 #[test]
-fn faults(rt: HostRuntime) -> Result<(), Fail> {
-    let tables: [&[(&str, &str)]; 3] = [&FAULTS_1, &FAULTS_2, &FAULTS_3];
-    for table in tables {
-        for (text, wanted) in table {
-            let found = read(rt.alloc(), text)?;
-            assert_eq!(rt; found.as_str(), *wanted, "of {text:?}");
-        }
+fn expressions_expressions_1(rt: HostRuntime) -> Result<(), Fail> {
+    check_expressions(&rt, rt.alloc(), &EXPRESSIONS_1)
+}
+
+#[test]
+fn expressions_expressions_2(rt: HostRuntime) -> Result<(), Fail> {
+    check_expressions(&rt, rt.alloc(), &EXPRESSIONS_2)
+}
+
+#[test]
+fn expressions_expressions_3(rt: HostRuntime) -> Result<(), Fail> {
+    check_expressions(&rt, rt.alloc(), &EXPRESSIONS_3)
+}
+
+#[test]
+fn expressions_expressions_4(rt: HostRuntime) -> Result<(), Fail> {
+    check_expressions(&rt, rt.alloc(), &EXPRESSIONS_4)
+}
+
+#[test]
+fn expressions_expressions_5(rt: HostRuntime) -> Result<(), Fail> {
+    check_expressions(&rt, rt.alloc(), &EXPRESSIONS_5)
+}
+
+/// Each row of a table.
+fn check_faults(rt: &impl Abort, alloc: Global, table: &[(&str, &str)]) -> Result<(), Fail> {
+    for (text, wanted) in table {
+        let found = read(alloc, text)?;
+        assert_eq!(rt; found.as_str(), *wanted, "of {text:?}");
     }
     Ok(())
+}
+
+#[test]
+fn faults_faults_1(rt: HostRuntime) -> Result<(), Fail> {
+    check_faults(&rt, rt.alloc(), &FAULTS_1)
+}
+
+#[test]
+fn faults_faults_2(rt: HostRuntime) -> Result<(), Fail> {
+    check_faults(&rt, rt.alloc(), &FAULTS_2)
+}
+
+#[test]
+fn faults_faults_3(rt: HostRuntime) -> Result<(), Fail> {
+    check_faults(&rt, rt.alloc(), &FAULTS_3)
 }
 
 /// The text with `front` so many times, `middle`, and `behind` as often.

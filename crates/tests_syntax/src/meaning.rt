@@ -31,24 +31,56 @@ fn read(alloc: Global, text: &str) -> Result<String, Fail> {
     }
 }
 
-#[test]
-fn meanings(rt: HostRuntime) -> Result<(), Fail> {
-    let tables: [&[(&str, &str)]; 9] = [
-        &LITERALS_AND_PRIMARIES_1,
-        &OPERATORS_1,
-        &OPERATORS_2,
-        &PATHS_1,
-        &PATHS_2,
-        &PATHS_3,
-        &WORDS_AS_NAMES_1,
-        &WORDS_AS_NAMES_2,
-        &CLAUSES_1,
-    ];
-    for table in tables {
-        for (text, wanted) in table {
-            let found = read(rt.alloc(), text)?;
-            assert_eq!(rt; found.as_str(), *wanted, "of {text:?}");
-        }
+/// Each row of a table.
+fn check_meanings(rt: &impl Abort, alloc: Global, table: &[(&str, &str)]) -> Result<(), Fail> {
+    for (text, wanted) in table {
+        let found = read(alloc, text)?;
+        assert_eq!(rt; found.as_str(), *wanted, "of {text:?}");
     }
     Ok(())
+}
+
+#[test]
+fn meanings_literals_and_primaries_1(rt: HostRuntime) -> Result<(), Fail> {
+    check_meanings(&rt, rt.alloc(), &LITERALS_AND_PRIMARIES_1)
+}
+
+#[test]
+fn meanings_operators_1(rt: HostRuntime) -> Result<(), Fail> {
+    check_meanings(&rt, rt.alloc(), &OPERATORS_1)
+}
+
+#[test]
+fn meanings_operators_2(rt: HostRuntime) -> Result<(), Fail> {
+    check_meanings(&rt, rt.alloc(), &OPERATORS_2)
+}
+
+#[test]
+fn meanings_paths_1(rt: HostRuntime) -> Result<(), Fail> {
+    check_meanings(&rt, rt.alloc(), &PATHS_1)
+}
+
+#[test]
+fn meanings_paths_2(rt: HostRuntime) -> Result<(), Fail> {
+    check_meanings(&rt, rt.alloc(), &PATHS_2)
+}
+
+#[test]
+fn meanings_paths_3(rt: HostRuntime) -> Result<(), Fail> {
+    check_meanings(&rt, rt.alloc(), &PATHS_3)
+}
+
+#[test]
+fn meanings_words_as_names_1(rt: HostRuntime) -> Result<(), Fail> {
+    check_meanings(&rt, rt.alloc(), &WORDS_AS_NAMES_1)
+}
+
+#[test]
+fn meanings_words_as_names_2(rt: HostRuntime) -> Result<(), Fail> {
+    check_meanings(&rt, rt.alloc(), &WORDS_AS_NAMES_2)
+}
+
+#[test]
+fn meanings_clauses_1(rt: HostRuntime) -> Result<(), Fail> {
+    check_meanings(&rt, rt.alloc(), &CLAUSES_1)
 }

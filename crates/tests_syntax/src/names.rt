@@ -139,14 +139,31 @@ static WORDS: [(&str, &str); 9] = [
     ("$p $x", "None"),
 ];
 
-#[test]
-fn first_faults(rt: HostRuntime) -> Result<(), Fail> {
-    let tables: [&[(&str, &str)]; 4] = [&FUNCTIONS, &VARIABLES, &FORMS, &WORDS];
-    for table in tables {
-        for (text, wanted) in table {
-            let found = fault(rt.alloc(), text)?;
-            assert_eq!(rt; found.as_str(), *wanted, "of {text:?}");
-        }
+/// Each row of a table.
+fn check_first_faults(rt: &impl Abort, alloc: Global, table: &[(&str, &str)]) -> Result<(), Fail> {
+    for (text, wanted) in table {
+        let found = fault(alloc, text)?;
+        assert_eq!(rt; found.as_str(), *wanted, "of {text:?}");
     }
     Ok(())
+}
+
+#[test]
+fn first_faults_functions(rt: HostRuntime) -> Result<(), Fail> {
+    check_first_faults(&rt, rt.alloc(), &FUNCTIONS)
+}
+
+#[test]
+fn first_faults_variables(rt: HostRuntime) -> Result<(), Fail> {
+    check_first_faults(&rt, rt.alloc(), &VARIABLES)
+}
+
+#[test]
+fn first_faults_forms(rt: HostRuntime) -> Result<(), Fail> {
+    check_first_faults(&rt, rt.alloc(), &FORMS)
+}
+
+#[test]
+fn first_faults_words(rt: HostRuntime) -> Result<(), Fail> {
+    check_first_faults(&rt, rt.alloc(), &WORDS)
 }

@@ -99,14 +99,35 @@ static LITERALS_AND_GAPS: [(&str, &str); 13] = [
     ("a\u{a0}b", "0 Name a;fault 1"),
 ];
 
-#[test]
-fn tokens_of_texts(rt: HostRuntime) -> Result<(), Fail> {
-    let tables: [&[(&str, &str)]; 4] = [&SIGNS, &NAMES, &NUMBERS, &LITERALS_AND_GAPS];
-    for table in tables {
-        for (text, wanted) in table {
-            let found = written(rt.alloc(), text)?;
-            assert_eq!(rt; found.as_str(), *wanted, "of {text:?}");
-        }
+/// Each row of a table.
+fn check_tokens_of_texts(
+    rt: &impl Abort,
+    alloc: Global,
+    table: &[(&str, &str)],
+) -> Result<(), Fail> {
+    for (text, wanted) in table {
+        let found = written(alloc, text)?;
+        assert_eq!(rt; found.as_str(), *wanted, "of {text:?}");
     }
     Ok(())
+}
+
+#[test]
+fn tokens_of_texts_signs(rt: HostRuntime) -> Result<(), Fail> {
+    check_tokens_of_texts(&rt, rt.alloc(), &SIGNS)
+}
+
+#[test]
+fn tokens_of_texts_names(rt: HostRuntime) -> Result<(), Fail> {
+    check_tokens_of_texts(&rt, rt.alloc(), &NAMES)
+}
+
+#[test]
+fn tokens_of_texts_numbers(rt: HostRuntime) -> Result<(), Fail> {
+    check_tokens_of_texts(&rt, rt.alloc(), &NUMBERS)
+}
+
+#[test]
+fn tokens_of_texts_literals_and_gaps(rt: HostRuntime) -> Result<(), Fail> {
+    check_tokens_of_texts(&rt, rt.alloc(), &LITERALS_AND_GAPS)
 }
