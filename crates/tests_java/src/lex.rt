@@ -3,6 +3,7 @@
 use pj_lex::{Source, tokens};
 use std::alloc::{AllocError, Global};
 use std::fmt::Write;
+use std::process::Abort;
 use std::test::Fail;
 
 /// The answers for a text, each with where it stands. A `None` adds nothing, and the lexer is asked on after it.

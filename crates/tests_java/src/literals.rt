@@ -3,6 +3,7 @@
 use pj_base::NoMemory;
 use pj_literals::string_value;
 use std::alloc::Global;
+use std::process::Abort;
 use std::test::Fail;
 
 fn is_value(alloc: Global, text: &str, wanted: &str) -> Result<bool, NoMemory> {

@@ -10,6 +10,7 @@ use pj_parse::{Parsed, parse};
 use pj_tree::{Node, SyntaxTree};
 use std::alloc::{AllocError, Global};
 use std::fmt::Write;
+use std::process::Abort;
 use std::test::Fail;
 
 /// How many nodes stand above a node.

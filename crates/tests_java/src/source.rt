@@ -3,6 +3,7 @@
 use pj_lex::{Source, SourceFault};
 use std::alloc::{AllocError, Global};
 use std::fmt::Write;
+use std::process::Abort;
 use std::test::Fail;
 
 /// The text that is read of the bytes, and the place of each of its offsets, the end included; or the fault.

@@ -7,6 +7,7 @@ use crate::name_fault_rows::{ARGUMENTS, FUNCTIONS_1, FUNCTIONS_2, VARIABLES_1, V
 use pj_base::{Names, Text};
 use pj_xparse::{XSyntax, parse};
 use std::alloc::Global;
+use std::process::Abort;
 use std::test::Fail;
 
 /// The expression of the text in the words of the code, or its fault.

@@ -8,6 +8,7 @@ use pj_ll::End;
 use pj_xgrammar::derivation;
 use pj_xtokens::{End as TextEnd, TokenList, tokens};
 use std::alloc::Global;
+use std::process::Abort;
 use std::test::Fail;
 
 /// The offset of a token, or of the end.

@@ -10,6 +10,7 @@ use pj_xgrammar::derivation;
 use pj_xmeaning::meaning;
 use pj_xtokens::tokens;
 use std::alloc::Global;
+use std::process::Abort;
 use std::test::Fail;
 
 /// What the text spells, with each operator in parentheses.

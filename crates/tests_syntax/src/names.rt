@@ -6,6 +6,7 @@ use pj_xgrammar::derivation;
 use pj_xnames::{NameFault, first_fault};
 use pj_xtokens::tokens;
 use std::alloc::Global;
+use std::process::Abort;
 use std::test::Fail;
 
 /// The fault in words.

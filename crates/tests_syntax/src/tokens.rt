@@ -3,6 +3,7 @@
 use pj_xtokens::{End, tokens};
 use std::alloc::Global;
 use std::fmt::Write;
+use std::process::Abort;
 use std::test::Fail;
 
 /// The tokens of a text, each with its offset, its kind and its characters, and where they end.
