@@ -9,7 +9,7 @@
 # size of the tree, and on the sibling axes also whatever the depth of the siblings' subtrees.
 set -euo pipefail
 . "$(dirname "$0")/scratch.sh"
-scratch_repository axes_bench 'pj_names pj_tree pj_xvalue pj_xaxes' pj_names pj_tree pj_xvalue pj_xaxes
+scratch_repository axes_bench 'pj_base pj_tree pj_xvalue pj_xaxes' pj_base pj_names pj_tree pj_xvalue pj_xaxes
 mkdir -p "$bench/proofs/+add_chain" "$bench/proofs/tree"
 cat > "$bench/specs/Lib.antt" <<'ANTT'
 pub mod Shapes
@@ -186,7 +186,8 @@ ghost use Rattle.std.specs.Prelude.{◌≡◌, ◌<◌, length, OnOk};
 ghost use Rattle.pj_tree.specs.Building.{IsWhole};
 ghost use Rattle.axes_bench.specs.Shapes.{chain, written};
 
-use pj_tree::{Builder, Kind, NoMemory, Node, ShapeFault, SyntaxTree};
+use pj_base::NoMemory;
+use pj_tree::{Builder, Kind, Node, ShapeFault, SyntaxTree};
 use pj_xaxes::axis;
 use pj_xvalue::Axis;
 use std::alloc::Global;

@@ -10,7 +10,7 @@
 # many are the same. It wants jimage, javap and python3.
 set -euo pipefail
 . "$(dirname "$0")/scratch.sh"
-scratch_repository classes_bench 'pj_classfile pj_names' pj_names pj_format pj_outside pj_signatures pj_classfile
+scratch_repository classes_bench 'pj_classfile pj_names' pj_base pj_names pj_format pj_outside pj_signatures pj_classfile
 home=$(dirname "$(dirname "$(readlink -f "$(command -v javap)")")")
 jimage extract --dir "$scratch/jdk" "$home/lib/modules"
 find "$scratch/jdk" -name '*.class' | LC_ALL=C sort > "$scratch/all"

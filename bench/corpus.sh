@@ -11,15 +11,15 @@
 set -euo pipefail
 folder=$(cd "$1" && pwd)
 . "$(dirname "$0")/scratch.sh"
-scratch_repository corpus_bench 'anyhow pj_check pj_lex pj_names pj_outside' \
-    pj_names pj_tree pj_peg pj_outside pj_lex pj_pieces pj_shape pj_grammar pj_literals pj_pool pj_parse pj_check
+scratch_repository corpus_bench 'anyhow pj_base pj_check pj_lex pj_outside' \
+    pj_base pj_names pj_tree pj_peg pj_outside pj_lex pj_shape pj_grammar pj_literals pj_parse pj_check
 cat > "$bench/src/main.rt" <<'PROGRAM'
 // Checks of many files, each in memory.
 #![tactic(auto)]
 
 use pj_check::{FileOutcome, check_file, lack_of};
 use pj_lex::{Source, tokens};
-use pj_names::{Bytes, NoMemory, Numbers, Text, Words};
+use pj_base::{Bytes, NoMemory, Numbers, Text, Words};
 use pj_outside::{Files, MemSink, MemTree};
 use std::alloc::Global;
 use std::time::CpuClock;

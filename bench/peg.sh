@@ -8,7 +8,7 @@
 # repetition. The third series is the test of grammars, over chains of rules that can take nothing, where it is quadratic.
 set -euo pipefail
 . "$(dirname "$0")/scratch.sh"
-scratch_repository peg_bench 'pj_peg' pj_peg
+scratch_repository peg_bench 'pj_peg' pj_base pj_peg
 cat > "$bench/src/main.rt" <<'PROGRAM'
 // Rows of time and memory.
 #![tactic(auto)]
