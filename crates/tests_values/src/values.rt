@@ -52,26 +52,25 @@ fn compared(op: Compare, left: &Sequence<'_>, right: &Sequence<'_>) -> Option<Re
 }
 
 /// Sequences with their effective boolean values.
-static BOOLEANS: [([Case; 2], Result<bool, XCode>); 12] = [
-    ([Nothing, Nothing], Ok(false)),
-    ([Element, Int(0)], Ok(true)),
-    ([Document, Nothing], Ok(true)),
-    ([Int(0), Nothing], Ok(false)),
-    ([Int(-1), Nothing], Ok(true)),
-    ([Bool(false), Nothing], Ok(false)),
-    ([Bool(true), Nothing], Ok(true)),
-    ([Str(""), Nothing], Ok(false)),
-    ([Owned(""), Nothing], Ok(false)),
-    ([Owned("0"), Nothing], Ok(true)),
-    ([Int(1), Int(1)], Err(XCode::FORG0006)),
-    ([Bool(true), Element], Err(XCode::FORG0006)),
-];
-
 #[test]
 fn boolean_values(rt: HostRuntime) -> Result<(), Fail> {
-    for (cases, wanted) in &BOOLEANS {
-        let items = sequence(rt.alloc(), *cases)?;
-        assert_eq!(rt; boolean_value(&items), *wanted, "of {cases:?}");
+    let table = [
+        ([Nothing, Nothing], Ok(false)),
+        ([Element, Int(0)], Ok(true)),
+        ([Document, Nothing], Ok(true)),
+        ([Int(0), Nothing], Ok(false)),
+        ([Int(-1), Nothing], Ok(true)),
+        ([Bool(false), Nothing], Ok(false)),
+        ([Bool(true), Nothing], Ok(true)),
+        ([Str(""), Nothing], Ok(false)),
+        ([Owned(""), Nothing], Ok(false)),
+        ([Owned("0"), Nothing], Ok(true)),
+        ([Int(1), Int(1)], Err(XCode::FORG0006)),
+        ([Bool(true), Element], Err(XCode::FORG0006)),
+    ];
+    for (cases, wanted) in table {
+        let items = sequence(rt.alloc(), cases)?;
+        assert_eq!(rt; boolean_value(&items), wanted, "of {cases:?}");
     }
     Ok(())
 }
@@ -112,24 +111,23 @@ fn comparisons(rt: HostRuntime) -> Result<(), Fail> {
 }
 
 /// The first pair that compares or has a fault counts.
-static PAIRS: [([Case; 2], [Case; 2], Result<bool, XCode>); 7] = [
-    ([Int(2), Element], [Int(1), Int(2)], Ok(true)),
-    ([Element, Int(1)], [Int(1), Nothing], Err(XCode::FOTY0012)),
-    ([Int(1), Element], [Int(3), Int(1)], Ok(true)),
-    ([Int(1), Str("a")], [Int(2), Int(1)], Ok(true)),
-    ([Int(1), Str("a")], [Int(2), Int(3)], Err(XCode::XPTY0004)),
-    ([Int(1), Int(2)], [Int(3), Int(4)], Ok(false)),
-    ([Int(1), Int(2)], [Nothing, Nothing], Ok(false)),
-];
-
 #[test]
 fn pairs_in_their_order(rt: HostRuntime) -> Result<(), Fail> {
-    for (a, b, wanted) in &PAIRS {
-        let left = sequence(rt.alloc(), *a)?;
-        let right = sequence(rt.alloc(), *b)?;
+    let table = [
+        ([Int(2), Element], [Int(1), Int(2)], Ok(true)),
+        ([Element, Int(1)], [Int(1), Nothing], Err(XCode::FOTY0012)),
+        ([Int(1), Element], [Int(3), Int(1)], Ok(true)),
+        ([Int(1), Str("a")], [Int(2), Int(1)], Ok(true)),
+        ([Int(1), Str("a")], [Int(2), Int(3)], Err(XCode::XPTY0004)),
+        ([Int(1), Int(2)], [Int(3), Int(4)], Ok(false)),
+        ([Int(1), Int(2)], [Nothing, Nothing], Ok(false)),
+    ];
+    for (a, b, wanted) in table {
+        let left = sequence(rt.alloc(), a)?;
+        let right = sequence(rt.alloc(), b)?;
         assert_eq!(rt;
             compared(Compare::Equal, &left, &right),
-            Some(*wanted),
+            Some(wanted),
             "of {a:?} {b:?}"
         );
     }

@@ -1,5 +1,5 @@
 use Rattle.std.proofs.Common.{◌≡◌, [], ◌∷◌, rules}
-use Rattle.pj_xvalue.proofs.Made.{either_is}
+use Rattle.tests_values.proofs.Made.{either_is}
 use Rattle.tests_values.proofs.expressions.either.Goals as goal
 
 pub returns : goal.returns

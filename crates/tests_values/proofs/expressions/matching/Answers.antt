@@ -1,6 +1,6 @@
 use Rattle.std.proofs.Common.{◌≡◌, [], ◌∷◌, rules}
 use Rattle.pj_xvalue.specs.declared.expr.Expr.TheVariants as expr
-use Rattle.pj_xvalue.proofs.Made.{matching_is, matching_nesting}
+use Rattle.tests_values.proofs.Made.{matching_is, matching_nesting}
 use Rattle.tests_values.proofs.expressions.matching.Goals as goal
 
 pub returns-clause-expression : goal.returns-clause-expression
