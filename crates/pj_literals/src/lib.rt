@@ -10,8 +10,6 @@ mod integer;
 mod laws;
 mod lines;
 mod string;
-#[cfg(test)]
-mod tests;
 
 pub use integer::{integer_value, value as value_of_any};
 pub use laws::{

@@ -12,7 +12,6 @@ pub mod WriteTurns
 pub mod Laying
 pub mod Spanning
 pub mod TreeShaping
-pub mod TestTokens
 pub mod Shutting
 pub mod Nesting
 pub mod Following

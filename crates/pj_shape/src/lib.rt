@@ -12,8 +12,6 @@ mod made;
 mod marks;
 mod nodes;
 mod shape;
-#[cfg(test)]
-mod tests;
 mod tree;
 mod turns;
 mod words;

@@ -4,6 +4,8 @@
 #[cfg(test)]
 mod grammar;
 #[cfg(test)]
+mod integers;
+#[cfg(test)]
 mod lex;
 #[cfg(test)]
 mod literals;
@@ -21,6 +23,8 @@ mod rows_members;
 mod rows_refused;
 #[cfg(test)]
 mod rows_statements;
+#[cfg(test)]
+mod shapes;
 #[cfg(test)]
 mod source;
 #[cfg(test)]

@@ -1,6 +1,6 @@
 //! The values of integer literals. What javac 17 gives for a literal stands as it gave it; it refuses those of the second table.
 
-use crate::integer::value;
+use pj_literals::value_of_any;
 use std::test::Fail;
 
 /// Literals that fit their type.
@@ -74,7 +74,7 @@ fn integers(rt: HostRuntime) -> Result<(), Fail> {
     let tables: [&[(&str, Option<i64>)]; 2] = [&INTEGERS, &PAST_THEIR_TYPE];
     for table in tables {
         for (text, wanted) in table {
-            assert_eq!(rt; value(text), *wanted, "of {text:?}");
+            assert_eq!(rt; value_of_any(text), *wanted, "of {text:?}");
         }
     }
     Ok(())

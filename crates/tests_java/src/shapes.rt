@@ -4,8 +4,8 @@ ghost use Rattle.std.specs.Prelude.{◌≡◌, ◌<◌, ◌≤◌, IfOk, length}
 ghost use Rattle.pj_shape.specs.ShapedTree.{IsDerived};
 ghost use Rattle.pj_shape.specs.Words.{AreTokens};
 
-use crate::{Shape, shape_derivation};
 use pj_peg::{Derivation, Grammar, Item, Items, WellFormed, run};
+use pj_shape::{Shape, shape_derivation};
 use pj_tree::{Kind, Node, ShapeFault, Span, SyntaxTree};
 use std::alloc::Global;
 use std::fmt::Write;

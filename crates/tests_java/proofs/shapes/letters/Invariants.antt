@@ -1,6 +1,6 @@
 use Rattle.std.proofs.Common.{◌≤◌, ◌-◌, length}
-use Rattle.pj_shape.proofs.TestTokens.{Letters}
-use Rattle.pj_shape.proofs.tests.letters.Given as goal
+use Rattle.tests_java.proofs.TestTokens.{Letters}
+use Rattle.tests_java.proofs.shapes.letters.Given as goal
 
 abbrev pub invariant-loop-at : goal.invariant-loop-at
 invariant-loop-at l = record {

@@ -1,7 +1,7 @@
 use Rattle.std.proofs.Common.{◌+◌, ◌<◌, sym, ◌∙◌, ap, subst, arith}
-use Rattle.pj_shape.proofs.TestTokens.{Letters, one_more, skipped}
-use Rattle.pj_shape.proofs.tests.letters.Goals as goal
-use Rattle.pj_shape.proofs.tests.letters.Goals.{then-bytes-at-ne32+in_ok-push, else-bytes-at-ne32}
+use Rattle.tests_java.proofs.TestTokens.{Letters, one_more, skipped}
+use Rattle.tests_java.proofs.shapes.letters.Goals as goal
+use Rattle.tests_java.proofs.shapes.letters.Goals.{then-bytes-at-ne32+in_ok-push, else-bytes-at-ne32}
 
 pub loop-at-preserved : goal.loop-at-preserved
 loop-at-preserved c = record {
