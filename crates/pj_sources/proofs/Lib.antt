@@ -1,0 +1,5 @@
+pub mod Endings
+pub mod Told
+pub mod Items
+pub mod Ordered
+pub mod ReadingLaws
