@@ -22,10 +22,10 @@ module _ {X : Type 0} where
   split_next xs i x h e = sym (take-append-drop i xs) ∙ ap (λ r. take i xs ++ r) (drop_more xs i x h ∙ ap (λ y. y ∷ drop (i + 1) xs) (sym e))
 
   find_none : (p : X → Bool) (xs : List X) (x : X) → find p xs ≡ None → p x ≡ false → find p (xs ++ x ∷ []) ≡ None
-  find_none p xs x none no = find-append p xs (x ∷ []) ∙ ap (λ o. option_or o (find p (x ∷ []))) none ∙ ap (λ b. cond b (Some x) None) no
+  find_none p xs x none fails = find-append p xs (x ∷ []) ∙ ap (λ o. option_or o (find p (x ∷ []))) none ∙ ap (λ b. cond b (Some x) None) fails
 
   find_first : (p : X → Bool) (xs : List X) (x : X) (ys : List X) → find p xs ≡ None → p x ≡ true → find p (xs ++ x ∷ ys) ≡ Some x
-  find_first p xs x ys none yes = find-append p xs (x ∷ ys) ∙ ap (λ o. option_or o (find p (x ∷ ys))) none ∙ ap (λ b. cond b (Some x) (find p ys)) yes
+  find_first p xs x ys none passes = find-append p xs (x ∷ ys) ∙ ap (λ o. option_or o (find p (x ∷ ys))) none ∙ ap (λ b. cond b (Some x) (find p ys)) passes
 
 module _ (files : Files) (items : List Bytes) (i : ℕ) (item : Bytes) (old : Listing) (within : i < length items) (here : item ≡ get_or items i item) (so_far : IsUnordered files (take i items) old) where
   listed_next : (paths : List Bytes) → listed_at files (path_listed item) ≡ Some paths → listed files (take (i + 1) items) ≡ listed files (take i items) ++ paths

@@ -82,3 +82,16 @@ IsOfPath path Failed = ⊤
 IsOfPath path (Missing other) = other ≡ path
 IsOfPath path (Limit kind) = IsLimitOfPath path kind
 IsOfPath path Memory = ⊤
+
+-- It is said that the file of the path is absent, or too long, or memory was wanting.
+abbrev pub IsMissing : Bytes → ReadRefused → Type 0
+IsMissing path Failed = ⊥
+IsMissing path (Missing other) = other ≡ path
+IsMissing path (Limit kind) = ⊥
+IsMissing path Memory = ⊤
+
+abbrev pub IsTooLong : Bytes → ReadRefused → Type 0
+IsTooLong path Failed = ⊥
+IsTooLong path (Missing other) = ⊥
+IsTooLong path (Limit kind) = kind ≡ limit.FileBytes path
+IsTooLong path Memory = ⊤

@@ -1,7 +1,8 @@
 //! Reading the sources.
 ghost use Rattle.std.specs.Prelude.{◌≡◌, ◌≢◌, ◌≤◌, ◌+◌, Err, IfOk, IfErr, IfSome, MatchResult, length};
 ghost use Rattle.pj_sources.specs.Limits.{most_file_bytes, most_all_bytes};
-ghost use Rattle.pj_sources.specs.Reading.{AreRead, AreWithin, IsFileRead, SaysNotRead, SaysNoFile, IsOfPaths, IsOfPath};
+ghost use Rattle.pj_sources.specs.Reading.{AreRead, AreWithin, IsFileRead, SaysNotRead, SaysNoFile, IsOfPaths, IsOfPath, IsMissing, IsTooLong};
+ghost use Rattle.pj_outside.specs.Files.{Files, read_at, IsAtMost};
 ghost use Rattle.pj_sources.specs.Faults.{CountsReadFaults};
 
 use crate::limits::{LimitKind, MOST_ALL_BYTES, MOST_FILE_BYTES};
@@ -9,6 +10,49 @@ use crate::refused::ReadRefused;
 use pj_base::{Bytes, Copied, Names, Text};
 use pj_outside::{Files, Reading, Refused, Tree};
 use std::alloc::Global;
+
+/// That there is no file of the path, or want of memory for a copy of the path.
+fn missing(path: &Text) -> ReadRefused
+    ensures { IsMissing path.now result }
+{
+    match path.copied() {
+        Ok(path) => ReadRefused::Missing(path),
+        Err(_) => ReadRefused::Memory,
+    }
+}
+
+/// That the file of the path is too long, or want of memory for a copy of the path.
+fn too_long(path: &Text) -> ReadRefused
+    ensures { IsTooLong path.now result }
+{
+    match path.copied() {
+        Ok(path) => ReadRefused::Limit(LimitKind::FileBytes(path)),
+        Err(_) => ReadRefused::Memory,
+    }
+}
+
+/// The bytes of the file of a path of which this was read, behind files of so many bytes together.
+fn whole_bytes(path: &Text, before: u64, reading: Reading) -> Result<Bytes, ReadRefused>
+    requires before { before ≤ most_all_bytes }
+    requires within { IsAtMost most_file_bytes reading }
+    ensures read { (files : Files) → reading ≡ read_at files path.now most_file_bytes → MatchResult result (IsFileRead files path.now) (SaysNoFile files before path.now) }
+    ensures short { IfOk result (λ bytes. length bytes ≤ most_file_bytes) }
+    ensures together { IfOk result (λ bytes. before + length bytes ≤ most_all_bytes) }
+    ensures named { IfErr result (IsOfPath path.now) }
+    ensures failed { result ≢ Err ReadRefused.Failed }
+{
+    match reading {
+        Reading::Absent => Err(missing(path)),
+        Reading::Longer => Err(too_long(path)),
+        Reading::Whole(bytes) => {
+            if bytes.len() as u64 > MOST_ALL_BYTES - before {
+                Err(ReadRefused::Limit(LimitKind::AllBytes))
+            } else {
+                Ok(bytes)
+            }
+        }
+    }
+}
 
 /// Reads the file of a path, behind files of so many bytes together.
 fn read_file<T: Tree>(tree: &mut T, path: &Text, before: u64) -> Result<Bytes, ReadRefused>
@@ -24,15 +68,7 @@ fn read_file<T: Tree>(tree: &mut T, path: &Text, before: u64) -> Result<Bytes, R
     match tree.read(path.as_str(), MOST_FILE_BYTES) {
         Err(Refused::Failed) => Err(ReadRefused::Failed),
         Err(Refused::Memory) => Err(ReadRefused::Memory),
-        Ok(Reading::Absent) => Err(ReadRefused::Missing(path.copied()?)),
-        Ok(Reading::Longer) => Err(ReadRefused::Limit(LimitKind::FileBytes(path.copied()?))),
-        Ok(Reading::Whole(bytes)) => {
-            if bytes.len() as u64 > MOST_ALL_BYTES - before {
-                Err(ReadRefused::Limit(LimitKind::AllBytes))
-            } else {
-                Ok(bytes)
-            }
-        }
+        Ok(reading) => whole_bytes(path, before, reading),
     }
 }
 
