@@ -1,5 +1,5 @@
 //! Reading the sources.
-ghost use Rattle.std.specs.Prelude.{◌≡◌, ◌≢◌, ◌≤◌, ◌+◌, Err, IfOk, IfErr, IfSome, MatchResult, length};
+ghost use Rattle.std.specs.Prelude.{◌≡◌, ◌≢◌, ◌≤◌, ◌+◌, ◌++◌, ◌∷◌, [], OnOk, Err, IfOk, IfErr, IfSome, MatchResult, length};
 ghost use Rattle.pj_sources.specs.Limits.{most_file_bytes, most_all_bytes};
 ghost use Rattle.pj_sources.specs.Reading.{AreRead, AreWithin, IsFileRead, SaysNotRead, SaysNoFile, IsOfPaths, IsOfPath, IsMissing, IsTooLong};
 ghost use Rattle.pj_outside.specs.Files.{Files, read_at, IsAtMost};
@@ -7,7 +7,7 @@ ghost use Rattle.pj_sources.specs.Faults.{CountsReadFaults};
 
 use crate::limits::{LimitKind, MOST_ALL_BYTES, MOST_FILE_BYTES};
 use crate::refused::ReadRefused;
-use pj_base::{Bytes, Copied, Names, Text};
+use pj_base::{Bytes, Copied, Names, NoMemory, Text};
 use pj_outside::{Files, Reading, Refused, Tree};
 use std::alloc::Global;
 
@@ -72,6 +72,14 @@ fn read_file<T: Tree>(tree: &mut T, path: &Text, before: u64) -> Result<Bytes, R
     }
 }
 
+/// Puts a file at the end.
+fn push_file(read: &mut Files, path: &Text, bytes: Bytes) -> Result<(), NoMemory>
+    ensures { OnOk result (read.new ≡ read.old ++ (path.now, bytes) ∷ []) }
+{
+    let path = path.copied()?;
+    read.push((path, bytes))
+}
+
 /// Reads the files of the paths in their order, each with its path.
 ///
 /// The first path that is refused is the answer: `Missing` exactly where there is no file of it, `Limit` of `FileBytes`
@@ -94,7 +102,7 @@ pub fn read_sources<T: Tree>(
     for path in paths.as_slice() {
         let bytes = read_file(tree, path, together)?;
         together += bytes.len() as u64;
-        read.push((path.copied()?, bytes))?;
+        push_file(&mut read, path, bytes)?;
     }
     Ok(read)
 }
