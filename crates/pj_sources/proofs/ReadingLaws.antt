@@ -150,9 +150,9 @@ compared_more : (x y : Bytes) (a b : List Bytes) (p q : Bytes) → x ≡ y → C
 compared_more x y a b p q e c = elim c [
   | inl same ↦ inl ((λ i. e i ∷ same.0 i), same.1)
   | inr other ↦ elim other [
-      | inl shorter ↦ inr (inl (shorter.0, (λ i. sym e i ∷ shorter.1 i)))
-      | inr longer ↦ inr (inr (longer.0, (λ i. e i ∷ longer.1 i)))
-    ]
+    | inl shorter ↦ inr (inl (shorter.0, (λ i. sym e i ∷ shorter.1 i)))
+    | inr longer ↦ inr (inr (longer.0, (λ i. e i ∷ longer.1 i)))
+  ]
 ]
 
 compared : (a : List Bytes) (p : Bytes) (c b : List Bytes) (q : Bytes) (d : List Bytes) → a ++ p ∷ c ≡ b ++ q ∷ d → Compared a p b q
@@ -169,7 +169,7 @@ one_refusal files paths a b x y =
           one_behind files (bytes_together x.read) x.path a b x.is_refused
           (subst (λ (f : Files). IsRefusedBehind files (bytes_together f) x.path b) (sym reads) (subst (λ (p : Bytes). IsRefusedBehind files (bytes_together y.read) p b) (sym same.1) y.is_refused))
       | inr other ↦ elim other [
-          | inl shorter ↦ absurd (not_both files x.front x.path shorter.0 y.read x.read a (subst (λ (ps : List Bytes). AreRead files ps y.read) shorter.1 y.are_read) x.are_read x.is_refused)
-          | inr longer ↦ absurd (not_both files y.front y.path longer.0 x.read y.read b (subst (λ (ps : List Bytes). AreRead files ps x.read) longer.1 x.are_read) y.are_read y.is_refused)
-        ]
+        | inl shorter ↦ absurd (not_both files x.front x.path shorter.0 y.read x.read a (subst (λ (ps : List Bytes). AreRead files ps y.read) shorter.1 y.are_read) x.are_read x.is_refused)
+        | inr longer ↦ absurd (not_both files y.front y.path longer.0 x.read y.read b (subst (λ (ps : List Bytes). AreRead files ps x.read) longer.1 x.are_read) y.are_read y.is_refused)
+      ]
     ]

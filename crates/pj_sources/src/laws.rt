@@ -5,8 +5,7 @@ ghost use Rattle.pj_sources.specs.Laws.{OneListing, ListingIsNotMissing, OneRead
 pub fn one_listing()
     ensures one { OneListing }
     ensures not_missing { ListingIsNotMissing }
-{
-}
+{}
 
 /// The files of paths are read as one list at most, are refused for one cause at most, and are not read where they are
 /// refused.
@@ -14,5 +13,4 @@ pub fn one_reading()
     ensures one { OneReading }
     ensures one_refusal { OneRefusal }
     ensures not_refused { ReadIsNotRefused }
-{
-}
+{}

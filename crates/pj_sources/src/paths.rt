@@ -29,12 +29,6 @@ pub fn path_listed(item: &str) -> &str
 {
     match item.strip_suffix("/") {
         None => item,
-        Some(front) => {
-            if front.is_empty() {
-                item
-            } else {
-                front
-            }
-        }
+        Some(front) => { if front.is_empty() { item } else { front } }
     }
 }
