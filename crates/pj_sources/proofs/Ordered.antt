@@ -1,5 +1,5 @@
 -- Lists in the order of their bytes.
-use Rattle.std.proofs.Common.{◌≡◌, ◌∙◌, ◌<◌, ℕ, zero, suc, true, false, List, [], ◌∷◌, length, nat_eq, ◌⊎◌, inl, inr, refl, sym, ap, subst, arith}
+use Rattle.std.proofs.Common.{◌≡◌, ◌∙◌, ◌<◌, All, get_or, ℕ, zero, suc, true, false, List, [], ◌∷◌, length, nat_eq, ◌⊎◌, inl, inr, refl, sym, ap, subst, arith}
 use Rattle.std.specs.Prelude.{Contains, IsPermutation}
 use Rattle.std.specs.List.{dedup, AllByRecursion}
 use Rattle.std.specs.List.Sorted.{IsSorted, IsStrictlySortedBy}
@@ -7,7 +7,7 @@ use Rattle.std.specs.Cmp.Lexicographic.{pointwise, slice_cmp, same_text, texts_t
 use Rattle.std.specs.Ordering.{nat_cmp, is_eq, ordering_reverse}
 use Rattle.std.specs.declared.cmp.Ordering.TheVariants.{Less, Equal, Greater}
 use Rattle.std.proofs.lemmas.Cmp.{nat_list_cmp_total, nat_list_eq_equiv, tied_itself}
-use Rattle.std.proofs.lemmas.List.Elements.{All-contains, All-from_recursion}
+use Rattle.std.proofs.lemmas.List.Elements.{All-contains, All-from_recursion, Contains-get_or}
 use Rattle.std.proofs.lemmas.List.Kept.{Contains-dedup, Contains-from_dedup, IsStrictlySortedBy-dedup}
 use Rattle.std.proofs.lemmas.List.Sorted.{Contains-permutation, IsPermutation-sym}
 use Rattle.pj_outside.specs.Files.{Bytes}
@@ -80,3 +80,7 @@ one_order (x ∷ xs) (y ∷ ys) h k to from = elim (byte_order x y) as (λ r. by
 
 pub one_in_order : (xs ys zs : List Bytes) → IsInOrder xs ys → IsInOrder xs zs → ys ≡ zs
 one_in_order xs ys zs a b = one_order ys zs a.ascending b.ascending (λ q has. (b.members q).1 ((a.members q).0 has)) (λ q has. (a.members q).1 ((b.members q).0 has))
+
+-- what holds of all paths holds of them in order
+pub all_in_order : (P : Bytes → Type 0) (xs ys : List Bytes) → IsInOrder xs ys → All P xs → All P ys
+all_in_order P xs ys o all = λ k d below. All-contains P xs (get_or ys k d) all ((o.members (get_or ys k d)).0 (Contains-get_or ys k d below))
