@@ -3,3 +3,4 @@ pub mod Told
 pub mod Items
 pub mod Ordered
 pub mod ReadingLaws
+pub mod Existence

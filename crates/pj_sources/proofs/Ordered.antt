@@ -1,5 +1,5 @@
 -- Lists in the order of their bytes.
-use Rattle.std.proofs.Common.{◌≡◌, ◌∙◌, ◌<◌, All, get_or, ℕ, zero, suc, true, false, List, [], ◌∷◌, length, nat_eq, ◌⊎◌, inl, inr, refl, sym, ap, subst, arith}
+use Rattle.std.proofs.Common.{◌≡◌, ◌∙◌, All, get_or, zero, suc, List, [], ◌∷◌, nat_eq, ◌⊎◌, inl, inr, refl, sym, ap, subst, arith}
 use Rattle.std.specs.Prelude.{Contains, IsPermutation}
 use Rattle.std.specs.List.{dedup, AllByRecursion}
 use Rattle.std.specs.List.Sorted.{IsSorted, IsStrictlySortedBy}
@@ -26,23 +26,23 @@ in_order xs sorted ys moved up is = record {
 
 -- ---- lists in order with the same members are one
 
-member_cases : (x : Bytes) (xs : List Bytes) (q : Bytes) → Contains (x ∷ xs) q → (x ≡ q) ⊎ Contains xs q
+pub member_cases : (x : Bytes) (xs : List Bytes) (q : Bytes) → Contains (x ∷ xs) q → (x ≡ q) ⊎ Contains xs q
 member_cases x xs q (zero, below, is) = inl is
 member_cases x xs q (suc k, below, is) = inr (k, omega arith, is)
 
-first_member : (x : Bytes) (xs : List Bytes) → Contains (x ∷ xs) x
+pub first_member : (x : Bytes) (xs : List Bytes) → Contains (x ∷ xs) x
 first_member x xs = (0, omega arith, refl)
 
-later_member : (x : Bytes) (xs : List Bytes) (q : Bytes) → Contains xs q → Contains (x ∷ xs) q
+pub later_member : (x : Bytes) (xs : List Bytes) (q : Bytes) → Contains xs q → Contains (x ∷ xs) q
 later_member x xs q (k, below, is) = (suc k, omega arith, is)
 
-no_member : (q : Bytes) → Contains {X = Bytes} [] q → ⊥
+pub no_member : (q : Bytes) → Contains {X = Bytes} [] q → ⊥
 no_member q (k, below, is) = omega arith
 
 not_below_itself : (x : Bytes) → byte_order x x ≡ Less → ⊥
 not_below_itself x e = let same : Less ≡ Equal = sym e ∙ tied_itself nat_list_cmp_total x in absurd (cc)
 
-above : (x : Bytes) (xs : List Bytes) (q : Bytes) → AllByRecursion (λ y. byte_order x y ≡ Less) xs → Contains xs q → byte_order x q ≡ Less
+pub above : (x : Bytes) (xs : List Bytes) (q : Bytes) → AllByRecursion (λ y. byte_order x y ≡ Less) xs → Contains xs q → byte_order x q ≡ Less
 above x xs q all has = All-contains (λ y. byte_order x y ≡ Less) xs q (All-from_recursion (λ y. byte_order x y ≡ Less) xs all) has
 
 -- what is below the first is no member
@@ -58,7 +58,7 @@ tail_member x xs ys all to q has = elim (member_cases x ys q (to q (later_member
   | inr later ↦ later
 ]
 
-tied_same : (x y : Bytes) → byte_order x y ≡ Equal → x ≡ y
+pub tied_same : (x y : Bytes) → byte_order x y ≡ Equal → x ≡ y
 tied_same x y e = same_text x y (sym (texts_ties x y ∙ ap is_eq e))
 
 pub one_order : (xs ys : List Bytes) → IsStrictlySortedBy byte_order xs → IsStrictlySortedBy byte_order ys → ((q : Bytes) → Contains xs q → Contains ys q) → ((q : Bytes) → Contains ys q → Contains xs q) → xs ≡ ys

@@ -1,15 +1,13 @@
 -- Files that are read, one after the other, and the first that is refused.
-use Rattle.std.proofs.Common.{◌≡◌, ◌∙◌, ◌+◌, ◌<◌, ◌≤◌, ℕ, List, [], ◌∷◌, ◌++◌, length, take, drop, get_or, map, Option, None, Some, Contains, All, ◌⊎◌, inl, inr, refl, sym, ap, subst, arith}
-use Rattle.std.specs.Prelude.{sum_by, IfOk, MatchResult}
+use Rattle.std.proofs.Common.{◌≡◌, ◌∙◌, ◌+◌, ◌<◌, ◌≤◌, ℕ, List, [], ◌∷◌, ◌++◌, length, take, drop, get_or, map, Option, None, Some, All, ◌⊎◌, inl, inr, refl, sym, ap, subst, arith}
 use Rattle.std.proofs.lemmas.List.{map-append}
 use Rattle.std.proofs.lemmas.List.Elements.{All-cons, All-head, All-nil, All-push, All-tail}
 use Rattle.std.proofs.lemmas.List.Sums.{sum_by-append}
 use Rattle.pj_outside.specs.Files.{Files, Bytes, bytes_at}
-use Rattle.pj_sources.proofs.Items.{take_next, split_next}
+use Rattle.pj_sources.proofs.Items.{split_next}
 use Rattle.pj_sources.specs.Limits.{most_file_bytes, most_all_bytes}
 use Rattle.pj_sources.specs.Reading.{AreRead, AreWithin, IsMissing, IsRefused, IsRefusedBehind, IsTooLong, SaysNoFile, SaysNotRead, bytes_together, missing, too_long, too_much}
 use Rattle.pj_sources.specs.declared.limits.LimitKind.{LimitKind}
-use Rattle.pj_sources.specs.declared.limits.LimitKind.TheVariants as limit
 use Rattle.pj_sources.specs.declared.refused.ReadRefused.{ReadRefused}
 use Rattle.pj_sources.specs.declared.refused.ReadRefused.TheVariants.{Failed, Missing, Limit, Memory}
 
@@ -32,14 +30,14 @@ too_long_says files before path Memory found is = tt
 one_more : (read : Files) (file : Bytes × Bytes) → bytes_together (read ++ file ∷ []) ≡ bytes_together read + length file.1
 one_more read file = let more = sum_by-append (λ (f : Bytes × Bytes). length f.1) read (file ∷ []) in omega arith
 
-module _ (paths : List Bytes) (i : ℕ) (path : Bytes) (read : Files) (inside : i < length paths) (here : path ≡ get_or paths i path) where
-  pub within_more : (bytes : Bytes) → AreWithin (take i paths) read → length bytes ≤ most_file_bytes → bytes_together read + length bytes ≤ most_all_bytes → AreWithin (take (i + 1) paths) (read ++ (path, bytes) ∷ [])
-  within_more bytes w short together = record {
-    paths_are = map-append (λ (f : Bytes × Bytes). f.0) read ((path, bytes) ∷ []) ∙ ap (λ ps. ps ++ path ∷ []) w.paths_are ∙ sym (take_next paths i path inside here);
-    short = All-push (λ (f : Bytes × Bytes). length f.1 ≤ most_file_bytes) read (path, bytes) w.short short;
-    together = (let more = one_more read (path, bytes) in omega arith);
-  }
+pub push_within : (paths : List Bytes) (path : Bytes) (read : Files) (bytes : Bytes) → AreWithin paths read → length bytes ≤ most_file_bytes → bytes_together read + length bytes ≤ most_all_bytes → AreWithin (paths ++ path ∷ []) (read ++ (path, bytes) ∷ [])
+push_within paths path read bytes w short together = record {
+  paths_are = map-append (λ (f : Bytes × Bytes). f.0) read ((path, bytes) ∷ []) ∙ ap (λ ps. ps ++ path ∷ []) w.paths_are;
+  short = All-push (λ (f : Bytes × Bytes). length f.1 ≤ most_file_bytes) read (path, bytes) w.short short;
+  together = (let more = one_more read (path, bytes) in omega arith);
+}
 
+module _ (paths : List Bytes) (i : ℕ) (path : Bytes) (read : Files) (inside : i < length paths) (here : path ≡ get_or paths i path) where
   pub refused_path : (files : Files) (refused : ReadRefused) → AreRead files (take i paths) read → SaysNoFile files (bytes_together read) path refused → SaysNotRead files paths refused
   refused_path files Failed are says = tt
   refused_path files (Missing other) are says = record { front = take i paths; path = path; behind = drop (i + 1) paths; paths_are = split_next paths i path inside here; read = read; are_read = are; is_refused = says }

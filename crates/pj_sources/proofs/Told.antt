@@ -1,5 +1,5 @@
 -- What is said of files where they are told, and what readings say of them.
-use Rattle.std.proofs.Common.{◌≡◌, ◌<◌, ◌≤◌, ℕ, List, length, true, false, cond, nat_lt, Option, None, Some, IfSome, refl, ap, subst, arith}
+use Rattle.std.proofs.Common.{◌≡◌, ◌<◌, ℕ, length, true, false, cond, nat_lt, Option, None, Some, IfSome, refl, ap, subst, arith}
 use Rattle.pj_outside.specs.Files.{Files, Bytes, bytes_at, read_at, reading_of}
 use Rattle.pj_outside.specs.declared.refused.Reading.TheVariants.{Absent, Longer, Whole}
 

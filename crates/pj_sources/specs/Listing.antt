@@ -1,5 +1,5 @@
 -- The list of sources: of all paths that the items list, those of source files, each once, in order.
-use Rattle.std.specs.Prelude.{⊤, ◌≡◌, ◌↔◌, ℕ, Bool, IsTrue, List, [], Contains, All, filter, find, count_by, flat_map, Option, None, Some, is_none, unwrap_or}
+use Rattle.std.specs.Prelude.{⊤, ◌≡◌, ◌↔◌, Bool, IsTrue, List, [], Contains, All, filter, find, count_by, flat_map, Option, None, Some, is_none, unwrap_or}
 use Rattle.std.specs.List.Sorted.{IsStrictlySortedBy}
 use Rattle.pj_outside.specs.Files.{Files, Bytes, listed_at}
 use Rattle.pj_sources.specs.Paths.{is_source, is_module_info, path_listed, byte_order}

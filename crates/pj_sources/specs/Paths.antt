@@ -1,5 +1,5 @@
 -- Paths of source files.
-use Rattle.std.specs.Prelude.{ℕ, ◌-◌, Bool, not, ◌&&◌, ◌||◌, [], ◌∷◌, codes, length, take, nat_lt, nat_eq, if◌then◌else◌}
+use Rattle.std.specs.Prelude.{◌-◌, Bool, not, ◌&&◌, ◌||◌, [], ◌∷◌, codes, length, take, nat_lt, nat_eq, if◌then◌else◌}
 use Rattle.std.specs.List.{ends_with}
 use Rattle.std.specs.Cmp.Lexicographic.{slice_cmp}
 use Rattle.std.specs.Ordering.{nat_cmp}

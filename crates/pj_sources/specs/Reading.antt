@@ -1,5 +1,5 @@
 -- What is read of the sources.
-use Rattle.std.specs.Prelude.{⊤, ◌≡◌, ◌<◌, ◌≤◌, ◌+◌, ℕ, List, ◌∷◌, ◌++◌, Contains, All, map, sum_by, length, Option, None, Some}
+use Rattle.std.specs.Prelude.{⊤, ◌≡◌, ◌<◌, ◌≤◌, ◌+◌, ℕ, List, ◌∷◌, ◌++◌, Contains, All, map, sum_by, length, None, Some}
 use Rattle.pj_outside.specs.Files.{Files, Bytes, bytes_at}
 use Rattle.pj_sources.specs.Limits.{most_file_bytes, most_all_bytes}
 use Rattle.pj_sources.specs.declared.limits.LimitKind.{LimitKind}

@@ -1,5 +1,5 @@
-use Rattle.std.proofs.Common.{◌≡◌, ◌∙◌, ◌+◌, ◌++◌, List, Some, take, filter, sym, subst, IsTrue}
-use Rattle.std.specs.Prelude.{count_by, MatchResult, Result}
+use Rattle.std.proofs.Common.{◌≡◌, ◌∙◌, ◌+◌, List, Some, take, filter, sym, subst, IsTrue}
+use Rattle.std.specs.Prelude.{MatchResult, Result}
 use Rattle.std.proofs.lemmas.Result.{err_from_is_err_and}
 use Rattle.pj_sources.specs.declared.listing.Listing.{Listing}
 use Rattle.pj_sources.specs.declared.refused.ListRefused.{ListRefused}

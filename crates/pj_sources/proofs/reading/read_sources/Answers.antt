@@ -1,8 +1,8 @@
-use Rattle.std.proofs.Common.{◌≡◌, List, Some, All, take, sym, subst}
+use Rattle.std.proofs.Common.{◌≡◌, List, Some, All, sym, subst}
 use Rattle.std.specs.Prelude.{MatchResult, Result}
 use Rattle.std.proofs.lemmas.Result.{err_from_is_err_and}
 use Rattle.pj_outside.specs.Files.{Files, Bytes, bytes_at}
-use Rattle.pj_sources.specs.Reading.{AreRead, SaysNoFile, SaysNotRead, bytes_together}
+use Rattle.pj_sources.specs.Reading.{AreRead, SaysNoFile, SaysNotRead}
 use Rattle.pj_sources.specs.declared.refused.ReadRefused.{ReadRefused}
 use Rattle.pj_sources.proofs.ReadingLaws.{refused_path}
 use Rattle.pj_sources.proofs.Told.{told_both}

@@ -1,7 +1,7 @@
-use Rattle.std.proofs.Common.{◌≡◌, ◌∙◌, ◌+◌, ◌<◌, ◌≤◌, sym, subst, length, arith}
+use Rattle.std.proofs.Common.{◌∙◌, sym, subst, arith}
 use Rattle.pj_outside.specs.Files.{IsAtMost}
 use Rattle.pj_outside.specs.declared.refused.Reading.{Reading}
-use Rattle.pj_sources.specs.Limits.{most_file_bytes, most_all_bytes}
+use Rattle.pj_sources.specs.Limits.{most_file_bytes}
 use Rattle.pj_sources.specs.Reading.{too_much}
 use Rattle.pj_sources.proofs.ReadingLaws.{missing_says, too_long_says}
 use Rattle.pj_sources.proofs.Told.{absent_read, longer_read, whole_read}
