@@ -18,13 +18,13 @@ is_module_info path = is_same path (codes "module-info.java") || ends_with nat_e
 abbrev pub is_source : Bytes → Bool
 is_source path = is_java path && not (is_module_info path)
 
--- an item ends in `/`, 47, and is longer than that
-abbrev pub is_folder_written : Bytes → Bool
-is_folder_written item = ends_with nat_eq item (47 ∷ []) && nat_lt 1 (length item)
+-- an item ends in a solidus, `/` or 47, and is longer than that
+abbrev pub has_last_solidus : Bytes → Bool
+has_last_solidus item = ends_with nat_eq item (47 ∷ []) && nat_lt 1 (length item)
 
 -- the path under which an item is listed: such an item without its last `/`
 abbrev pub path_listed : Bytes → Bytes
-path_listed item = if is_folder_written item then take (length item - 1) item else item
+path_listed item = if has_last_solidus item then take (length item - 1) item else item
 
 -- the order of paths: that of their bytes
 abbrev pub byte_order : Bytes → Bytes → Ordering

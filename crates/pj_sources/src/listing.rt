@@ -1,11 +1,10 @@
 //! The list of sources.
 ghost use Rattle.std.specs.Prelude.{◌≡◌, ◌≢◌, ◌++◌, ◌+◌, List, ℕ, Err, Some, IfOk, IfErr, IfSome, OnOk, MatchResult, filter, count_by};
-ghost use Rattle.pj_outside.specs.Files.{listed_at};
-ghost use Rattle.pj_sources.specs.Paths.{is_source, is_module_info, path_listed};
-ghost use Rattle.pj_sources.specs.Listing.{IsInOrder, AreSourcePaths, IsListing, SaysNoListing, SaysNoItem, IsOfItems, IsOfItem, IsUnordered};
 ghost use Rattle.std.specs.List.Sorted.{IsStrictlySortedBy};
-ghost use Rattle.pj_sources.specs.Paths.{byte_order};
+ghost use Rattle.pj_outside.specs.Files.{listed_at};
 ghost use Rattle.pj_sources.specs.Faults.{CountsListFaults};
+ghost use Rattle.pj_sources.specs.Listing.{IsInOrder, AreSourcePaths, IsListing, SaysNoListing, SaysNoItem, IsOfItems, IsOfItem, IsUnordered};
+ghost use Rattle.pj_sources.specs.Paths.{byte_order, is_source, is_module_info, path_listed};
 
 use crate::paths::{is_module_info, is_source, path_listed};
 use crate::refused::ListRefused;

@@ -1,9 +1,9 @@
 //! Reading the sources.
 ghost use Rattle.std.specs.Prelude.{◌≡◌, ◌≢◌, ◌≤◌, ◌+◌, ◌++◌, ◌∷◌, [], OnOk, Err, IfOk, IfErr, IfSome, MatchResult, length};
-ghost use Rattle.pj_sources.specs.Limits.{most_file_bytes, most_all_bytes};
-ghost use Rattle.pj_sources.specs.Reading.{AreRead, AreWithin, IsFileRead, SaysNotRead, SaysNoFile, IsOfPaths, IsOfPath, IsMissing, IsTooLong};
 ghost use Rattle.pj_outside.specs.Files.{Files, read_at, IsAtMost};
 ghost use Rattle.pj_sources.specs.Faults.{CountsReadFaults};
+ghost use Rattle.pj_sources.specs.Limits.{most_file_bytes, most_all_bytes};
+ghost use Rattle.pj_sources.specs.Reading.{AreRead, AreWithin, IsFileRead, SaysNotRead, SaysNoFile, IsOfPaths, IsOfPath, IsMissing, IsTooLong};
 
 use crate::limits::{LimitKind, MOST_ALL_BYTES, MOST_FILE_BYTES};
 use crate::refused::ReadRefused;
