@@ -65,14 +65,7 @@ fn member_of(
     let (index, behind) = u16_of(bytes, place)?;
     let name = text_of(alloc, pool, index, place)?;
     let (index, table) = u16_of(bytes, behind)?;
-    let descriptor = descriptor_at(
-        alloc,
-        &mut judged.descriptors,
-        kind,
-        pool,
-        index,
-        behind,
-    )?;
+    let descriptor = descriptor_at(alloc, &mut judged.descriptors, kind, pool, index, behind)?;
     let (written, end) = signature_in_table(
         alloc,
         &mut judged.signatures,
