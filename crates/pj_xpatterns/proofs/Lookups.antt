@@ -1,5 +1,5 @@
 -- What a look-up by a pattern's key finds, and what an insertion leaves.
-use Rattle.std.proofs.Common.{◌≡◌, ◌∙◌, ℕ, Bool, true, false, cond, ◌&&◌, ◌||◌, List, [], ◌∷◌, map, Option, Some, None, MatchOption, refl, sym, ap, ap₂, subst, eqb, is_some, ◌+◌, ◌++◌, ◌<◌, ◌⊎◌, inl, inr, ⊎_elim, get_or, length, take, drop, option_copied, rules, Ordering, arith}
+use Rattle.std.proofs.Common.{◌≡◌, ◌∙◌, ℕ, Bool, true, false, cond, ◌&&◌, ◌||◌, List, [], ◌∷◌, Option, Some, None, MatchOption, refl, sym, ap, ap₂, subst, eqb, is_some, ◌+◌, ◌++◌, ◌<◌, ◌⊎◌, inl, inr, ⊎_elim, get_or, length, take, drop, option_copied, Ordering, arith}
 use Rattle.std.proofs.Math.Logic.{∥∥₁_elim}
 use Rattle.std.proofs.Props.{props}
 use Rattle.std.specs.List.{AllByRecursion, AllByRecursion-prop}
@@ -19,7 +19,7 @@ use Rattle.pj_xpatterns.specs.declared.flags.PatternFlags.{PatternFlags}
 use Rattle.pj_xpatterns.specs.Keys.{key_of, AreKeyed}
 use Rattle.pj_xpatterns.specs.declared.compiled.PatternFault.{PatternFault}
 use Rattle.pj_xpatterns.specs.declared.compiled.PatternFault.TheVariants.{Refused, Memory}
-use Rattle.pj_xpatterns.specs.Meaning.{Text, Pattern, IsNoPattern, same_bool, same_flags, same_pattern, has, AreApart}
+use Rattle.pj_xpatterns.specs.Meaning.{Text, Pattern, IsNoPattern, same_bool, same_pattern, has, AreApart}
 use Rattle.pj_xpatterns.specs.Refusing.{AreTaken, IfRefused, IsFirstRefused}
 
 same-text : (a b : Text) → pointwise eqb a b ≡ true → a ≡ b
@@ -148,8 +148,9 @@ not-among p (e ∷ es) keyed less =
 pub apart : (es : List (Text × Pattern)) → AreKeyed es → IsStrictlySortedBy (slice_cmp nat_cmp) (keys_of es) → AreApart (values_of es)
 apart [] keyed sorted = tt
 apart (e ∷ es) keyed sorted = (
-    not-among e.1 es keyed.1 (subst (λ (key : Text). AllByRecursion (λ (k : Text). slice_cmp nat_cmp key k ≡ o.Less) (keys_of es)) keyed.0 (sorted_head (slice_cmp nat_cmp) e.0 (keys_of es) sorted)),
-    apart es keyed.1 (sorted_tail (slice_cmp nat_cmp) e.0 (keys_of es) sorted))
+  not-among e.1 es keyed.1 (subst (λ (key : Text). AllByRecursion (λ (k : Text). slice_cmp nat_cmp key k ≡ o.Less) (keys_of es)) keyed.0 (sorted_head (slice_cmp nat_cmp) e.0 (keys_of es) sorted)),
+  apart es keyed.1 (sorted_tail (slice_cmp nat_cmp) e.0 (keys_of es) sorted),
+)
 
 -- ---- patterns in the order in which they were found
 

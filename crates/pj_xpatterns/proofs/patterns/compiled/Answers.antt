@@ -1,5 +1,4 @@
-use Rattle.std.proofs.Common.{◌≡◌, ◌∙◌, ◌+◌, ◌++◌, ◌∷◌, ◌||◌, [], ℕ, Bool, List, sym, ap, subst, take, arith}
-use Rattle.std.specs.Map.{values_of}
+use Rattle.std.proofs.Common.{◌≡◌, ◌∙◌, ◌+◌, ◌++◌, ◌∷◌, ◌||◌, [], Bool, List, sym, ap, subst, take, arith}
 use Rattle.std.proofs.lemmas.List.{take_more}
 use Rattle.pj_xpatterns.specs.Meaning.{Pattern, has, same_pattern}
 use Rattle.pj_xpatterns.specs.Refusing.{AreTaken}
