@@ -7,7 +7,10 @@
 # they have no superclass, which is fault 5. The second part takes some 240 classes, spread over the list, and compares name, flags,
 # signature, and each field and method with flags, name and signature, with what `javap -v -p` prints: the signatures where
 # they are written, else the superclass and the interfaces, or the descriptor. It prints each class that differs, and how
-# many are the same. It wants jimage, javap and python3.
+# many are the same. The third part is made of classes in which one text of some 60,000 bytes is named 8,000, 16,000 and 32,000
+# times: as the signature of the class, as a field's second signature, as a field's descriptor beside a short signature, and as
+# an interface. A text is judged once, so a row's time should grow with the file and not with the square of it. It wants jimage,
+# javap and python3.
 set -euo pipefail
 . "$(dirname "$0")/scratch.sh"
 scratch_repository classes_bench 'pj_classfile pj_names' pj_base pj_names pj_format pj_outside pj_signatures pj_classfile
@@ -25,6 +28,7 @@ cat > "$bench/src/main.rt" <<'PROGRAM'
 use pj_classfile::{ClassRefused, parse};
 use pj_names::{ClassInfo, Members};
 use std::alloc::{AllocError, Global};
+use std::time::CpuClock;
 use std::{env, fs, io};
 
 fn push_members(alloc: Global, line: &mut String, kind: &str, members: &Members) -> Result<(), AllocError> {
@@ -89,11 +93,28 @@ fn read_all(rt: &HostRuntime, list: &str, whole: bool) -> io::Result<()> {
     println!(rt; "found {found}, refused {refused}")
 }
 
+fn now(rt: &HostRuntime) -> io::Result<u64> {
+    Ok((rt.process_cpu_time()?.as_micros() % (1 << 60)) as u64)
+}
+
+// How long one class file takes.
+fn time_one(rt: &HostRuntime, path: &str) -> io::Result<()> {
+    let bytes = fs::read(rt, path)?;
+    let start = now(rt)?;
+    let (line, is_class) = judged(rt.alloc(), &bytes, false)?;
+    let spent = now(rt)?.saturating_sub(start);
+    let size = bytes.len();
+    let name = path.rsplit('/').next().unwrap_or(path);
+    println!(rt; "{name}: {size} bytes, {spent} us, a class: {is_class} {line}")
+}
+
 fn main(rt: HostRuntime) -> io::Result<()> {
     let mut whole = false;
     for word in env::args(&rt)? {
         if word.as_str() == "--whole" {
             whole = true;
+        } else if let Some(path) = word.as_str().strip_prefix("time=") {
+            time_one(&rt, path)?;
         } else if let Some(list) = word.as_str().strip_prefix("list=") {
             read_all(&rt, list, whole)?;
         }
@@ -196,6 +217,35 @@ for a in ours:
             if x not in a: print("  javap ", x)
 print("read %d, by javap %d, the same %d" % (len(ours), len(theirs), same))
 COMPARE
+cat > "$scratch/repeat.py" <<'REPEAT'
+import struct, sys
+
+folder = sys.argv[1]
+
+def u2(n): return struct.pack(">H", n)
+def u4(n): return struct.pack(">I", n)
+def utf8(text): return b"\x01" + u2(len(text)) + text
+
+LONG_CLASS = b"Ljava/lang/Object;" + b"La;" * 20000
+LONG_NAME = b"p/" + b"a" * 60000
+LONG_TYPE = b"L" + LONG_NAME + b";"
+# 1 Signature, 2 p/X, 3 class, 4 Object, 5 class, 6 field name, 7 int, 8 long type, 9 long class signature, 10 short type, 11 short
+# class signature, 12 long name, 13 its class
+POOL = [utf8(b"Signature"), utf8(b"p/X"), b"\x07" + u2(2), utf8(b"java/lang/Object"), b"\x07" + u2(4), utf8(b"f"), utf8(b"I"),
+        utf8(LONG_TYPE), utf8(LONG_CLASS), utf8(b"TT;"), utf8(b"Ljava/lang/Object;"), utf8(LONG_NAME), b"\x07" + u2(12)]
+
+def signature(index): return u2(1) + u4(2) + u2(index)
+def table(attributes): return u2(len(attributes)) + b"".join(attributes)
+def field(descriptor, signatures): return u2(0) + u2(6) + u2(descriptor) + table([signature(s) for s in signatures])
+def made(interfaces, fields, signatures):
+    return (u4(0xcafebabe) + u2(0) + u2(61) + u2(len(POOL) + 1) + b"".join(POOL) + u2(0x21) + u2(3) + u2(5)
+        + u2(len(interfaces)) + b"".join(u2(i) for i in interfaces) + u2(len(fields)) + b"".join(fields) + u2(0) + table([signature(s) for s in signatures]))
+
+for n in (8000, 16000, 32000):
+    for name, bytes in [("class_signature", made([], [], [11] + [9] * n)), ("second_signature", made([], [field(7, [10, 8])] * n, [11])),
+                        ("descriptor", made([], [field(8, [10])] * n, [11])), ("interface", made([13] * n, [], [11]))]:
+        open(f"{folder}/{name}_{n}", "wb").write(bytes)
+REPEAT
 cd "$bench"
 rt run > /dev/null
 program=out/classes_bench
@@ -206,3 +256,9 @@ $program "list=$scratch/modules" | tail -n 1
 $program --whole "list=$scratch/some" > "$scratch/ours"
 xargs javap -v -p < "$scratch/some" > "$scratch/theirs"
 python3 "$scratch/compare.py" "$scratch/ours" "$scratch/theirs"
+mkdir "$scratch/repeated"
+python3 "$scratch/repeat.py" "$scratch/repeated"
+echo 'one text, named often:'
+for name in class_signature second_signature descriptor interface; do
+    for count in 8000 16000 32000; do $program "time=$scratch/repeated/${name}_$count"; done
+done

@@ -1,5 +1,5 @@
 -- Attributes one after the other, as a loop reads them.
-use Rattle.std.proofs.Common.{◌≡◌, ℕ, zero, suc, ◌-◌, ◌+◌, ◌≤◌, ◌<◌, List, Result, Ok, Err, Option, refl, sym, ◌∙◌, arith}
+use Rattle.std.proofs.Common.{◌≡◌, ℕ, suc, ◌-◌, ◌+◌, ◌≤◌, ◌<◌, List, Result, Ok, Err, Option, refl, sym, ◌∙◌, arith}
 use Rattle.pj_format.specs.declared.fault.Fault.{Fault}
 use Rattle.pj_format.specs.declared.fault.Refused.{Refused}
 use Rattle.pj_format.specs.declared.fault.Refused.TheVariants as refused

@@ -1,10 +1,10 @@
 -- Units are read again from the bytes that spell them.
-use Rattle.std.proofs.Common.{◌≡◌, ◌<◌, ◌≤◌, ◌+◌, ◌-◌, ◌*◌, ◌/◌, ◌%◌, ◌⊎◌, inl, inr, ℕ, zero, suc, Bool, true, false, cond, ◌&&◌, List, [], ◌∷◌, ◌++◌, length, Option, Some, None, nat_lt, refl, ap, sym, ◌∙◌, arith}
+use Rattle.std.proofs.Common.{◌≡◌, ◌<◌, ◌≤◌, ◌+◌, ◌/◌, ◌%◌, ℕ, zero, suc, Bool, true, false, cond, ◌&&◌, List, [], ◌∷◌, ◌++◌, length, Option, Some, None, nat_lt, refl, ap, sym, ◌∙◌, arith}
 use Rattle.std.specs.Prelude.{flat_map}
 use Rattle.std.specs.List.{list_all}
 use Rattle.std.proofs.lemmas.Grind.{common_steps}
 use Rattle.std.proofs.lemmas.List.{length-append}
-use Rattle.pj_classfile.specs.ModifiedUtf8.{is_in, unit_bytes, unit_at, units_of, in_front, is_one, is_two, is_three, two, three}
+use Rattle.pj_classfile.specs.ModifiedUtf8.{unit_bytes, unit_at, units_of, in_front, is_one, is_two, is_three, two, three}
 use Rattle.pj_classfile.proofs.Units.{after_unit, units_step}
 
 abbrev pub is_unit : ℕ → Bool

@@ -1,7 +1,7 @@
 -- The format of class files, JVMS 4. The kinds of faults: 1 the bytes end, 2 magic, 3 version, 4 tag of a constant,
 -- 5 index into the constant pool, 6 modified UTF-8 or class name, 7 descriptor, 8 signature, 9 length of an attribute,
 -- 10 bytes behind the class. A judge of a field gives its value or the kind of its fault.
-use Rattle.std.specs.Prelude.{◌≡◌, ◌==◌, ◌&&◌, ◌++◌, ℕ, zero, suc, Bool, true, false, List, [], ◌∷◌, codes, map, flat_map, slice_get, Option, Some, None, Result, Ok, Err, nat_lt, nat_eq, unwrap_or, if◌then◌else◌}
+use Rattle.std.specs.Prelude.{◌==◌, ◌&&◌, ◌++◌, ℕ, zero, suc, Bool, true, false, List, [], ◌∷◌, codes, map, flat_map, slice_get, Option, Some, None, Result, Ok, Err, nat_lt, nat_eq, unwrap_or, if◌then◌else◌}
 use Rattle.std.specs.Cmp.Lexicographic.{pointwise}
 use Rattle.pj_names.specs.declared.answer.ClassInfo.{ClassInfo}
 use Rattle.pj_names.specs.declared.answer.Member.{Member}

@@ -1,5 +1,5 @@
 -- What class files are: a class, or their first fault. And the answer for the name of a class.
-use Rattle.std.specs.Prelude.{◌≡◌, ℕ, List, Result, Ok, Err, Bool, nat_eq, if◌then◌else◌}
+use Rattle.std.specs.Prelude.{◌≡◌, ℕ, List, Result, Ok, Err, nat_eq, if◌then◌else◌}
 use Rattle.std.specs.Cmp.Lexicographic.{pointwise}
 use Rattle.pj_names.specs.declared.answer.ClassInfo.{ClassInfo}
 use Rattle.pj_names.specs.declared.answer.ClassFault.{ClassFault}

@@ -1,15 +1,17 @@
 //! A class from its bytes (JVMS 4.1).
-ghost use Rattle.std.specs.Prelude.{◌≡◌, ◌≤◌, ◌++◌, length, IsTrue, OnOk, IfOk};
+ghost use Rattle.std.specs.Prelude.{◌≡◌, ◌≤◌, ◌++◌, length, map, option_map, unwrap_or, IsTrue, OnOk, IfOk};
 ghost use Rattle.pj_format.specs.Format.{first};
 ghost use Rattle.pj_format.specs.Fields.{Gives, several, u16_as};
 ghost use Rattle.pj_signatures.specs.Names.{is_internal_name};
 ghost use Rattle.pj_classfile.specs.ClassFile.{views, head, class_in, superclass_in, is_object, class_type, named_superclass, made_signature, body, class_structure, class_file};
 ghost use Rattle.pj_classfile.specs.ClassOf.{IsRead};
+ghost use Rattle.pj_classfile.specs.Passed.{ArePassed, text_at};
 
 use crate::attribute::signature_in_table;
 use crate::fault::{ClassRefused, or_memory};
-use crate::lookup::class_of;
+use crate::lookup::{class_at, class_of, text_at};
 use crate::member::{Holder, MemberKind, members_of};
+use crate::passed::Passed;
 use crate::pool::{Constant, pool_of};
 use crate::texts::class_name_of;
 use pj_base::{NoMemory, Text};
@@ -76,21 +78,41 @@ fn superclass_of(
     Ok((superclass, behind))
 }
 
-/// So many interfaces.
+/// The index of the name of an interface.
+#[tactic(auto, using(pj_format::specs::Laws::reads))]
+fn interface_of(
+    alloc: Global,
+    passed: &mut Passed,
+    bytes: &[u8],
+    pool: &[Constant],
+    at: u32,
+) -> Result<(u16, u32), Refused>
+    requires small { length bytes.now ≤ 4294967294 }
+    requires passed { ArePassed is_internal_name (views pool.now) passed.old }
+    ensures value { Gives (λ x. (text_at (views pool.now) x.0, x.1)) result (first (u16_as (class_in (views pool.now))) bytes.now at) }
+    ensures passed { OnOk result (ArePassed is_internal_name (views pool.now) passed.new) }
+{
+    let (index, behind) = u16_of(bytes, at)?;
+    let name = class_at(alloc, passed, pool, index, at)?;
+    Ok((name, behind))
+}
+
+/// So many interfaces: the indices of their names.
 fn interfaces_of(
     alloc: Global,
     bytes: &[u8],
     pool: &[Constant],
     count: u16,
     at: u32,
-) -> Result<(Vec<Text>, u32), Refused>
+) -> Result<(Vec<u16>, u32), Refused>
     requires { length bytes.now ≤ 4294967294 }
-    ensures { Gives (λ x. (x.0.items, x.1)) result (first (several (u16_as (class_in (views pool.now))) count) bytes.now at) }
+    ensures { Gives (λ x. (map (text_at (views pool.now)) x.0.items, x.1)) result (first (several (u16_as (class_in (views pool.now))) count) bytes.now at) }
 {
+    let mut passed = Passed::new(alloc);
     let mut list = Vec::new(alloc);
     let mut place = at;
     for _ in 0..count {
-        let (item, behind) = name_of(alloc, bytes, pool, place)?;
+        let (item, behind) = interface_of(alloc, &mut passed, bytes, pool, place)?;
         list.push(item)?;
         place = behind;
     }
@@ -111,16 +133,35 @@ fn make_signature(
     alloc: Global,
     name: &str,
     superclass: &str,
-    interfaces: &[Text],
+    pool: &[Constant],
+    interfaces: &[u16],
 ) -> Result<Text, NoMemory>
-    ensures { IfOk result (λ made. made ≡ made_signature name.now superclass.now interfaces.now) }
+    ensures { IfOk result (λ made. made ≡ made_signature name.now superclass.now (map (text_at (views pool.now)) interfaces.now)) }
 {
     let mut signature = Text::new(alloc);
     push_class_type(&mut signature, named(name, superclass))?;
     for interface in interfaces {
-        push_class_type(&mut signature, interface.as_str())?;
+        let name = text_at(alloc, pool, *interface)?;
+        push_class_type(&mut signature, name.as_str())?;
     }
     Ok(signature)
+}
+
+/// The signature that is written, by its index, or else the one that is made.
+fn written_or_made(
+    alloc: Global,
+    written: Option<u16>,
+    name: &str,
+    superclass: &str,
+    pool: &[Constant],
+    interfaces: &[u16],
+) -> Result<Text, NoMemory>
+    ensures { IfOk result (λ signature. signature ≡ unwrap_or (option_map (text_at (views pool.now)) written) (made_signature name.now superclass.now (map (text_at (views pool.now)) interfaces.now))) }
+{
+    match written {
+        Some(index) => text_at(alloc, pool, index),
+        None => make_signature(alloc, name, superclass, pool, interfaces),
+    }
 }
 
 /// The superclass that a made signature names.
@@ -148,9 +189,23 @@ fn body_of(
     let (interfaces, behind) = interfaces_of(alloc, bytes, pool, count, behind)?;
     let (fields, behind) = members_of(alloc, MemberKind::Field, bytes, pool, behind)?;
     let (methods, behind) = members_of(alloc, MemberKind::Method, bytes, pool, behind)?;
-    let (written, behind) = signature_in_table(alloc, Holder::Class, bytes, pool, behind)?;
-    let made = or_memory(make_signature(alloc, name.as_str(), superclass.as_str(), &interfaces))?;
-    let signature = written.unwrap_or(made);
+    let mut passed = Passed::new(alloc);
+    let (written, behind) = signature_in_table(
+        alloc,
+        &mut passed,
+        Holder::Class,
+        bytes,
+        pool,
+        behind,
+    )?;
+    let signature = or_memory(written_or_made(
+        alloc,
+        written,
+        name.as_str(),
+        superclass.as_str(),
+        pool,
+        &interfaces,
+    ))?;
     let name = or_memory(class_name_of(alloc, name.as_str()))?;
     Ok((
         ClassInfo {

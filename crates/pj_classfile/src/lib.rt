@@ -9,6 +9,7 @@ pub mod laws;
 mod lookup;
 mod member;
 mod modified_utf8;
+mod passed;
 mod pool;
 mod texts;
 

@@ -1,4 +1,6 @@
+pub mod FirstPlaces
 pub mod Gathering
+pub mod Meeting
 pub mod More
 pub mod OfTree
 pub mod Utf8Parts

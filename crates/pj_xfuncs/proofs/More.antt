@@ -1,9 +1,8 @@
 -- More arguments than a function can take.
-use Rattle.std.proofs.Common.{◌≡◌, ℕ, ◌<◌, List, [], ◌∷◌, map, length, Result, refl, arith}
-use Rattle.pj_xvalue.specs.declared.fault.XCode.{XCode}
+use Rattle.std.proofs.Common.{◌≡◌, ◌<◌, List, [], ◌∷◌, map, length, refl, arith}
 use Rattle.pj_xvalue.specs.declared.function.Function.{Function}
 use Rattle.pj_xvalue.specs.declared.item.Item.{Item}
-use Rattle.pj_xvalue.specs.Items.{ItemValue, values_of}
+use Rattle.pj_xvalue.specs.Items.{values_of}
 use Rattle.pj_xpatterns.specs.Meaning.{Pattern}
 use Rattle.pj_xfuncs.specs.Library.{by_number, none}
 

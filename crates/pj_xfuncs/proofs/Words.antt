@@ -1,5 +1,5 @@
 -- The words of a text, joined character by character.
-use Rattle.std.proofs.Common.{◌≡◌, ◌∙◌, ℕ, Bool, true, false, cond, List, [], ◌∷◌, ◌++◌, refl, sym, ap}
+use Rattle.std.proofs.Common.{◌≡◌, ◌∙◌, ℕ, Bool, true, false, List, [], ◌∷◌, ◌++◌, refl, sym, ap}
 use Rattle.std.specs.List.{filter, slice_split, onto_first, join_with_byte}
 use Rattle.std.proofs.lemmas.List.{append-nil}
 use Rattle.pj_xfuncs.specs.declared.spaces.Between.TheVariants.{Start, Word, Spaces}

@@ -1,5 +1,5 @@
 -- Functions of any items, and what makes text of values (XPath Functions and Operators, 2.3, 2.4, 7.4.1, 7.4.2, 9, 15.1, 15.4.1).
-use Rattle.std.specs.Prelude.{ℕ, pos, Bool, not, List, [], ◌∷◌, ◌++◌, length, map, flat_map, Result, Ok, Err, ◌==◌, if◌then◌else◌}
+use Rattle.std.specs.Prelude.{pos, not, List, [], ◌∷◌, ◌++◌, length, map, flat_map, Result, Ok, ◌==◌}
 use Rattle.pj_xvalue.specs.declared.fault.XCode.{XCode}
 use Rattle.pj_xvalue.specs.Atomic.{only_atomic, text_of}
 use Rattle.pj_xvalue.specs.Boolean.{effective_boolean}

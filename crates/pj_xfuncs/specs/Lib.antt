@@ -5,6 +5,8 @@ pub mod Library
 pub mod Numbers
 pub mod Patterns
 pub mod Places
+pub mod Seen
 pub mod Sequences
 pub mod Spaces
 pub mod Strings
+pub mod Translate

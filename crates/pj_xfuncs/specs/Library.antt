@@ -1,5 +1,5 @@
 -- The functions of XPath but those that need the tree or the focus, by their number of arguments.
-use Rattle.std.specs.Prelude.{ℕ, Bool, true, false, List, [], ◌∷◌, Option, Some, None, Result, Ok, Err, if◌then◌else◌}
+use Rattle.std.specs.Prelude.{Bool, true, false, List, [], ◌∷◌, Some, None, Result, Err, if◌then◌else◌}
 use Rattle.pj_xvalue.specs.declared.fault.XCode.{XCode}
 use Rattle.pj_xvalue.specs.declared.fault.XCode.TheVariants.{XPTY0004}
 use Rattle.pj_xvalue.specs.declared.function.Function.{Function}

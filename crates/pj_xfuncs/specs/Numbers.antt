@@ -1,5 +1,5 @@
 -- Functions of integers (XPath Functions and Operators, 6.4.1, 15.4.3 to 15.4.5). An integer has 64 bits.
-use Rattle.std.specs.Prelude.{ℕ, ◌^◌, ℤ, pos, negsuc, nat_abs, Bool, List, [], ◌∷◌, Option, Some, None, Result, Ok, Err, nat_lt, if◌then◌else◌, ◌+ℤ◌, int_lt}
+use Rattle.std.specs.Prelude.{◌^◌, ℤ, pos, negsuc, nat_abs, Bool, List, [], ◌∷◌, Option, Some, None, Result, Ok, Err, nat_lt, if◌then◌else◌, ◌+ℤ◌, int_lt}
 use Rattle.pj_xvalue.specs.declared.fault.XCode.{XCode}
 use Rattle.pj_xvalue.specs.declared.fault.XCode.TheVariants.{FOAR0002}
 use Rattle.pj_xvalue.specs.Items.{ItemValue, Integer}

@@ -1,5 +1,5 @@
 -- Words of a text, character by character.
-use Rattle.std.specs.Prelude.{ℕ, List, [], ◌∷◌, if◌then◌else◌}
+use Rattle.std.specs.Prelude.{ℕ, [], ◌∷◌, if◌then◌else◌}
 use Rattle.pj_xfuncs.specs.declared.spaces.Between.{Between}
 use Rattle.pj_xfuncs.specs.declared.spaces.Between.TheVariants.{Start, Word, Spaces}
 use Rattle.pj_xfuncs.specs.Strings.{Characters, is_space}

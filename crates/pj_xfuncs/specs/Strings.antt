@@ -1,5 +1,5 @@
 -- Functions of strings (XPath Functions and Operators, 7.4 and 7.5). A string is a list of characters, that is of code points.
-use Rattle.std.specs.Prelude.{ℕ, suc, ◌+◌, ℤ, pos, Bool, true, false, ◌||◌, List, [], ◌∷◌, map, length, take, drop, flat_map, filter, position, Option, Some, None, Result, Ok, Err, nat_eq, ◌==◌, is_some, option_map, option_to_list, slice_get, MatchOption, if◌then◌else◌, chars, encode_utf8_all}
+use Rattle.std.specs.Prelude.{ℕ, suc, ◌+◌, pos, Bool, true, false, ◌||◌, List, [], ◌∷◌, map, length, take, drop, flat_map, filter, position, Option, Some, None, Result, nat_eq, ◌==◌, is_some, option_map, option_to_list, slice_get, if◌then◌else◌, chars, encode_utf8_all}
 use Rattle.std.specs.List.{starts_with, ends_with, slice_split, join_with_byte}
 use Rattle.std.specs.Option.{option_map_or}
 use Rattle.std.specs.Char.{to_ascii_uppercase, to_ascii_lowercase}
@@ -97,13 +97,14 @@ upper_case text = and_then (optional_string text) (λ t. spelled (map to_ascii_u
 abbrev pub lower_case : List ItemValue → Result (List ItemValue) XCode
 lower_case text = and_then (optional_string text) (λ t. spelled (map to_ascii_lowercase (characters t)))
 
--- the place of a character in a list, by the first place, and what stands there in another: itself where it is in none
-abbrev pub at_place_in : Characters → Characters → ℕ → Option ℕ → Characters
-at_place_in from to c None = c ∷ []
-at_place_in from to c (Some place) = option_to_list (slice_get to place)
+-- what stands at the place of a character: the character itself where it has no place, and nothing past the end
+abbrev pub at_place_in : Characters → ℕ → Option ℕ → Characters
+at_place_in to c None = c ∷ []
+at_place_in to c (Some place) = option_to_list (slice_get to place)
 
+-- what stands for a character, by its first place in a list
 abbrev pub other_of : Characters → Characters → ℕ → Characters
-other_of from to c = at_place_in from to c (position (nat_eq c) from)
+other_of from to c = at_place_in to c (position (nat_eq c) from)
 
 -- `translate` (7.4.9): each character of the second string by the one at its place in the third, or by none
 abbrev pub translate : List ItemValue → List ItemValue → List ItemValue → Result (List ItemValue) XCode

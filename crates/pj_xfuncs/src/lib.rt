@@ -9,9 +9,11 @@ mod library;
 mod matching;
 mod numbers;
 mod places;
+mod seen;
 mod sequences;
 mod spaces;
 mod strings;
+mod translate;
 
 pub use library::call;
 pub use pj_xpatterns::{PatternFault, Patterns};

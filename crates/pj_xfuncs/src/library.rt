@@ -14,11 +14,12 @@ use crate::general::{
 use crate::matching::{matches, replace, tokenize};
 use crate::numbers::{magnitude, maximum, minimum, sum, sum_with};
 use crate::sequences::{distinct_values, index_of, reversed, subsequence, subsequence_from};
-use crate::spaces::{normalize_space, translate};
+use crate::spaces::normalize_space;
 use crate::strings::{
     contains, ends, starts, string_length, substring, substring_after, substring_before,
     substring_from,
 };
+use crate::translate::translate;
 use pj_xpatterns::Patterns;
 use pj_xvalue::{Arguments, Function, Sequence, XCode, XFault};
 use std::alloc::Global;

@@ -1,6 +1,5 @@
 //! Functions of sequences.
 ghost use Rattle.std.specs.Prelude.{◌≡◌, ◌+◌, ◌++◌, ◌∷◌, [], pos, reverse, IfOk, OnOk, if◌then◌else◌};
-ghost use Rattle.std.specs.List.{list_any};
 ghost use Rattle.pj_xvalue.specs.Items.{Integer, value_of_item, values_of};
 ghost use Rattle.pj_xvalue.specs.Replies.{outcome};
 ghost use Rattle.pj_xfuncs.specs.Arguments.{IsGiven};
@@ -9,6 +8,7 @@ ghost use Rattle.pj_xfuncs.specs.Sequences.{at_places, distinct_values as distin
 use crate::arguments::{atomic, integer};
 use crate::general::copied_items;
 use crate::places::{before, behind, first_of, within};
+use crate::seen::Seen;
 use pj_base::{Copied, NoMemory};
 use pj_xvalue::{Item, Sequence, XCode, XFault, has_node};
 use std::alloc::Global;
@@ -102,15 +102,15 @@ pub(crate) fn distinct_values<'t>(
     Ok(first_occurrences(alloc, items.as_slice())?)
 }
 
-/// The values that equal none of those before them.
+/// The values that equal none of those before them, which stand in sets: so many cost no more than their order.
 fn first_occurrences<'t>(alloc: Global, items: &[Item<'t>]) -> Result<Sequence<'t>, NoMemory>
     ensures { IfOk result (λ kept. values_of kept ≡ first_occurrences [] (values_of items.now)) }
 {
     let mut kept = Sequence::new(alloc);
+    let mut seen = Seen::new(alloc);
     for i in 0..items.len() {
         let item = &items[i];
-        let earlier = first_of(items, i);
-        let was_before = is_among(item, earlier);
+        let was_before = seen.meet(item)?;
         push_unless(&mut kept, was_before, item)?;
     }
     Ok(kept)
@@ -128,13 +128,6 @@ fn push_unless<'t>(
         return Ok(());
     }
     kept.push(item.copied()?)
-}
-
-/// Whether the value equals one of some others.
-fn is_among(item: &Item<'_>, others: &[Item<'_>]) -> bool
-    ensures { result ≡ list_any (λ other. same_of (value_of_item item.now) (value_of_item other)) others.now }
-{
-    others.iter().any(|other| same(item, other))
 }
 
 /// `index-of`.

@@ -1,13 +1,13 @@
-//! `normalize-space` and `translate`.
-ghost use Rattle.std.specs.Prelude.{◌≡◌, flat_map, encode_utf8_all, IfOk, nat_eq, option_to_list, position, string_bytes};
+//! `normalize-space`.
+ghost use Rattle.std.specs.Prelude.{◌≡◌, encode_utf8_all, IfOk, string_bytes};
 ghost use Rattle.std.specs.List.{join_with_byte};
 ghost use Rattle.pj_xvalue.specs.Items.{values_of};
 ghost use Rattle.pj_xvalue.specs.Replies.{outcome};
 ghost use Rattle.pj_xfuncs.specs.Arguments.{IsGiven};
 ghost use Rattle.pj_xfuncs.specs.Spaces.{behind_space};
-ghost use Rattle.pj_xfuncs.specs.Strings.{is_space as is_space_of, normalize_space as normalize_space_of, other_of, translate as translate_of, words};
+ghost use Rattle.pj_xfuncs.specs.Strings.{is_space as is_space_of, normalize_space as normalize_space_of, words};
 
-use crate::arguments::{optional_string, spelled, string};
+use crate::arguments::{optional_string, spelled};
 use crate::characters::characters;
 use pj_base::NoMemory;
 use pj_xvalue::{Sequence, XFault};
@@ -76,60 +76,4 @@ fn is_space(c: char) -> bool
     ensures { result ≡ is_space_of c }
 {
     c == ' ' || c == '\t' || c == '\n' || c == '\r'
-}
-
-/// `translate`.
-pub(crate) fn translate<'t>(
-    alloc: Global,
-    text: &Sequence<'_>,
-    from: &Sequence<'_>,
-    to: &Sequence<'_>,
-) -> Result<Sequence<'t>, XFault>
-    ensures { IsGiven (translate_of (values_of text.now) (values_of from.now) (values_of to.now)) (outcome values_of result) }
-{
-    let whole = optional_string(text)?;
-    let sought = string(from)?;
-    let others = string(to)?;
-    let all = characters(alloc, whole)?;
-    let keys = characters(alloc, sought)?;
-    let values = characters(alloc, others)?;
-    let changed = translated(alloc, &all, &keys, &values)?;
-    Ok(spelled(alloc, changed)?)
-}
-
-/// Each character of the text by the one that stands for it.
-fn translated(
-    alloc: Global,
-    characters: &[char],
-    from: &[char],
-    to: &[char],
-) -> Result<String, NoMemory>
-    ensures { IfOk result (λ changed. string_bytes changed ≡ encode_utf8_all (flat_map (other_of from.now to.now) characters.now)) }
-{
-    let mut changed = String::new(alloc);
-    let mut rest = characters;
-    'content: while let [c, behind @ ..] = rest {
-        if let Some(other) = other_of(from, to, *c) {
-            changed.push(other)?;
-        }
-        rest = behind;
-    }
-    Ok(changed)
-}
-
-/// What stands for a character.
-fn other_of(from: &[char], to: &[char], c: char) -> Option<char>
-    ensures { option_to_list result ≡ other_of from.now to.now c }
-{
-    match place_of(from, c) {
-        None => Some(c),
-        Some(place) => to.get(place).copied(),
-    }
-}
-
-/// The first place of a character.
-fn place_of(from: &[char], c: char) -> Option<usize>
-    ensures { result ≡ position (nat_eq c) from.now }
-{
-    from.iter().position(|key| c == *key)
 }

@@ -1,11 +1,13 @@
 -- What a look-up by a pattern's key finds, and what an insertion leaves.
-use Rattle.std.proofs.Common.{◌≡◌, ◌∙◌, ℕ, Bool, true, false, cond, ◌&&◌, ◌||◌, List, [], ◌∷◌, map, Option, Some, None, MatchOption, refl, sym, ap, ap₂, subst, eqb, is_some, ◌+◌, ◌++◌, ◌<◌, ◌⊎◌, inl, inr, ⊎_elim, get_or, length, take, drop, option_copied, rules, Ordering, arith}
+use Rattle.std.proofs.Common.{◌≡◌, ◌∙◌, ℕ, Bool, true, false, cond, ◌&&◌, ◌||◌, List, [], ◌∷◌, Option, Some, None, MatchOption, refl, sym, ap, ap₂, subst, eqb, is_some, ◌+◌, ◌++◌, ◌<◌, ◌⊎◌, inl, inr, ⊎_elim, get_or, length, take, drop, option_copied, Ordering, arith}
 use Rattle.std.proofs.Math.Logic.{∥∥₁_elim}
 use Rattle.std.proofs.Props.{props}
-use Rattle.std.specs.List.{AllByRecursion-prop}
+use Rattle.std.specs.List.{AllByRecursion, AllByRecursion-prop}
+use Rattle.std.specs.List.Sorted.{IsStrictlySortedBy}
+use Rattle.std.proofs.lemmas.Map.Keys.{sorted_head, sorted_tail}
 use denote.Ref.{Bor}
 use Rattle.std.proofs.lemmas.List.{take-append-drop, at_drop_more}
-use Rattle.std.specs.Map.{lookup, values_of}
+use Rattle.std.specs.Map.{keys_of, lookup, values_of}
 use Rattle.std.specs.BTreeMap.{is_at, insert_entry}
 use Rattle.std.specs.Ordering.{nat_cmp, is_eq, match_ordering}
 use Rattle.std.specs.declared.cmp.Ordering.TheVariants as o
@@ -17,7 +19,7 @@ use Rattle.pj_xpatterns.specs.declared.flags.PatternFlags.{PatternFlags}
 use Rattle.pj_xpatterns.specs.Keys.{key_of, AreKeyed}
 use Rattle.pj_xpatterns.specs.declared.compiled.PatternFault.{PatternFault}
 use Rattle.pj_xpatterns.specs.declared.compiled.PatternFault.TheVariants.{Refused, Memory}
-use Rattle.pj_xpatterns.specs.Meaning.{Text, Pattern, IsNoPattern, same_bool, same_flags, same_pattern, has}
+use Rattle.pj_xpatterns.specs.Meaning.{Text, Pattern, IsNoPattern, same_bool, same_pattern, has, AreApart}
 use Rattle.pj_xpatterns.specs.Refusing.{AreTaken, IfRefused, IsFirstRefused}
 
 same-text : (a b : Text) → pointwise eqb a b ≡ true → a ≡ b
@@ -135,6 +137,20 @@ keyed-insert (e ∷ es) p keyed = go (keyed-insert es p keyed.1) (slice_cmp nat_
     go ih o.Less h = (refl, keyed)
     go ih o.Equal h = (keyed.0 ∙ ap key_of (keyed_is_pattern e p keyed.0 h), keyed.1)
     go ih o.Greater h = (keyed.0, ih)
+
+-- ---- entries in the order of their keys
+
+not-among : (p : Pattern) (es : List (Text × Pattern)) → AreKeyed es → AllByRecursion (λ (k : Text). slice_cmp nat_cmp (key_of p) k ≡ o.Less) (keys_of es) → has (values_of es) p ≡ false
+not-among p [] keyed less = refl
+not-among p (e ∷ es) keyed less =
+    ap₂ (λ (a b : Bool). a || b) (sym (key-tests p e.1) ∙ ap (λ (k : Text). is_at (slice_cmp nat_cmp (key_of p)) k) (sym keyed.0) ∙ ap is_eq less.0) (not-among p es keyed.1 less.1)
+
+pub apart : (es : List (Text × Pattern)) → AreKeyed es → IsStrictlySortedBy (slice_cmp nat_cmp) (keys_of es) → AreApart (values_of es)
+apart [] keyed sorted = tt
+apart (e ∷ es) keyed sorted = (
+  not-among e.1 es keyed.1 (subst (λ (key : Text). AllByRecursion (λ (k : Text). slice_cmp nat_cmp key k ≡ o.Less) (keys_of es)) keyed.0 (sorted_head (slice_cmp nat_cmp) e.0 (keys_of es) sorted)),
+  apart es keyed.1 (sorted_tail (slice_cmp nat_cmp) e.0 (keys_of es) sorted),
+)
 
 -- ---- patterns in the order in which they were found
 

@@ -1,9 +1,9 @@
 -- A compiled pattern finds what its text means.
-use Rattle.std.proofs.Common.{◌≡◌, ◌∙◌, ◌<◌, ◌≤◌, ◌⊎◌, ◌++◌, ◌∷◌, [], IfSome, map, ap₂, slice_range, length, arith, inl, inr, ⊎_elim, ℕ, List, Option, Some, None, IfErr, ap, is_some, option_map, get_or, sym, subst, refl, true, false, Bool}
+use Rattle.std.proofs.Common.{◌≡◌, ◌∙◌, ◌<◌, ◌≤◌, ◌⊎◌, ◌++◌, ◌∷◌, [], IfSome, map, ap₂, slice_range, length, arith, inl, inr, ⊎_elim, ℕ, List, Option, Some, None, ap, is_some, option_map, get_or, refl, true, false, Bool}
 use Rattle.std.specs.Prelude.{chars}
 use Rattle.std.specs.Option.{IsSomeAnd, option_map_or}
 use Rattle.regex.specs.Patterns.{Config, Match, Re, SameCaptures, find_all_str, find_str, span}
-use Rattle.regex.specs.Replace.{ExpandsTo, expansion, replaced_by, replacement_of}
+use Rattle.regex.specs.Replace.{ExpandsTo, replaced_by, replacement_of}
 use Rattle.regex.specs.Search.{gaps}
 use Rattle.regex_vm.specs.Found.{group_cells}
 use Rattle.regex.specs.declared.template.Piece.{Piece}
@@ -16,7 +16,6 @@ use Rattle.regex_syntax.specs.Brackets.{Nested}
 use Rattle.regex_syntax.specs.Verdict.{Reads}
 use Rattle.regex_syntax.specs.Verdict.{Refuses}
 use Rattle.regex_syntax.specs.declared.error.Error as parser
-use Rattle.regex_syntax.specs.declared.error.ErrorKind.TheVariants as kind
 use Rattle.regex.specs.Failures.{IsRightKind}
 use Rattle.regex.specs.Sources.{IsRefusal}
 use Rattle.regex.specs.declared.error.Error.TheVariants.{Syntax}

@@ -1,5 +1,5 @@
 -- The keys by which compiled patterns are found.
-use Rattle.std.specs.Prelude.{◌≡◌, ℕ, List, ◌∷◌, if◌then◌else◌}
+use Rattle.std.specs.Prelude.{◌≡◌, List, ◌∷◌, if◌then◌else◌}
 use Rattle.std.specs.List.{AllByRecursion}
 use Rattle.pj_xpatterns.specs.Meaning.{Text, Pattern}
 

@@ -1,5 +1,5 @@
 -- What a pattern's text means, by the grammar of `regex` and its own word for what is found (XPath Functions and Operators, 7.6).
-use Rattle.std.specs.Prelude.{◌≡◌, ◌⊎◌, ◌<◌, ℕ, Bool, true, false, not, ◌&&◌, List, [], length, map, slice_range, Option, Some, None, IfSome, chars, is_some, option_map, nat_eq, if◌then◌else◌, codes}
+use Rattle.std.specs.Prelude.{◌≡◌, ◌⊎◌, ◌<◌, ℕ, Bool, true, false, not, ◌&&◌, List, [], ◌∷◌, length, map, slice_range, Option, Some, None, IfSome, chars, is_some, option_map, nat_eq, if◌then◌else◌, codes}
 use Rattle.std.specs.List.{list_all, list_any}
 use Rattle.std.specs.Cmp.Lexicographic.{pointwise}
 use Rattle.std.specs.Option.{option_map_or}
@@ -84,3 +84,8 @@ same_pattern a b = pointwise nat_eq a.0 b.0 && same_flags a.1 b.1
 -- whether a pattern is among some
 abbrev pub has : List Pattern → Pattern → Bool
 has patterns pattern = list_any (λ other. same_pattern other pattern) patterns
+
+-- no two of them are the same
+abbrev pub AreApart : List Pattern → Type 0
+AreApart [] = Unit {0}
+AreApart (pattern ∷ rest) = (has rest pattern ≡ false) × AreApart rest

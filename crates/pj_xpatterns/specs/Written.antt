@@ -1,5 +1,5 @@
 -- The patterns that an expression is written with: the second arguments of `matches`, `tokenize` and `replace`.
-use Rattle.std.specs.Prelude.{ℕ, Bool, List, [], ◌∷◌, ◌++◌, map, take, drop, flat_map, Option, Some, None, slice_get, nat_eq, if◌then◌else◌}
+use Rattle.std.specs.Prelude.{ℕ, List, [], ◌∷◌, ◌++◌, map, take, drop, flat_map, Option, Some, None, slice_get, nat_eq, if◌then◌else◌}
 use Rattle.std.specs.Cmp.Lexicographic.{pointwise}
 use Rattle.pj_xvalue.specs.declared.function.Function.{Function}
 use Rattle.pj_xvalue.specs.declared.function.Function.TheVariants as f

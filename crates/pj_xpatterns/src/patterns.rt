@@ -1,8 +1,11 @@
 //! The patterns of an expression.
 ghost use Rattle.std.specs.Prelude.{◌≡◌, ◌||◌, true, false, IfOk, IfErr, OnOk, MatchOption};
+ghost use Rattle.std.specs.BTreeMap.{IsOrdered};
+ghost use Rattle.std.specs.Cmp.Lexicographic.{slice_cmp};
 ghost use Rattle.std.specs.Map.{values_of};
+ghost use Rattle.std.specs.Ordering.{nat_cmp};
 ghost use Rattle.pj_xpatterns.specs.Keys.{AreKeyed, key_of};
-ghost use Rattle.pj_xpatterns.specs.Meaning.{IsNoPattern, Pattern, has, same_pattern};
+ghost use Rattle.pj_xpatterns.specs.Meaning.{AreApart, IsNoPattern, Pattern, has, same_pattern};
 ghost use Rattle.pj_xpatterns.specs.Refusing.{AreTaken, IfRefused, IsFirstRefused};
 ghost use Rattle.pj_xpatterns.specs.Written.{patterns_in, variables_of};
 
@@ -38,7 +41,7 @@ impl Model for Patterns {
 }
 
 impl Patterns {
-    /// The patterns of the expression, of which a variable's is the value that it has here.
+    /// The patterns of the expression, each once, of which a variable's is the value that it has here.
     ///
     /// Refused is the first pattern in the order of the text that is with its flags no pattern of `regex`'s grammar or nests past its depth.
     pub fn of(
@@ -47,6 +50,7 @@ impl Patterns {
         variables: &BoundVars<'_>,
     ) -> Result<Patterns, PatternFault>
         ensures value { IfOk result (λ patterns. (pattern : Pattern) → has patterns pattern ≡ has (patterns_in (variables_of variables.now) expr.now) pattern) }
+        ensures once { IfOk result (λ patterns. AreApart patterns) }
         ensures taken { OnOk result (AreTaken (patterns_in (variables_of variables.now) expr.now)) }
         ensures refused { IfErr result (λ fault. IfRefused fault (IsFirstRefused (patterns_in (variables_of variables.now) expr.now))) }
     {
@@ -72,6 +76,7 @@ impl Patterns {
 /// All the patterns found, each compiled once.
 fn compiled(alloc: Global, found: &[(Text, PatternFlags)]) -> Result<Patterns, PatternFault>
     ensures value { IfOk result (λ patterns. (pattern : Pattern) → has patterns pattern ≡ has found.now pattern) }
+    ensures once { IfOk result (λ patterns. AreApart patterns) }
     ensures taken { OnOk result (AreTaken found.now) }
     ensures refused { IfErr result (λ fault. IfRefused fault (IsFirstRefused found.now)) }
 {
@@ -91,8 +96,10 @@ fn keep(
     held: &mut BTreeMap<Text, CompiledPattern>,
     pattern: &(Text, PatternFlags),
 ) -> Result<(), PatternFault>
-    requires { AreKeyed held.old.entries }
+    requires keyed { AreKeyed held.old.entries }
+    requires ordered { IsOrdered (slice_cmp nat_cmp) held.old }
     ensures keyed { OnOk result (AreKeyed held.new.entries) }
+    ensures ordered { OnOk result (IsOrdered (slice_cmp nat_cmp) held.new) }
     ensures value { OnOk result ((other : Pattern) → has (values_of held.new.entries) other ≡ (same_pattern pattern.now other || has (values_of held.old.entries) other)) }
     ensures taken { OnOk result (has (values_of held.old.entries) pattern.now ≡ false → ¬ IsNoPattern pattern.now) }
     ensures refused { IfErr result (λ fault. IfRefused fault (λ text. (text ≡ pattern.now.0) × IsNoPattern pattern.now)) }

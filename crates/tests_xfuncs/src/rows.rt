@@ -25,7 +25,7 @@ fn variables(alloc: Global) -> Result<BoundVars<'static>, Fail> {
     Ok(all)
 }
 
-/// The items of an argument: literals, `-` before one, `true()`, `false()`, variables, `.` for an element, `/` for the document,
+/// The items of an argument: literals, `-` before one (before one past 64 bits it is the least integer), `true()`, `false()`, variables, `.` for an element, `/` for the document,
 /// and these with commas between them.
 fn push_items(alloc: Global, expr: &Expr, items: &mut Sequence<'static>) -> Result<(), Fail> {
     match expr {
@@ -37,8 +37,9 @@ fn push_items(alloc: Global, expr: &Expr, items: &mut Sequence<'static>) -> Resu
         Expr::String(text) => items.push(Item::Str(Text::from_str(alloc, text.as_str())?))?,
         Expr::Integer(Some(value)) => items.push(Item::Int(*value))?,
         Expr::Unary(Sign::Minus, operand) => {
-            if let Expr::Integer(Some(value)) = &**operand {
-                items.push(Item::Int(value.wrapping_neg()))?;
+            match &**operand {
+                Expr::Integer(Some(value)) => items.push(Item::Int(value.wrapping_neg()))?,
+                _ => items.push(Item::Int(i64::MIN))?,
             }
         }
         Expr::Call(Function::True, _) => items.push(Item::Bool(true))?,

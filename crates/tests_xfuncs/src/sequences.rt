@@ -67,3 +67,32 @@ fn of_sequences(rt: HostRuntime) -> Result<(), Fail> {
         ],
     )
 }
+
+#[test]
+fn values_that_return(rt: HostRuntime) -> Result<(), Fail> {
+    check(
+        &rt,
+        rt.alloc(),
+        &[
+            (
+                "distinct-values((3, -1, 3, 2, -1, 1, 2, 3, -9223372036854775808, 1))",
+                "3, -1, 2, 1, -9223372036854775808",
+            ),
+            (
+                "distinct-values(('b', 'ab', 'a', 'abc', 'ab', '', 'b', 'a', ''))",
+                "'b', 'ab', 'a', 'abc', ''",
+            ),
+            (
+                "distinct-values((true(), false(), true(), false()))",
+                "true, false",
+            ),
+            (
+                "distinct-values(('A', 'a', 'ä', 'Ä', 'a'))",
+                "'A', 'a', 'ä', 'Ä'",
+            ),
+            ("distinct-values(7)", "7"),
+            ("distinct-values(.)", "FOTY0012"),
+            ("distinct-values((1, 1, /))", "FOTY0012"),
+        ],
+    )
+}

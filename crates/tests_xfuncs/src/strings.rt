@@ -164,3 +164,20 @@ fn whole_strings(rt: HostRuntime) -> Result<(), Fail> {
         ],
     )
 }
+
+#[test]
+fn maps_of_characters(rt: HostRuntime) -> Result<(), Fail> {
+    check(
+        &rt,
+        rt.alloc(),
+        &[
+            ("translate('hello', 'olhe', '1234')", "'34221'"),
+            ("translate('hello', 'llo', 'xyz')", "'hexxz'"),
+            ("translate('hello', 'lxl', '1')", "'he11o'"),
+            ("translate('hello', 'xl', '1')", "'heo'"),
+            ("translate('zyxz', 'zyx', 'xzy')", "'xzyx'"),
+            ("translate('', 'abc', 'xyz')", "''"),
+            ("translate('a€ä😀', '😀ä€', 'ä€')", "'a€ä'"),
+        ],
+    )
+}

@@ -1,4 +1,3 @@
-use Rattle.std.proofs.Common.{Ok, Err}
 use Rattle.pj_format.specs.Spelling.{read_means}
 use Rattle.pj_classfile.specs.ClassFile.{class_file, class_structure}
 use Rattle.pj_classfile.proofs.class.parse.Goals as goal

@@ -1,4 +1,4 @@
-use Rattle.std.proofs.Common.{◌≡◌, ◌<◌, length, sym, rules, arith}
+use Rattle.std.proofs.Common.{◌≡◌, ◌<◌, length, sym, arith}
 use Rattle.std.proofs.lemmas.Grind.{common_steps}
 use Rattle.pj_classfile.proofs.Units.{units_stop, units_go_on, units_end}
 use Rattle.pj_classfile.proofs.modified_utf8.units_of.Goals as goal

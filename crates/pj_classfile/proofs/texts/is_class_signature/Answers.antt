@@ -1,4 +1,4 @@
-use Rattle.std.proofs.Common.{◌∙◌, []}
+use Rattle.std.proofs.Common.{◌∙◌}
 use Rattle.pj_signatures.specs.Reading.{class_signature_of}
 use Rattle.pj_classfile.specs.Texts.{is_class_signature}
 use Rattle.pj_classfile.proofs.Seen.{class_is}

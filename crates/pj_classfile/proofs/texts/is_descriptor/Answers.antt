@@ -1,4 +1,4 @@
-use Rattle.std.proofs.Common.{◌∙◌, []}
+use Rattle.std.proofs.Common.{◌∙◌}
 use Rattle.pj_signatures.specs.Reading.{descriptor_of}
 use Rattle.pj_classfile.specs.Texts.{is_descriptor}
 use Rattle.pj_classfile.proofs.Seen.{ty_is}

@@ -1,4 +1,4 @@
-use Rattle.std.proofs.Common.{◌∙◌, []}
+use Rattle.std.proofs.Common.{◌∙◌}
 use Rattle.pj_signatures.specs.Reading.{method_descriptor_of}
 use Rattle.pj_classfile.specs.Texts.{is_method_descriptor}
 use Rattle.pj_classfile.proofs.Seen.{method_is}

@@ -2,7 +2,7 @@ use Rattle.std.proofs.Common.{◌≡◌, ◌∙◌, ℕ, List, drop, take, sym, 
 use Rattle.std.proofs.lemmas.Int.{to_z-of_z}
 use Rattle.std.specs.Str.{encode_utf8_all}
 use mir.Syntax.{w64}
-use mir.Val.{SFits, of_z, to_z}
+use mir.Val.{of_z, to_z}
 use Rattle.pj_xfuncs.specs.Places.{places_before, places_within}
 use Rattle.pj_xfuncs.proofs.PlaceFacts.{within-places}
 use Rattle.pj_xfuncs.proofs.characters.text_within.Goals as goal

@@ -1,4 +1,4 @@
-use Rattle.std.proofs.Common.{◌≡◌, ◌∙◌, ap}
+use Rattle.std.proofs.Common.{◌∙◌, ap}
 use Rattle.pj_xvalue.specs.Items.{values_of}
 use Rattle.pj_xfuncs.proofs.Gathering.{values-reverse}
 use Rattle.pj_xfuncs.proofs.sequences.items_reversed.Goals as goal

@@ -2,7 +2,7 @@ use Rattle.std.proofs.Common.{◌≡◌, ◌∙◌, ℕ, List, drop, take, sym, 
 use Rattle.std.proofs.lemmas.Int.{to_z-of_z}
 use Rattle.std.specs.List.{drop-map, take-map}
 use mir.Syntax.{w64}
-use mir.Val.{SFits, of_z, to_z}
+use mir.Val.{of_z, to_z}
 use Rattle.pj_xvalue.specs.declared.item.Item.{Item}
 use Rattle.pj_xvalue.specs.Items.{ItemValue, value_of_item, values_of}
 use Rattle.pj_xfuncs.specs.Places.{places_before, places_within}

@@ -1,4 +1,4 @@
-use Rattle.std.proofs.Common.{◌≡◌, ◌++◌, map, drop, take}
+use Rattle.std.proofs.Common.{◌≡◌, ◌++◌, map, drop}
 use Rattle.pj_xpatterns.specs.Written.{variables_of, of_each, of_second, seen_of, bound_seen, next_seen}
 use Rattle.pj_xpatterns.proofs.written.+gathering.Given as goal
 

@@ -1,4 +1,4 @@
-use Rattle.std.proofs.Common.{◌≡◌, ◌∙◌, ap, is_some, ◌<◌, ℕ, get_or, arith}
+use Rattle.std.proofs.Common.{◌∙◌, ap, is_some, ◌<◌, ℕ, get_or, arith}
 use Rattle.std.proofs.Math.Bool.{Bool-set}
 use Rattle.std.proofs.Math.Logic.{∥∥₁_elim}
 use Rattle.regex.specs.Patterns.{Re, find_str}

@@ -1,4 +1,4 @@
-use Rattle.std.proofs.Common.{◌≡◌, ◌∙◌, ◌<◌, ℕ, ap, arith, get_or}
+use Rattle.std.proofs.Common.{◌∙◌, ◌<◌, ℕ, ap, arith, get_or}
 use Rattle.std.proofs.Math.Logic.{∥∥₁_elim}
 use Rattle.std.proofs.Props.{props}
 use Rattle.regex.specs.Patterns.{Re, find_all_str}

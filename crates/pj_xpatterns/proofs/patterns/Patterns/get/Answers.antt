@@ -1,8 +1,4 @@
-use Rattle.std.proofs.Common.{◌≡◌, ◌∙◌, Bool, true, false, List, Option, Some, None, MatchOption, sym, subst, option_copied}
-use Rattle.std.proofs.Math.Bool.{Bool-set}
-use Rattle.std.proofs.Math.Logic.{∥∥₁_elim}
-use Rattle.pj_xpatterns.specs.Meaning.{Pattern, has}
-use Rattle.pj_xpatterns.proofs.Lookups.{FoundIs, found_by_key, got}
+use Rattle.pj_xpatterns.proofs.Lookups.{got}
 use Rattle.pj_xpatterns.proofs.patterns.Patterns.get.Goals as goal
 
 pub returns : goal.returns
