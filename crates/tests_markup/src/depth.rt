@@ -29,7 +29,11 @@ fn elements_that_stand_too_deep(rt: HostRuntime) -> Result<(), Fail> {
     ];
     for (depth, behind, wanted) in &table {
         let text = nested(rt.alloc(), *depth, behind)?;
-        assert_eq!(rt; fault_of(rt.alloc(), text.as_str()), Some(*wanted), "of {behind:?}");
+        assert_eq!(rt;
+            fault_of(rt.alloc(), text.as_str()),
+            Some(*wanted),
+            "of {behind:?}"
+        );
     }
     Ok(())
 }

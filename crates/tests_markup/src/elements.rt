@@ -141,7 +141,10 @@ fn names_of_attributes(rt: HostRuntime) -> Result<(), Fail> {
             ("<a \u{e9}=\"1\"/>", "a@0 \u{e9}=1 "),
             ("<\u{e9} a=\"\u{fc}\"/>", "\u{e9}@0 a=\u{fc} "),
             ("<a a1=\"1\" a.=\"2\" a-=\"3\" a=\"4\"/>", "a@0 a=4 "),
-            ("<a b=\"1\" a=\"2\">x<a a=\"3\"/>y</a>", "a@16 a=3 |a@0 0 a=2 b=1 xy"),
+            (
+                "<a b=\"1\" a=\"2\">x<a a=\"3\"/>y</a>",
+                "a@16 a=3 |a@0 0 a=2 b=1 xy",
+            ),
         ],
     )
 }
@@ -161,7 +164,10 @@ fn names(rt: HostRuntime) -> Result<(), Fail> {
             ("<a\u{feff}/>", "a\u{feff}@0 "),
             ("<A/>", "A@0 "),
             ("<a>\u{fffe}\u{1}</a>", "a@0 \u{fffe}\u{1}"),
-            ("<ruleset name=\"r\" xmlns=\"http://x\"><description>d</description></ruleset>", "description@35 d|ruleset@0 0 "),
+            (
+                "<ruleset name=\"r\" xmlns=\"http://x\"><description>d</description></ruleset>",
+                "description@35 d|ruleset@0 0 ",
+            ),
         ],
     )
 }

@@ -83,7 +83,11 @@ pub fn fault_of(alloc: Global, text: &str) -> Option<MarkupFault> {
 /// Wants that each text is refused at the offset beside it.
 pub fn check_refused(rt: &impl Abort, alloc: Global, table: &[(&str, u32)]) -> Result<(), Fail> {
     for (text, place) in table {
-        assert_eq!(rt; fault_of(alloc, text), Some(MarkupFault::At(*place)), "of {text:?}");
+        assert_eq!(rt;
+            fault_of(alloc, text),
+            Some(MarkupFault::At(*place)),
+            "of {text:?}"
+        );
     }
     Ok(())
 }

@@ -112,9 +112,11 @@ fn is_signature(alloc: Global, signature: &MethodSig, wanted: &str) -> Result<bo
     let Some(wanted) = method_signature_in(alloc, &around(alloc)?, wanted)? else {
         return Ok(false);
     };
-    Ok(has_same_parameters(&signature.params, &wanted.params)
-        && same_types(&signature.arguments, &wanted.arguments)
-        && signature.result.is(&wanted.result))
+    Ok(
+        has_same_parameters(&signature.params, &wanted.params)
+            && same_types(&signature.arguments, &wanted.arguments)
+            && signature.result.is(&wanted.result),
+    )
 }
 
 /// Whether a method is of a class and a signature, `:` between them.
@@ -122,10 +124,12 @@ fn is_method(alloc: Global, method: &Method, name: &str, wanted: &str) -> Result
     let Some((owner, signature)) = wanted.split_once(':') else {
         return Ok(false);
     };
-    Ok(method.owner.as_str() == owner
-        && method.name.as_str() == name
-        && method.flags == 1
-        && is_signature(alloc, &method.signature, signature)?)
+    Ok(
+        method.owner.as_str() == owner
+            && method.name.as_str() == name
+            && method.flags == 1
+            && is_signature(alloc, &method.signature, signature)?,
+    )
 }
 
 /// Whether the methods are just those that are wanted.
@@ -167,7 +171,10 @@ pub fn check_fields(
     for (class, name, wanted, names) in rows {
         let mut oracle = oracle(alloc, classes)?;
         let field = find_field(alloc, &mut oracle, &class_name(alloc, class)?, name)?;
-        assert!(rt; is_field(alloc, &field, wanted)?, "{class}.{name} is not {wanted}");
+        assert!(rt;
+            is_field(alloc, &field, wanted)?,
+            "{class}.{name} is not {wanted}"
+        );
         let asked = asked(alloc, &oracle)?;
         assert_eq!(rt; asked.as_str(), *names, "for {class}.{name}");
     }

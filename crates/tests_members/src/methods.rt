@@ -67,12 +67,7 @@ fn what_hides(rt: HostRuntime) -> Result<(), Fail> {
             ("p.A", "l", &["p.A:(Lp/L<Lp/X;>;)V"], "p.A p.B "),
             ("p.A", "v", &["p.A:<U:Lp/X;>(TU;)V"], "p.A p.B "),
             ("p.A", "u", &["p.A:(L?;)V"], "p.A p.B "),
-            (
-                "p.A",
-                "a",
-                &["p.A:([Lp/X;)V", "p.B:(Lp/X;)V"],
-                "p.A p.B ",
-            ),
+            ("p.A", "a", &["p.A:([Lp/X;)V", "p.B:(Lp/X;)V"], "p.A p.B "),
             ("p.A", "s", &["p.A:(II)V", "p.B:(I)V"], "p.A p.B "),
         ],
     )

@@ -40,12 +40,7 @@ fn arguments_stand_for_parameters(rt: HostRuntime) -> Result<(), Fail> {
         &CLASSES,
         &[
             ("p.E", "get", &["p.B:()Lp/X;"], "p.B p.E "),
-            (
-                "p.E",
-                "all",
-                &["p.B:(Lp/L<Lp/X;>;[Lp/X;)V"],
-                "p.B p.E ",
-            ),
+            ("p.E", "all", &["p.B:(Lp/L<Lp/X;>;[Lp/X;)V"], "p.B p.E "),
             (
                 "p.E",
                 "new",

@@ -143,11 +143,7 @@ fn options_without_a_value(rt: HostRuntime) -> Result<(), Fail> {
     check_behind(
         &rt,
         rt.alloc(),
-        &[
-            ("-f", "line"),
-            ("--threads", "line"),
-            ("--dir", "line"),
-        ],
+        &[("-f", "line"), ("--threads", "line"), ("--dir", "line")],
     )
 }
 
@@ -172,12 +168,30 @@ fn first_cause(rt: HostRuntime) -> Result<(), Fail> {
         &rt,
         rt.alloc(),
         &[
-            ("check|-d|,|-R|,|-f|x|--threads|x|--minimum-priority|x|--suppress-marker=|--use-version|x", "--dir: ,"),
-            ("check|-d|s|-R|,|-f|x|--threads|x|--minimum-priority|x|--suppress-marker=|--use-version|x", "--rulesets: ,"),
-            ("check|-d|s|-R|r|-f|x|--threads|x|--minimum-priority|x|--suppress-marker=|--use-version|x", "--format: x"),
-            ("check|-d|s|-R|r|--use-version|x|--suppress-marker=|--minimum-priority|x|--threads|x", "--threads: x"),
-            ("check|-d|s|-R|r|--use-version|x|--suppress-marker=|--minimum-priority|x", "--minimum-priority: x"),
-            ("check|--use-version|x|--suppress-marker=|-d|s|-R|r", "--suppress-marker: "),
+            (
+                "check|-d|,|-R|,|-f|x|--threads|x|--minimum-priority|x|--suppress-marker=|--use-version|x",
+                "--dir: ,",
+            ),
+            (
+                "check|-d|s|-R|,|-f|x|--threads|x|--minimum-priority|x|--suppress-marker=|--use-version|x",
+                "--rulesets: ,",
+            ),
+            (
+                "check|-d|s|-R|r|-f|x|--threads|x|--minimum-priority|x|--suppress-marker=|--use-version|x",
+                "--format: x",
+            ),
+            (
+                "check|-d|s|-R|r|--use-version|x|--suppress-marker=|--minimum-priority|x|--threads|x",
+                "--threads: x",
+            ),
+            (
+                "check|-d|s|-R|r|--use-version|x|--suppress-marker=|--minimum-priority|x",
+                "--minimum-priority: x",
+            ),
+            (
+                "check|--use-version|x|--suppress-marker=|-d|s|-R|r",
+                "--suppress-marker: ",
+            ),
             ("check|-R|,|-d|,", "--dir: ,"),
             ("check|-d|,|-R|r|-x", "line"),
             ("check|-d|,|-R|r|--threads", "line"),
@@ -192,8 +206,14 @@ fn all_options(rt: HostRuntime) -> Result<(), Fail> {
         &rt,
         rt.alloc(),
         &[
-            ("check|-d|a/b,c|-R|r,s/t.xml|-f|json|--threads|8|--minimum-priority|3|--suppress-marker|NOCHECK|--use-version|java-17", "a/b;c / r;s/t.xml / json / 8 / 3 / NOCHECK"),
-            ("check|--use-version=java-17|--suppress-marker=N|--minimum-priority=1|--threads=0|--format=text|--rulesets=r|--dir=d", "d / r / text / 0 / 1 / N"),
+            (
+                "check|-d|a/b,c|-R|r,s/t.xml|-f|json|--threads|8|--minimum-priority|3|--suppress-marker|NOCHECK|--use-version|java-17",
+                "a/b;c / r;s/t.xml / json / 8 / 3 / NOCHECK",
+            ),
+            (
+                "check|--use-version=java-17|--suppress-marker=N|--minimum-priority=1|--threads=0|--format=text|--rulesets=r|--dir=d",
+                "d / r / text / 0 / 1 / N",
+            ),
         ],
     )
 }

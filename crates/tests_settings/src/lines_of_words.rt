@@ -88,7 +88,10 @@ pub fn check(rt: &impl Abort, alloc: Global, table: &[(&str, &str)]) -> Result<(
 pub fn check_behind(rt: &impl Abort, alloc: Global, table: &[(&str, &str)]) -> Result<(), Fail> {
     for (line, wanted) in table {
         let found = found(alloc, "check|-d|s|-R|r", line)?;
-        let behind = found.as_str().strip_prefix("s / r / ").unwrap_or(found.as_str());
+        let behind = found
+            .as_str()
+            .strip_prefix("s / r / ")
+            .unwrap_or(found.as_str());
         assert_eq!(rt; behind, *wanted, "of {line:?}");
     }
     Ok(())

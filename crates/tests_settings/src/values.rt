@@ -8,13 +8,19 @@ fn lists(rt: HostRuntime) -> Result<(), Fail> {
         &rt,
         rt.alloc(),
         &[
-            ("check|-d|a,b,c|-R|r,q", "a;b;c / r;q / text / 1 / 5 / NOPMD"),
+            (
+                "check|-d|a,b,c|-R|r,q",
+                "a;b;c / r;q / text / 1 / 5 / NOPMD",
+            ),
             ("check|-d|a, b|-R|r", "a; b / r / text / 1 / 5 / NOPMD"),
             ("check|-d|a:b|-R|r", "a:b / r / text / 1 / 5 / NOPMD"),
             ("check|-d|a/|-R|r", "a/ / r / text / 1 / 5 / NOPMD"),
             ("check|-d| |-R|r", "  / r / text / 1 / 5 / NOPMD"),
             ("check|-d|a,a|-R|r", "a;a / r / text / 1 / 5 / NOPMD"),
-            ("check|-d|größe,😀|-R|∞.xml", "größe;😀 / ∞.xml / text / 1 / 5 / NOPMD"),
+            (
+                "check|-d|größe,😀|-R|∞.xml",
+                "größe;😀 / ∞.xml / text / 1 / 5 / NOPMD",
+            ),
         ],
     )
 }
@@ -52,8 +58,14 @@ fn formats(rt: HostRuntime) -> Result<(), Fail> {
             ("check|-d|s|-R|r|-f|json", "s / r / json / 1 / 5 / NOPMD"),
             ("check|-d|s|-R|r|-fcsv", "s / r / csv / 1 / 5 / NOPMD"),
             ("check|-d|s|-R|r|-f=json", "s / r / json / 1 / 5 / NOPMD"),
-            ("check|-d|s|-R|r|--format=csv", "s / r / csv / 1 / 5 / NOPMD"),
-            ("check|--format|json|-d|s|-R|r", "s / r / json / 1 / 5 / NOPMD"),
+            (
+                "check|-d|s|-R|r|--format=csv",
+                "s / r / csv / 1 / 5 / NOPMD",
+            ),
+            (
+                "check|--format|json|-d|s|-R|r",
+                "s / r / json / 1 / 5 / NOPMD",
+            ),
         ],
     )
 }
@@ -104,8 +116,14 @@ fn too_many_threads(rt: HostRuntime) -> Result<(), Fail> {
             ("--threads|640", "--threads: 640"),
             ("--threads|4294967295", "--threads: 4294967295"),
             ("--threads|4294967296", "--threads: 4294967296"),
-            ("--threads|18446744073709551616", "--threads: 18446744073709551616"),
-            ("--threads|340282366920938463463374607431768211456", "--threads: 340282366920938463463374607431768211456"),
+            (
+                "--threads|18446744073709551616",
+                "--threads: 18446744073709551616",
+            ),
+            (
+                "--threads|340282366920938463463374607431768211456",
+                "--threads: 340282366920938463463374607431768211456",
+            ),
         ],
     )
 }

@@ -11,7 +11,11 @@ fn check_arguments(rt: &impl Abort, alloc: Global, table: &[(&str, bool)]) -> Re
             alloc,
             &["@SuppressWarnings", arguments, " class A { int x; }"],
         )?;
-        assert_eq!(rt; covered(alloc, file.as_str(), "x")?, Some(*wanted), "of {arguments:?}");
+        assert_eq!(rt;
+            covered(alloc, file.as_str(), "x")?,
+            Some(*wanted),
+            "of {arguments:?}"
+        );
     }
     Ok(())
 }
@@ -20,7 +24,11 @@ fn check_arguments(rt: &impl Abort, alloc: Global, table: &[(&str, bool)]) -> Re
 fn check_modifiers(rt: &impl Abort, alloc: Global, table: &[(&str, bool)]) -> Result<(), Fail> {
     for (modifiers, wanted) in table {
         let file = joined(alloc, &[modifiers, " class A { int x; }"])?;
-        assert_eq!(rt; covered(alloc, file.as_str(), "x")?, Some(*wanted), "of {modifiers:?}");
+        assert_eq!(rt;
+            covered(alloc, file.as_str(), "x")?,
+            Some(*wanted),
+            "of {modifiers:?}"
+        );
     }
     Ok(())
 }

@@ -90,14 +90,30 @@ fn on_members(rt: HostRuntime) -> Result<(), Fail> {
             ("class A { # int x, z; int y; }", "x", true),
             ("class A { # int x, z; int y; }", "z", true),
             ("class A { # int x, z; int y; }", "y", false),
-            ("class A { # void m() { f(1); } void n() { f(2); } }", "1", true),
-            ("class A { # void m() { f(1); } void n() { f(2); } }", "2", false),
+            (
+                "class A { # void m() { f(1); } void n() { f(2); } }",
+                "1",
+                true,
+            ),
+            (
+                "class A { # void m() { f(1); } void n() { f(2); } }",
+                "2",
+                false,
+            ),
             ("class A { # A() { f(1); } A(int p) { f(2); } }", "1", true),
             ("class A { # A() { f(1); } A(int p) { f(2); } }", "2", false),
             ("class A { # int m(int x) throws E; }", "E", true),
             ("class A { int y; { f(1); } # int x; }", "1", false),
-            ("@interface A { # int x() default 1; int y() default 2; }", "1", true),
-            ("@interface A { # int x() default 1; int y() default 2; }", "2", false),
+            (
+                "@interface A { # int x() default 1; int y() default 2; }",
+                "1",
+                true,
+            ),
+            (
+                "@interface A { # int x() default 1; int y() default 2; }",
+                "2",
+                false,
+            ),
         ],
     )
 }
@@ -113,8 +129,16 @@ fn on_members_of_enums_and_records(rt: HostRuntime) -> Result<(), Fail> {
             ("enum A { # X { int z; }, Y(2); }", "z", true),
             ("record A(# int x, int y) { }", "x", true),
             ("record A(# int x, int y) { }", "y", false),
-            ("record A(int x) { # A { f(1); } void m() { f(2); } }", "1", true),
-            ("record A(int x) { # A { f(1); } void m() { f(2); } }", "2", false),
+            (
+                "record A(int x) { # A { f(1); } void m() { f(2); } }",
+                "1",
+                true,
+            ),
+            (
+                "record A(int x) { # A { f(1); } void m() { f(2); } }",
+                "2",
+                false,
+            ),
         ],
     )
 }
@@ -146,8 +170,16 @@ fn on_variables(rt: HostRuntime) -> Result<(), Fail> {
             ("class A { { # int x = 1, z = 3; int y = 2; } }", "1", true),
             ("class A { { # int x = 1, z = 3; int y = 2; } }", "3", true),
             ("class A { { # int x = 1, z = 3; int y = 2; } }", "2", false),
-            ("class A { { for (# int i = 1; i < 2; ) f(3); } }", "1", true),
-            ("class A { { for (# int i = 1; i < 2; ) f(3); } }", "2", false),
+            (
+                "class A { { for (# int i = 1; i < 2; ) f(3); } }",
+                "1",
+                true,
+            ),
+            (
+                "class A { { for (# int i = 1; i < 2; ) f(3); } }",
+                "2",
+                false,
+            ),
             ("class A { { for (# E e : f(1)) { f(2); } } }", "e", true),
             ("class A { { for (# E e : f(1)) { f(2); } } }", "1", false),
             ("class A { { for (# E e : f(1)) { f(2); } } }", "2", false),
@@ -164,11 +196,19 @@ fn on_resources_and_catch_parameters(rt: HostRuntime) -> Result<(), Fail> {
         rt.alloc(),
         &[
             ("class A { { try { } catch (# E e) { f(1); } } }", "e", true),
-            ("class A { { try { } catch (# E e) { f(1); } } }", "1", false),
+            (
+                "class A { { try { } catch (# E e) { f(1); } } }",
+                "1",
+                false,
+            ),
             ("class A { { try { } catch (# E | D e) { } } }", "D", true),
             ("class A { { try (# E e = f(1)) { f(2); } } }", "1", true),
             ("class A { { try (# E e = f(1)) { f(2); } } }", "2", false),
-            ("class A { { try (# E e = f(1); E d = f(3)) { } } }", "3", false),
+            (
+                "class A { { try (# E e = f(1); E d = f(3)) { } } }",
+                "3",
+                false,
+            ),
         ],
     )
 }
