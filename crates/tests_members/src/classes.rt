@@ -16,31 +16,27 @@ fn class_name(alloc: Global, text: &str) -> Result<ClassName, Fail> {
     Ok(ClassName::of(alloc, text)?.ok_or("no class name")?)
 }
 
-/// A member from its name and its signature, a space between them; each has the flags 1.
-fn member_of(alloc: Global, text: &str) -> Result<Member, Fail> {
-    let (name, signature) = text.split_once(' ').ok_or("no member")?;
-    Ok(Member {
-        flags: 1,
-        name: Text::from_str(alloc, name)?,
-        signature: Text::from_str(alloc, signature)?,
-    })
-}
-
-/// Puts each member of a text to the fields or to the methods, which have parentheses.
-fn put_members(
-    alloc: Global,
-    fields: &mut Members,
-    methods: &mut Members,
-    text: &str,
-) -> Result<(), Fail> {
-    for part in text.split('|') {
-        if part.contains('(') {
-            methods.push(member_of(alloc, part)?)?;
-        } else if !part.is_empty() {
-            fields.push(member_of(alloc, part)?)?;
-        }
+/// Puts a member from its name and its signature, a space between them; each has the flags 1.
+fn put_member(alloc: Global, members: &mut Members, text: &str) -> Result<(), Fail> {
+    if let Some((name, signature)) = text.split_once(' ') {
+        members.push(Member {
+            flags: 1,
+            name: Text::from_str(alloc, name)?,
+            signature: Text::from_str(alloc, signature)?,
+        })?;
     }
     Ok(())
+}
+
+/// The members of a text that have parentheses, the methods, or those that have none, the fields.
+fn members_of(alloc: Global, are_methods: bool, text: &str) -> Result<Members, Fail> {
+    let mut members = Members::new(alloc);
+    for part in text.split('|') {
+        if part.contains('(') == are_methods {
+            put_member(alloc, &mut members, part)?;
+        }
+    }
+    Ok(members)
 }
 
 /// The class of a name, from its signature and its members, a bar before each; or `broken`.
@@ -49,15 +45,12 @@ fn answer_of(alloc: Global, name: &str, text: &str) -> Result<Answer, Fail> {
         return Ok(Answer::Broken(Broken::OtherName));
     }
     let (signature, members) = text.split_once('|').unwrap_or((text, ""));
-    let mut fields = Members::new(alloc);
-    let mut methods = Members::new(alloc);
-    put_members(alloc, &mut fields, &mut methods, members)?;
     Ok(Answer::Found(ClassInfo {
         name: class_name(alloc, name)?,
         flags: 33,
         signature: Text::from_str(alloc, signature)?,
-        fields,
-        methods,
+        fields: members_of(alloc, false, members)?,
+        methods: members_of(alloc, true, members)?,
     }))
 }
 
@@ -65,9 +58,10 @@ fn answer_of(alloc: Global, name: &str, text: &str) -> Result<Answer, Fail> {
 fn oracle(alloc: Global, classes: &[&str]) -> Result<MapOracle, Fail> {
     let mut answers = Answers::new(alloc);
     for class in classes {
-        let (name, text) = class.split_once('=').ok_or("no class")?;
-        let answer = answer_of(alloc, name, text)?;
-        answers.push(class_name(alloc, name)?, Arc::new(alloc, answer)?)?;
+        if let Some((name, text)) = class.split_once('=') {
+            let answer = answer_of(alloc, name, text)?;
+            answers.push(class_name(alloc, name)?, Arc::new(alloc, answer)?)?;
+        }
     }
     Ok(MapOracle::new(alloc, answers))
 }
