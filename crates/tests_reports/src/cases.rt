@@ -1,5 +1,5 @@
 //! Reports as rows, with the three texts that are wanted of each.
-use pj_base::{Bytes, NoMemory, Text};
+use pj_base::{Bytes, Copied, NoMemory, Text};
 use pj_reports::{
     FileError, FileErrors, FileRows, Finding, Findings, PathRows, Reason, Report, csv_of, json_of,
     text_of,
@@ -107,7 +107,7 @@ fn files_of(alloc: Global, files: &[FileCase<'_>]) -> Result<PathRows, NoMemory>
             findings: findings_of(alloc, findings)?,
             errors: file_errors_of(alloc, errors)?,
         };
-        rows.push((Text::from_str(alloc, path)?, file))?;
+        rows.push((Text::from_str(alloc, path)?, file.copied()?))?;
     }
     Ok(rows)
 }
@@ -123,11 +123,14 @@ fn config_errors_of(alloc: Global, errors: &[(&str, &str)]) -> Result<ConfigErro
     Ok(rows)
 }
 
+/// The report of copies of its rows.
 fn report_of(alloc: Global, case: &Case<'_>) -> Result<Report, NoMemory> {
+    let rules = rules_of(alloc, case.rules)?;
+    let errors = config_errors_of(alloc, case.errors)?;
     Ok(Report {
-        rules: rules_of(alloc, case.rules)?,
+        rules: rules.copied()?,
         files: files_of(alloc, case.files)?,
-        errors: config_errors_of(alloc, case.errors)?,
+        errors: errors.copied()?,
     })
 }
 
