@@ -1,0 +1,188 @@
+//! Reports as rows, with the three texts that are wanted of each.
+use pj_base::{Bytes, Copied, NoMemory, Text};
+use pj_reports::{
+    FileError, FileErrors, FileRows, Finding, Findings, PathRows, Reason, Report, csv_of, json_of,
+    text_of,
+};
+use pj_rule_rows::{ConfigError, ConfigErrors, RuleRow, RuleRowList};
+use pj_tree::Place;
+use std::alloc::{AllocError, Global};
+use std::process::Abort;
+use std::test::Fail;
+
+/// A rule: its name, message, priority and ruleset.
+pub type RuleCase<'a> = (&'a str, &'a str, u8, &'a str);
+
+/// A finding: the number of its rule, the line and column of its begin and of its end, and why it is suppressed, empty where
+/// it is not.
+pub type FindingCase<'a> = (u32, [u32; 4], &'a str);
+
+/// A file: its path, its package, its findings, and its errors, each a rule's number and a message.
+pub type FileCase<'a> = (
+    &'a str,
+    &'a str,
+    &'a [FindingCase<'a>],
+    &'a [(Option<u32>, &'a str)],
+);
+
+/// A report, and what is wanted of it.
+#[derive(Drop)]
+pub struct Case<'a> {
+    pub rules: &'a [RuleCase<'a>],
+    pub files: &'a [FileCase<'a>],
+    /// The configuration errors, each the rule and the message.
+    pub errors: &'a [(&'a str, &'a str)],
+    pub text: &'a str,
+    /// The rows behind the header.
+    pub csv: &'a str,
+    /// What stands in the lists `configurationErrors`, `files`, `processingErrors` and `suppressedViolations`.
+    pub json: [&'a str; 4],
+}
+
+/// A rule of most reports.
+pub const R: RuleCase<'static> = ("R", "m", 3, "S");
+
+/// Another one, whose ruleset has no name.
+pub const Q: RuleCase<'static> = ("Q", "n", 1, "");
+
+fn rules_of(alloc: Global, rules: &[RuleCase<'_>]) -> Result<RuleRowList, NoMemory> {
+    let mut rows = RuleRowList::new(alloc);
+    for (name, message, priority, rule_set) in rules {
+        rows.push(RuleRow {
+            name: Text::from_str(alloc, name)?,
+            message: Text::from_str(alloc, message)?,
+            priority: *priority,
+            rule_set: Text::from_str(alloc, rule_set)?,
+        })?;
+    }
+    Ok(rows)
+}
+
+fn reason_of(word: &str) -> Option<Reason> {
+    match word {
+        "annotation" => Some(Reason::Annotation),
+        "comment" => Some(Reason::Comment),
+        "regex" => Some(Reason::Regex),
+        "xpath" => Some(Reason::XPath),
+        _ => None,
+    }
+}
+
+fn findings_of(alloc: Global, findings: &[FindingCase<'_>]) -> Result<Findings, NoMemory> {
+    let mut rows = Findings::new(alloc);
+    for (rule, [line, column, end_line, end_column], reason) in findings {
+        rows.push(Finding {
+            rule: *rule,
+            node: 7,
+            begin: Place {
+                line: *line,
+                column: *column,
+            },
+            end: Place {
+                line: *end_line,
+                column: *end_column,
+            },
+            reason: reason_of(reason),
+        })?;
+    }
+    Ok(rows)
+}
+
+fn file_errors_of(alloc: Global, errors: &[(Option<u32>, &str)]) -> Result<FileErrors, NoMemory> {
+    let mut rows = FileErrors::new(alloc);
+    for (rule, message) in errors {
+        rows.push(FileError {
+            rule: *rule,
+            message: Text::from_str(alloc, message)?,
+        })?;
+    }
+    Ok(rows)
+}
+
+fn files_of(alloc: Global, files: &[FileCase<'_>]) -> Result<PathRows, NoMemory> {
+    let mut rows = PathRows::new(alloc);
+    for (path, package, findings, errors) in files {
+        let file = FileRows {
+            package: Text::from_str(alloc, package)?,
+            findings: findings_of(alloc, findings)?,
+            errors: file_errors_of(alloc, errors)?,
+        };
+        rows.push((Text::from_str(alloc, path)?, file.copied()?))?;
+    }
+    Ok(rows)
+}
+
+fn config_errors_of(alloc: Global, errors: &[(&str, &str)]) -> Result<ConfigErrors, NoMemory> {
+    let mut rows = ConfigErrors::new(alloc);
+    for (rule, message) in errors {
+        rows.push(ConfigError {
+            rule: Text::from_str(alloc, rule)?,
+            message: Text::from_str(alloc, message)?,
+        })?;
+    }
+    Ok(rows)
+}
+
+/// The report of copies of its rows.
+fn report_of(alloc: Global, case: &Case<'_>) -> Result<Report, NoMemory> {
+    let rules = rules_of(alloc, case.rules)?;
+    let errors = config_errors_of(alloc, case.errors)?;
+    Ok(Report {
+        rules: rules.copied()?,
+        files: files_of(alloc, case.files)?,
+        errors: errors.copied()?,
+    })
+}
+
+fn joined(alloc: Global, pieces: &[&str]) -> Result<String, AllocError> {
+    let mut text = String::new(alloc);
+    for piece in pieces {
+        text.push_str(piece)?;
+    }
+    Ok(text)
+}
+
+fn wanted_csv(alloc: Global, rows: &str) -> Result<String, AllocError> {
+    let pieces = [
+        "\"Problem\",\"Package\",\"File\",\"Priority\",",
+        "\"Line\",\"Description\",\"Rule set\",\"Rule\"\n",
+        rows,
+    ];
+    joined(alloc, pieces.as_slice())
+}
+
+fn wanted_json(alloc: Global, lists: &[&str; 4]) -> Result<String, AllocError> {
+    let [config_errors, files, errors, suppressed] = lists;
+    let pieces: [&str; 9] = [
+        "{\"configurationErrors\":[",
+        config_errors,
+        "],\"files\":[",
+        files,
+        "],\"formatVersion\":0,\"processingErrors\":[",
+        errors,
+        "],\"suppressedViolations\":[",
+        suppressed,
+        "]}\n",
+    ];
+    joined(alloc, pieces.as_slice())
+}
+
+fn want(rt: &impl Abort, place: usize, form: &str, bytes: &Bytes, wanted: &str) {
+    assert!(rt;
+        bytes.as_slice() == wanted.as_bytes(),
+        "{form} of report {place}, not {wanted}"
+    );
+}
+
+/// Writes each report in the three forms, and wants the texts beside it.
+pub fn check(rt: &impl Abort, alloc: Global, cases: &[Case<'_>]) -> Result<(), Fail> {
+    for (place, case) in cases.iter().enumerate() {
+        let report = report_of(alloc, case)?;
+        let csv = wanted_csv(alloc, case.csv)?;
+        let json = wanted_json(alloc, &case.json)?;
+        want(rt, place, "text", &text_of(alloc, &report)?, case.text);
+        want(rt, place, "CSV", &csv_of(alloc, &report)?, csv.as_str());
+        want(rt, place, "JSON", &json_of(alloc, &report)?, json.as_str());
+    }
+    Ok(())
+}
