@@ -1,0 +1,3 @@
+pub mod Attribute
+pub mod FileFacts
+pub mod Table
