@@ -1,16 +1,19 @@
 //! The names of attributes, and what each stands for.
 
-ghost use Rattle.std.specs.Prelude.{◌≡◌, map};
+ghost use Rattle.std.specs.Prelude.{◌≡◌, ◌<◌, ◌^◌, ◌-◌, IsTrue, length, map};
 ghost use Rattle.pj_attrs.specs.Attribute.{attribute_names, property_named};
+ghost use Rattle.pj_xvalue.specs.Attributes.{are_different};
 
 use crate::table::table_of;
 use pj_base::value_in;
 use pj_properties::Property;
 use pj_tree::Kind;
 
-/// The names of the attributes of nodes of the kind, in order.
+/// The names of the attributes of nodes of the kind, in order, each once.
 pub fn attribute_names(kind: Kind) -> &'static [&'static str]
-    ensures { map (λ name. name.now) result.now ≡ attribute_names kind }
+    ensures names { map (λ name. name.now) result.now ≡ attribute_names kind }
+    ensures once { IsTrue (are_different (map (λ name. name.now) result.now)) }
+    ensures few { length result.now < 2 ^ 32 - 1 }
 {
     table_of(kind).names
 }
