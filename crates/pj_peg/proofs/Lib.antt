@@ -19,6 +19,7 @@ pub mod Checking
 pub mod Going
 pub mod Filling
 pub mod Beginning
+mod Growing
 pub mod Collecting
 pub mod Placed
 pub mod Decided

@@ -19,7 +19,7 @@ pub record IsAnalysis (rules : List Form) (program : Program) (facts : List Fact
   pub facts_are : facts ≡ map (facts_by (is_set empty) (length rules)) (forms_in program.nodes.items)
   pub graph_is : map (λ (v : Vec ℕ Global). v.items) graph ≡ map (begun_by (is_set empty)) rules
 
-pub record IsMade (rules : List Form) (program : Program) (order : List ℕ) (goings : List (Vec Bool Global)) : Type 0 where
+pub record IsMade (rules : List Form) (program : Program) (order : List ℕ) (goings : List ℕ) : Type 0 where
   pub some : 0 < length rules
   pub most : length rules ≤ 2 ^ 16
   pub program_is : IsProgram program

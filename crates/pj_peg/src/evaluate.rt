@@ -1,7 +1,11 @@
 ghost use Rattle.std.specs.Prelude.{◌≡◌, ◌+◌, ◌<◌, ◌≤◌, ◌↔◌, length, IsTrue, Some, slice_get};
+ghost use Rattle.std.specs.Bool.{OnTrue};
+ghost use Rattle.pj_peg.specs.WellFormed.{IsWellFormed};
 ghost use Rattle.pj_peg.specs.Program.{IsProgram, form_at, forms_in, rules_of};
 ghost use Rattle.pj_peg.specs.Ends.{Ends, AreTold, IsReady};
+ghost use Rattle.pj_peg.specs.Firsts.{AreGoing, IsRuledOut};
 
+use crate::firsts::KINDS;
 use crate::program::{Node, Program};
 use crate::table::Table;
 
@@ -12,10 +16,24 @@ fn is_kind_at(kinds: &[u16], place: u32, kind: u16) -> bool
     (place as usize) < kinds.len() && kinds[place as usize] == kind
 }
 
+// Whether the token at the place shows that the node takes nothing at all from there on.
+fn is_ruled_out(program: &Program, goings: &[u128], kinds: &[u16], node: usize, place: u32) -> bool
+    requires goings { AreGoing program.now goings.now }
+    requires node { node < length program.now.nodes.items }
+    ensures { OnTrue result (IsRuledOut (rules_of program.now) kinds.now (form_at (forms_in program.now.nodes.items) node) place) }
+{
+    let Some(kind) = kinds.get(place as usize) else {
+        return false;
+    };
+    *kind < KINDS && (goings[node] >> *kind) & 1 == 0
+}
+
 // Where a node ends from a place on, by a table that has what it can call. A repetition takes one turn, and the table has
-// where it goes from there: its end is found in one step, however many turns it has.
+// where it goes from there: its end is found in one step, however many turns it has. What the token at the place rules out
+// is not looked at.
 pub fn end_of(
     program: &Program,
+    goings: &[u128],
     kinds: &[u16],
     table: &Table,
     root: usize,
@@ -23,6 +41,8 @@ pub fn end_of(
 ) -> Option<u32>
     requires small { length kinds.now ≤ 200000 }
     requires program { IsProgram program.now }
+    requires goings { AreGoing program.now goings.now }
+    requires well_formed { IsWellFormed (rules_of program.now) }
     requires root { root < length program.now.nodes.items }
     requires within { from ≤ length kinds.now }
     requires later { AreTold program.now kinds.now table.now (from + 1) }
@@ -32,6 +52,9 @@ pub fn end_of(
     let mut node = root;
     let mut place = from;
     loop {
+        if is_ruled_out(program, goings, kinds, node, place) {
+            return None;
+        }
         match program.nodes[node] {
             Node::Token(kind) => {
                 return if is_kind_at(kinds, place, kind) {
@@ -50,30 +73,36 @@ pub fn end_of(
             Node::Rule(rule) => return table.end(place, rule as usize),
             Node::Nothing => return Some(place),
             Node::Never => return None,
-            Node::Seq(first, rest) => match end_of(program, kinds, table, first, place) {
+            Node::Seq(first, rest) => match end_of(program, goings, kinds, table, first, place) {
                 None => return None,
                 Some(end) => {
                     place = end;
                     node = rest;
                 }
             },
-            Node::Choice(first, others) => match end_of(program, kinds, table, first, place) {
-                Some(end) => return Some(end),
-                None => node = others,
-            },
-            Node::Star(part, star) => match end_of(program, kinds, table, part, place) {
+            Node::Choice(first, others) => {
+                if is_ruled_out(program, goings, kinds, first, place) {
+                    node = others;
+                    continue;
+                }
+                match end_of(program, goings, kinds, table, first, place) {
+                    Some(end) => return Some(end),
+                    None => node = others,
+                }
+            }
+            Node::Star(part, star) => match end_of(program, goings, kinds, table, part, place) {
                 None => return Some(place),
                 Some(end) => return table.end(end, program.roots.len() + star),
             },
-            Node::Maybe(part) => match end_of(program, kinds, table, part, place) {
+            Node::Maybe(part) => match end_of(program, goings, kinds, table, part, place) {
                 None => return Some(place),
                 Some(end) => return Some(end),
             },
-            Node::And(part) => match end_of(program, kinds, table, part, place) {
+            Node::And(part) => match end_of(program, goings, kinds, table, part, place) {
                 None => return None,
                 Some(_) => return Some(place),
             },
-            Node::Not(part) => match end_of(program, kinds, table, part, place) {
+            Node::Not(part) => match end_of(program, goings, kinds, table, part, place) {
                 None => return Some(place),
                 Some(_) => return None,
             },

@@ -1,12 +1,11 @@
 ghost use Rattle.std.specs.Prelude.{◌≡◌, ℕ, ◌+◌, ◌<◌, ◌≤◌, length, IfOk, Some, slice_get};
-ghost use Rattle.std.specs.Bool.{OnTrue};
 ghost use Rattle.pj_peg.specs.Form.{star as repetition};
 ghost use Rattle.pj_peg.specs.WellFormed.{IsWellFormed};
 ghost use Rattle.pj_peg.specs.Program.{IsProgram, form_at, forms_in, rules_of};
 ghost use Rattle.pj_peg.specs.Graph.{IsOrder};
-ghost use Rattle.pj_peg.specs.Ends.{Ends, AreTold, IsReady, IsShaped};
+ghost use Rattle.pj_peg.specs.Ends.{Ends, AreTold, IsShaped};
 ghost use Rattle.pj_peg.specs.Filled.{AreRulesTold};
-ghost use Rattle.pj_peg.specs.Firsts.{AreGoing, IsRuledOut};
+ghost use Rattle.pj_peg.specs.Firsts.{AreGoing};
 
 use crate::evaluate::end_of;
 use crate::program::Program;
@@ -22,56 +21,10 @@ pub struct Call {
     pub to: u32,
 }
 
-// Whether the token at the place shows that the node takes nothing at all from there on.
-fn is_ruled_out(
-    program: &Program,
-    goings: &[Vec<bool>],
-    kinds: &[u16],
-    root: usize,
-    place: u32,
-) -> bool
-    requires goings { AreGoing program.now goings.now }
-    requires root { root < length program.now.nodes.items }
-    ensures { OnTrue result (IsRuledOut (rules_of program.now) kinds.now (form_at (forms_in program.now.nodes.items) root) place) }
-{
-    let Some(kind) = kinds.get(place as usize) else {
-        return false;
-    };
-    let Some(set) = goings.get(*kind as usize) else {
-        return false;
-    };
-    root < set.len() && !set[root]
-}
-
-// Where a node ends from a place on, by the token there or by a table that has what the node can call.
-fn end_at(
-    program: &Program,
-    goings: &[Vec<bool>],
-    kinds: &[u16],
-    table: &Table,
-    root: usize,
-    place: u32,
-) -> Option<u32>
-    requires small { length kinds.now ≤ 200000 }
-    requires program { IsProgram program.now }
-    requires well_formed { IsWellFormed (rules_of program.now) }
-    requires goings { AreGoing program.now goings.now }
-    requires root { root < length program.now.nodes.items }
-    requires within { place ≤ length kinds.now }
-    requires later { AreTold program.now kinds.now table.now (place + 1) }
-    requires ready { IsReady program.now kinds.now table.now (form_at (forms_in program.now.nodes.items) root) place }
-    ensures { Ends (rules_of program.now) kinds.now (form_at (forms_in program.now.nodes.items) root) place result }
-{
-    if is_ruled_out(program, goings, kinds, root, place) {
-        return None;
-    }
-    end_of(program, kinds, table, root, place)
-}
-
 // Fills in where each rule ends from the place on. A rule stands in the order after those that it can call there.
 fn fill_rules(
     program: &Program,
-    goings: &[Vec<bool>],
+    goings: &[u128],
     order: &[u16],
     kinds: &[u16],
     table: &mut Table,
@@ -91,7 +44,7 @@ fn fill_rules(
 {
     for rule in order {
         let root = program.roots[*rule as usize];
-        let end = end_at(program, goings, kinds, table, root, place);
+        let end = end_of(program, goings, kinds, table, root, place);
         table.set(place, *rule as usize, end);
     }
 }
@@ -99,7 +52,7 @@ fn fill_rules(
 // Where a repetition ends from the place on, by the rules' ends there.
 fn end_of_star(
     program: &Program,
-    goings: &[Vec<bool>],
+    goings: &[u128],
     kinds: &[u16],
     table: &Table,
     star: usize,
@@ -117,14 +70,14 @@ fn end_of_star(
         Ends (rules_of program.now) kinds.now (repetition (form_at (forms_in program.now.nodes.items) a)) place result }
 {
     let part = program.stars[star];
-    match end_at(program, goings, kinds, table, part, place) {
+    match end_of(program, goings, kinds, table, part, place) {
         None => Some(place),
         Some(turn) => table.end(turn, program.roots.len() + star),
     }
 }
 
 // Fills in where each repetition ends from the place on, by the rules' ends there.
-fn fill_stars(program: &Program, goings: &[Vec<bool>], kinds: &[u16], table: &mut Table, place: u32)
+fn fill_stars(program: &Program, goings: &[u128], kinds: &[u16], table: &mut Table, place: u32)
     requires small { length kinds.now ≤ 200000 }
     requires program { IsProgram program.now }
     requires goings { AreGoing program.now goings.now }
@@ -147,7 +100,7 @@ fn fill_stars(program: &Program, goings: &[Vec<bool>], kinds: &[u16], table: &mu
 pub fn fill(
     alloc: Global,
     program: &Program,
-    goings: &[Vec<bool>],
+    goings: &[u128],
     order: &[u16],
     kinds: &[u16],
 ) -> Result<Table, NoMemory>

@@ -69,7 +69,7 @@ pub struct WellFormed {
     rules: Items,
     pub(crate) program: Program,
     pub(crate) order: Vec<u16>,
-    pub(crate) goings: Vec<Vec<bool>>,
+    pub(crate) goings: Vec<u128>,
 }
 
 impl Model for WellFormed {
@@ -96,7 +96,7 @@ struct Analysis {
     facts: Vec<Facts>,
     calls: Vec<Vec<u16>>,
     placing: Placing,
-    goings: Vec<Vec<bool>>,
+    goings: Vec<u128>,
 }
 
 // Finds out what is to be known of the rules.
