@@ -121,15 +121,16 @@ are_going p empty rules sets is_p are are_full is = record {
   fails = λ n set kind at lt out kinds i there j d x.
       let within = slice_get_within sets n set at in
       let same : set ≡ going_of (beginning_by (is_set empty) (set_at rules) (form_at (forms_in p.nodes.items) n)) =
-          some_same at (fact_at (λ f. going_of (beginning_by (is_set empty) (set_at rules) f)) p.nodes.items sets n is (omega (arith, within, count))) in
+      some_same at (fact_at (λ f. going_of (beginning_by (is_set empty) (set_at rules) f)) p.nodes.items sets n is (omega (arith, within, count))) in
       let has = goes_there (rules_of p) kinds (is_set empty) (set_at rules) kind lt are.closed
-          (λ r f is_rule h. ap (λ m. bit_at m kind) (sym (are_full.full r f is_rule)) ∙ has_right (set_at rules r) (firsts_by (is_set empty) (set_at rules) f) kind h)
-          (form_at (forms_in p.nodes.items) n) i j d x there in
+      (λ r f is_rule h. ap (λ m. bit_at m kind) (sym (are_full.full r f is_rule)) ∙ has_right (set_at rules r) (firsts_by (is_set empty) (set_at rules) f) kind h)
+      (form_at (forms_in p.nodes.items) n) i j d x there in
       differ (sym out ∙ ap (λ m. bit_at m kind) same ∙ has);
 }
   where
     count : length sets ≡ length p.nodes.items
     count = ap length is ∙ length-map (forms_in p.nodes.items) (λ f. going_of (beginning_by (is_set empty) (set_at rules) f)) ∙ length-forms_in p.nodes.items
+
     differ : ◌≡◌ {A = ℕ} 0 1 → ⊥
     differ e = omega arith
 

@@ -17,7 +17,13 @@ fn is_kind_at(kinds: &[u16], place: u32, kind: u16) -> bool
 }
 
 // Whether the token at the place shows that the node takes nothing at all from there on.
-fn is_ruled_out(program: &Program, goings: &[u128], kinds: &[u16], node: usize, place: u32) -> bool
+pub fn is_ruled_out(
+    program: &Program,
+    goings: &[u128],
+    kinds: &[u16],
+    node: usize,
+    place: u32,
+) -> bool
     requires goings { AreGoing program.now goings.now }
     requires node { node < length program.now.nodes.items }
     ensures { OnTrue result (IsRuledOut (rules_of program.now) kinds.now (form_at (forms_in program.now.nodes.items) node) place) }

@@ -3,11 +3,11 @@ ghost use Rattle.pj_peg.specs.Form.{star as repetition};
 ghost use Rattle.pj_peg.specs.WellFormed.{IsWellFormed};
 ghost use Rattle.pj_peg.specs.Program.{IsProgram, form_at, forms_in, rules_of};
 ghost use Rattle.pj_peg.specs.Graph.{IsOrder};
-ghost use Rattle.pj_peg.specs.Ends.{Ends, AreTold, IsShaped};
+ghost use Rattle.pj_peg.specs.Ends.{Ends, AreTold, IsReady, IsShaped};
 ghost use Rattle.pj_peg.specs.Filled.{AreRulesTold};
 ghost use Rattle.pj_peg.specs.Firsts.{AreGoing};
 
-use crate::evaluate::end_of;
+use crate::evaluate::{end_of, is_ruled_out};
 use crate::program::Program;
 use crate::table::Table;
 use pj_base::NoMemory;
@@ -19,6 +19,31 @@ pub struct Call {
     pub rule: u16,
     pub from: u32,
     pub to: u32,
+}
+
+// Where a node ends from a place on. Most nodes are ruled out, and this is seen without a call.
+fn end_at(
+    program: &Program,
+    goings: &[u128],
+    kinds: &[u16],
+    table: &Table,
+    root: usize,
+    place: u32,
+) -> Option<u32>
+    requires small { length kinds.now ≤ 200000 }
+    requires program { IsProgram program.now }
+    requires goings { AreGoing program.now goings.now }
+    requires well_formed { IsWellFormed (rules_of program.now) }
+    requires root { root < length program.now.nodes.items }
+    requires within { place ≤ length kinds.now }
+    requires later { AreTold program.now kinds.now table.now (place + 1) }
+    requires ready { IsReady program.now kinds.now table.now (form_at (forms_in program.now.nodes.items) root) place }
+    ensures { Ends (rules_of program.now) kinds.now (form_at (forms_in program.now.nodes.items) root) place result }
+{
+    if is_ruled_out(program, goings, kinds, root, place) {
+        return None;
+    }
+    end_of(program, goings, kinds, table, root, place)
 }
 
 // Fills in where each rule ends from the place on. A rule stands in the order after those that it can call there.
@@ -44,7 +69,7 @@ fn fill_rules(
 {
     for rule in order {
         let root = program.roots[*rule as usize];
-        let end = end_of(program, goings, kinds, table, root, place);
+        let end = end_at(program, goings, kinds, table, root, place);
         table.set(place, *rule as usize, end);
     }
 }
@@ -70,7 +95,7 @@ fn end_of_star(
         Ends (rules_of program.now) kinds.now (repetition (form_at (forms_in program.now.nodes.items) a)) place result }
 {
     let part = program.stars[star];
-    match end_of(program, goings, kinds, table, part, place) {
+    match end_at(program, goings, kinds, table, part, place) {
         None => Some(place),
         Some(turn) => table.end(turn, program.roots.len() + star),
     }

@@ -51,7 +51,11 @@ impl Beginning {
     fn going(self) -> u128
         ensures { result ≡ going_of self }
     {
-        if self.nullable { u128::MAX } else { self.firsts }
+        if self.nullable {
+            u128::MAX
+        } else {
+            self.firsts
+        }
     }
 }
 
@@ -74,12 +78,7 @@ fn set_of(sets: &[u128], rule: u16) -> u128
 }
 
 /// How a node begins whose parts begin so, where these rules can take nothing and begin with the kinds of their sets.
-fn beginning_of_node(
-    node: Node,
-    parts: &[Beginning],
-    empty: &[bool],
-    sets: &[u128],
-) -> Beginning
+fn beginning_of_node(node: Node, parts: &[Beginning], empty: &[bool], sets: &[u128]) -> Beginning
     requires { (stars : List ℕ) × PartsBelow stars (length parts.now) node }
     ensures { (forms : List Form) → parts.now ≡ map (beginning_by (is_set empty.now) (set_at sets.now)) forms →
         result ≡ beginning_by (is_set empty.now) (set_at sets.now) (node_form forms node) }

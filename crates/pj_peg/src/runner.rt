@@ -63,7 +63,9 @@ fn add_calls(
                     }
                 }
             }
-            Node::Choice(first, others) => match end_of(program, goings, kinds, table, first, place) {
+            Node::Choice(first, others) => match end_of(
+                program, goings, kinds, table, first, place,
+            ) {
                 None => node = others,
                 Some(_) => node = first,
             },

@@ -11,8 +11,8 @@ use Rattle.pj_peg.proofs.Going.{star_ready, star_moves, star_ends, told_is, told
 use Rattle.pj_peg.proofs.Filling.{star_safe, stars_ready}
 use Rattle.pj_peg.proofs.fill.end_of_star.Goals as goal
 
-pub end_of-requires-clause-ready : goal.end_of-requires-clause-ready
-end_of-requires-clause-ready c =
+pub end_at-requires-clause-ready : goal.end_at-requires-clause-ready
+end_at-requires-clause-ready c =
     let at = slice_get_read c.args.program.now.stars.items (length c.args.program.now.stars.items) c.args.star c.index-part.result.now refl c.requires.there c.index-part.ensures in
     star_ready c.args.program.now c.args.kinds.now c.args.table.now _ _
     (stars_ready c.args.program.now c.args.kinds.now c.args.table.now c.args.place c.args.star c.index-part.result.now c.requires.program c.requires.well_formed c.requires.here at)

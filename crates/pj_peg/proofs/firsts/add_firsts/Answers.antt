@@ -20,7 +20,7 @@ loop-rule-preserved c =
 pub returns-clause-closed : goal.returns-clause-closed
 returns-clause-closed c =
     let closed : c.loop-rule.added ≡ false → (r k : ℕ) (b : Beginning) → slice_get c.args.roots.now r ≡ Some k → slice_get c.args.all.now k ≡ Some b →
-        bit_or (set_at c.args.sets.now.items r) b.firsts ≡ set_at c.args.sets.now.items r = λ e r k b at is.
-            let within = slice_get_within c.args.roots.now r k at in
-            c.loop-rule.invariant.closed e r k b (omega (arith, within, c.loop-rule-test.false)) at is in
+    bit_or (set_at c.args.sets.now.items r) b.firsts ≡ set_at c.args.sets.now.items r = λ e r k b at is.
+    let within = slice_get_within c.args.roots.now r k at in
+    c.loop-rule.invariant.closed e r k b (omega (arith, within, c.loop-rule-test.false)) at is in
     on_false _ _ closed
