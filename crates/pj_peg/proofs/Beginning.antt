@@ -21,7 +21,6 @@ use Rattle.pj_peg.proofs.Nodes.{length-forms_in}
 use Rattle.pj_peg.specs.WellFormed.{IsWellFormed}
 use Rattle.pj_peg.specs.Ends.{IsSafe}
 use Rattle.pj_peg.proofs.Exists.{goes, nullable, has_near}
-use Rattle.pj_peg.proofs.Filling.{roots_length}
 use Rattle.pj_peg.proofs.FactsLemmas.{fact_at, root_of}
 
 -- kind k is in the set
@@ -137,7 +136,7 @@ are_going p empty rules sets is_p are are_full is = record {
 -- a safe form that is ruled out fails
 pub fails_ruled_out : (p : Program) (kinds : List ℕ) (f : Form) (i : ℕ) → IsWellFormed (rules_of p) → IsSafe p f → IsRuledOut (rules_of p) kinds f i → Derives (rules_of p) kinds f i Fails
 fails_ruled_out p kinds f i well safe out =
-    let len = roots_length p kinds in
+    let len = length-map p.roots.items (form_at (forms_in p.nodes.items)) in
     of (has_near (rules_of p) kinds well (length kinds) i f (omega arith) (λ s names. let lt = safe.known s names in omega arith) safe.repeats)
   where
     of : (o : Outcome) × Derives (rules_of p) kinds f i o → Derives (rules_of p) kinds f i Fails

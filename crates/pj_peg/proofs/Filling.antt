@@ -1,6 +1,6 @@
 -- A place's row, column by column.
 use Rattle.std.proofs.Common.{◌≡◌, ℕ, ◌+◌, ◌^◌, ◌<◌, ◌≤◌, List, length, Option, Some, None, sym, ◌∙◌, subst, ap, inl, inr, ⊎_elim, arith, IfSome}
-use Rattle.std.specs.Prelude.{slice_get}
+use Rattle.std.specs.Prelude.{slice_get, ◌⊎◌}
 use Rattle.std.proofs.lemmas.Bool.{cases_eq, cases_lt}
 use Rattle.std.proofs.lemmas.List.{length-map}
 use Rattle.std.proofs.lemmas.Option.{slice_get_within}
@@ -11,13 +11,15 @@ use Rattle.pj_peg.specs.Derivation.{tree, no_tree}
 use Rattle.pj_peg.specs.WellFormed.{IsWellFormed, Names, Repeats, IsNullable}
 use Rattle.pj_peg.specs.Program.{IsProgram, form_at, forms_in, rules_of}
 use Rattle.pj_peg.specs.Table.{cell_at}
-use Rattle.pj_peg.specs.Graph.{IsOrder}
 use Rattle.pj_peg.specs.Ends.{Ends, IsTold, AreTold, IsSafe, IsReady, IsShaped}
 use Rattle.pj_peg.specs.Filled.{AreRulesTold}
 use Rattle.pj_peg.proofs.Lists.{some_same}
 use Rattle.pj_peg.proofs.FactsLemmas.{root_form}
 use Rattle.pj_peg.proofs.Exists.{known_rule, fed_rule}
 use Rattle.pj_peg.proofs.Checking.{begins_names}
+use Rattle.pj_peg.specs.Firsts.{IsRuledOut}
+use Rattle.pj_peg.specs.Orders.{IsOrderAt, IsFresh}
+use Rattle.pj_peg.proofs.Beginning.{fails_ruled_out}
 use Rattle.pj_peg.proofs.Going.{ends_within}
 
 -- what a repeated form names and repeats, the whole does
@@ -105,6 +107,9 @@ module _ (p : Program) (kinds : List ℕ) where
           (cases_eq i place);
     }
 
+    pub fresh_kept : IsFresh p old place → IsFresh p new place
+    fresh_kept fresh = record { cells = λ i c lt within. others i c (λ (e : i ≡ place) (_ : c ≡ column). absurd (omega arith)) ∙ fresh.cells i c lt within }
+
     pub later_kept : AreTold p kinds old (place + 1) → AreTold p kinds new (place + 1)
     later_kept t = record {
       rules = λ j s from within known. told_kept old new (rule s) j s (others j s (λ (e : j ≡ place) (_ : s ≡ column). absurd (omega arith))) (t.rules j s from within known);
@@ -113,21 +118,46 @@ module _ (p : Program) (kinds : List ℕ) where
     }
 
 module _ (p : Program) (order kinds : List ℕ) where
-  -- the first k rules of the order are told here
+  -- the first k rules of the order are told here, and the others are not in the table yet
   pub record IsFilling (table : List (List (Option ℕ))) (place k : ℕ) : Type 0 where
     pub shape : IsShaped p kinds table
     pub later : AreTold p kinds table (place + 1)
     pub told : (m r : ℕ) → m < k → slice_get order m ≡ Some r → IsTold (rules_of p) kinds table (rule r) place r
+    pub others : (s : ℕ) → s < length p.roots.items → ((m : ℕ) × (m < k) × (slice_get order m ≡ Some s)) ⊎ (cell_at table place s ≡ Some None)
+    pub fresh : IsFresh p table place
 
-  pub filling_starts : (table : List (List (Option ℕ))) (place : ℕ) → IsShaped p kinds table → AreTold p kinds table (place + 1) → IsFilling table place 0
-  filling_starts table place shape later = record { shape = shape; later = later; told = λ m r lt. absurd (omega arith) }
+  pub filling_starts : (table : List (List (Option ℕ))) (place : ℕ) → IsShaped p kinds table → AreTold p kinds table (place + 1) → IsFresh p table (place + 1) → IsFilling table place 0
+  filling_starts table place shape later fresh = record {
+    shape = shape;
+    later = later;
+    told = λ m r lt. absurd (omega arith);
+    others = λ s lt. inr (fresh.cells place s (omega arith) (omega arith));
+    fresh = record { cells = λ i c lt within. fresh.cells i c (omega arith) within };
+  }
 
-  pub filling_ready : (table : List (List (Option ℕ))) (place k r : ℕ) (f : Form) → IsWellFormed (rules_of p) → IsOrder (rules_of p) order → IsFilling table place k →
+  -- a rule that is ruled out here is told: it is not in the table, and fails
+  told_out : (table : List (List (Option ℕ))) (place k s : ℕ) → IsWellFormed (rules_of p) → IsFilling table place k → s < length p.roots.items → IsRuledOut (rules_of p) kinds (rule s) place →
+      IsTold (rules_of p) kinds table (rule s) place s
+  told_out table place k s well filling lt out = ⊎_elim
+      (λ (h : (m : ℕ) × (m < k) × (slice_get order m ≡ Some s)). filling.told h.0 s h.1 h.2)
+      (λ (h : cell_at table place s ≡ Some None). record { end = None; cell = h; ends = fails_ruled_out p kinds (rule s) place well safe out })
+      (filling.others s lt)
+    where
+      safe : IsSafe p (rule s)
+      safe = record { known = λ t e. subst (λ n. n < length p.roots.items) (sym e) lt; repeats = λ q h. absurd h }
+
+  pub filling_ready : (table : List (List (Option ℕ))) (place k r : ℕ) (f : Form) → IsWellFormed (rules_of p) → IsOrderAt (rules_of p) kinds place order → IsFilling table place k →
       slice_get order k ≡ Some r → slice_get (rules_of p) r ≡ Some f → IsReady p kinds table f place
   filling_ready table place k r f well ordered filling at is = record {
-    safe = rule_safe p kinds r f well is;
-    here = λ s begins. let (m, lt, same) = ordered.after k r s f at is begins in filling.told m s lt same;
+    safe = safe;
+    here = λ s begins. ⊎_elim
+        (λ (h : (m : ℕ) × (m < k) × (slice_get order m ≡ Some s)). filling.told h.0 s h.1 h.2)
+        (λ (out : IsRuledOut (rules_of p) kinds (rule s) place). told_out table place k s well filling (safe.known s (begins_names (rules_of p) f s begins)) out)
+        (ordered.after k r s f at is begins);
   }
+    where
+      safe : IsSafe p f
+      safe = rule_safe p kinds r f well is
 
   pub filling_more : (old new : List (List (Option ℕ))) (place k r : ℕ) (f : Form) (o : Option ℕ) → IsFilling old place k → slice_get order k ≡ Some r → slice_get (rules_of p) r ≡ Some f →
       Ends (rules_of p) kinds f place o → cell_at new place r ≡ Some o →
@@ -142,15 +172,26 @@ module _ (p : Program) (order kinds : List ℕ) where
         (λ (le : k ≤ m). let now : m ≡ k = omega arith in absurd (e (some_same same (ap (slice_get order) now ∙ at))))
         (cases_lt m k))
         (cases_eq s r);
+    others = λ s lt. ⊎_elim
+        (λ (e : s ≡ r). inl (k, omega arith, at ∙ ap Some (sym e)))
+        (λ (e : s ≡ r → ⊥). ⊎_elim
+        (λ (h : (m : ℕ) × (m < k) × (slice_get order m ≡ Some s)). let before = h.1 in inl (h.0, omega (arith, before), h.2))
+        (λ (h : cell_at old place s ≡ Some None). inr (others place s (λ _. e) ∙ h))
+        (filling.others s lt))
+        (cases_eq s r);
+    fresh = fresh_kept p kinds old new place r o here others filling.fresh;
   }
 
-  pub filling_done : (table : List (List (Option ℕ))) (place k : ℕ) → IsOrder (rules_of p) order → IsFilling table place k → length order ≤ k → AreRulesTold p kinds table place
-  filling_done table place k ordered filling le = record {
+  pub filling_done : (table : List (List (Option ℕ))) (place k : ℕ) → IsWellFormed (rules_of p) → IsOrderAt (rules_of p) kinds place order → IsFilling table place k → length order ≤ k → AreRulesTold p kinds table place
+  filling_done table place k well ordered filling le = record {
     rules = λ s lt.
         let len = roots_length p kinds in
-        let (m, is) = ordered.listed s (omega arith) in
-        let within = slice_get_within order m s is in
-        filling.told m s (omega arith) is;
+        ⊎_elim
+        (λ (h : (m : ℕ) × (slice_get order m ≡ Some s)).
+        let within = slice_get_within order h.0 s h.1 in
+        filling.told h.0 s (omega (arith, within, le)) h.1)
+        (λ (out : IsRuledOut (rules_of p) kinds (rule s) place). told_out table place k s well filling lt out)
+        (ordered.listed s (omega (arith, lt, len)));
   }
 
 module _ (p : Program) (kinds : List ℕ) where
@@ -159,10 +200,11 @@ module _ (p : Program) (kinds : List ℕ) where
     pub shape : IsShaped p kinds table
     pub later : AreTold p kinds table (place + 1)
     pub here : AreRulesTold p kinds table place
+    pub fresh : IsFresh p table place
     pub told : (n a : ℕ) → n < k → slice_get p.stars.items n ≡ Some a → IsTold (rules_of p) kinds table (star (form_at (forms_in p.nodes.items) a)) place (length p.roots.items + n)
 
-  pub stars_start : (table : List (List (Option ℕ))) (place : ℕ) → IsShaped p kinds table → AreTold p kinds table (place + 1) → AreRulesTold p kinds table place → IsFillingStars table place 0
-  stars_start table place shape later here = record { shape = shape; later = later; here = here; told = λ n a lt. absurd (omega arith) }
+  pub stars_start : (table : List (List (Option ℕ))) (place : ℕ) → IsShaped p kinds table → AreTold p kinds table (place + 1) → AreRulesTold p kinds table place → IsFresh p table place → IsFillingStars table place 0
+  stars_start table place shape later here fresh = record { shape = shape; later = later; here = here; fresh = fresh; told = λ n a lt. absurd (omega arith) }
 
   pub stars_ready : (table : List (List (Option ℕ))) (place n a : ℕ) → IsProgram p → IsWellFormed (rules_of p) → AreRulesTold p kinds table place → slice_get p.stars.items n ≡ Some a →
       IsReady p kinds table (star (form_at (forms_in p.nodes.items) a)) place
@@ -176,6 +218,7 @@ module _ (p : Program) (kinds : List ℕ) where
   stars_more old new place k a column o filling at column_is ends here others = record {
     shape = shape_kept p kinds old new place column o here others filling.shape;
     later = later_kept p kinds old new place column o here others filling.later;
+    fresh = fresh_kept p kinds old new place column o here others filling.fresh;
     here = record {
       rules = λ s lt. told_kept p kinds old new (rule s) place s
           (others place s (λ (_ : place ≡ place) (e : s ≡ column). absurd (omega arith))) (filling.here.rules s lt);

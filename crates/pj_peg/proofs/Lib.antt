@@ -18,6 +18,7 @@ pub mod Placing
 pub mod Checking
 pub mod Going
 pub mod Filling
+pub mod Ordering
 pub mod Beginning
 mod Growing
 pub mod Collecting

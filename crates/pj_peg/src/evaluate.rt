@@ -7,6 +7,7 @@ ghost use Rattle.pj_peg.specs.Ends.{Ends, AreTold, IsReady};
 ghost use Rattle.pj_peg.specs.Firsts.{AreGoing, IsRuledOut};
 
 use crate::firsts::KINDS;
+use crate::orders::rules_out;
 use crate::program::{Node, Program};
 use crate::table::Table;
 
@@ -32,7 +33,7 @@ pub fn is_ruled_out(
     let Some(kind) = kinds.get(place as usize) else {
         return false;
     };
-    *kind < KINDS && (goings[node] >> *kind) & 1 == 0
+    *kind < KINDS && rules_out(program, goings, *kind, node)
 }
 
 // Where a token of a kind ends that stands at the place.

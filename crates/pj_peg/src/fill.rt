@@ -6,6 +6,7 @@ ghost use Rattle.pj_peg.specs.Graph.{IsOrder};
 ghost use Rattle.pj_peg.specs.Ends.{Ends, AreTold, IsReady, IsShaped};
 ghost use Rattle.pj_peg.specs.Filled.{AreRulesTold};
 ghost use Rattle.pj_peg.specs.Firsts.{AreGoing};
+ghost use Rattle.pj_peg.specs.Orders.{AreOrders, IsOrderAt, IsFresh};
 
 use crate::evaluate::{end_of, is_ruled_out};
 use crate::program::Program;
@@ -46,7 +47,8 @@ fn end_at(
     end_of(program, goings, kinds, table, root, place)
 }
 
-// Fills in where each rule ends from the place on. A rule stands in the order after those that it can call there.
+// Fills in where the rules of an order end from the place on. A rule stands in it after those that it can call there; the
+// others fail there, as the table has it already.
 fn fill_rules(
     program: &Program,
     goings: &[u128],
@@ -59,19 +61,55 @@ fn fill_rules(
     requires program { IsProgram program.now }
     requires goings { AreGoing program.now goings.now }
     requires well_formed { IsWellFormed (rules_of program.now) }
-    requires order { IsOrder (rules_of program.now) order.now }
+    requires order { IsOrderAt (rules_of program.now) kinds.now place order.now }
     requires within { place ≤ length kinds.now }
     requires shape { IsShaped program.now kinds.now table.old }
     requires later { AreTold program.now kinds.now table.old (place + 1) }
+    requires fresh { IsFresh program.now table.old (place + 1) }
     ensures shape { IsShaped program.now kinds.now table.new }
     ensures later { AreTold program.now kinds.now table.new (place + 1) }
     ensures here { AreRulesTold program.now kinds.now table.new place }
+    ensures fresh { IsFresh program.now table.new place }
 {
     for rule in order {
         let root = program.roots[*rule as usize];
-        let end = end_at(program, goings, kinds, table, root, place);
+        let end = end_of(program, goings, kinds, table, root, place);
         table.set(place, *rule as usize, end);
     }
+}
+
+// Fills in where each rule ends from the place on: those that the token there does not rule out, or all where none stands.
+fn fill_rules_at(
+    program: &Program,
+    goings: &[u128],
+    order: &[u16],
+    orders: &[Vec<u16>],
+    kinds: &[u16],
+    table: &mut Table,
+    place: u32,
+)
+    requires small { length kinds.now ≤ 200000 }
+    requires program { IsProgram program.now }
+    requires goings { AreGoing program.now goings.now }
+    requires well_formed { IsWellFormed (rules_of program.now) }
+    requires order { IsOrder (rules_of program.now) order.now }
+    requires orders { AreOrders (rules_of program.now) orders.now }
+    requires within { place ≤ length kinds.now }
+    requires shape { IsShaped program.now kinds.now table.old }
+    requires later { AreTold program.now kinds.now table.old (place + 1) }
+    requires fresh { IsFresh program.now table.old (place + 1) }
+    ensures shape { IsShaped program.now kinds.now table.new }
+    ensures later { AreTold program.now kinds.now table.new (place + 1) }
+    ensures here { AreRulesTold program.now kinds.now table.new place }
+    ensures fresh { IsFresh program.now table.new place }
+{
+    if let Some(kind) = kinds.get(place as usize) {
+        if let Some(here) = orders.get(*kind as usize) {
+            fill_rules(program, goings, here, kinds, table, place);
+            return;
+        }
+    }
+    fill_rules(program, goings, order, kinds, table, place);
 }
 
 // Where a repetition ends from the place on, by the rules' ends there.
@@ -111,7 +149,9 @@ fn fill_stars(program: &Program, goings: &[u128], kinds: &[u16], table: &mut Tab
     requires shape { IsShaped program.now kinds.now table.old }
     requires later { AreTold program.now kinds.now table.old (place + 1) }
     requires here { AreRulesTold program.now kinds.now table.old place }
+    requires fresh { IsFresh program.now table.old place }
     ensures shape { IsShaped program.now kinds.now table.new }
+    ensures fresh { IsFresh program.now table.new place }
     ensures told { AreTold program.now kinds.now table.new place }
 {
     for star in 0..program.stars.len() {
@@ -127,6 +167,7 @@ pub fn fill(
     program: &Program,
     goings: &[u128],
     order: &[u16],
+    orders: &[Vec<u16>],
     kinds: &[u16],
 ) -> Result<Table, NoMemory>
     requires small { length kinds.now ≤ 200000 }
@@ -134,6 +175,7 @@ pub fn fill(
     requires goings { AreGoing program.now goings.now }
     requires well_formed { IsWellFormed (rules_of program.now) }
     requires order { IsOrder (rules_of program.now) order.now }
+    requires orders { AreOrders (rules_of program.now) orders.now }
     ensures { IfOk result (λ table. AreTold program.now kinds.now table 0) }
 {
     let columns = program.roots.len() + program.stars.len();
@@ -141,7 +183,15 @@ pub fn fill(
     let mut place = kinds.len() + 1;
     while place > 0 {
         place -= 1;
-        fill_rules(program, goings, order, kinds, &mut table, place as u32);
+        fill_rules_at(
+            program,
+            goings,
+            order,
+            orders,
+            kinds,
+            &mut table,
+            place as u32,
+        );
         fill_stars(program, goings, kinds, &mut table, place as u32);
     }
     Ok(table)

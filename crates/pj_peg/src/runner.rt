@@ -219,7 +219,14 @@ pub fn run(
 {
     let program = &grammar.program;
     let goings = &grammar.goings;
-    let table = fill(alloc, program, goings, &grammar.order, kinds)?;
+    let table = fill(
+        alloc,
+        program,
+        goings,
+        &grammar.order,
+        &grammar.orders,
+        kinds,
+    )?;
     match table.end(0, 0) {
         None => Ok(None),
         Some(to) => {

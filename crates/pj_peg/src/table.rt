@@ -1,4 +1,4 @@
-ghost use Rattle.std.specs.Prelude.{◌≡◌, ℕ, ◌+◌, ◌-◌, ◌^◌, ◌<◌, List, IfOk, IfSome, IsSome};
+ghost use Rattle.std.specs.Prelude.{◌≡◌, ℕ, ◌+◌, ◌-◌, ◌^◌, ◌<◌, List, IfOk, IfSome, IsSome, Some, None};
 ghost use Rattle.pj_peg.specs.Table.{cell_at};
 
 use pj_base::NoMemory;
@@ -65,7 +65,7 @@ impl Model for Table {
 impl Table {
     // A table in which each column fails at each place.
     pub fn new(alloc: Global, places: usize, columns: usize) -> Result<Table, NoMemory>
-        ensures { IfOk result (λ table. (i c : ℕ) → i < places → c < columns → IsSome (cell_at table i c)) }
+        ensures { IfOk result (λ table. (i c : ℕ) → i < places → c < columns → cell_at table i c ≡ Some None) }
     {
         let mut rows = Vec::new(alloc);
         for _ in 0..places {
