@@ -1,11 +1,11 @@
 -- A turn that adds kinds to the sets of rules.
-use Rattle.std.proofs.Common.{◌≡◌, ℕ, zero, suc, ◌+◌, ◌-◌, ◌^◌, ◌<◌, ◌≤◌, Bool, true, false, List, [], ◌∷◌, length, Some, refl, sym, ◌∙◌, subst, ap, ⊎_elim, arith, get_or}
+use Rattle.std.proofs.Common.{◌≡◌, ℕ, zero, suc, ◌+◌, ◌^◌, ◌<◌, ◌≤◌, Bool, true, false, List, [], ◌∷◌, length, Some, refl, sym, ◌∙◌, subst, ap, ⊎_elim, arith, get_or}
 use Rattle.std.specs.Prelude.{slice_get, slice_set}
 use Rattle.std.specs.Int.RustNames.{bit_or}
 use Rattle.std.proofs.lemmas.Bool.{cases_lt}
 use Rattle.std.proofs.lemmas.List.{length-set}
 use Rattle.pj_peg.specs.declared.firsts.Beginning.{Beginning}
-use Rattle.pj_peg.specs.Firsts.{all_kinds, set_at, missing}
+use Rattle.pj_peg.specs.Firsts.{set_at, missing}
 use Rattle.pj_peg.proofs.Lists.{some_same}
 
 -- where a set has more, less is missing

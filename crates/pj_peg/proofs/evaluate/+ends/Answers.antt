@@ -1,7 +1,7 @@
-use Rattle.std.proofs.Common.{◌≡◌, ℕ, ◌+◌, ◌∙◌, ap, sym, subst, refl, arith, Some, None, true, false, IsSome}
+use Rattle.std.proofs.Common.{ℕ, ◌+◌, ◌∙◌, ap, sym, subst, refl, arith, Some, None, IsSome}
 use Rattle.pj_peg.specs.declared.program.Node.TheVariants.{Token, Any, Rule, Nothing, Never, Seq, Choice, Star, Maybe, And, Not}
 use Rattle.pj_peg.specs.Derivation.{no_tree}
-use Rattle.pj_peg.specs.Derives.{token_is, token_not, any_is, any_not, nothing_to, never_fails}
+use Rattle.pj_peg.specs.Derives.{any_is, any_not, nothing_to, never_fails}
 use Rattle.pj_peg.specs.Program.{form_at, forms_in, rules_of}
 use Rattle.pj_peg.specs.Table.{cell_at}
 use Rattle.std.proofs.lemmas.Option.{slice_get_within}

@@ -2,7 +2,7 @@ use Rattle.std.proofs.Common.{length, refl, sym, subst}
 use Rattle.std.proofs.lemmas.Option.{slice_get_read}
 use Rattle.pj_peg.specs.Program.{rules_of}
 use Rattle.pj_peg.specs.Orders.{IsOrderAt}
-use Rattle.pj_peg.proofs.Ordering.{order_at_kind, order_at_all}
+use Rattle.pj_peg.proofs.Ordering.{order_at_kind}
 use Rattle.pj_peg.proofs.fill.fill_rules_at.Goals as goal
 
 pub fill_rules-requires-clause-order : goal.fill_rules-requires-clause-order
