@@ -12,7 +12,7 @@ use Rattle.pj_peg.specs.WellFormed.{Begins}
 use Rattle.pj_peg.specs.Graph.{IsOrder}
 use Rattle.pj_peg.specs.Program.{form_at, forms_in, rules_of}
 use Rattle.pj_peg.specs.Firsts.{IsRuledOut}
-use Rattle.pj_peg.specs.Orders.{IsAlwaysRuledOut, IsOrderFor, AreOrders, IsOrderAt}
+use Rattle.pj_peg.specs.Orders.{IsAlwaysRuledOut, IsOrderFor, AreOrders, IsOrderAt, AreStarsFor, AreStarsByKind, AreStarsAt}
 use Rattle.pj_peg.proofs.Lists.{some_same, get_push_cases, get_append, get_push}
 use Rattle.pj_peg.proofs.FactsLemmas.{root_form}
 
@@ -128,4 +128,108 @@ order_at_all rules kinds order i is = record {
   each = is.each;
   listed = λ r lt. inl (is.listed r lt);
   after = λ k r s f there rule_is begins. inl (is.after k r s f there rule_is begins);
+}
+
+-- the first n repetitions but those that are ruled out
+pub record AreStarsSoFar (p : Program) (kind : ℕ) (stars : List ℕ) (n : ℕ) : Type 0 where
+  pub each : (k m : ℕ) → slice_get stars k ≡ Some m → m < length p.stars.items
+  pub listed : (m a : ℕ) → m < n → slice_get p.stars.items m ≡ Some a →
+      ((k : ℕ) × (slice_get stars k ≡ Some m)) ⊎ IsAlwaysRuledOut (rules_of p) kind (form_at (forms_in p.nodes.items) a)
+
+pub stars_none : (p : Program) (kind : ℕ) (stars : List ℕ) → stars ≡ [] → AreStarsSoFar p kind stars 0
+stars_none p kind stars is = record {
+  each = λ k m at. absurd (none k m (ap (λ l. slice_get l k) (sym is) ∙ at));
+  listed = λ m a lt. absurd (omega arith);
+}
+  where
+    none : (k r : ℕ) → slice_get [] k ≡ Some r → ⊥
+    none k r e = let z = e in cc
+
+pub stars_out : (p : Program) (kind : ℕ) (stars : List ℕ) (n a : ℕ) → AreStarsSoFar p kind stars n → slice_get p.stars.items n ≡ Some a →
+    IsAlwaysRuledOut (rules_of p) kind (form_at (forms_in p.nodes.items) a) → AreStarsSoFar p kind stars (n + 1)
+stars_out p kind stars n a so_far at out = record {
+  each = so_far.each;
+  listed = λ m b lt is. ⊎_elim
+      (λ (before : m < n). so_far.listed m b before is)
+      (λ (le : n ≤ m).
+      let now : m ≡ n = omega arith in
+      inr (subst (λ (c : ℕ). IsAlwaysRuledOut (rules_of p) kind (form_at (forms_in p.nodes.items) c)) (some_same at (ap (slice_get p.stars.items) (sym now) ∙ is)) out))
+      (cases_lt m n);
+}
+
+pub stars_pushed : (p : Program) (kind : ℕ) (stars stars' : List ℕ) (n : ℕ) → AreStarsSoFar p kind stars n → n < length p.stars.items → stars' ≡ stars ++ n ∷ [] → AreStarsSoFar p kind stars' (n + 1)
+stars_pushed p kind stars stars' n so_far within is = subst (λ l. AreStarsSoFar p kind l (n + 1)) (sym is) (record {
+  each = λ k m there. ⊎_elim
+      (λ (h : slice_get stars k ≡ Some m). so_far.each k m h)
+      (λ (h : (k ≡ length stars) × (n ≡ m)). subst (λ q. q < length p.stars.items) h.1 within)
+      (get_push_cases stars n k m there);
+  listed = λ m a lt there. ⊎_elim
+      (λ (before : m < n). ⊎_elim
+      (λ (h : (k : ℕ) × (slice_get stars k ≡ Some m)). inl (h.0, get_append stars (n ∷ []) h.0 m h.1))
+      (λ (h : IsAlwaysRuledOut (rules_of p) kind (form_at (forms_in p.nodes.items) a)). inr h)
+      (so_far.listed m a before there))
+      (λ (le : n ≤ m). let now : n ≡ m = omega arith in inl (length stars, get_push stars n ∙ ap Some now))
+      (cases_lt m n);
+})
+
+pub stars_all : (p : Program) (kind : ℕ) (stars : List ℕ) (n : ℕ) → AreStarsSoFar p kind stars n → length p.stars.items ≤ n → AreStarsFor p kind stars
+stars_all p kind stars n so_far le = record {
+  each = so_far.each;
+  listed = λ m a at. let within = slice_get_within p.stars.items m a at in so_far.listed m a (omega (arith, within, le)) at;
+}
+
+pub lists_none : (p : Program) (lists : List (Vec ℕ Global)) → lists ≡ [] → AreStarsByKind p lists
+lists_none p lists is = record { each = λ kind stars at. absurd (none kind stars (ap (λ (l : List (Vec ℕ Global)). slice_get l kind) (sym is) ∙ at)) }
+  where
+    none : (k : ℕ) (o : Vec ℕ Global) → slice_get [] k ≡ Some o → ⊥
+    none k o e = let z = e in cc
+
+pub lists_more : (p : Program) (lists lists' : List (Vec ℕ Global)) (stars : Vec ℕ Global) (kind : ℕ) → length lists ≡ kind → AreStarsByKind p lists → AreStarsFor p kind stars.items →
+    lists' ≡ lists ++ stars ∷ [] → AreStarsByKind p lists'
+lists_more p lists lists' stars kind count are new is = subst (AreStarsByKind p) (sym is) (record {
+  each = λ k o at. ⊎_elim
+      (λ (h : slice_get lists k ≡ Some o). are.each k o h)
+      (λ (h : (k ≡ length lists) × (stars ≡ o)). subst (λ n. AreStarsFor p n o.items) (sym (h.0 ∙ count)) (subst (λ (v : Vec ℕ Global). AreStarsFor p kind v.items) h.1 new))
+      (get_push_cases lists stars k o at);
+})
+
+pub stars_at_kind : (p : Program) (kinds stars : List ℕ) (kind i : ℕ) → AreStarsFor p kind stars → slice_get kinds i ≡ Some kind → AreStarsAt p kinds i stars
+stars_at_kind p kinds stars kind i is at = record {
+  each = is.each;
+  listed = λ n a there. ⊎_elim
+      (λ (h : (k : ℕ) × (slice_get stars k ≡ Some n)). inl h)
+      (λ (h : IsAlwaysRuledOut (rules_of p) kind (form_at (forms_in p.nodes.items) a)). inr (h kinds i at))
+      (is.listed n a there);
+}
+
+-- the first n repetitions
+pub record AreNumbers (p : Program) (stars : List ℕ) (n : ℕ) : Type 0 where
+  pub each : (k m : ℕ) → slice_get stars k ≡ Some m → m < length p.stars.items
+  pub listed : (m : ℕ) → m < n → (k : ℕ) × (slice_get stars k ≡ Some m)
+
+pub numbers_none : (p : Program) (stars : List ℕ) → stars ≡ [] → AreNumbers p stars 0
+numbers_none p stars is = record {
+  each = λ k m at. absurd (none k m (ap (λ l. slice_get l k) (sym is) ∙ at));
+  listed = λ m lt. absurd (omega arith);
+}
+  where
+    none : (k r : ℕ) → slice_get [] k ≡ Some r → ⊥
+    none k r e = let z = e in cc
+
+pub numbers_more : (p : Program) (stars stars' : List ℕ) (n : ℕ) → AreNumbers p stars n → n < length p.stars.items → stars' ≡ stars ++ n ∷ [] → AreNumbers p stars' (n + 1)
+numbers_more p stars stars' n so_far within is = subst (λ l. AreNumbers p l (n + 1)) (sym is) (record {
+  each = λ k m there. ⊎_elim
+      (λ (h : slice_get stars k ≡ Some m). so_far.each k m h)
+      (λ (h : (k ≡ length stars) × (n ≡ m)). subst (λ q. q < length p.stars.items) h.1 within)
+      (get_push_cases stars n k m there);
+  listed = λ m lt. ⊎_elim
+      (λ (before : m < n). let (k, h) = so_far.listed m before in (k, get_append stars (n ∷ []) k m h))
+      (λ (le : n ≤ m). let now : n ≡ m = omega arith in (length stars, get_push stars n ∙ ap Some now))
+      (cases_lt m n);
+})
+
+pub numbers_all : (p : Program) (stars : List ℕ) (n : ℕ) → AreNumbers p stars n → length p.stars.items ≤ n → (kinds : List ℕ) (i : ℕ) → AreStarsAt p kinds i stars
+numbers_all p stars n so_far le kinds i = record {
+  each = so_far.each;
+  listed = λ m a at. let within = slice_get_within p.stars.items m a at in inl (so_far.listed m (omega (arith, within, le)));
 }

@@ -16,7 +16,7 @@ use Rattle.pj_peg.proofs.Going.{told_is}
 use Rattle.pj_peg.proofs.Filling.{roots_length}
 use Rattle.pj_peg.proofs.Placed.{placed, placed_steps}
 
-module _ (items now : List Item) (p : Program) (order kinds : List ℕ) (orders : List (Vec ℕ Global)) (table : List (List (Option ℕ))) (goings : List ℕ) (made : IsMade (forms_of items) p order orders goings) (view : items ≡ now) (told : AreTold p kinds table 0) where
+module _ (items now : List Item) (p : Program) (order kinds : List ℕ) (orders stars : List (Vec ℕ Global)) (table : List (List (Option ℕ))) (goings : List ℕ) (made : IsMade (forms_of items) p order orders stars goings) (view : items ≡ now) (told : AreTold p kinds table 0) where
   same_rules : rules_of p ≡ forms_of now
   same_rules = made.rules_are ∙ ap forms_of view
 

@@ -51,6 +51,7 @@ fn end_of_token(kinds: &[u16], place: u32, kind: u16) -> Option<u32>
 // Where a node ends from a place on that is part of one that is looked at. A rule or a token is looked at here, without a
 // call, and what the token at the place rules out is not looked at.
 #[cycle(ends)]
+#[inline(always)]
 fn end_of_part(
     program: &Program,
     goings: &[u128],
@@ -136,7 +137,7 @@ pub fn end_of(
                 program, goings, kinds, table, part, place,
             ) {
                 None => return Some(place),
-                Some(end) => return table.end(end, program.roots.len() + star),
+                Some(end) => return Some(table.end_or_place(end, program.roots.len() + star)),
             },
             Node::Maybe(part) => match end_of_part(program, goings, kinds, table, part, place) {
                 None => return Some(place),

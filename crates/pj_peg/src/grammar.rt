@@ -9,7 +9,7 @@ use crate::analysis::{Facts, facts_of, nullable_rules};
 use crate::compile::compile;
 use crate::firsts::goings;
 use crate::graph::{Placing, calls, fault_of, place_rules};
-use crate::orders::orders_by_kind;
+use crate::orders::{orders_by_kind, stars_by_kind};
 use crate::program::Program;
 use crate::{Item, Items};
 use pj_base::NoMemory;
@@ -71,6 +71,7 @@ pub struct WellFormed {
     pub(crate) program: Program,
     pub(crate) order: Vec<u16>,
     pub(crate) orders: Vec<Vec<u16>>,
+    pub(crate) stars: Vec<Vec<usize>>,
     pub(crate) goings: Vec<u128>,
 }
 
@@ -88,7 +89,7 @@ impl Model for WellFormed {
 
     ghost view = { λ g. g.rules.items };
 
-    ghost invariant = { λ g. IsMade (forms_of g.rules.items) g.program g.order.items g.orders.items g.goings.items };
+    ghost invariant = { λ g. IsMade (forms_of g.rules.items) g.program g.order.items g.orders.items g.stars.items g.goings.items };
 }
 
 // What was found out of a grammar's rules.
@@ -197,11 +198,13 @@ impl WellFormed {
         } = analysis;
         let Placing { order, placed: _ } = placing;
         let orders = orders_by_kind(alloc, &program, &goings, &order)?;
+        let stars = stars_by_kind(alloc, &program, &goings)?;
         Ok(WellFormed {
             rules,
             program,
             order,
             orders,
+            stars,
             goings,
         })
     }

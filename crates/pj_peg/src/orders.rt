@@ -1,10 +1,10 @@
-//! The rules that can go on where a token of a kind stands.
-ghost use Rattle.std.specs.Prelude.{◌≡◌, ◌<◌, length, IfOk};
+//! The rules and repetitions that can go on where a token of a kind stands.
+ghost use Rattle.std.specs.Prelude.{◌≡◌, ℕ, ◌<◌, List, length, IfOk};
 ghost use Rattle.std.specs.Bool.{OnTrue};
 ghost use Rattle.pj_peg.specs.Program.{IsProgram, form_at, forms_in, rules_of};
 ghost use Rattle.pj_peg.specs.Graph.{IsOrder};
 ghost use Rattle.pj_peg.specs.Firsts.{AreGoing};
-ghost use Rattle.pj_peg.specs.Orders.{IsAlwaysRuledOut, IsOrderFor, AreOrders};
+ghost use Rattle.pj_peg.specs.Orders.{IsAlwaysRuledOut, IsOrderFor, AreOrders, AreStarsFor, AreStarsByKind, AreStarsAt};
 
 use crate::firsts::KINDS;
 use crate::program::Program;
@@ -64,4 +64,55 @@ pub fn orders_by_kind(
         orders.push(going)?;
     }
     Ok(orders)
+}
+
+/// The numbers of the repetitions without those whose part the kind rules out.
+fn stars_for(
+    alloc: Global,
+    program: &Program,
+    goings: &[u128],
+    kind: u16,
+) -> Result<Vec<usize>, NoMemory>
+    requires program { IsProgram program.now }
+    requires goings { AreGoing program.now goings.now }
+    requires kind { kind < 128 }
+    ensures { IfOk result (λ going. AreStarsFor program.now kind going.items) }
+{
+    let mut going = Vec::new(alloc);
+    for star in 0..program.stars.len() {
+        if rules_out(program, goings, kind, program.stars[star]) {
+            continue;
+        }
+        going.push(star)?;
+    }
+    Ok(going)
+}
+
+/// For each kind the numbers of the repetitions whose part it does not rule out.
+pub fn stars_by_kind(
+    alloc: Global,
+    program: &Program,
+    goings: &[u128],
+) -> Result<Vec<Vec<usize>>, NoMemory>
+    requires program { IsProgram program.now }
+    requires goings { AreGoing program.now goings.now }
+    ensures { IfOk result (λ lists. AreStarsByKind program.now lists.items) }
+{
+    let mut lists = Vec::with_capacity(alloc, KINDS as usize)?;
+    for kind in 0..KINDS {
+        let going = stars_for(alloc, program, goings, kind)?;
+        lists.push(going)?;
+    }
+    Ok(lists)
+}
+
+/// The numbers of all repetitions.
+pub fn all_stars(alloc: Global, program: &Program) -> Result<Vec<usize>, NoMemory>
+    ensures { IfOk result (λ stars. (kinds : List ℕ) (i : ℕ) → AreStarsAt program.now kinds i stars.items) }
+{
+    let mut stars = Vec::new(alloc);
+    for star in 0..program.stars.len() {
+        stars.push(star)?;
+    }
+    Ok(stars)
 }

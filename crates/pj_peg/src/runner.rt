@@ -225,6 +225,7 @@ pub fn run(
         goings,
         &grammar.order,
         &grammar.orders,
+        &grammar.stars,
         kinds,
     )?;
     match table.end(0, 0) {

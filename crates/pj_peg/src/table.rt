@@ -1,4 +1,4 @@
-ghost use Rattle.std.specs.Prelude.{◌≡◌, ℕ, ◌+◌, ◌-◌, ◌^◌, ◌<◌, List, IfOk, IfSome, IsSome, Some, None};
+ghost use Rattle.std.specs.Prelude.{◌≡◌, ℕ, ◌+◌, ◌-◌, ◌^◌, ◌<◌, List, IfOk, IfSome, IsSome, Option, Some, None, unwrap_or};
 ghost use Rattle.pj_peg.specs.Table.{cell_at};
 
 use pj_base::NoMemory;
@@ -83,6 +83,17 @@ impl Table {
     {
         let row = &self.rows[place as usize];
         row[column].end()
+    }
+
+    // What the cell has, or the place itself where the column fails.
+    pub fn end_or_place(&self, place: u32, column: usize) -> u32
+        requires { IsSome (cell_at self.now place column) }
+        ensures { (o : Option ℕ) → cell_at self.now place column ≡ Some o → result ≡ unwrap_or o place }
+    {
+        match self.end(place, column) {
+            None => place,
+            Some(end) => end,
+        }
     }
 
     // Sets the cell, and no other.

@@ -101,8 +101,8 @@ end_of-overflow_add-len t c =
     let roots = c.args.program.now.roots.small in
     omega arith
 
-pub end_of-end-requires-in-Some-end_of_part-2 : goal.end_of-end-requires-in-Some-end_of_part-2
-end_of-end-requires-in-Some-end_of_part-2 t c =
+pub end_of-end_or_place-requires : goal.end_of-end_or_place-requires
+end_of-end_or_place-requires t c =
     let on = on_node c.args.program.now c.args.kinds.now c.args.table.now _ _ _ _ _ (Star c.in-Star.part c.in-Star.star) c.requires.program c.loop-kind.invariant.there c.index.ensures c.in-Star.is c.loop-kind.invariant.on in
     let parts = node_parts c.args.program.now _ _ (Star c.in-Star.part c.in-Star.star) c.requires.program c.loop-kind.invariant.there c.index.ensures c.in-Star.is in
     let more = star_moves c.args.program.now c.args.kinds.now c.args.table.now _ _ c.in-Some-end_of_part-2.end on.ready.safe c.in-Some-end_of_part-2.ensures in
@@ -117,7 +117,8 @@ end_of-returns-in-Some-end_of_part-2 t c =
     let more = star_moves c.args.program.now c.args.kinds.now c.args.table.now _ _ c.in-Some-end_of_part-2.end on.ready.safe c.in-Some-end_of_part-2.ensures in
     let told = on.later.stars c.in-Some-end_of_part-2.end c.in-Star.star c.in-Star.part (omega arith) more.1 parts.1 in
     let column = c.len.ensures ∙ c.args.program.now.roots.ok.0 in
-    star_goes c.args.program.now c.args.kinds.now c.args.table.now _ _ _ _ _ _ _ on c.in-Some-end_of_part-2.ensures told (ap (λ (n : ℕ). cell_at c.args.table.now c.in-Some-end_of_part-2.end (n + c.in-Star.star)) (sym column) ∙ c.end-in-Some-end_of_part-2.ensures)
+    star_goes c.args.program.now c.args.kinds.now c.args.table.now _ _ _ _ _ _ c.end_or_place.result on c.in-Some-end_of_part-2.ensures told
+    (λ o is. c.end_or_place.ensures o (ap (λ (n : ℕ). cell_at c.args.table.now c.in-Some-end_of_part-2.end (n + c.in-Star.star)) column ∙ is))
 
 pub end_of-end_of_part-requires-in-Maybe : goal.end_of-end_of_part-requires-in-Maybe
 end_of-end_of_part-requires-in-Maybe t c =

@@ -21,6 +21,7 @@ invariant_of-result c = record {
   rules_are = c.requires.analysis.rules_are;
   order_is = order_of _ _ _ _ c.requires.analysis _ _ c.requires.placing c.requires.closed c.requires.well_formed;
   orders_are = subst (λ rules. AreOrders rules c.in_ok-orders.orders.items) c.requires.analysis.rules_are c.in_ok-orders.ensures;
+  stars_are = c.in_ok-stars.ensures;
   well_formed = c.requires.well_formed;
   goings_are = c.requires.goings;
 }
