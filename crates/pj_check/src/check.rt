@@ -2,13 +2,17 @@
 ghost use Rattle.std.specs.Prelude.{◌≡◌, ◌≢◌, ◌≤◌, length, IfSome, MatchOption, string_bytes};
 ghost use Rattle.pj_check.specs.CheckFile.{IsJob, IsNoJob};
 ghost use Rattle.pj_check.specs.Lines.{SaysOfLines, SaysOfBytes};
+ghost use Rattle.pj_grammar.specs.Java17.{java_17_forms};
+ghost use Rattle.pj_peg.specs.Form.{forms_of};
 ghost use Rattle.pj_check.specs.Outcome.{Says, CountsTreeFaults, CountsSinkFaults, KeepsSink};
 
 use crate::lines::report_lines;
 use crate::outcome::FileOutcome;
 use crate::query::query_name;
 use pj_base::Words;
+use pj_grammar::java_17;
 use pj_outside::{Reading, Refused, Sink, Tree};
+use pj_peg::WellFormed;
 use std::alloc::Global;
 
 /// How many bytes a file may have.
@@ -52,19 +56,50 @@ fn put_report<S: Sink>(out: &mut S, lines: &str) -> FileOutcome
 /// The check of a file of these bytes.
 fn check_bytes<S: Sink>(
     alloc: Global,
+    grammar: &WellFormed,
     path: &str,
     name: &[u8],
     bytes: &[u8],
     out: &mut S,
 ) -> FileOutcome
-    requires { length bytes.now ≤ 1048576 }
+    requires bytes { length bytes.now ≤ 1048576 }
+    requires grammar { forms_of grammar.now ≡ java_17_forms }
     ensures says { SaysOfBytes result path.now name.now bytes.now (S.held out.old) (S.held out.new) }
     ensures counts { CountsSinkFaults result (S.faults out.old) (S.faults out.new) }
 {
-    match report_lines(alloc, path, name, bytes) {
+    match report_lines(alloc, grammar, path, name, bytes) {
         Err(_) => FileOutcome::Memory,
         Ok(None) => FileOutcome::NotBuilt,
         Ok(Some(lines)) => put_report(out, lines.as_str()),
+    }
+}
+
+/// Checks one file as `check_file` does, by a grammar that the caller keeps for many files.
+pub fn check_file_by<T: Tree, S: Sink>(
+    alloc: Global,
+    grammar: &WellFormed,
+    words: &Words,
+    tree: &mut T,
+    out: &mut S,
+) -> FileOutcome
+    requires grammar { forms_of grammar.now ≡ java_17_forms }
+    ensures says { IfSome (T.holds tree.old) (λ files. Says result words.now files (S.held out.old) (S.held out.new)) }
+    ensures no_job { IsNoJob words.now → result ≡ FileOutcome.NotBuilt }
+    ensures steady { T.never_fails tree.old → result ≢ FileOutcome.TreeFault }
+    ensures same_files { T.holds tree.new ≡ T.holds tree.old }
+    ensures tree_faults { CountsTreeFaults result (T.faults tree.old) (T.faults tree.new) }
+    ensures sink_faults { CountsSinkFaults result (S.faults out.old) (S.faults out.new) }
+    ensures keeps_sink { KeepsSink result (S.held out.old) (S.held out.new) }
+{
+    let Some((path, name)) = read_job(words) else {
+        return FileOutcome::NotBuilt;
+    };
+    match tree.read(path, MOST_BYTES) {
+        Err(Refused::Failed) => FileOutcome::TreeFault,
+        Err(Refused::Memory) => FileOutcome::Memory,
+        Ok(Reading::Absent) => FileOutcome::NotBuilt,
+        Ok(Reading::Longer) => FileOutcome::NotBuilt,
+        Ok(Reading::Whole(bytes)) => check_bytes(alloc, grammar, path, name, bytes.as_slice(), out),
     }
 }
 
@@ -89,14 +124,11 @@ pub fn check_file<T: Tree, S: Sink>(
     ensures sink_faults { CountsSinkFaults result (S.faults out.old) (S.faults out.new) }
     ensures keeps_sink { KeepsSink result (S.held out.old) (S.held out.new) }
 {
-    let Some((path, name)) = read_job(words) else {
+    if read_job(words).is_none() {
         return FileOutcome::NotBuilt;
-    };
-    match tree.read(path, MOST_BYTES) {
-        Err(Refused::Failed) => FileOutcome::TreeFault,
-        Err(Refused::Memory) => FileOutcome::Memory,
-        Ok(Reading::Absent) => FileOutcome::NotBuilt,
-        Ok(Reading::Longer) => FileOutcome::NotBuilt,
-        Ok(Reading::Whole(bytes)) => check_bytes(alloc, path, name, bytes.as_slice(), out),
+    }
+    match java_17(alloc) {
+        Ok(grammar) => check_file_by(alloc, &grammar, words, tree, out),
+        Err(_) => FileOutcome::Memory,
     }
 }

@@ -9,7 +9,7 @@ mod outcome;
 mod query;
 mod suppression;
 
-pub use check::check_file;
+pub use check::{check_file, check_file_by};
 pub use lack::{Lack, lack_of};
 pub use laws::{one_lack, one_report};
 pub use outcome::FileOutcome;

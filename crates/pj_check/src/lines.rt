@@ -1,6 +1,8 @@
 //! The lines of a report.
 ghost use Rattle.std.specs.Prelude.{◌≡◌, ◌++◌, ◌<◌, ◌≤◌, length, slice_get, List, ℕ, Ok, Some, OnOk, IfOk, MatchOption, string_bytes};
+ghost use Rattle.pj_grammar.specs.Java17.{java_17_forms};
 ghost use Rattle.pj_lex.specs.SourceText.{IsRead};
+ghost use Rattle.pj_peg.specs.Form.{forms_of};
 ghost use Rattle.pj_check.specs.ReportText.{finding_line};
 ghost use Rattle.pj_check.specs.CheckFile.{query_rule};
 ghost use Rattle.pj_check.specs.FileTree.{IsNotTaken};
@@ -10,7 +12,8 @@ ghost use Rattle.pj_tree.specs.Tree.{TreeNode};
 use crate::suppression::may_suppress;
 use pj_base::NoMemory;
 use pj_lex::Source;
-use pj_parse::{FileRefused, file_has_one_outcome, parse_file, read_file};
+use pj_parse::{FileRefused, file_has_one_outcome, parse_file_by, read_file};
+use pj_peg::WellFormed;
 use pj_tree::{Node, SyntaxTree};
 use std::alloc::Global;
 
@@ -60,17 +63,19 @@ fn tree_lines(
     Ok(lines)
 }
 
-/// The text of the report of the query for a name in a file of which this was read, or `None` where that is no Java file.
+/// The text of the report of the query for a name in a file of which this was read, by the grammar of Java 17, or `None` where that is no Java file.
 fn source_lines(
     alloc: Global,
+    grammar: &WellFormed,
     path: &str,
     name: &[u8],
     source: &Source,
 ) -> Result<Option<String>, NoMemory>
+    requires { forms_of grammar.now ≡ java_17_forms }
     ensures { (bytes : List ℕ) → IsRead bytes (Ok source.now) → IfOk result (λ found. MatchOption found (IsNoFile bytes) (λ lines. AreLinesOf path.now name.now bytes source.now (string_bytes lines))) }
 {
     file_has_one_outcome();
-    match parse_file(alloc, source) {
+    match parse_file_by(alloc, grammar, source) {
         Ok(parsed) => Ok(Some(tree_lines(alloc, path, name, source, &parsed.tree)?)),
         Err(FileRefused::Fault(_)) => Ok(None),
         Err(FileRefused::Memory) => Err(NoMemory),
@@ -80,11 +85,13 @@ fn source_lines(
 /// The text of the report of the query for a name in a file of these bytes, or `None` where a check does not take the file.
 pub fn report_lines(
     alloc: Global,
+    grammar: &WellFormed,
     path: &str,
     name: &[u8],
     bytes: &[u8],
 ) -> Result<Option<String>, NoMemory>
-    requires { length bytes.now ≤ 1048576 }
+    requires bytes { length bytes.now ≤ 1048576 }
+    requires grammar { forms_of grammar.now ≡ java_17_forms }
     ensures { IfOk result (λ found. MatchOption found (IsNotTaken bytes.now) (λ lines. IsReportText path.now name.now bytes.now (string_bytes lines))) }
 {
     file_has_one_outcome();
@@ -93,7 +100,7 @@ pub fn report_lines(
             if may_suppress(source.text()) {
                 return Ok(None);
             }
-            source_lines(alloc, path, name, &source)
+            source_lines(alloc, grammar, path, name, &source)
         }
         Err(FileRefused::Fault(_)) => Ok(None),
         Err(FileRefused::Memory) => Err(NoMemory),

@@ -1,7 +1,11 @@
 -- What takes tokens is among what can begin with the first of them.
-use Rattle.std.proofs.Common.{◌≡◌, ℕ, ◌<◌, ◌≤◌, Bool, true, zero, suc, List, [], ◌∷◌, length, map, Some, refl, sym, ◌∙◌, subst, ap, inl, inr, ⊎_elim, arith}
-use Rattle.std.specs.Prelude.{slice_get, nat_eq, ◌||◌, ◌++◌, ◌⊎◌, Vec}
-use Rattle.std.specs.Global.{Global}
+use Rattle.std.proofs.Common.{◌≡◌, ℕ, ◌^◌, ◌<◌, ◌≤◌, Bool, true, false, List, [], ◌∷◌, length, map, Some, refl, sym, ◌∙◌, subst, ap, ⊎_elim, arith}
+use Rattle.std.specs.Prelude.{slice_get, nat_lt, if◌then◌else◌}
+use Rattle.std.specs.Int.{bit_at}
+use Rattle.std.specs.Int.RustNames.{bit_or}
+use Rattle.std.proofs.lemmas.List.{length-map}
+use Rattle.std.proofs.lemmas.Option.{slice_get_within}
+use Rattle.std.proofs.lemmas.Nat.Bits.{bit_at_or, bit_at-lt, bit_at-pow_same, bit_at_ones}
 use Rattle.pj_peg.specs.declared.firsts.Beginning.{Beginning}
 use Rattle.pj_peg.specs.declared.program.Program.{Program}
 use Rattle.pj_peg.specs.Form.{Form}
@@ -9,35 +13,58 @@ use Rattle.pj_peg.specs.Derivation.{Forest}
 use Rattle.pj_peg.specs.Derives.{Outcome, Derives, To, Fails, token_is, any_is, rule_to, nothing_to, seq_to, choice_first, choice_other, star_more, star_end, maybe_some, maybe_none, ahead_is, not_ahead_is}
 use Rattle.pj_peg.specs.Analysis.{nullable_by, is_set, AreNullableRules}
 use Rattle.pj_peg.specs.Program.{form_at, forms_in, rules_of, IsProgram}
-use Rattle.pj_peg.specs.Firsts.{first_by, beginning_by, RulesOut, AreGoing, IsRuledOut}
+use Rattle.pj_peg.specs.Firsts.{all_kinds, kind_set, set_at, firsts_by, beginning_by, going_of, AreGoing, IsRuledOut}
 use Rattle.pj_peg.proofs.Lists.{some_same}
-use Rattle.pj_peg.proofs.Nullable.{and_true, or_left, or_right, nullable_closed}
+use Rattle.pj_peg.proofs.Nullable.{nullable_closed}
+use Rattle.pj_peg.proofs.Nodes.{length-forms_in}
 use Rattle.pj_peg.specs.WellFormed.{IsWellFormed}
 use Rattle.pj_peg.specs.Ends.{IsSafe}
 use Rattle.pj_peg.proofs.Exists.{goes, nullable, has_near}
-use Rattle.pj_peg.proofs.Filling.{roots_length}
-use Rattle.pj_peg.proofs.FactsLemmas.{fact_at}
+use Rattle.pj_peg.proofs.FactsLemmas.{fact_at, root_of}
 
-nat_eq_same : (c k : ℕ) → c ≡ k → nat_eq c k ≡ true
-nat_eq_same c k e = grind arith
+-- kind k is in the set
+abbrev Has : ℕ → ℕ → Type 0
+Has set k = bit_at set k ≡ 1
 
-module _ (rules : List Form) (kinds : List ℕ) (e s : ℕ → Bool) (k : ℕ)
+has_left : (a b k : ℕ) → Has a k → Has (bit_or a b) k
+has_left a b k h = let e = bit_at_or a b k in let lt = bit_at-lt b k in omega arith
+
+has_right : (a b k : ℕ) → Has b k → Has (bit_or a b) k
+has_right a b k h = let e = bit_at_or a b k in let lt = bit_at-lt a k in omega arith
+
+has_kind : (c k : ℕ) → k < 128 → c ≡ k → Has (kind_set c) k
+has_kind c k lt e = subst (λ n. Has (kind_set n) k) (sym e) (of (nat_lt k 128) refl)
+  where
+    of : (b : Bool) → nat_lt k 128 ≡ b → Has (if b then 2 ^ k else 0) k
+    of true h = bit_at-pow_same k
+    of false h = absurd (grind arith)
+
+if_true : (b : Bool) (x y : ℕ) → b ≡ true → (if b then x else y) ≡ x
+if_true true x y e = refl
+if_true false x y e = absurd (let z = e in cc)
+
+module _ (rules : List Form) (kinds : List ℕ) (e : ℕ → Bool) (s : ℕ → ℕ) (k : ℕ) (small : k < 128)
     (empty : (r : ℕ) (f : Form) → slice_get rules r ≡ Some f → nullable_by e f ≡ true → e r ≡ true)
-    (closed : (r : ℕ) (f : Form) → slice_get rules r ≡ Some f → first_by e s k f ≡ true → s r ≡ true) where
+    (closed : (r : ℕ) (f : Form) → slice_get rules r ≡ Some f → Has (firsts_by e s f) k → Has (s r) k) where
   nothing_there : {f : Form} {i j : ℕ} {d : Forest} → Derives rules kinds f i (To j d) → i ≡ j → nullable_by e f ≡ true
   nothing_there x is = nullable_closed rules e empty (nullable rules kinds x is)
 
-  begins : {f : Form} {i j : ℕ} {d : Forest} → Derives rules kinds f i (To j d) → i < j → slice_get kinds i ≡ Some k → first_by e s k f ≡ true
-  begins (token_is {k = c} h) lt at = nat_eq_same c k (some_same h at)
-  begins (any_is h) lt at = refl
+  has_seq : (a b : Form) (n : Bool) → Has (firsts_by e s a) k → Has (if n then bit_or (firsts_by e s a) (firsts_by e s b) else firsts_by e s a) k
+  has_seq a b true h = has_left (firsts_by e s a) (firsts_by e s b) k h
+  has_seq a b false h = h
+
+  begins : {f : Form} {i j : ℕ} {d : Forest} → Derives rules kinds f i (To j d) → i < j → slice_get kinds i ≡ Some k → Has (firsts_by e s f) k
+  begins (token_is {k = c} h) lt at = has_kind c k small (some_same h at)
+  begins (any_is h) lt at = bit_at_ones 128 k small
   begins (rule_to f h x) lt at = closed _ f h (begins x lt at)
   begins nothing_to lt at = absurd (omega arith)
-  begins (seq_to {i} {j} {k = m} x y) lt at = ⊎_elim
-      (λ (same : i ≡ j). or_right _ _ (and_true _ _ (nothing_there x same) (begins y (omega arith) (ap (slice_get kinds) (sym same) ∙ at))))
-      (λ (more : (i < j) × (j ≤ length kinds)). or_left _ _ (begins x more.0 at))
+  begins (seq_to {a} {b} {i} {j} {k = m} x y) lt at = ⊎_elim
+      (λ (same : i ≡ j). subst (λ n. Has n k) (sym (if_true _ (bit_or (firsts_by e s a) (firsts_by e s b)) (firsts_by e s a) (nothing_there x same)))
+      (has_right (firsts_by e s a) (firsts_by e s b) k (begins y (omega arith) (ap (slice_get kinds) (sym same) ∙ at))))
+      (λ (more : (i < j) × (j ≤ length kinds)). has_seq a b (nullable_by e a) (begins x more.0 at))
       (goes rules kinds x)
-  begins (choice_first x) lt at = or_left _ _ (begins x lt at)
-  begins (choice_other x y) lt at = or_right _ _ (begins y lt at)
+  begins (choice_first {a} {b} x) lt at = has_left (firsts_by e s a) (firsts_by e s b) k (begins x lt at)
+  begins (choice_other {a} {b} x y) lt at = has_right (firsts_by e s a) (firsts_by e s b) k (begins y lt at)
   begins (star_more {i} {j} {k = m} x y) lt at = ⊎_elim
       (λ (same : i ≡ j). begins y (omega arith) (ap (slice_get kinds) (sym same) ∙ at))
       (λ (more : (i < j) × (j ≤ length kinds)). begins x more.0 at)
@@ -49,62 +76,66 @@ module _ (rules : List Form) (kinds : List ℕ) (e s : ℕ → Bool) (k : ℕ)
   begins (not_ahead_is x) lt at = absurd (omega arith)
 
   -- so what goes on at all can begin there or take nothing
-  goes_there : (f : Form) (i j : ℕ) (d : Forest) → Derives rules kinds f i (To j d) → slice_get kinds i ≡ Some k → (first_by e s k f || nullable_by e f) ≡ true
-  goes_there f i j d x at = ⊎_elim
-      (λ (same : i ≡ j). or_right _ _ (nothing_there x same))
-      (λ (more : (i < j) × (j ≤ length kinds)). or_left _ _ (begins x more.0 at))
-      (goes rules kinds x)
+  goes_there : (f : Form) (i j : ℕ) (d : Forest) → Derives rules kinds f i (To j d) → slice_get kinds i ≡ Some k → Has (going_of (beginning_by e s f)) k
+  goes_there f i j d x at = of (nullable_by e f) refl
+    where
+      of : (b : Bool) → nullable_by e f ≡ b → Has (if b then all_kinds else firsts_by e s f) k
+      of true h = bit_at_ones 128 k small
+      of false h = ⊎_elim
+          (λ (same : i ≡ j). absurd (let z = sym h ∙ nothing_there x same in cc))
+          (λ (more : (i < j) × (j ≤ length kinds)). begins x more.0 at)
+          (goes rules kinds x)
 
-set_at : (set : List Bool) (n : ℕ) (b : Bool) → slice_get set n ≡ Some b → is_set set n ≡ b
-set_at [] n b is = absurd (let z = is in cc)
-set_at (x ∷ xs) zero b is = let z = is in cc
-set_at (x ∷ xs) (suc n) b is = set_at xs n b is
-
--- the bits of nodes, by how they begin
-pub bits_first : (nodes : List Form) (all : List Beginning) (bits lent_set set : List Bool) (lent : List Beginning) (e : ℕ → Bool) (k : ℕ) (P : Beginning → Bool) → lent_set ≡ set →
-    all ≡ map (beginning_by e (is_set lent_set) k) nodes → lent ≡ all → bits ≡ map P lent → bits ≡ map (λ f. P (beginning_by e (is_set set) k f)) nodes
-bits_first nodes all bits lent_set set lent e k P same_set is same of =
-    of ∙ ap (map P) (same ∙ is ∙ ap (λ (s : List Bool). map (beginning_by e (is_set s) k) nodes) same_set) ∙ each nodes
+-- the sets of nodes, by how they begin
+pub sets_of : (nodes : List Form) (all lent : List Beginning) (sets lent_rules rules : List ℕ) (e : ℕ → Bool) → lent_rules ≡ rules →
+    all ≡ map (beginning_by e (set_at lent_rules)) nodes → lent ≡ all → sets ≡ map going_of lent → sets ≡ map (λ f. going_of (beginning_by e (set_at rules) f)) nodes
+sets_of nodes all lent sets lent_rules rules e same_rules is same of =
+    of ∙ ap (map going_of) (same ∙ is ∙ ap (λ (s : List ℕ). map (beginning_by e (set_at s)) nodes) same_rules) ∙ each nodes
   where
-    each : (fs : List Form) → map P (map (beginning_by e (is_set set) k) fs) ≡ map (λ f. P (beginning_by e (is_set set) k f)) fs
+    each : (fs : List Form) → map going_of (map (beginning_by e (set_at rules)) fs) ≡ map (λ f. going_of (beginning_by e (set_at rules) f)) fs
     each [] = refl
-    each (f ∷ fs) = ap (λ l. P (beginning_by e (is_set set) k f) ∷ l) (each fs)
+    each (f ∷ fs) = ap (λ l. going_of (beginning_by e (set_at rules) f) ∷ l) (each fs)
 
-pub rules_out : (p : Program) (empty set bits : List Bool) (k : ℕ) → IsProgram p → AreNullableRules (rules_of p) empty →
-    ((r : ℕ) (f : Form) → slice_get (rules_of p) r ≡ Some f → first_by (is_set empty) (is_set set) k f ≡ true → is_set set r ≡ true) →
-    bits ≡ map (λ f. first_by (is_set empty) (is_set set) k f || nullable_by (is_set empty) f) (forms_in p.nodes.items) → RulesOut p k bits
-rules_out p empty set bits k is_p are closed is = record {
-  fails = λ n lt unset kinds i j d at x.
-      let f = form_at (forms_in p.nodes.items) n in
-      let bit = set_at bits n _ (fact_at (λ f. first_by (is_set empty) (is_set set) k f || nullable_by (is_set empty) f) p.nodes.items bits n is lt) in
-      absurd (let z = sym unset ∙ bit ∙ goes_there (rules_of p) kinds (is_set empty) (is_set set) k are.closed closed f i j d x at in cc);
+-- sets that nothing is to be added to
+pub record AreFull (p : Program) (empty : List Bool) (sets : List ℕ) : Type 0 where
+  pub full : (r : ℕ) (f : Form) → slice_get (rules_of p) r ≡ Some f →
+      bit_or (set_at sets r) (firsts_by (is_set empty) (set_at sets) f) ≡ set_at sets r
+
+pub full_from : (p : Program) (empty : List Bool) (sets lent_sets : List ℕ) (all lent : List Beginning) (roots : List ℕ) → IsProgram p → lent_sets ≡ sets →
+    all ≡ map (beginning_by (is_set empty) (set_at lent_sets)) (forms_in p.nodes.items) → lent ≡ all → roots ≡ p.roots.items →
+    ((r k : ℕ) (b : Beginning) → slice_get roots r ≡ Some k → slice_get lent k ≡ Some b → bit_or (set_at sets r) b.firsts ≡ set_at sets r) → AreFull p empty sets
+full_from p empty sets lent_sets all lent roots is_p same_sets is same same_roots closed = record {
+  full = λ r f at.
+      let (k, root, form) = root_of p r f at in
+      let all_is : lent ≡ map (beginning_by (is_set empty) (set_at sets)) (forms_in p.nodes.items) = same ∙ is ∙ ap (λ (s : List ℕ). map (beginning_by (is_set empty) (set_at s)) (forms_in p.nodes.items)) same_sets in
+      ap (λ g. bit_or (set_at sets r) (firsts_by (is_set empty) (set_at sets) g)) (sym form)
+      ∙ closed r k _ (ap (λ l. slice_get l r) same_roots ∙ root) (fact_at (beginning_by (is_set empty) (set_at sets)) p.nodes.items lent k all_is (is_p.there r k root));
 }
 
-get_push_cases : {A : Type 0} (xs : List A) (y : A) (k : ℕ) (s : A) → slice_get (xs ++ y ∷ []) k ≡ Some s → (slice_get xs k ≡ Some s) ⊎ ((length xs ≡ k) × (y ≡ s))
-get_push_cases [] y zero s is = inr (refl, let z = is in cc)
-get_push_cases [] y (suc k) s is = absurd (let z = is in cc)
-get_push_cases (x ∷ xs) y zero s is = inl is
-get_push_cases (x ∷ xs) y (suc k) s is = ⊎_elim (λ h. inl h) (λ (h : (length xs ≡ k) × (y ≡ s)). inr (ap suc h.0, h.1)) (get_push_cases xs y k s is)
-
--- the sets of one kind more
-pub going_more : (p : Program) (sets : List (Vec Bool Global)) (set : Vec Bool Global) (kind : ℕ) → length sets ≡ kind → AreGoing p sets → RulesOut p kind set.items → AreGoing p (sets ++ set ∷ [])
-going_more p sets set kind count going new = record {
-  each = λ k s is. ⊎_elim
-      (λ (h : slice_get sets k ≡ Some s). going.each k s h)
-      (λ (h : (length sets ≡ k) × (set ≡ s)). subst (λ n. RulesOut p n s.items) (sym count ∙ h.0) (subst (λ (v : Vec Bool Global). RulesOut p kind v.items) h.1 new))
-      (get_push_cases sets set k s is);
+pub are_going : (p : Program) (empty : List Bool) (rules sets : List ℕ) → IsProgram p → AreNullableRules (rules_of p) empty → AreFull p empty rules →
+    sets ≡ map (λ f. going_of (beginning_by (is_set empty) (set_at rules) f)) (forms_in p.nodes.items) → AreGoing p sets
+are_going p empty rules sets is_p are are_full is = record {
+  count = count;
+  fails = λ n set kind at lt out kinds i there j d x.
+      let within = slice_get_within sets n set at in
+      let same : set ≡ going_of (beginning_by (is_set empty) (set_at rules) (form_at (forms_in p.nodes.items) n)) =
+      some_same at (fact_at (λ f. going_of (beginning_by (is_set empty) (set_at rules) f)) p.nodes.items sets n is (omega (arith, within, count))) in
+      let has = goes_there (rules_of p) kinds (is_set empty) (set_at rules) kind lt are.closed
+      (λ r f is_rule h. ap (λ m. bit_at m kind) (sym (are_full.full r f is_rule)) ∙ has_right (set_at rules r) (firsts_by (is_set empty) (set_at rules) f) kind h)
+      (form_at (forms_in p.nodes.items) n) i j d x there in
+      differ (sym out ∙ ap (λ m. bit_at m kind) same ∙ has);
 }
-
-pub none_going : (p : Program) (sets : List (Vec Bool Global)) → sets ≡ [] → AreGoing p sets
-none_going p sets is = record { each = λ k s at. absurd (let z = ap (λ (l : List (Vec Bool Global)). slice_get l k) (sym is) ∙ at in nothing k s z) }
   where
-    nothing : (k : ℕ) (s : Vec Bool Global) → slice_get [] k ≡ Some s → ⊥
-    nothing k s e = let z = e in cc
+    count : length sets ≡ length p.nodes.items
+    count = ap length is ∙ length-map (forms_in p.nodes.items) (λ f. going_of (beginning_by (is_set empty) (set_at rules) f)) ∙ length-forms_in p.nodes.items
+
+    differ : ◌≡◌ {A = ℕ} 0 1 → ⊥
+    differ e = omega arith
 
 -- a safe form that is ruled out fails
 pub fails_ruled_out : (p : Program) (kinds : List ℕ) (f : Form) (i : ℕ) → IsWellFormed (rules_of p) → IsSafe p f → IsRuledOut (rules_of p) kinds f i → Derives (rules_of p) kinds f i Fails
 fails_ruled_out p kinds f i well safe out =
-    let len = roots_length p kinds in
+    let len = length-map p.roots.items (form_at (forms_in p.nodes.items)) in
     of (has_near (rules_of p) kinds well (length kinds) i f (omega arith) (λ s names. let lt = safe.known s names in omega arith) safe.repeats)
   where
     of : (o : Outcome) × Derives (rules_of p) kinds f i o → Derives (rules_of p) kinds f i Fails

@@ -66,17 +66,18 @@ module _ (rows : List Row) (i r : ℕ) (v : Option ℕ) (d : Row) (is_row : d �
       (slice_get-map cells_of after j ∙ ap (option_map cells_of) (set_other rows i j (with_item d r v) other) ∙ sym (slice_get-map cells_of rows j)))
       (cases_eq j i)
 
--- rows of that many cells
+-- rows of that many cells, which all fail
 pub record AreRows (rows : List Row) (n columns : ℕ) : Type 0 where
   pub count : length rows ≡ n
-  pub widths : (i : ℕ) (row : Row) → slice_get rows i ≡ Some row → length row.items ≡ columns
+  pub fails : (i c : ℕ) (row : Row) → slice_get rows i ≡ Some row → c < columns → slice_get row.items c ≡ Some None
 
-pub rows_more : (rows rows' : List Row) (row : Row) (n columns : ℕ) → AreRows rows n columns → rows' ≡ rows ++ row ∷ [] → length row.items ≡ columns → AreRows rows' (n + 1) columns
-rows_more rows rows' row n columns are is len = record {
+pub rows_more : (rows rows' : List Row) (row : Row) (n columns : ℕ) → AreRows rows n columns → rows' ≡ rows ++ row ∷ [] →
+    ((c : ℕ) → c < columns → slice_get row.items c ≡ Some None) → AreRows rows' (n + 1) columns
+rows_more rows rows' row n columns are is none = record {
   count = ap length is ∙ length_push rows ∙ ap (λ m. m + 1) are.count;
-  widths = λ i x at. ⊎_elim
-      (λ (h : slice_get rows i ≡ Some x). are.widths i x h)
-      (λ (h : (i ≡ length rows) × (row ≡ x)). ap (λ (y : Row). length y.items) (sym h.1) ∙ len)
+  fails = λ i c x at lt. ⊎_elim
+      (λ (h : slice_get rows i ≡ Some x). are.fails i c x h lt)
+      (λ (h : (i ≡ length rows) × (row ≡ x)). ap (λ (y : Row). slice_get y.items c) (sym h.1) ∙ none c lt)
       (get_push_cases rows row i x (ap (λ l. slice_get l i) (sym is) ∙ at));
 }
   where
@@ -84,10 +85,8 @@ rows_more rows rows' row n columns are is len = record {
     length_push [] = refl
     length_push (x ∷ xs) = let h = length_push xs in omega arith
 
-pub rows_cells : (rows : List Row) (n columns i c : ℕ) → AreRows rows n columns → i < n → c < columns → IsSome (cell_at (map cells_of rows) i c)
+pub rows_cells : (rows : List Row) (n columns i c : ℕ) → AreRows rows n columns → i < n → c < columns → cell_at (map cells_of rows) i c ≡ Some None
 rows_cells rows n columns i c are lt within =
     let count = are.count in
     let (row, is) = found rows i (omega arith) in
-    let width = are.widths i row is in
-    let (x, at) = found row.items c (omega arith) in
-    some_is (cell_at (map cells_of rows) i c) x (cell_row rows i c row is ∙ at)
+    cell_row rows i c row is ∙ are.fails i c row is within

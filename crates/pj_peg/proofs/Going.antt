@@ -1,13 +1,13 @@
 -- Where a form ends, part by part.
 use Rattle.std.proofs.Common.{◌≡◌, ℕ, ◌+◌, ◌<◌, ◌≤◌, List, length, Option, Some, None, refl, sym, ◌∙◌, subst, ap, inl, inr, ⊎_elim, arith, IsSome, get_or}
-use Rattle.std.specs.Prelude.{slice_get}
+use Rattle.std.specs.Prelude.{slice_get, unwrap_or}
 use Rattle.pj_peg.specs.declared.program.Program.{Program}
 use Rattle.pj_peg.specs.Form.{Form, seq, choice, star, maybe, ahead, not_ahead}
-use Rattle.pj_peg.specs.Derivation.{no_tree, append}
-use Rattle.pj_peg.specs.Derives.{seq_to, seq_first, seq_second, choice_first, choice_other, star_more, star_end, maybe_some, maybe_none, ahead_is, ahead_not, not_ahead_is, not_ahead_not}
+use Rattle.pj_peg.specs.Derivation.{Forest, no_tree, append}
+use Rattle.pj_peg.specs.Derives.{Derives, To, Fails, seq_to, seq_first, seq_second, choice_first, choice_other, star_more, star_end, maybe_some, maybe_none, ahead_is, ahead_not, not_ahead_is, not_ahead_not}
 use Rattle.pj_peg.specs.Program.{rules_of, forms_in, form_at}
 use Rattle.pj_peg.specs.Table.{cell_at}
-use Rattle.pj_peg.specs.Ends.{Ends, IsTold, AreTold, IsSafe, IsReady}
+use Rattle.pj_peg.specs.Ends.{Ends, IsTold, AreTold, IsSafe, IsReady, turns}
 use Rattle.pj_peg.specs.declared.program.Node.{Node}
 use Rattle.pj_peg.specs.Program.{IsProgram, PartsBelow, node_form}
 use Rattle.pj_peg.proofs.Nodes.{node_at}
@@ -130,8 +130,30 @@ module _ (p : Program) (kinds : List ℕ) (table : List (List (Option ℕ))) whe
   pub told_is : (f : Form) (i c : ℕ) (o : Option ℕ) → IsTold (rules_of p) kinds table f i c → cell_at table i c ≡ Some o → E f i o
   told_is f i c o t is = subst (E f i) (some_one (sym t.cell ∙ is)) t.ends
 
-  pub star_goes : (f : Form) (i : ℕ) (a : Form) (j k c : ℕ) (o : Option ℕ) → IsOn f i (star a) j → E a j (Some k) → IsTold (rules_of p) kinds table (star a) k c → cell_at table k c ≡ Some o → E f i o
-  star_goes f i a j k c o on e t is = on.onto o (star_ends a j k o e (told_is (star a) k c o t is))
+  turns_to : (a : Form) (i k : ℕ) {d : Forest} → Derives (rules_of p) kinds (turns a) i (To k d) → E (star a) i (Some k)
+  turns_to a i k (seq_to {d} {e} x y) = (append d e, star_more x y)
+
+  turns_none : (a : Form) (i : ℕ) → Derives (rules_of p) kinds (turns a) i Fails → E (star a) i (Some i)
+  turns_none a i (seq_first x) = (no_tree, star_end x)
+  turns_none a i (seq_second x y) = absurd (never_fails_star y)
+    where
+      never_fails_star : {j : ℕ} → Derives (rules_of p) kinds (star a) j Fails → ⊥
+      never_fails_star y = elim y [ ]
+
+  -- a repetition ends where its turns do, or at once where it has none
+  pub turns_star : (a : Form) (i : ℕ) (o : Option ℕ) → E (turns a) i o → E (star a) i (Some (unwrap_or o i))
+  turns_star a i (Some k) (d, x) = turns_to a i k x
+  turns_star a i None x = turns_none a i x
+
+  pub turns_more : (a : Form) (i j k : ℕ) → E a i (Some j) → E (star a) j (Some k) → E (turns a) i (Some k)
+  turns_more a i j k (d, x) (e, y) = (append d e, seq_to x y)
+
+  pub told_turns : (a : Form) (i c r : ℕ) → IsTold (rules_of p) kinds table (turns a) i c → ((o : Option ℕ) → cell_at table i c ≡ Some o → r ≡ unwrap_or o i) → E (star a) i (Some r)
+  told_turns a i c r t is = subst (λ n. E (star a) i (Some n)) (sym (is t.end t.cell)) (turns_star a i t.end t.ends)
+
+  pub star_goes : (f : Form) (i : ℕ) (a : Form) (j k c r : ℕ) → IsOn f i (star a) j → E a j (Some k) → IsTold (rules_of p) kinds table (turns a) k c →
+      ((o : Option ℕ) → cell_at table k c ≡ Some o → r ≡ unwrap_or o k) → E f i (Some r)
+  star_goes f i a j k c r on e t is = on.onto (Some r) (star_ends a j k (Some r) e (told_turns a k c r t is))
 
   pub told_cell : (f : Form) (i c : ℕ) → IsTold (rules_of p) kinds table f i c → IsSome (cell_at table i c)
   told_cell f i c t = some_is (cell_at table i c) t.end t.cell

@@ -18,7 +18,9 @@ pub mod Placing
 pub mod Checking
 pub mod Going
 pub mod Filling
+pub mod Ordering
 pub mod Beginning
+mod Growing
 pub mod Collecting
 pub mod Placed
 pub mod Decided

@@ -1,6 +1,6 @@
 -- What the table has for rule 0 at the first place.
 use Rattle.std.proofs.Common.{◌≡◌, ℕ, ◌≤◌, List, length, Option, Some, None, sym, ◌∙◌, ap, subst, arith}
-use Rattle.std.specs.Prelude.{All, Vec, Bool}
+use Rattle.std.specs.Prelude.{All, Vec}
 use Rattle.std.specs.Global.{Global}
 use Rattle.pj_peg.specs.declared.item.Item.{Item}
 use Rattle.pj_peg.specs.declared.derivation.Step.{Step}
@@ -16,7 +16,7 @@ use Rattle.pj_peg.proofs.Going.{told_is}
 use Rattle.pj_peg.proofs.Filling.{roots_length}
 use Rattle.pj_peg.proofs.Placed.{placed, placed_steps}
 
-module _ (items now : List Item) (p : Program) (order kinds : List ℕ) (table : List (List (Option ℕ))) (goings : List (Vec Bool Global)) (made : IsMade (forms_of items) p order goings) (view : items ≡ now) (told : AreTold p kinds table 0) where
+module _ (items now : List Item) (p : Program) (order kinds : List ℕ) (orders stars : List (Vec ℕ Global)) (table : List (List (Option ℕ))) (goings : List ℕ) (made : IsMade (forms_of items) p order orders stars goings) (view : items ≡ now) (told : AreTold p kinds table 0) where
   same_rules : rules_of p ≡ forms_of now
   same_rules = made.rules_are ∙ ap forms_of view
 

@@ -2,7 +2,7 @@
 use Rattle.std.specs.Prelude.{◌≡◌, ℕ, ◌+◌, ◌<◌, ◌≤◌, List, [], ◌∷◌, ◌++◌, length, Option, Some, None, slice_get}
 use Rattle.pj_peg.specs.declared.fill.Call.{Call}
 use Rattle.pj_peg.specs.declared.program.Program.{Program}
-use Rattle.pj_peg.specs.Form.{Form, rule, star}
+use Rattle.pj_peg.specs.Form.{Form, rule, seq, star}
 use Rattle.pj_peg.specs.Derivation.{Forest, no_tree, append}
 use Rattle.pj_peg.specs.Derives.{To, Fails, Derives}
 use Rattle.pj_peg.specs.WellFormed.{Begins, Names, Repeats, IsNullable}
@@ -28,17 +28,21 @@ Makes rules kinds f i j cs = (d : Forest) × Derives rules kinds f i (To j d) ×
 abbrev pub Collects : List Form → List ℕ → Form → ℕ → List Call → List Call → Type 0
 Collects rules kinds f i old new = (cs : List Call) × (new ≡ old ++ cs) × ((j : ℕ) × Makes rules kinds f i j cs)
 
+-- one turn of the repetition or more
+abbrev pub turns : Form → Form
+turns a = seq a (star a)
+
 -- the column of the table has where the form ends
 pub record IsTold (rules : List Form) (kinds : List ℕ) (table : List (List (Option ℕ))) (f : Form) (i column : ℕ) : Type 0 where
   pub end : Option ℕ
   pub cell : cell_at table i column ≡ Some end
   pub ends : Ends rules kinds f i end
 
--- the table has where each rule and each repetition ends, from a place on
+-- the table has where each rule and the turns of each repetition end, from a place on
 pub record AreTold (p : Program) (kinds : List ℕ) (table : List (List (Option ℕ))) (from : ℕ) : Type 0 where
   pub rules : (j s : ℕ) → from ≤ j → j ≤ length kinds → s < length p.roots.items → IsTold (rules_of p) kinds table (rule s) j s
   pub stars : (j n a : ℕ) → from ≤ j → j ≤ length kinds → slice_get p.stars.items n ≡ Some a →
-      IsTold (rules_of p) kinds table (star (form_at (forms_in p.nodes.items) a)) j (length p.roots.items + n)
+      IsTold (rules_of p) kinds table (turns (form_at (forms_in p.nodes.items) a)) j (length p.roots.items + n)
 
 -- the form names only rules that are there, and repeats nothing that can take nothing
 pub record IsSafe (p : Program) (f : Form) : Type 0 where

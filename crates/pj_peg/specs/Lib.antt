@@ -11,4 +11,5 @@ pub mod Made
 pub mod Ends
 pub mod Filled
 pub mod Firsts
+pub mod Orders
 pub mod Emit

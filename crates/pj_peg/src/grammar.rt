@@ -9,6 +9,7 @@ use crate::analysis::{Facts, facts_of, nullable_rules};
 use crate::compile::compile;
 use crate::firsts::goings;
 use crate::graph::{Placing, calls, fault_of, place_rules};
+use crate::orders::{orders_by_kind, stars_by_kind};
 use crate::program::Program;
 use crate::{Item, Items};
 use pj_base::NoMemory;
@@ -69,7 +70,9 @@ pub struct WellFormed {
     rules: Items,
     pub(crate) program: Program,
     pub(crate) order: Vec<u16>,
-    pub(crate) goings: Vec<Vec<bool>>,
+    pub(crate) orders: Vec<Vec<u16>>,
+    pub(crate) stars: Vec<Vec<usize>>,
+    pub(crate) goings: Vec<u128>,
 }
 
 impl Model for WellFormed {
@@ -86,7 +89,7 @@ impl Model for WellFormed {
 
     ghost view = { λ g. g.rules.items };
 
-    ghost invariant = { λ g. IsMade (forms_of g.rules.items) g.program g.order.items g.goings.items };
+    ghost invariant = { λ g. IsMade (forms_of g.rules.items) g.program g.order.items g.orders.items g.stars.items g.goings.items };
 }
 
 // What was found out of a grammar's rules.
@@ -96,7 +99,7 @@ struct Analysis {
     facts: Vec<Facts>,
     calls: Vec<Vec<u16>>,
     placing: Placing,
-    goings: Vec<Vec<bool>>,
+    goings: Vec<u128>,
 }
 
 // Finds out what is to be known of the rules.
@@ -162,7 +165,7 @@ impl Grammar {
     {
         let analysis = analyse(alloc, &self.rules)?;
         first_fault(alloc, &self.rules, &analysis)?;
-        Ok(WellFormed::made(self.rules, analysis))
+        Ok(WellFormed::made(alloc, self.rules, analysis)?)
     }
 }
 
@@ -176,7 +179,7 @@ impl WellFormed {
     }
 
     // The grammar of rules that are known to be well-formed.
-    fn made(rules: Items, analysis: Analysis) -> WellFormed
+    fn made(alloc: Global, rules: Items, analysis: Analysis) -> Result<WellFormed, NoMemory>
         requires some { 0 < length rules.items }
         requires most { length rules.items ≤ 2 ^ 16 }
         requires well_formed { IsWellFormed (forms_of rules.items) }
@@ -184,7 +187,7 @@ impl WellFormed {
         requires placing { IsPlacing analysis.calls.items analysis.placing.order.items analysis.placing.placed.items }
         requires closed { IsClosed analysis.calls.items analysis.placing.placed.items }
         requires goings { AreGoing analysis.program analysis.goings.items }
-        ensures { result ≡ rules.items }
+        ensures { IfOk result (λ grammar. grammar ≡ rules.items) }
     {
         let Analysis {
             program,
@@ -194,12 +197,16 @@ impl WellFormed {
             goings,
         } = analysis;
         let Placing { order, placed: _ } = placing;
-        WellFormed {
+        let orders = orders_by_kind(alloc, &program, &goings, &order)?;
+        let stars = stars_by_kind(alloc, &program, &goings)?;
+        Ok(WellFormed {
             rules,
             program,
             order,
+            orders,
+            stars,
             goings,
-        }
+        })
     }
 
     /// The grammar of rules that are known to be well-formed, of which there are from 1 to 65,536. For a table of rules that is
@@ -211,6 +218,6 @@ impl WellFormed {
         ensures rules { IfOk result (λ grammar. grammar ≡ rules.items) }
     {
         let analysis = analyse(alloc, &rules)?;
-        Ok(WellFormed::made(rules, analysis))
+        WellFormed::made(alloc, rules, analysis)
     }
 }

@@ -21,6 +21,7 @@ mod grammar;
 mod graph;
 mod item;
 mod law;
+mod orders;
 mod program;
 mod runner;
 mod table;

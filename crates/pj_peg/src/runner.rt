@@ -5,6 +5,7 @@ ghost use Rattle.pj_peg.specs.Derives.{Derives, To, DerivesSteps, FailsAtStart};
 ghost use Rattle.pj_peg.specs.WellFormed.{IsWellFormed};
 ghost use Rattle.pj_peg.specs.Program.{IsProgram, form_at, forms_in, rules_of};
 ghost use Rattle.pj_peg.specs.Ends.{Ends, Collects, AreTold, IsSafe};
+ghost use Rattle.pj_peg.specs.Firsts.{AreGoing};
 ghost use Rattle.pj_peg.specs.Emit.{opens, Opens, set_next};
 
 use crate::derivation::{Derivation, Step};
@@ -19,6 +20,7 @@ use std::alloc::Global;
 // Adds the calls by which a node takes what it takes from a place on, where it does not fail.
 fn add_calls(
     program: &Program,
+    goings: &[u128],
     kinds: &[u16],
     table: &Table,
     root: usize,
@@ -27,6 +29,8 @@ fn add_calls(
 ) -> Result<(), NoMemory>
     requires small { length kinds.now ≤ 200000 }
     requires program { IsProgram program.now }
+    requires goings { AreGoing program.now goings.now }
+    requires well_formed { IsWellFormed (rules_of program.now) }
     requires root { root < length program.now.nodes.items }
     requires within { from ≤ length kinds.now }
     requires told { AreTold program.now kinds.now table.now 0 }
@@ -50,8 +54,8 @@ fn add_calls(
                 }
             },
             Node::Seq(first, rest) => {
-                add_calls(program, kinds, table, first, place, calls)?;
-                match end_of(program, kinds, table, first, place) {
+                add_calls(program, goings, kinds, table, first, place, calls)?;
+                match end_of(program, goings, kinds, table, first, place) {
                     None => return Ok(()),
                     Some(end) => {
                         place = end;
@@ -59,18 +63,20 @@ fn add_calls(
                     }
                 }
             }
-            Node::Choice(first, others) => match end_of(program, kinds, table, first, place) {
+            Node::Choice(first, others) => match end_of(
+                program, goings, kinds, table, first, place,
+            ) {
                 None => node = others,
                 Some(_) => node = first,
             },
-            Node::Star(part, _) => match end_of(program, kinds, table, part, place) {
+            Node::Star(part, _) => match end_of(program, goings, kinds, table, part, place) {
                 None => return Ok(()),
                 Some(end) => {
-                    add_calls(program, kinds, table, part, place, calls)?;
+                    add_calls(program, goings, kinds, table, part, place, calls)?;
                     place = end;
                 }
             },
-            Node::Maybe(part) => match end_of(program, kinds, table, part, place) {
+            Node::Maybe(part) => match end_of(program, goings, kinds, table, part, place) {
                 None => return Ok(()),
                 Some(_) => node = part,
             },
@@ -112,6 +118,7 @@ const MOST_TURNS: usize = 2 * MOST_STEPS + 1;
 // Emits the step of a call, and puts its closing and the calls below it on the stack.
 fn open(
     program: &Program,
+    goings: &[u128],
     kinds: &[u16],
     table: &Table,
     call: Call,
@@ -121,6 +128,7 @@ fn open(
 ) -> Result<(), NoMemory>
     requires small { length kinds.now ≤ 200000 }
     requires program { IsProgram program.now }
+    requires goings { AreGoing program.now goings.now }
     requires well_formed { IsWellFormed (rules_of program.now) }
     requires told { AreTold program.now kinds.now table.now 0 }
     requires within { call.from ≤ length kinds.now }
@@ -137,7 +145,7 @@ fn open(
     stack.push(Task::Close(number))?;
     let root = program.roots[call.rule as usize];
     calls.clear();
-    add_calls(program, kinds, table, root, call.from, calls)?;
+    add_calls(program, goings, kinds, table, root, call.from, calls)?;
     stack_up(calls, stack)?;
     Ok(())
 }
@@ -158,11 +166,13 @@ fn steps_of_call(
     alloc: Global,
     first: Call,
     program: &Program,
+    goings: &[u128],
     kinds: &[u16],
     table: &Table,
 ) -> Result<Vec<Step>, NoMemory>
     requires small { length kinds.now ≤ 200000 }
     requires program { IsProgram program.now }
+    requires goings { AreGoing program.now goings.now }
     requires well_formed { IsWellFormed (rules_of program.now) }
     requires told { AreTold program.now kinds.now table.now 0 }
     requires within { first.from ≤ length kinds.now }
@@ -185,7 +195,7 @@ fn steps_of_call(
                     return Err(NoMemory);
                 }
                 open(
-                    program, kinds, table, call, &mut steps, &mut calls, &mut stack,
+                    program, goings, kinds, table, call, &mut steps, &mut calls, &mut stack,
                 )?;
             }
             Task::Close(number) => close(&mut steps, number),
@@ -208,7 +218,16 @@ pub fn run(
     ensures places { IfOk result (λ found. IfSome found (All (λ step. (step.from ≤ step.to) × (step.to ≤ length kinds.now)))) }
 {
     let program = &grammar.program;
-    let table = fill(alloc, program, &grammar.goings, &grammar.order, kinds)?;
+    let goings = &grammar.goings;
+    let table = fill(
+        alloc,
+        program,
+        goings,
+        &grammar.order,
+        &grammar.orders,
+        &grammar.stars,
+        kinds,
+    )?;
     match table.end(0, 0) {
         None => Ok(None),
         Some(to) => {
@@ -217,7 +236,7 @@ pub fn run(
                 from: 0,
                 to,
             };
-            let steps = steps_of_call(alloc, first, program, kinds, &table)?;
+            let steps = steps_of_call(alloc, first, program, goings, kinds, &table)?;
             Ok(Some(Derivation::of(steps)))
         }
     }

@@ -1,4 +1,4 @@
-ghost use Rattle.std.specs.Prelude.{◌≡◌, ℕ, ◌+◌, ◌-◌, ◌^◌, ◌<◌, List, IfOk, IfSome, IsSome};
+ghost use Rattle.std.specs.Prelude.{◌≡◌, ℕ, ◌+◌, ◌-◌, ◌^◌, ◌<◌, List, IfOk, IfSome, IsSome, Option, Some, None, unwrap_or};
 ghost use Rattle.pj_peg.specs.Table.{cell_at};
 
 use pj_base::NoMemory;
@@ -65,7 +65,7 @@ impl Model for Table {
 impl Table {
     // A table in which each column fails at each place.
     pub fn new(alloc: Global, places: usize, columns: usize) -> Result<Table, NoMemory>
-        ensures { IfOk result (λ table. (i c : ℕ) → i < places → c < columns → IsSome (cell_at table i c)) }
+        ensures { IfOk result (λ table. (i c : ℕ) → i < places → c < columns → cell_at table i c ≡ Some None) }
     {
         let mut rows = Vec::new(alloc);
         for _ in 0..places {
@@ -83,6 +83,17 @@ impl Table {
     {
         let row = &self.rows[place as usize];
         row[column].end()
+    }
+
+    // What the cell has, or the place itself where the column fails.
+    pub fn end_or_place(&self, place: u32, column: usize) -> u32
+        requires { IsSome (cell_at self.now place column) }
+        ensures { (o : Option ℕ) → cell_at self.now place column ≡ Some o → result ≡ unwrap_or o place }
+    {
+        match self.end(place, column) {
+            None => place,
+            Some(end) => end,
+        }
     }
 
     // Sets the cell, and no other.

@@ -1,5 +1,4 @@
-use Rattle.std.proofs.Common.{◌∙◌, arith}
-use Rattle.pj_peg.proofs.Cells.{is_some_that}
+use Rattle.std.proofs.Common.{None, ◌∙◌, arith}
 use Rattle.pj_peg.proofs.fill.fill.Goals as goal
 
 pub loop-place-init : goal.loop-place-init
@@ -8,9 +7,10 @@ loop-place-init c =
     let stars = c.len-2.ensures ∙ c.args.program.now.stars.ok.0 in
     record {
       within = omega arith;
-      shape = record { cells = λ i k within lt. is_some_that _ (c.in_ok-table.ensures i k (omega arith) (omega arith)) };
+      shape = record { cells = λ i k within lt. (None, c.in_ok-table.ensures i k (omega arith) (omega arith)) };
       told = record {
         rules = λ j s from within. absurd (omega arith);
         stars = λ j n a from within. absurd (omega arith);
       };
+      fresh = record { cells = λ i k within lt. c.in_ok-table.ensures i k (omega arith) (omega arith) };
     }

@@ -29,7 +29,7 @@ pub add_calls-requires : goal.add_calls-requires
 add_calls-requires t c =
     let parts = node_parts c.args.program.now _ _ (Seq c.in-Seq.first c.in-Seq.rest) c.requires.program c.loop-rule.invariant.there c.index.ensures c.in-Seq.is in
     let on = collecting_node c.args.program.now c.args.kinds.now _ _ _ _ _ _ _ (Seq c.in-Seq.first c.in-Seq.rest) c.requires.program c.loop-rule.invariant.there c.index.ensures c.in-Seq.is c.loop-rule.invariant.collecting in
-    (omega arith, (c.requires.small, (c.requires.program, (omega arith, (on.within, (c.requires.told, (seq_part_safe c.args.program.now c.args.kinds.now _ _ on.safe, seq_first_goes (rules_of c.args.program.now) c.args.kinds.now _ _ _ on.end on.goes)))))))
+    (omega arith, (c.requires.small, (c.requires.program, (c.requires.goings, (c.requires.well_formed, (omega arith, (on.within, (c.requires.told, (seq_part_safe c.args.program.now c.args.kinds.now _ _ on.safe, seq_first_goes (rules_of c.args.program.now) c.args.kinds.now _ _ _ on.end on.goes)))))))))
 
 pub end_of-requires-clause-root : goal.end_of-requires-clause-root
 end_of-requires-clause-root t c =
@@ -117,7 +117,7 @@ pub add_calls-requires-in-Some-end_of-3 : goal.add_calls-requires-in-Some-end_of
 add_calls-requires-in-Some-end_of-3 t c =
     let parts = node_parts c.args.program.now _ _ (Star c.in-Star.part c.in-Star.field-1) c.requires.program c.loop-rule.invariant.there c.index.ensures c.in-Star.is in
     let on = collecting_node c.args.program.now c.args.kinds.now _ _ _ _ _ _ _ (Star c.in-Star.part c.in-Star.field-1) c.requires.program c.loop-rule.invariant.there c.index.ensures c.in-Star.is c.loop-rule.invariant.collecting in
-    (omega arith, (c.requires.small, (c.requires.program, (omega arith, (on.within, (c.requires.told, (star_part_safe c.args.program.now c.args.kinds.now _ on.safe, (c.in-Some-end_of-3.end, c.in-Some-end_of-3.ensures))))))))
+    (omega arith, (c.requires.small, (c.requires.program, (c.requires.goings, (c.requires.well_formed, (omega arith, (on.within, (c.requires.told, (star_part_safe c.args.program.now c.args.kinds.now _ on.safe, (c.in-Some-end_of-3.end, c.in-Some-end_of-3.ensures))))))))))
 
 pub loop-rule-smaller-in-Some-end_of-3 : goal.loop-rule-smaller-in-Some-end_of-3
 loop-rule-smaller-in-Some-end_of-3 t c =

@@ -4,7 +4,7 @@ use Rattle.pj_check.specs.CheckFile.{HasNoReport, most_bytes}
 use Rattle.pj_check.specs.Outcome.{Says}
 use Rattle.pj_check.specs.Lines.{SaysOfBytes}
 use Rattle.pj_check.proofs.OutcomeLaws.{all_told, told_so, no_report_without_job, whole_read, job_says}
-use Rattle.pj_check.proofs.check.check_file.Goals as goal
+use Rattle.pj_check.proofs.check.check_file_by.Goals as goal
 
 pub returns-in_default-clause-says : goal.returns-in_default-clause-says
 returns-in_default-clause-says g c = all_told (g.T.Tree.holds c.args.tree.now) (λ files. HasNoReport c.args.words.now files × (g.S.Sink.held c.args.out.now ≡ g.S.Sink.held c.args.out.now))
