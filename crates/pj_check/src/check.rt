@@ -124,9 +124,9 @@ pub fn check_file<T: Tree, S: Sink>(
     ensures sink_faults { CountsSinkFaults result (S.faults out.old) (S.faults out.new) }
     ensures keeps_sink { KeepsSink result (S.held out.old) (S.held out.new) }
 {
-    if read_job(words).is_none() {
+    let Some(_) = read_job(words) else {
         return FileOutcome::NotBuilt;
-    }
+    };
     match java_17(alloc) {
         Ok(grammar) => check_file_by(alloc, &grammar, words, tree, out),
         Err(_) => FileOutcome::Memory,

@@ -7,8 +7,9 @@
 //! contracts inside the crate.
 //!
 //! `run` keeps a table of where each rule and each repetition ends at each place, and fills it in from the last place to the
-//! first. So each item is looked at once at each place, and nesting in the text costs no stack; no clause says this, it is
-//! measured.
+//! first. At each place it looks only at those that can begin with the token there or take nothing: the others fail there, as
+//! the table has it from the start. So each item is looked at once at each place at most, and nesting in the text costs no
+//! stack; no clause says this, it is measured.
 #![tactic(auto)]
 
 mod analysis;

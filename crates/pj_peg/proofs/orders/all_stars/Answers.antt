@@ -1,4 +1,4 @@
-use Rattle.std.proofs.Common.{◌<◌, ◌∙◌, length, arith}
+use Rattle.std.proofs.Common.{◌<◌, length, arith}
 use Rattle.pj_peg.proofs.Ordering.{numbers_more, numbers_all}
 use Rattle.pj_peg.proofs.orders.all_stars.Goals as goal
 

@@ -1,4 +1,4 @@
-use Rattle.std.proofs.Common.{◌<◌, ◌∙◌, length, arith}
+use Rattle.std.proofs.Common.{◌<◌, length, arith}
 use Rattle.pj_peg.proofs.Ordering.{stars_pushed, stars_all}
 use Rattle.pj_peg.proofs.orders.stars_for.Goals as goal
 
