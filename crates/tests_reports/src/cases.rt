@@ -11,41 +11,43 @@ use std::process::Abort;
 use std::test::Fail;
 
 /// A rule: its name, message, priority and ruleset.
-pub type RuleCase<'a> = (&'a str, &'a str, u8, &'a str);
+pub type RuleCase = (&'static str, &'static str, u8, &'static str);
 
 /// A finding: the number of its rule, the line and column of its begin and of its end, and why it is suppressed, empty where
 /// it is not.
-pub type FindingCase<'a> = (u32, [u32; 4], &'a str);
+pub type FindingCase = (u32, [u32; 4], &'static str);
 
-/// A file: its path, its package, its findings, and its errors, each a rule's number and a message.
-pub type FileCase<'a> = (
-    &'a str,
-    &'a str,
-    &'a [FindingCase<'a>],
-    &'a [(Option<u32>, &'a str)],
+/// An error of a file: the number of a rule, and a message.
+pub type ErrorCase = (Option<u32>, &'static str);
+
+/// A file: its path, its package, its findings and its errors.
+pub type FileCase = (
+    &'static str,
+    &'static str,
+    &'static [FindingCase],
+    &'static [ErrorCase],
 );
 
 /// A report, and what is wanted of it.
-#[derive(Drop)]
-pub struct Case<'a> {
-    pub rules: &'a [RuleCase<'a>],
-    pub files: &'a [FileCase<'a>],
+pub struct Case {
+    pub rules: &'static [RuleCase],
+    pub files: &'static [FileCase],
     /// The configuration errors, each the rule and the message.
-    pub errors: &'a [(&'a str, &'a str)],
-    pub text: &'a str,
+    pub errors: &'static [(&'static str, &'static str)],
+    pub text: &'static str,
     /// The rows behind the header.
-    pub csv: &'a str,
+    pub csv: &'static str,
     /// What stands in the lists `configurationErrors`, `files`, `processingErrors` and `suppressedViolations`.
-    pub json: [&'a str; 4],
+    pub json: [&'static str; 4],
 }
 
 /// A rule of most reports.
-pub const R: RuleCase<'static> = ("R", "m", 3, "S");
+pub const R: RuleCase = ("R", "m", 3, "S");
 
 /// Another one, whose ruleset has no name.
-pub const Q: RuleCase<'static> = ("Q", "n", 1, "");
+pub const Q: RuleCase = ("Q", "n", 1, "");
 
-fn rules_of(alloc: Global, rules: &[RuleCase<'_>]) -> Result<RuleRowList, NoMemory> {
+fn rules_of(alloc: Global, rules: &[RuleCase]) -> Result<RuleRowList, NoMemory> {
     let mut rows = RuleRowList::new(alloc);
     for (name, message, priority, rule_set) in rules {
         rows.push(RuleRow {
@@ -68,27 +70,32 @@ fn reason_of(word: &str) -> Option<Reason> {
     }
 }
 
-fn findings_of(alloc: Global, findings: &[FindingCase<'_>]) -> Result<Findings, NoMemory> {
+fn finding_of(case: &FindingCase) -> Finding {
+    let (rule, [line, column, end_line, end_column], reason) = case;
+    Finding {
+        rule: *rule,
+        node: 7,
+        begin: Place {
+            line: *line,
+            column: *column,
+        },
+        end: Place {
+            line: *end_line,
+            column: *end_column,
+        },
+        reason: reason_of(reason),
+    }
+}
+
+fn findings_of(alloc: Global, findings: &[FindingCase]) -> Result<Findings, NoMemory> {
     let mut rows = Findings::new(alloc);
-    for (rule, [line, column, end_line, end_column], reason) in findings {
-        rows.push(Finding {
-            rule: *rule,
-            node: 7,
-            begin: Place {
-                line: *line,
-                column: *column,
-            },
-            end: Place {
-                line: *end_line,
-                column: *end_column,
-            },
-            reason: reason_of(reason),
-        })?;
+    for finding in findings {
+        rows.push(finding_of(finding))?;
     }
     Ok(rows)
 }
 
-fn file_errors_of(alloc: Global, errors: &[(Option<u32>, &str)]) -> Result<FileErrors, NoMemory> {
+fn file_errors_of(alloc: Global, errors: &[ErrorCase]) -> Result<FileErrors, NoMemory> {
     let mut rows = FileErrors::new(alloc);
     for (rule, message) in errors {
         rows.push(FileError {
@@ -99,7 +106,7 @@ fn file_errors_of(alloc: Global, errors: &[(Option<u32>, &str)]) -> Result<FileE
     Ok(rows)
 }
 
-fn files_of(alloc: Global, files: &[FileCase<'_>]) -> Result<PathRows, NoMemory> {
+fn files_of(alloc: Global, files: &[FileCase]) -> Result<PathRows, NoMemory> {
     let mut rows = PathRows::new(alloc);
     for (path, package, findings, errors) in files {
         let file = FileRows {
@@ -112,7 +119,10 @@ fn files_of(alloc: Global, files: &[FileCase<'_>]) -> Result<PathRows, NoMemory>
     Ok(rows)
 }
 
-fn config_errors_of(alloc: Global, errors: &[(&str, &str)]) -> Result<ConfigErrors, NoMemory> {
+fn config_errors_of(
+    alloc: Global,
+    errors: &[(&'static str, &'static str)],
+) -> Result<ConfigErrors, NoMemory> {
     let mut rows = ConfigErrors::new(alloc);
     for (rule, message) in errors {
         rows.push(ConfigError {
@@ -124,7 +134,7 @@ fn config_errors_of(alloc: Global, errors: &[(&str, &str)]) -> Result<ConfigErro
 }
 
 /// The report of copies of its rows.
-fn report_of(alloc: Global, case: &Case<'_>) -> Result<Report, NoMemory> {
+fn report_of(alloc: Global, case: &Case) -> Result<Report, NoMemory> {
     let rules = rules_of(alloc, case.rules)?;
     let errors = config_errors_of(alloc, case.errors)?;
     Ok(Report {
@@ -151,7 +161,7 @@ fn wanted_csv(alloc: Global, rows: &str) -> Result<String, AllocError> {
     joined(alloc, pieces.as_slice())
 }
 
-fn wanted_json(alloc: Global, lists: &[&str; 4]) -> Result<String, AllocError> {
+fn wanted_json(alloc: Global, lists: &[&'static str; 4]) -> Result<String, AllocError> {
     let [config_errors, files, errors, suppressed] = lists;
     let pieces: [&str; 9] = [
         "{\"configurationErrors\":[",
@@ -175,7 +185,7 @@ fn want(rt: &impl Abort, place: usize, form: &str, bytes: &Bytes, wanted: &str) 
 }
 
 /// Writes each report in the three forms, and wants the texts beside it.
-pub fn check(rt: &impl Abort, alloc: Global, cases: &[Case<'_>]) -> Result<(), Fail> {
+pub fn check(rt: &impl Abort, alloc: Global, cases: &[Case]) -> Result<(), Fail> {
     for (place, case) in cases.iter().enumerate() {
         let report = report_of(alloc, case)?;
         let csv = wanted_csv(alloc, case.csv)?;

@@ -2,9 +2,8 @@
 use crate::cases::{Case, check};
 use std::test::Fail;
 
-#[test]
-fn quotes_and_commas(rt: HostRuntime) -> Result<(), Fail> {
-    let everywhere = Case {
+static QUOTES_AND_COMMAS: [Case; 2] = [
+    Case {
         rules: &[("a\"b", "say \"x\", y", 2, "\"")],
         files: &[("d,e/\"A\"", "p\"", &[(0, [1, 2, 3, 4], "")], &[])],
         errors: &[("\"\"", ",\"")],
@@ -16,8 +15,8 @@ fn quotes_and_commas(rt: HostRuntime) -> Result<(), Fail> {
             "",
             "",
         ],
-    };
-    let slashes = Case {
+    },
+    Case {
         rules: &[("a/b", "\\", 2, "\\n")],
         files: &[(
             "d\\A",
@@ -34,13 +33,16 @@ fn quotes_and_commas(rt: HostRuntime) -> Result<(), Fail> {
             r#"{"filename":"d\\A","message":"\\u0041/"}"#,
             "",
         ],
-    };
-    check(&rt, rt.alloc(), &[everywhere, slashes])
-}
+    },
+];
 
 #[test]
-fn line_ends_and_tabs(rt: HostRuntime) -> Result<(), Fail> {
-    let in_rows = Case {
+fn quotes_and_commas(rt: HostRuntime) -> Result<(), Fail> {
+    check(&rt, rt.alloc(), &QUOTES_AND_COMMAS)
+}
+
+static LINE_ENDS_AND_TABS: [Case; 2] = [
+    Case {
         rules: &[("a\nb", "c\r\nd", 2, "\t")],
         files: &[("A\n", "\r", &[(0, [1, 2, 3, 4], "")], &[])],
         errors: &[],
@@ -52,8 +54,8 @@ fn line_ends_and_tabs(rt: HostRuntime) -> Result<(), Fail> {
             "",
             "",
         ],
-    };
-    let in_errors = Case {
+    },
+    Case {
         rules: &[],
         files: &[("A\tB", "", &[], &[(None, "c\nd\t\r")])],
         errors: &[("e\t", "\n")],
@@ -65,13 +67,16 @@ fn line_ends_and_tabs(rt: HostRuntime) -> Result<(), Fail> {
             r#"{"filename":"A\tB","message":"c\nd\t\r"}"#,
             "",
         ],
-    };
-    check(&rt, rt.alloc(), &[in_rows, in_errors])
-}
+    },
+];
 
 #[test]
-fn control_characters(rt: HostRuntime) -> Result<(), Fail> {
-    let below_a_space = Case {
+fn line_ends_and_tabs(rt: HostRuntime) -> Result<(), Fail> {
+    check(&rt, rt.alloc(), &LINE_ENDS_AND_TABS)
+}
+
+static CONTROL_CHARACTERS: [Case; 2] = [
+    Case {
         rules: &[],
         files: &[],
         errors: &[
@@ -92,8 +97,8 @@ fn control_characters(rt: HostRuntime) -> Result<(), Fail> {
             "",
             "",
         ],
-    };
-    let in_a_row = Case {
+    },
+    Case {
         rules: &[("\u{1}", "\u{0}\u{c}", 4, "\u{1b}")],
         files: &[("\u{8}", "\u{2}", &[(0, [1, 1, 1, 1], "")], &[])],
         errors: &[],
@@ -105,13 +110,16 @@ fn control_characters(rt: HostRuntime) -> Result<(), Fail> {
             "",
             "",
         ],
-    };
-    check(&rt, rt.alloc(), &[below_a_space, in_a_row])
-}
+    },
+];
 
 #[test]
-fn characters_of_several_bytes(rt: HostRuntime) -> Result<(), Fail> {
-    let in_rows = Case {
+fn control_characters(rt: HostRuntime) -> Result<(), Fail> {
+    check(&rt, rt.alloc(), &CONTROL_CHARACTERS)
+}
+
+static CHARACTERS_OF_SEVERAL_BYTES: [Case; 2] = [
+    Case {
         rules: &[("Größe", "∞", 2, "ß"), ("😀", "\u{2028}", 3, "")],
         files: &[(
             "ü/😀",
@@ -128,8 +136,8 @@ fn characters_of_several_bytes(rt: HostRuntime) -> Result<(), Fail> {
             "",
             "{\"filename\":\"ü/😀\",\"violations\":[{\"begincolumn\":2,\"beginline\":1,\"description\":\"\u{2028}\",\"endcolumn\":4,\"endline\":3,\"priority\":3,\"rule\":\"😀\",\"ruleset\":\"\",\"suppressiontype\":\"xpath\"}]}",
         ],
-    };
-    let in_errors = Case {
+    },
+    Case {
         rules: &[],
         files: &[("\u{feff}", "", &[], &[(Some(0), "\u{a0}\u{80}")])],
         errors: &[("\u{e000}", "\u{fffd}\u{10ffff}")],
@@ -141,25 +149,30 @@ fn characters_of_several_bytes(rt: HostRuntime) -> Result<(), Fail> {
             "{\"filename\":\"\u{feff}\",\"message\":\"\u{a0}\u{80}\"}",
             "",
         ],
-    };
-    check(&rt, rt.alloc(), &[in_rows, in_errors])
+    },
+];
+
+#[test]
+fn characters_of_several_bytes(rt: HostRuntime) -> Result<(), Fail> {
+    check(&rt, rt.alloc(), &CHARACTERS_OF_SEVERAL_BYTES)
 }
+
+static EMPTY_TEXTS: [Case; 1] = [Case {
+    rules: &[("", "", 1, "")],
+    files: &[("", "", &[(0, [1, 1, 1, 1], "")], &[(None, "")])],
+    errors: &[("", "")],
+    text: ":1:\t:\t\n\t-\t\n\t-\t\n",
+    csv: r#""1","","","1","1","","",""
+"#,
+    json: [
+        r#"{"message":"","rule":""}"#,
+        r#"{"filename":"","violations":[{"begincolumn":1,"beginline":1,"description":"","endcolumn":1,"endline":1,"priority":1,"rule":"","ruleset":""}]}"#,
+        r#"{"filename":"","message":""}"#,
+        "",
+    ],
+}];
 
 #[test]
 fn empty_texts(rt: HostRuntime) -> Result<(), Fail> {
-    let everywhere = Case {
-        rules: &[("", "", 1, "")],
-        files: &[("", "", &[(0, [1, 1, 1, 1], "")], &[(None, "")])],
-        errors: &[("", "")],
-        text: ":1:\t:\t\n\t-\t\n\t-\t\n",
-        csv: r#""1","","","1","1","","",""
-"#,
-        json: [
-            r#"{"message":"","rule":""}"#,
-            r#"{"filename":"","violations":[{"begincolumn":1,"beginline":1,"description":"","endcolumn":1,"endline":1,"priority":1,"rule":"","ruleset":""}]}"#,
-            r#"{"filename":"","message":""}"#,
-            "",
-        ],
-    };
-    check(&rt, rt.alloc(), &[everywhere])
+    check(&rt, rt.alloc(), &EMPTY_TEXTS)
 }

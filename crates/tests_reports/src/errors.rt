@@ -2,9 +2,8 @@
 use crate::cases::{Case, Q, R, check};
 use std::test::Fail;
 
-#[test]
-fn files_without_a_tree(rt: HostRuntime) -> Result<(), Fail> {
-    let of_the_text = Case {
+static FILES_WITHOUT_A_TREE: [Case; 2] = [
+    Case {
         rules: &[],
         files: &[
             ("A", "", &[], &[(None, "not UTF-8 at byte 12")]),
@@ -20,8 +19,8 @@ fn files_without_a_tree(rt: HostRuntime) -> Result<(), Fail> {
             r#"{"filename":"A","message":"not UTF-8 at byte 12"},{"filename":"B","message":"bad unicode escape at 1:3"},{"filename":"C","message":"lexical fault 1 at 1:15"}"#,
             "",
         ],
-    };
-    let of_the_tree = Case {
+    },
+    Case {
         rules: &[R],
         files: &[
             ("D", "", &[], &[(None, "syntax fault")]),
@@ -38,13 +37,16 @@ fn files_without_a_tree(rt: HostRuntime) -> Result<(), Fail> {
             r#"{"filename":"D","message":"syntax fault"},{"filename":"E","message":"too deep"},{"filename":"F","message":"too many nodes"},{"filename":"G","message":"too many tokens"}"#,
             "",
         ],
-    };
-    check(&rt, rt.alloc(), &[of_the_text, of_the_tree])
-}
+    },
+];
 
 #[test]
-fn rules_with_a_code(rt: HostRuntime) -> Result<(), Fail> {
-    let two_rules = Case {
+fn files_without_a_tree(rt: HostRuntime) -> Result<(), Fail> {
+    check(&rt, rt.alloc(), &FILES_WITHOUT_A_TREE)
+}
+
+static RULES_WITH_A_CODE: [Case; 2] = [
+    Case {
         rules: &[R, Q],
         files: &[(
             "A",
@@ -61,8 +63,8 @@ fn rules_with_a_code(rt: HostRuntime) -> Result<(), Fail> {
             r#"{"filename":"A","message":"R: FOAR0001"},{"filename":"A","message":"Q: XPTY0004"}"#,
             "",
         ],
-    };
-    let beside_a_finding = Case {
+    },
+    Case {
         rules: &[R, Q],
         files: &[
             ("A", "p", &[], &[(Some(0), "R: FOTY0012")]),
@@ -78,13 +80,16 @@ fn rules_with_a_code(rt: HostRuntime) -> Result<(), Fail> {
             r#"{"filename":"A","message":"R: FOTY0012"}"#,
             "",
         ],
-    };
-    check(&rt, rt.alloc(), &[two_rules, beside_a_finding])
-}
+    },
+];
 
 #[test]
-fn configuration(rt: HostRuntime) -> Result<(), Fail> {
-    let alone = Case {
+fn rules_with_a_code(rt: HostRuntime) -> Result<(), Fail> {
+    check(&rt, rt.alloc(), &RULES_WITH_A_CODE)
+}
+
+static CONFIGURATION: [Case; 2] = [
+    Case {
         rules: &[],
         files: &[],
         errors: &[
@@ -100,8 +105,8 @@ fn configuration(rt: HostRuntime) -> Result<(), Fail> {
             "",
             "",
         ],
-    };
-    let behind_the_files = Case {
+    },
+    Case {
         rules: &[Q],
         files: &[
             ("Z", "", &[(0, [3, 1, 3, 1], "")], &[]),
@@ -117,6 +122,10 @@ fn configuration(rt: HostRuntime) -> Result<(), Fail> {
             r#"{"filename":"z","message":"syntax fault"}"#,
             "",
         ],
-    };
-    check(&rt, rt.alloc(), &[alone, behind_the_files])
+    },
+];
+
+#[test]
+fn configuration(rt: HostRuntime) -> Result<(), Fail> {
+    check(&rt, rt.alloc(), &CONFIGURATION)
 }

@@ -2,38 +2,40 @@
 use crate::cases::{Case, Q, R, check};
 use std::test::Fail;
 
-#[test]
-fn nothing(rt: HostRuntime) -> Result<(), Fail> {
-    let none = Case {
+static NOTHING: [Case; 3] = [
+    Case {
         rules: &[],
         files: &[],
         errors: &[],
         text: "",
         csv: "",
         json: ["", "", "", ""],
-    };
-    let rules_alone = Case {
+    },
+    Case {
         rules: &[R, Q],
         files: &[],
         errors: &[],
         text: "",
         csv: "",
         json: ["", "", "", ""],
-    };
-    let files_alone = Case {
+    },
+    Case {
         rules: &[R],
         files: &[("A.java", "p", &[], &[]), ("B.java", "", &[], &[])],
         errors: &[],
         text: "",
         csv: "",
         json: ["", "", "", ""],
-    };
-    check(&rt, rt.alloc(), &[none, rules_alone, files_alone])
-}
+    },
+];
 
 #[test]
-fn one_finding(rt: HostRuntime) -> Result<(), Fail> {
-    let of_a_class = Case {
+fn nothing(rt: HostRuntime) -> Result<(), Fail> {
+    check(&rt, rt.alloc(), &NOTHING)
+}
+
+static ONE_FINDING: [Case; 2] = [
+    Case {
         rules: &[R],
         files: &[("src/A.java", "a.b", &[(0, [3, 5, 4, 1], "")], &[])],
         errors: &[],
@@ -46,8 +48,8 @@ fn one_finding(rt: HostRuntime) -> Result<(), Fail> {
             "",
             "",
         ],
-    };
-    let of_an_empty_file = Case {
+    },
+    Case {
         rules: &[Q],
         files: &[("A", "", &[(0, [1, 1, 1, 1], "")], &[])],
         errors: &[],
@@ -60,38 +62,42 @@ fn one_finding(rt: HostRuntime) -> Result<(), Fail> {
             "",
             "",
         ],
-    };
-    check(&rt, rt.alloc(), &[of_a_class, of_an_empty_file])
+    },
+];
+
+#[test]
+fn one_finding(rt: HostRuntime) -> Result<(), Fail> {
+    check(&rt, rt.alloc(), &ONE_FINDING)
 }
+
+static RULES_OF_A_NODE: [Case; 1] = [Case {
+    rules: &[R, Q],
+    files: &[(
+        "A",
+        "",
+        &[(0, [2, 3, 2, 4], ""), (1, [2, 3, 2, 4], "")],
+        &[],
+    )],
+    errors: &[],
+    text: "A:2:\tR:\tm\nA:2:\tQ:\tn\n",
+    csv: r#""1","","A","3","2","m","S","R"
+"2","","A","1","2","n","","Q"
+"#,
+    json: [
+        "",
+        r#"{"filename":"A","violations":[{"begincolumn":3,"beginline":2,"description":"m","endcolumn":4,"endline":2,"priority":3,"rule":"R","ruleset":"S"},{"begincolumn":3,"beginline":2,"description":"n","endcolumn":4,"endline":2,"priority":1,"rule":"Q","ruleset":""}]}"#,
+        "",
+        "",
+    ],
+}];
 
 #[test]
 fn rules_of_a_node(rt: HostRuntime) -> Result<(), Fail> {
-    let both = Case {
-        rules: &[R, Q],
-        files: &[(
-            "A",
-            "",
-            &[(0, [2, 3, 2, 4], ""), (1, [2, 3, 2, 4], "")],
-            &[],
-        )],
-        errors: &[],
-        text: "A:2:\tR:\tm\nA:2:\tQ:\tn\n",
-        csv: r#""1","","A","3","2","m","S","R"
-"2","","A","1","2","n","","Q"
-"#,
-        json: [
-            "",
-            r#"{"filename":"A","violations":[{"begincolumn":3,"beginline":2,"description":"m","endcolumn":4,"endline":2,"priority":3,"rule":"R","ruleset":"S"},{"begincolumn":3,"beginline":2,"description":"n","endcolumn":4,"endline":2,"priority":1,"rule":"Q","ruleset":""}]}"#,
-            "",
-            "",
-        ],
-    };
-    check(&rt, rt.alloc(), &[both])
+    check(&rt, rt.alloc(), &RULES_OF_A_NODE)
 }
 
-#[test]
-fn each_reason(rt: HostRuntime) -> Result<(), Fail> {
-    let in_the_source = Case {
+static EACH_REASON: [Case; 2] = [
+    Case {
         rules: &[Q],
         files: &[(
             "A",
@@ -111,8 +117,8 @@ fn each_reason(rt: HostRuntime) -> Result<(), Fail> {
             "",
             r#"{"filename":"A","violations":[{"begincolumn":2,"beginline":1,"description":"n","endcolumn":4,"endline":3,"priority":1,"rule":"Q","ruleset":"","suppressiontype":"annotation"},{"begincolumn":6,"beginline":5,"description":"n","endcolumn":8,"endline":7,"priority":1,"rule":"Q","ruleset":"","suppressiontype":"comment"}]}"#,
         ],
-    };
-    let of_the_rule = Case {
+    },
+    Case {
         rules: &[Q],
         files: &[(
             "A",
@@ -129,13 +135,16 @@ fn each_reason(rt: HostRuntime) -> Result<(), Fail> {
             "",
             r#"{"filename":"A","violations":[{"begincolumn":2,"beginline":1,"description":"n","endcolumn":4,"endline":3,"priority":1,"rule":"Q","ruleset":"","suppressiontype":"regex"},{"begincolumn":6,"beginline":5,"description":"n","endcolumn":8,"endline":7,"priority":1,"rule":"Q","ruleset":"","suppressiontype":"xpath"}]}"#,
         ],
-    };
-    check(&rt, rt.alloc(), &[in_the_source, of_the_rule])
-}
+    },
+];
 
 #[test]
-fn both_sorts(rt: HostRuntime) -> Result<(), Fail> {
-    let in_one_file = Case {
+fn each_reason(rt: HostRuntime) -> Result<(), Fail> {
+    check(&rt, rt.alloc(), &EACH_REASON)
+}
+
+static BOTH_SORTS: [Case; 2] = [
+    Case {
         rules: &[Q],
         files: &[(
             "A",
@@ -153,8 +162,8 @@ fn both_sorts(rt: HostRuntime) -> Result<(), Fail> {
             "",
             r#"{"filename":"A","violations":[{"begincolumn":1,"beginline":1,"description":"n","endcolumn":9,"endline":1,"priority":1,"rule":"Q","ruleset":"","suppressiontype":"comment"}]}"#,
         ],
-    };
-    let in_two_files = Case {
+    },
+    Case {
         rules: &[Q],
         files: &[
             ("A", "", &[(0, [1, 1, 1, 1], "regex")], &[]),
@@ -170,13 +179,16 @@ fn both_sorts(rt: HostRuntime) -> Result<(), Fail> {
             "",
             r#"{"filename":"A","violations":[{"begincolumn":1,"beginline":1,"description":"n","endcolumn":1,"endline":1,"priority":1,"rule":"Q","ruleset":"","suppressiontype":"regex"}]}"#,
         ],
-    };
-    check(&rt, rt.alloc(), &[in_one_file, in_two_files])
-}
+    },
+];
 
 #[test]
-fn numbers_without_a_row(rt: HostRuntime) -> Result<(), Fail> {
-    let behind_the_last = Case {
+fn both_sorts(rt: HostRuntime) -> Result<(), Fail> {
+    check(&rt, rt.alloc(), &BOTH_SORTS)
+}
+
+static NUMBERS_WITHOUT_A_ROW: [Case; 2] = [
+    Case {
         rules: &[Q],
         files: &[("A", "p", &[(1, [1, 2, 3, 4], "")], &[])],
         errors: &[],
@@ -189,8 +201,8 @@ fn numbers_without_a_row(rt: HostRuntime) -> Result<(), Fail> {
             "",
             "",
         ],
-    };
-    let greatest_and_suppressed = Case {
+    },
+    Case {
         rules: &[],
         files: &[("A", "", &[(4294967295, [1, 1, 1, 1], "xpath")], &[])],
         errors: &[],
@@ -202,34 +214,39 @@ fn numbers_without_a_row(rt: HostRuntime) -> Result<(), Fail> {
             "",
             r#"{"filename":"A","violations":[{"begincolumn":1,"beginline":1,"description":"","endcolumn":1,"endline":1,"priority":5,"rule":"","ruleset":"","suppressiontype":"xpath"}]}"#,
         ],
-    };
-    check(&rt, rt.alloc(), &[behind_the_last, greatest_and_suppressed])
+    },
+];
+
+#[test]
+fn numbers_without_a_row(rt: HostRuntime) -> Result<(), Fail> {
+    check(&rt, rt.alloc(), &NUMBERS_WITHOUT_A_ROW)
 }
+
+static FORGED_PLACES: [Case; 1] = [Case {
+    rules: &[("X", "", 255, "")],
+    files: &[(
+        "A",
+        "",
+        &[
+            (0, [0, 0, 4294967295, 4294967295], ""),
+            (0, [4294967295, 9, 0, 0], ""),
+        ],
+        &[],
+    )],
+    errors: &[],
+    text: "A:0:\tX:\t\nA:4294967295:\tX:\t\n",
+    csv: r#""1","","A","255","0","","","X"
+"2","","A","255","4294967295","","","X"
+"#,
+    json: [
+        "",
+        r#"{"filename":"A","violations":[{"begincolumn":0,"beginline":0,"description":"","endcolumn":4294967295,"endline":4294967295,"priority":255,"rule":"X","ruleset":""},{"begincolumn":9,"beginline":4294967295,"description":"","endcolumn":0,"endline":0,"priority":255,"rule":"X","ruleset":""}]}"#,
+        "",
+        "",
+    ],
+}];
 
 #[test]
 fn forged_places(rt: HostRuntime) -> Result<(), Fail> {
-    let at_the_ends = Case {
-        rules: &[("X", "", 255, "")],
-        files: &[(
-            "A",
-            "",
-            &[
-                (0, [0, 0, 4294967295, 4294967295], ""),
-                (0, [4294967295, 9, 0, 0], ""),
-            ],
-            &[],
-        )],
-        errors: &[],
-        text: "A:0:\tX:\t\nA:4294967295:\tX:\t\n",
-        csv: r#""1","","A","255","0","","","X"
-"2","","A","255","4294967295","","","X"
-"#,
-        json: [
-            "",
-            r#"{"filename":"A","violations":[{"begincolumn":0,"beginline":0,"description":"","endcolumn":4294967295,"endline":4294967295,"priority":255,"rule":"X","ruleset":""},{"begincolumn":9,"beginline":4294967295,"description":"","endcolumn":0,"endline":0,"priority":255,"rule":"X","ruleset":""}]}"#,
-            "",
-            "",
-        ],
-    };
-    check(&rt, rt.alloc(), &[at_the_ends])
+    check(&rt, rt.alloc(), &FORGED_PLACES)
 }

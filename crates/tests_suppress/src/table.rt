@@ -29,7 +29,7 @@ fn string_at(texts: &[Option<Text>], n: Node) -> Option<Value<'_>>
 impl Attributes for Table {
     ghost use Rattle.std.specs.Prelude.{length, vec_len};
     ghost use Rattle.tests_suppress.specs.Table.{table_names, value_in};
-    ghost use Rattle.tests_suppress.proofs.TableLaws as laws;
+    ghost use Rattle.tests_suppress.specs.TableLaws as laws;
 
     ghost nodes = { λ t. vec_len t.values };
 
