@@ -4,23 +4,29 @@
 #   bench/corpus.sh FOLDER      as the module java.base of Debian's package openjdk-17-source, unpacked
 #
 # It makes a scratch repository of the libraries and of a small program, proves them (which takes minutes where nothing of them
-# is kept on this machine), and runs the program: check_file with //CompilationUnit over each file of the folder that ends in
+# is kept on this machine), and runs the program: check_file_by with //CompilationUnit over each file of the folder that ends in
 # .java, module-info.java left out. This version takes no file that contains NOPMD or SuppressWarnings, so in copies of the files
 # these two words are replaced by others of their length. For each file without a tree it prints the reason, then the counts,
 # tokens (comments among them) and bytes of a second of processor time, and the peak of resident memory.
 set -euo pipefail
 folder=$(cd "$1" && pwd)
 . "$(dirname "$0")/scratch.sh"
-scratch_repository corpus_bench 'anyhow pj_base pj_check pj_lex pj_outside' \
+scratch_repository corpus_bench 'anyhow pj_base pj_check pj_grammar pj_lex pj_outside pj_peg' \
     pj_base pj_names pj_tree pj_peg pj_outside pj_lex pj_shape pj_grammar pj_literals pj_parse pj_check
 cat > "$bench/src/main.rt" <<'PROGRAM'
 // Checks of many files, each in memory.
 #![tactic(auto)]
 
-use pj_check::{FileOutcome, check_file, lack_of};
+ghost use Rattle.std.specs.Prelude.{◌≡◌};
+ghost use Rattle.pj_grammar.specs.Java17.{java_17_forms};
+ghost use Rattle.pj_peg.specs.Form.{forms_of};
+
+use pj_check::{FileOutcome, check_file_by, lack_of};
+use pj_grammar::java_17;
 use pj_lex::{Source, tokens};
 use pj_base::{Bytes, NoMemory, Numbers, Text, Words};
 use pj_outside::{Files, MemSink, MemTree};
+use pj_peg::WellFormed;
 use std::alloc::Global;
 use std::time::CpuClock;
 use std::{env, fs};
@@ -86,7 +92,14 @@ fn say_why(rt: &HostRuntime, path: &str, words: &Words, tree: &mut MemTree) -> a
     Ok(())
 }
 
-fn add_file(rt: &HostRuntime, path: &str, sums: Sums) -> anyhow::Result<Sums> {
+fn add_file(
+    rt: &HostRuntime,
+    grammar: &WellFormed,
+    path: &str,
+    sums: Sums,
+) -> anyhow::Result<Sums>
+    requires { forms_of grammar.now ≡ java_17_forms }
+{
     let alloc = rt.alloc();
     let bytes = fs::read(rt, path)?;
     let count = bytes.len() as u64;
@@ -96,7 +109,7 @@ fn add_file(rt: &HostRuntime, path: &str, sums: Sums) -> anyhow::Result<Sums> {
     };
     let mut sink = MemSink::new(alloc, Numbers::new(alloc));
     let start = now(rt)?;
-    let outcome = check_file(alloc, &words, &mut tree, &mut sink);
+    let outcome = check_file_by(alloc, grammar, &words, &mut tree, &mut sink);
     let took = now(rt)?.saturating_sub(start);
     let has_tree = outcome == FileOutcome::Violations;
     if !has_tree {
@@ -137,14 +150,21 @@ fn check_all(rt: &HostRuntime, list: &str) -> anyhow::Result<()> {
         slowest: 0,
     };
     let names = fs::read_to_string(rt, list)?;
+    let start = now(rt)?;
+    let Ok(grammar) = java_17(rt.alloc()) else {
+        println!(rt; "out of memory")?;
+        return Ok(());
+    };
+    let making = now(rt)?.saturating_sub(start);
     for name in names.as_str().lines() {
-        sums = add_file(rt, name, sums)?;
+        sums = add_file(rt, &grammar, name, sums)?;
     }
     let Sums { files, trees, bytes, tokens, checking, slowest } = sums;
     let (tokens_rate, bytes_rate) = (rate(tokens, checking), rate(bytes, checking));
     let (all, longest) = (checking / 1000, slowest / 1000);
     let peak = peak(rt)?;
     println!(rt; "{trees} of {files} files have a tree; {bytes} bytes, {tokens} tokens, {all} ms")?;
+    println!(rt; "the grammar was made in {making} microseconds")?;
     println!(rt; "{tokens_rate} thousand tokens/s, {bytes_rate} KB/s, slowest file {longest} ms, {peak}")?;
     Ok(())
 }
@@ -173,4 +193,4 @@ for at, folders, names in sorted(os.walk(folder)):
 open(os.path.join(scratch, "list"), "w").write("".join(p + "\n" for p in paths))
 PY
 cd "$bench"
-rt run -- "$scratch/list" | grep -E '^/| of .* files have a tree|tokens/s' | sed "s|^$scratch/sources/||"
+rt run -- "$scratch/list" | grep -E '^/| of .* files have a tree|tokens/s|grammar was made' | sed "s|^$scratch/sources/||"
