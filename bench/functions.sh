@@ -23,6 +23,7 @@ use pj_base::{NoMemory, Text};
 use pj_xfuncs::{Patterns, call};
 use pj_xvalue::{Arguments, BoundVars, Expr, Function, Item, Sequence};
 use std::alloc::Global;
+use std::time::CpuClock;
 
 type Made<T> = std::result::Result<T, NoMemory>;
 
@@ -115,13 +116,14 @@ fn patterns_of(alloc: Global, pattern: &str) -> Made<Patterns> {
 }
 
 // Calls the function often enough, and prints nanoseconds for each character or item, and how many items came last.
-fn row(rt: &HostRuntime, name: &str, size: u32, function: Function, arguments: &Arguments<'_>, patterns: &Patterns) -> Result<()> {
+fn row(rt: &HostRuntime, name: &str, size: u32, function: Function, arguments: &Arguments<'_>) -> Result<()> {
     let alloc = rt.alloc();
+    let patterns = patterns_of(alloc, "[0-9]+")?;
     let rounds = (2_000_000 / size.max(1)).max(1);
     let mut count = 0usize;
     let start = now(rt)?;
     for _ in 0..rounds {
-        match call(alloc, function, arguments, patterns) {
+        match call(alloc, function, arguments, &patterns) {
             Ok(items) => count = items.len(),
             Err(_) => count = usize::MAX,
         }
@@ -134,74 +136,127 @@ fn row(rt: &HostRuntime, name: &str, size: u32, function: Function, arguments: &
     Ok(())
 }
 
-// The functions of texts of so many characters.
-fn of_texts(rt: &HostRuntime, size: u32, patterns: &Patterns) -> Result<()> {
-    let alloc = rt.alloc();
-    let plain = repeated(alloc, "a", size)?;
-    let plain = plain.as_str();
-    let mut almost = repeated(alloc, "a", size / 2)?;
-    almost.push('b')?;
-    let almost = almost.as_str();
-    let words = repeated(alloc, " ab  c", size / 6)?;
-    let words = words.as_str();
-    let digits = repeated(alloc, "ab1c", size / 4)?;
-    let digits = digits.as_str();
-    let from = different(alloc, 0x10000, size)?;
-    let from = from.as_str();
-    let to = different(alloc, 0x50000, size)?;
-    let to = to.as_str();
-    row(rt, "string-length", size, Function::StringLength, &of_text(alloc, plain)?, patterns)?;
-    row(rt, "contains", size, Function::Contains, &of_two_texts(alloc, plain, almost)?, patterns)?;
-    row(rt, "starts-with", size, Function::StartsWith, &of_two_texts(alloc, plain, plain)?, patterns)?;
-    row(rt, "ends-with", size, Function::EndsWith, &of_two_texts(alloc, plain, plain)?, patterns)?;
-    row(rt, "substring-before", size, Function::SubstringBefore, &of_two_texts(alloc, plain, almost)?, patterns)?;
-    row(rt, "substring-after", size, Function::SubstringAfter, &of_two_texts(alloc, plain, almost)?, patterns)?;
-    row(rt, "substring from 2", size, Function::Substring, &with(of_text(alloc, plain)?, one(alloc, Item::Int(2))?)?, patterns)?;
-    row(rt, "normalize-space", size, Function::NormalizeSpace, &of_text(alloc, words)?, patterns)?;
-    row(rt, "upper-case", size, Function::UpperCase, &of_text(alloc, plain)?, patterns)?;
-    row(rt, "lower-case", size, Function::LowerCase, &of_text(alloc, plain)?, patterns)?;
-    row(rt, "translate, map of 3", size, Function::Translate, &of_three_texts(alloc, plain, "abc", "ABC")?, patterns)?;
-    row(rt, "translate, map as long as the text", size, Function::Translate, &of_three_texts(alloc, from, from, to)?, patterns)?;
-    row(rt, "matches", size, Function::Matches, &of_two_texts(alloc, plain, "[0-9]+")?, patterns)?;
-    row(rt, "replace, a quarter of it", size, Function::Replace, &of_three_texts(alloc, digits, "[0-9]+", "-")?, patterns)?;
-    row(rt, "tokenize, a quarter as many", size, Function::Tokenize, &of_two_texts(alloc, digits, "[0-9]+")?, patterns)
+fn of_one(rt: &HostRuntime, name: &str, size: u32, function: Function, text: &str) -> Result<()> {
+    row(rt, name, size, function, &of_text(rt.alloc(), text)?)
 }
 
-// The functions of sequences of so many items.
-fn of_sequences(rt: &HostRuntime, size: u32, patterns: &Patterns) -> Result<()> {
-    let alloc = rt.alloc();
-    let numbers = with(nothing(alloc)?, integers(alloc, size, true)?)?;
-    let sevens = with(nothing(alloc)?, integers(alloc, size, false)?)?;
-    let names = with(nothing(alloc)?, strings(alloc, size, true)?)?;
-    let alike = with(nothing(alloc)?, strings(alloc, size, false)?)?;
-    let joined = with(with(nothing(alloc)?, strings(alloc, size, true)?)?, one(alloc, Item::Borrowed(", "))?)?;
-    let sought = with(with(nothing(alloc)?, strings(alloc, size, false)?)?, one(alloc, Item::Borrowed("a.b.c.Name7"))?)?;
-    let from_two = with(with(nothing(alloc)?, integers(alloc, size, true)?)?, one(alloc, Item::Int(2))?)?;
-    row(rt, "count", size, Function::Count, &numbers, patterns)?;
-    row(rt, "exists", size, Function::Exists, &numbers, patterns)?;
-    row(rt, "empty", size, Function::Empty, &numbers, patterns)?;
-    row(rt, "data", size, Function::Data, &names, patterns)?;
-    row(rt, "string-join", size, Function::StringJoin, &joined, patterns)?;
-    row(rt, "distinct-values, integers that differ", size, Function::DistinctValues, &numbers, patterns)?;
-    row(rt, "distinct-values, one integer", size, Function::DistinctValues, &sevens, patterns)?;
-    row(rt, "distinct-values, strings that differ", size, Function::DistinctValues, &names, patterns)?;
-    row(rt, "distinct-values, one string", size, Function::DistinctValues, &alike, patterns)?;
-    row(rt, "index-of, strings", size, Function::IndexOf, &sought, patterns)?;
-    row(rt, "sum", size, Function::Sum, &numbers, patterns)?;
-    row(rt, "min", size, Function::Min, &numbers, patterns)?;
-    row(rt, "max", size, Function::Max, &numbers, patterns)?;
-    row(rt, "reverse", size, Function::Reverse, &names, patterns)?;
-    row(rt, "subsequence from 2", size, Function::Subsequence, &from_two, patterns)
+fn of_two(rt: &HostRuntime, name: &str, size: u32, function: Function, text: &str, other: &str) -> Result<()> {
+    row(rt, name, size, function, &of_two_texts(rt.alloc(), text, other)?)
+}
+
+fn of_three(rt: &HostRuntime, name: &str, size: u32, function: Function, text: &str, other: &str, last: &str) -> Result<()> {
+    row(rt, name, size, function, &of_three_texts(rt.alloc(), text, other, last)?)
+}
+
+fn of_items(rt: &HostRuntime, name: &str, size: u32, function: Function, items: Sequence<'_>) -> Result<()> {
+    row(rt, name, size, function, &with(nothing(rt.alloc())?, items)?)
+}
+
+fn of_items_and(rt: &HostRuntime, name: &str, size: u32, function: Function, items: Sequence<'_>, last: Item<'static>) -> Result<()> {
+    let last = one(rt.alloc(), last)?;
+    row(rt, name, size, function, &with(with(nothing(rt.alloc())?, items)?, last)?)
+}
+
+fn whole_texts(rt: &HostRuntime, size: u32) -> Result<()> {
+    let plain = repeated(rt.alloc(), "a", size)?;
+    of_one(rt, "string-length", size, Function::StringLength, plain.as_str())?;
+    of_one(rt, "upper-case", size, Function::UpperCase, plain.as_str())?;
+    of_one(rt, "lower-case", size, Function::LowerCase, plain.as_str())?;
+    of_two(rt, "starts-with", size, Function::StartsWith, plain.as_str(), plain.as_str())?;
+    of_two(rt, "ends-with", size, Function::EndsWith, plain.as_str(), plain.as_str())
+}
+
+fn parts_of_texts(rt: &HostRuntime, size: u32) -> Result<()> {
+    let plain = repeated(rt.alloc(), "a", size)?;
+    let mut almost = repeated(rt.alloc(), "a", size / 2)?;
+    almost.push('b')?;
+    of_two(rt, "contains", size, Function::Contains, plain.as_str(), almost.as_str())?;
+    of_two(rt, "substring-before", size, Function::SubstringBefore, plain.as_str(), almost.as_str())?;
+    of_two(rt, "substring-after", size, Function::SubstringAfter, plain.as_str(), almost.as_str())
+}
+
+fn substrings(rt: &HostRuntime, size: u32) -> Result<()> {
+    let plain = repeated(rt.alloc(), "a", size)?;
+    let items = one(rt.alloc(), Item::Borrowed(plain.as_str()))?;
+    of_items_and(rt, "substring from 2", size, Function::Substring, items, Item::Int(2))
+}
+
+fn spaces(rt: &HostRuntime, size: u32) -> Result<()> {
+    let words = repeated(rt.alloc(), " ab  c", size / 6)?;
+    of_one(rt, "normalize-space", size, Function::NormalizeSpace, words.as_str())
+}
+
+fn short_map(rt: &HostRuntime, size: u32) -> Result<()> {
+    let plain = repeated(rt.alloc(), "a", size)?;
+    of_three(rt, "translate, a map of 3", size, Function::Translate, plain.as_str(), "abc", "ABC")
+}
+
+fn long_map(rt: &HostRuntime, size: u32) -> Result<()> {
+    let from = different(rt.alloc(), 0x10000, size)?;
+    let to = different(rt.alloc(), 0x50000, size)?;
+    of_three(rt, "translate, a map as long as the text", size, Function::Translate, from.as_str(), from.as_str(), to.as_str())
+}
+
+fn patterns_in_texts(rt: &HostRuntime, size: u32) -> Result<()> {
+    let plain = repeated(rt.alloc(), "a", size)?;
+    of_two(rt, "matches, not found", size, Function::Matches, plain.as_str(), "[0-9]+")?;
+    let digits = repeated(rt.alloc(), "ab1c", size / 4)?;
+    of_three(rt, "replace, a match for 4 characters", size, Function::Replace, digits.as_str(), "[0-9]+", "-")?;
+    of_two(rt, "tokenize, a match for 4 characters", size, Function::Tokenize, digits.as_str(), "[0-9]+")
+}
+
+fn any_items(rt: &HostRuntime, size: u32) -> Result<()> {
+    of_items(rt, "count", size, Function::Count, integers(rt.alloc(), size, true)?)?;
+    of_items(rt, "exists", size, Function::Exists, integers(rt.alloc(), size, true)?)?;
+    of_items(rt, "empty", size, Function::Empty, integers(rt.alloc(), size, true)?)?;
+    of_items(rt, "data", size, Function::Data, strings(rt.alloc(), size, true)?)
+}
+
+fn moved_items(rt: &HostRuntime, size: u32) -> Result<()> {
+    of_items(rt, "reverse", size, Function::Reverse, strings(rt.alloc(), size, true)?)?;
+    of_items_and(rt, "subsequence from 2", size, Function::Subsequence, integers(rt.alloc(), size, true)?, Item::Int(2))?;
+    of_items_and(rt, "index-of, strings", size, Function::IndexOf, strings(rt.alloc(), size, false)?, Item::Borrowed("a.b.c.Name7"))?;
+    of_items_and(rt, "string-join", size, Function::StringJoin, strings(rt.alloc(), size, true)?, Item::Borrowed(", "))
+}
+
+fn distinct(rt: &HostRuntime, size: u32) -> Result<()> {
+    of_items(rt, "distinct-values, integers that differ", size, Function::DistinctValues, integers(rt.alloc(), size, true)?)?;
+    of_items(rt, "distinct-values, one integer", size, Function::DistinctValues, integers(rt.alloc(), size, false)?)?;
+    of_items(rt, "distinct-values, strings that differ", size, Function::DistinctValues, strings(rt.alloc(), size, true)?)?;
+    of_items(rt, "distinct-values, one string", size, Function::DistinctValues, strings(rt.alloc(), size, false)?)
+}
+
+fn sums(rt: &HostRuntime, size: u32) -> Result<()> {
+    of_items(rt, "sum", size, Function::Sum, integers(rt.alloc(), size, true)?)?;
+    of_items(rt, "min", size, Function::Min, integers(rt.alloc(), size, true)?)?;
+    of_items(rt, "max", size, Function::Max, integers(rt.alloc(), size, true)?)
 }
 
 // `concat` of so many arguments.
-fn of_arguments(rt: &HostRuntime, size: u32, patterns: &Patterns) -> Result<()> {
-    let alloc = rt.alloc();
-    let mut arguments = Arguments::new(alloc);
+fn many_arguments(rt: &HostRuntime, size: u32) -> Result<()> {
+    let mut arguments = Arguments::new(rt.alloc());
     for _ in 0..size {
-        arguments.push(one(alloc, Item::Borrowed("a"))?)?;
+        arguments.push(one(rt.alloc(), Item::Borrowed("a"))?)?;
     }
-    row(rt, "concat", size, Function::Concat, &arguments, patterns)
+    row(rt, "concat", size, Function::Concat, &arguments)
+}
+
+fn of_texts(rt: &HostRuntime, size: u32) -> Result<()> {
+    whole_texts(rt, size)?;
+    parts_of_texts(rt, size)?;
+    substrings(rt, size)?;
+    spaces(rt, size)?;
+    short_map(rt, size)?;
+    long_map(rt, size)?;
+    patterns_in_texts(rt, size)
+}
+
+fn of_sequences(rt: &HostRuntime, size: u32) -> Result<()> {
+    any_items(rt, size)?;
+    moved_items(rt, size)?;
+    distinct(rt, size)?;
+    sums(rt, size)?;
+    many_arguments(rt, size)
 }
 
 // A pattern that is looked for in texts, which stand one to a line.
@@ -244,11 +299,9 @@ fn short_texts(alloc: Global, count: u32) -> Made<String> {
 }
 
 fn main(rt: HostRuntime) -> Result<()> {
-    let patterns = patterns_of(rt.alloc(), "[0-9]+")?;
     for size in [25_000, 50_000, 100_000] {
-        of_texts(&rt, size, &patterns)?;
-        of_sequences(&rt, size, &patterns)?;
-        of_arguments(&rt, size, &patterns)?;
+        of_texts(&rt, size)?;
+        of_sequences(&rt, size)?;
     }
     let texts = short_texts(rt.alloc(), 10_000)?;
     over_texts(&rt, "^[A-Z][a-zA-Z0-9]*$", texts.as_str())?;
