@@ -5,6 +5,7 @@ use Rattle.std.specs.Result.{OkIff, result_ok}
 use Rattle.std.specs.Str.{all_ascii_digits}
 use Rattle.std.specs.Str.Parse.{digits_value, ParsesSigned}
 use Rattle.std.proofs.lemmas.Bool.{false≢true, lt-ltb, le-ltb, cases_lt}
+use Rattle.std.proofs.Math.Dec.{eqb-suc-zero}
 use Rattle.std.proofs.lemmas.Bool.Decides.{eqb_tells}
 use Rattle.std.proofs.lemmas.Str.Parse.{IsNumeralModel, numerals_by_value, tells_all_ascii_digits, parse_signed_minus, parse_signed_plain, parse_signed_plus}
 use mir.Syntax.{Width}
@@ -14,14 +15,17 @@ use Rattle.pj_rule_texts.specs.Values.{begins_with, integer_of, number_below}
 own : IsNumeralModel (λ ds. all_ascii_digits ds ≡ true) (digits_value 10)
 own = numerals_by_value _ tells_all_ascii_digits
 
-refuted : (n v bound : ℕ) (f : ℕ → ℤ) → bound ≤ v → None ≡ option_map f (cond (ltb v bound) (Some v) None)
-refuted n v bound f above = rw (le-ltb v bound above) refl
+refuted : (n v bound : ℕ) (f : ℕ → ℤ) → bound ≤ v → None ≡ option_map f (cond ((true && not (suc n == 0)) && ltb v bound) (Some v) None)
+refuted n v bound f above = rw (eqb-suc-zero n, le-ltb v bound above) refl
+
+present : (n v bound : ℕ) (f : ℕ → ℤ) → v < bound → Some (f v) ≡ option_map f (cond ((true && not (suc n == 0)) && ltb v bound) (Some v) None)
+present n v bound f below = rw (eqb-suc-zero n, lt-ltb v bound below) refl
 
 shown : {E : Type 0} (r : Result ℤ E) (a : Bool) (n v bound : ℕ) (f : ℕ → ℤ) → OkIff r ((a ≡ true) × (0 < n) × (v < bound)) (f v) →
     result_ok r ≡ option_map f (cond ((a && not (n == 0)) && ltb v bound) (Some v) None)
 shown (Ok x) false n v bound f h = absurd (false≢true h.0.0)
 shown (Ok x) true zero v bound f h = absurd (omega (arith, h.0.1))
-shown (Ok x) true (suc n) v bound f h = ap Some h.1 ∙ rw (lt-ltb v bound h.0.2) refl
+shown (Ok x) true (suc n) v bound f h = ap Some h.1 ∙ present n v bound f h.0.2
 shown (Err e) false n v bound f h = refl
 shown (Err e) true zero v bound f h = refl
 shown (Err e) true (suc n) v bound f h =

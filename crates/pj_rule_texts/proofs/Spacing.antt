@@ -1,5 +1,7 @@
 -- What is left of normalizing white space behind a front.
-use Rattle.std.proofs.Common.{◌≡◌, ℕ, zero, suc, ◌+◌, Bool, true, false, cond, not, ◌&&◌, ◌==◌, eqb, List, [], ◌∷◌, ◌++◌, length, filter, refl, sym, ap, ◌∙◌, append_assoc, append-nil, encode_utf8}
+use Rattle.std.proofs.Common.{◌≡◌, ℕ, zero, suc, ◌+◌, ◌<◌, arith, Bool, true, false, cond, not, ◌&&◌, ◌==◌, eqb, List, [], ◌∷◌, ◌++◌, length, filter, refl, sym, ap, ◌∙◌, append_assoc, append-nil, encode_utf8}
+use Rattle.std.proofs.Math.Dec.{eqb-suc-zero}
+use Rattle.std.proofs.lemmas.Str.{length-encode, len_utf8_bounds}
 use Rattle.std.specs.List.{flat_map, join_by, onto_first, slice_split}
 use Rattle.std.specs.Str.{encode_utf8_all, chars}
 use Rattle.pj_rule_texts.specs.Values.{is_empty, is_space, normalized, spaced, words_of}
@@ -41,35 +43,31 @@ from_start-first c (w ∷ ws) = refl
 abbrev parts : List ℕ → List (List ℕ)
 parts cs = slice_split is_space cs
 
-mutual
-  goes_on : (cs : List ℕ) → collapse true false cs ≡ going_on (parts cs)
-  goes_on [] = refl
-  goes_on (c ∷ cs) = on_character c cs (is_space c) refl
+goes_on-with : (c : ℕ) (cs : List ℕ) (b : Bool) → is_space c ≡ b → collapse true false cs ≡ going_on (parts cs) → collapse true true cs ≡ each_spaced (parts cs) →
+    collapse true false (c ∷ cs) ≡ going_on (parts (c ∷ cs))
+goes_on-with c cs true e on spaces = rw e spaces
+goes_on-with c cs false e on spaces = rw e (ap (λ t. c ∷ t) on ∙ sym (going_on-first c (parts cs)))
 
-  on_character : (c : ℕ) (cs : List ℕ) (b : Bool) → is_space c ≡ b → collapse true false (c ∷ cs) ≡ going_on (parts (c ∷ cs))
-  on_character c cs true e = rw (e, e) (spaces cs)
-  on_character c cs false e = rw (e, e) (ap (λ t. c ∷ t) (goes_on cs) ∙ sym (going_on-first c (parts cs)))
+spaces-with : (c : ℕ) (cs : List ℕ) (b : Bool) → is_space c ≡ b → collapse true false cs ≡ going_on (parts cs) → collapse true true cs ≡ each_spaced (parts cs) →
+    collapse true true (c ∷ cs) ≡ each_spaced (parts (c ∷ cs))
+spaces-with c cs true e on spaces = rw e spaces
+spaces-with c cs false e on spaces = rw e (ap (λ t. 32 ∷ c ∷ t) on ∙ sym (each_spaced-first c (parts cs)))
 
-  spaces : (cs : List ℕ) → collapse true true cs ≡ each_spaced (parts cs)
-  spaces [] = refl
-  spaces (c ∷ cs) = behind_space c cs (is_space c) refl
+behind_word : (cs : List ℕ) → (collapse true false cs ≡ going_on (parts cs)) × (collapse true true cs ≡ each_spaced (parts cs))
+behind_word [] = (refl, refl)
+behind_word (c ∷ cs) = (goes_on-with c cs (is_space c) refl (behind_word cs).0 (behind_word cs).1, spaces-with c cs (is_space c) refl (behind_word cs).0 (behind_word cs).1)
 
-  behind_space : (c : ℕ) (cs : List ℕ) (b : Bool) → is_space c ≡ b → collapse true true (c ∷ cs) ≡ each_spaced (parts (c ∷ cs))
-  behind_space c cs true e = rw (e, e) (spaces cs)
-  behind_space c cs false e = rw (e, e) (ap (λ t. 32 ∷ c ∷ t) (goes_on cs) ∙ sym (each_spaced-first c (parts cs)))
+no_gap : (gap : Bool) (more : List ℕ) (c : ℕ) → cond (gap && false) (32 ∷ c ∷ more) (c ∷ more) ≡ c ∷ more
+no_gap true more c = refl
+no_gap false more c = refl
 
-mutual
-  begins : (gap : Bool) (cs : List ℕ) → collapse false gap cs ≡ from_start (parts cs)
-  begins gap [] = refl
-  begins gap (c ∷ cs) = at_front gap c cs (is_space c) refl
+begins-with : (gap : Bool) (c : ℕ) (cs : List ℕ) (b : Bool) → is_space c ≡ b → collapse false true cs ≡ from_start (parts cs) → collapse false gap (c ∷ cs) ≡ from_start (parts (c ∷ cs))
+begins-with gap c cs true e spaces = rw e spaces
+begins-with gap c cs false e spaces = rw e (no_gap gap (collapse true false cs) c ∙ ap (λ t. c ∷ t) (behind_word cs).0 ∙ sym (from_start-first c (parts cs)))
 
-  at_front : (gap : Bool) (c : ℕ) (cs : List ℕ) (b : Bool) → is_space c ≡ b → collapse false gap (c ∷ cs) ≡ from_start (parts (c ∷ cs))
-  at_front gap c cs true e = rw (e, e) (begins true cs)
-  at_front gap c cs false e = rw (e, e) (no_gap gap c cs ∙ ap (λ t. c ∷ t) (goes_on cs) ∙ sym (from_start-first c (parts cs)))
-
-  no_gap : (gap : Bool) (c : ℕ) (cs : List ℕ) → cond (gap && false) (32 ∷ c ∷ collapse true false cs) (c ∷ collapse true false cs) ≡ c ∷ collapse true false cs
-  no_gap true c cs = refl
-  no_gap false c cs = refl
+begins : (gap : Bool) (cs : List ℕ) → collapse false gap cs ≡ from_start (parts cs)
+begins gap [] = refl
+begins gap (c ∷ cs) = begins-with gap c cs (is_space c) refl (begins true cs)
 
 -- the whole text is still to come
 pub all_to_come : (text : List ℕ) → normalized text ≡ encode_utf8_all (collapse false false (chars text))
@@ -82,9 +80,29 @@ whole made gap cs = made ++ encode_utf8_all (collapse (not (is_empty made)) gap 
 pub whole-space : (made : List ℕ) (gap : Bool) (c : ℕ) (cs : List ℕ) → is_space c ≡ true → whole made gap (c ∷ cs) ≡ whole made true cs
 whole-space made gap c cs e = rw e refl
 
-some-encode : (c : ℕ) (made : List ℕ) → is_empty (made ++ encode_utf8 c) ≡ false
-some-encode c made = ?
+some : (xs : List ℕ) → 0 < length xs → is_empty xs ≡ false
+some [] h = absurd (omega (arith, h))
+some (x ∷ xs) h = refl
+
+some-encode : (c : ℕ) → is_empty (encode_utf8 c) ≡ false
+some-encode c = some (encode_utf8 c) (omega (arith, length-encode c, (len_utf8_bounds c).0))
+
+-- a word's character at the front of the text
+at_front : (gap : Bool) (c : ℕ) (cs : List ℕ) → is_space c ≡ false → whole [] gap (c ∷ cs) ≡ whole ([] ++ put_word_character [] gap c) false cs
+at_front true c cs e = rw (e, some-encode c) refl
+at_front false c cs e = rw (e, some-encode c) refl
+
+-- and behind some text
+behind_text : (x : ℕ) (xs : List ℕ) (gap : Bool) (c : ℕ) (cs : List ℕ) → is_space c ≡ false →
+    whole (x ∷ xs) gap (c ∷ cs) ≡ whole ((x ∷ xs) ++ put_word_character (x ∷ xs) gap c) false cs
+unfolding lib.Utf8.encode
+behind_text x xs true c cs e = rw (e, eqb-suc-zero (length xs)) (sym (append_assoc (x ∷ xs) (32 ∷ encode_utf8 c) (encode_utf8_all (collapse true false cs))))
+behind_text x xs false c cs e = rw e (sym (append_assoc (x ∷ xs) (encode_utf8 c) (encode_utf8_all (collapse true false cs))))
 
 pub whole-word : (made : List ℕ) (gap : Bool) (c : ℕ) (cs : List ℕ) → is_space c ≡ false →
     whole made gap (c ∷ cs) ≡ whole (made ++ put_word_character made gap c) false cs
-whole-word made gap c cs e = ?
+whole-word [] gap c cs e = at_front gap c cs e
+whole-word (x ∷ xs) gap c cs e = behind_text x xs gap c cs e
+
+pub whole-end : (made : List ℕ) (gap : Bool) → whole made gap [] ≡ made
+whole-end made gap = append-nil made

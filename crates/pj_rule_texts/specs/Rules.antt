@@ -39,7 +39,7 @@ is_xpath_rule rule = is_java rule.language && is_xpath_class rule.class
 
 abbrev pub put_property : List Property → Property → List Property
 put_property [] property = property ∷ []
-put_property (other ∷ rest) property = if is_same property.name other.name then property ∷ rest else other ∷ put_property rest property
+put_property (other ∷ rest) property = if is_same property.name other.name then record property { name = other.name } ∷ rest else other ∷ put_property rest property
 
 -- each of them is put, one after the other
 abbrev pub put_properties : List Property → List Property → List Property

@@ -1,7 +1,6 @@
 -- What the texts of a ruleset mean: messages, priorities and the values of properties. A text is the list of its bytes in UTF-8.
 use Rattle.std.specs.Prelude.{ℕ, ◌+◌, ◌-◌, ◌^◌, ◌==◌, ◌&&◌, ◌||◌, ℤ, pos, neg_ℤ, Bool, not, List, [], ◌∷◌, ◌++◌, length, drop, map, filter, Option, Some, None, codes, nat_lt, nat_le, slice_index, if◌then◌else◌}
 use Rattle.std.specs.Option.{option_map}
-
 use Rattle.std.specs.List.{join_by, slice_split}
 use Rattle.std.specs.Str.{all_ascii_digits, bytes_eq, chars, encode_utf8_all}
 use Rattle.std.specs.Str.Parse.{digits_value}
@@ -18,7 +17,13 @@ abbrev pub is_same : Text → Text → Bool
 is_same a b = bytes_eq a b
 
 abbrev pub is_empty : {A : Type 0} → List A → Bool
-is_empty list = length list == 0
+is_empty [] = Bool.true
+is_empty (x ∷ xs) = Bool.false
+
+abbrev pub is_one : {A : Type 0} → List A → Bool
+is_one [] = Bool.false
+is_one (x ∷ []) = Bool.true
+is_one (x ∷ y ∷ xs) = Bool.false
 
 -- ---- messages and priorities
 
@@ -70,7 +75,7 @@ boolean_of text = if bytes_eq text (codes "true") then Some Bool.true
 
 -- one decimal digit or more; leading zeros are allowed
 abbrev pub is_numeral : Text → Bool
-is_numeral digits = all_ascii_digits digits && not (is_empty digits)
+is_numeral digits = all_ascii_digits digits && not (length digits == 0)
 
 -- the number of the digits, which is below the bound
 abbrev pub number_below : ℕ → Text → Option ℕ
@@ -93,15 +98,14 @@ abbrev pub members_of : Text → List Text
 members_of [] = []
 members_of (c ∷ cs) = slice_split is_comma (c ∷ cs)
 
--- each of them, where all are there
-abbrev pub all_of : {A : Type 0} → List (Option A) → Option (List A)
-all_of [] = Some []
-all_of (None ∷ rest) = None
-all_of (Some value ∷ rest) = option_map (λ values. value ∷ values) (all_of rest)
+abbrev pub with_integer : Option ℤ → Option (List ItemValue) → Option (List ItemValue)
+with_integer None items = None
+with_integer (Some z) items = option_map (λ rest. Integer z ∷ rest) items
 
 -- the integers that the members write, where each writes one
 abbrev pub integers_of : List Text → Option (List ItemValue)
-integers_of members = option_map (map Integer) (all_of (map (integer_of 31) members))
+integers_of [] = Some []
+integers_of (member ∷ members) = with_integer (integer_of 31 member) (integers_of members)
 
 abbrev pub one : ItemValue → List ItemValue
 one item = item ∷ []
@@ -112,7 +116,7 @@ value_of_type type.String text = Some (one (String text))
 value_of_type type.Boolean text = option_map (λ b. one (Boolean b)) (boolean_of text)
 value_of_type type.Integer text = option_map (λ z. one (Integer z)) (integer_of 31 text)
 value_of_type type.Long text = option_map (λ z. one (Integer z)) (integer_of 63 text)
-value_of_type type.Character text = if length (chars text) == 1 then Some (one (String text)) else None
+value_of_type type.Character text = if is_one (chars text) then Some (one (String text)) else None
 value_of_type type.Regex text = Some (one (String text))
 value_of_type type.StringList text = Some (map String (members_of text))
 value_of_type type.IntegerList text = integers_of (members_of text)

@@ -1,9 +1,8 @@
 //! From markup to what is written.
-ghost use Rattle.std.specs.Prelude.{◌≡◌, ◌++◌, IfOk, OnOk, codes};
-ghost use Rattle.std.specs.List.{flat_map, filter_map, cons_option};
-ghost use Rattle.std.specs.Prelude.{option_to_list, map};
+ghost use Rattle.std.specs.Prelude.{◌≡◌, ◌++◌, [], IfOk, OnOk, map};
+ghost use Rattle.std.specs.List.{cons_option, filter_map, flat_map};
 ghost use Rattle.pj_markup.specs.Elements.{row_at};
-ghost use Rattle.pj_rule_texts.specs.Written.{exclude_of, first_text, is_named, part_of, pieces_of_child, property_of, property_pieces, rule_of, ruleset_of, written_ruleset};
+ghost use Rattle.pj_rule_texts.specs.Written.{exclude_of, first_text, is_named, part_of, pieces_of_child, property_of, property_pieces, rule_of, written_ruleset};
 
 use crate::written::{Part, Piece, WrittenProperty, WrittenRule, WrittenRuleset};
 use pj_base::{ListOf, NoMemory, Text, is_same_text};
@@ -17,11 +16,7 @@ fn is_named(markup: &Markup, element: Element, name: &str) -> bool
 }
 
 /// The text of the first element of a name.
-fn first_text(
-    markup: &Markup,
-    elements: &[Element],
-    name: &str,
-) -> Result<Option<Text>, NoMemory>
+fn first_text(markup: &Markup, elements: &[Element], name: &str) -> Result<Option<Text>, NoMemory>
     ensures { IfOk result (λ text. text ≡ first_text name.now (map (λ e. row_at markup.now e.number) elements.now)) }
 {
     for element in elements {
@@ -46,6 +41,20 @@ fn property_of(markup: &Markup, element: Element) -> Result<WrittenProperty, NoM
     })
 }
 
+/// Puts an element at the end, if it is a property.
+fn put_property(
+    markup: &Markup,
+    element: Element,
+    pieces: &mut ListOf<Piece>,
+) -> Result<(), NoMemory>
+    ensures { OnOk result (pieces.new ≡ pieces.old ++ property_pieces markup.now (row_at markup.now element.number)) }
+{
+    if !is_named(markup, element, "property") {
+        return Ok(());
+    }
+    pieces.push(Piece::Property(property_of(markup, element)?))
+}
+
 /// Puts the properties among the elements at the end.
 fn put_properties(
     markup: &Markup,
@@ -55,19 +64,13 @@ fn put_properties(
     ensures { OnOk result (pieces.new ≡ pieces.old ++ flat_map (property_pieces markup.now) (map (λ e. row_at markup.now e.number) elements.now)) }
 {
     for element in elements {
-        if is_named(markup, *element, "property") {
-            pieces.push(Piece::Property(property_of(markup, *element)?))?;
-        }
+        put_property(markup, *element, pieces)?;
     }
     Ok(())
 }
 
 /// Puts what a child of a rule has of pieces at the end.
-fn put_pieces(
-    markup: &Markup,
-    child: Element,
-    pieces: &mut ListOf<Piece>,
-) -> Result<(), NoMemory>
+fn put_pieces(markup: &Markup, child: Element, pieces: &mut ListOf<Piece>) -> Result<(), NoMemory>
     ensures { OnOk result (pieces.new ≡ pieces.old ++ pieces_of_child markup.now (row_at markup.now child.number)) }
 {
     if is_named(markup, child, "priority") {
@@ -104,6 +107,16 @@ fn exclude_of(markup: &Markup, child: Element) -> Result<Option<Text>, NoMemory>
     }
 }
 
+/// Puts the name that an element excludes at the end.
+fn put_exclude(markup: &Markup, child: Element, names: &mut ListOf<Text>) -> Result<(), NoMemory>
+    ensures { OnOk result (names.new ≡ names.old ++ cons_option (exclude_of markup.now (row_at markup.now child.number)) []) }
+{
+    match exclude_of(markup, child)? {
+        Some(name) => names.push(name),
+        None => Ok(()),
+    }
+}
+
 fn excludes_of(
     alloc: Global,
     markup: &Markup,
@@ -113,9 +126,7 @@ fn excludes_of(
 {
     let mut names = ListOf::new(alloc);
     for child in elements {
-        if let Some(name) = exclude_of(markup, *child)? {
-            names.push(name)?;
-        }
+        put_exclude(markup, *child, &mut names)?;
     }
     Ok(names)
 }
@@ -151,28 +162,34 @@ fn part_of(alloc: Global, markup: &Markup, child: Element) -> Result<Option<Part
     }
 }
 
-fn parts_of(
+/// Puts the part that a child of the root is at the end.
+fn put_part(
     alloc: Global,
     markup: &Markup,
-    elements: &[Element],
-) -> Result<ListOf<Part>, NoMemory>
+    child: Element,
+    parts: &mut ListOf<Part>,
+) -> Result<(), NoMemory>
+    ensures { OnOk result (parts.new ≡ parts.old ++ cons_option (part_of markup.now (row_at markup.now child.number)) []) }
+{
+    match part_of(alloc, markup, child)? {
+        Some(part) => parts.push(part),
+        None => Ok(()),
+    }
+}
+
+fn parts_of(alloc: Global, markup: &Markup, elements: &[Element]) -> Result<ListOf<Part>, NoMemory>
     ensures { IfOk result (λ parts. parts ≡ filter_map (part_of markup.now) (map (λ e. row_at markup.now e.number) elements.now)) }
 {
     let mut parts = ListOf::new(alloc);
     for child in elements {
-        if let Some(part) = part_of(alloc, markup, *child)? {
-            parts.push(part)?;
-        }
+        put_part(alloc, markup, *child, &mut parts)?;
     }
     Ok(parts)
 }
 
 /// The ruleset that is written in the markup, or `None` where its root is no `ruleset`. Elements and attributes that have no
 /// meaning are left out.
-pub fn written_ruleset(
-    alloc: Global,
-    markup: &Markup,
-) -> Result<Option<WrittenRuleset>, NoMemory>
+pub fn written_ruleset(alloc: Global, markup: &Markup) -> Result<Option<WrittenRuleset>, NoMemory>
     ensures { IfOk result (λ written. written ≡ written_ruleset markup.now) }
 {
     let root = markup.root();

@@ -1,9 +1,9 @@
 //! Values of properties.
-ghost use Rattle.std.specs.Prelude.{◌≡◌, ◌==◌, ◌++◌, [], ◌∷◌, IfOk, OnOk, length, map};
+ghost use Rattle.std.specs.Prelude.{◌≡◌, ◌++◌, [], ◌∷◌, IfOk, OnOk, map};
 ghost use Rattle.std.specs.List.{flat_map};
 ghost use Rattle.std.specs.Str.{chars};
-ghost use Rattle.pj_xvalue.specs.Items.{String, values_of};
-ghost use Rattle.pj_rule_texts.specs.Values.{boolean_of, integers_of, members_of, typed_value, value_of_type, variable_of};
+ghost use Rattle.pj_xvalue.specs.Items.{Integer, String, values_of};
+ghost use Rattle.pj_rule_texts.specs.Values.{boolean_of, integers_of, is_one, members_of, typed_value, value_of_type, variable_of};
 ghost use Rattle.pj_rule_texts.specs.Seen.{value_seen, variables_seen};
 
 use crate::draft::needs_no_type;
@@ -27,10 +27,13 @@ fn boolean_of(text: &str) -> Option<bool>
 
 /// Whether the text is one character.
 fn is_character(text: &str) -> bool
-    ensures { result ≡ (length (chars text.now) == 1) }
+    ensures { result ≡ is_one (chars text.now) }
 {
     match split_first(text) {
-        Some((_, rest)) => rest.is_empty(),
+        Some((_, rest)) => match split_first(rest) {
+            Some(_) => false,
+            None => true,
+        },
         None => false,
     }
 }
@@ -62,6 +65,13 @@ fn strings(alloc: Global, members: Names) -> Result<Sequence<'static>, NoMemory>
     Ok(sequence)
 }
 
+/// Puts an integer at the end.
+fn put_integer(sequence: &mut Sequence<'static>, number: i32) -> Result<(), NoMemory>
+    ensures { OnOk result (values_of sequence.new ≡ values_of sequence.old ++ Integer number ∷ []) }
+{
+    sequence.push(Item::Int(i64::from(number)))
+}
+
 /// A sequence of the integers that the members write, where each writes one.
 fn integers(alloc: Global, members: &[Text]) -> Result<Option<Sequence<'static>>, NoMemory>
     ensures { IfOk result (λ sequence. value_seen sequence ≡ integers_of members.now) }
@@ -69,7 +79,7 @@ fn integers(alloc: Global, members: &[Text]) -> Result<Option<Sequence<'static>>
     let mut sequence = Sequence::new(alloc);
     for member in members {
         match integer_of(member.as_str()) {
-            Some(number) => sequence.push(Item::Int(i64::from(number)))?,
+            Some(number) => put_integer(&mut sequence, number)?,
             None => return Ok(None),
         }
     }
@@ -142,10 +152,7 @@ fn put_variable(
 }
 
 /// The variables of a rule with their values, in the order of its properties: each property is one but those that need no type.
-pub fn variables_of(
-    alloc: Global,
-    properties: &[Property],
-) -> Result<BoundVars<'static>, NoMemory>
+pub fn variables_of(alloc: Global, properties: &[Property]) -> Result<BoundVars<'static>, NoMemory>
     ensures { IfOk result (λ variables. variables_seen variables ≡ flat_map variable_of properties.now) }
 {
     let mut variables = BoundVars::new(alloc);

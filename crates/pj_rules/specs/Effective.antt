@@ -17,11 +17,15 @@ use Rattle.pj_rule_texts.specs.declared.written.Part.{Part}
 use Rattle.pj_rule_texts.specs.declared.written.Part.TheVariants as part
 use Rattle.pj_rule_texts.specs.declared.written.WrittenRule.{WrittenRule}
 use Rattle.pj_rule_texts.specs.declared.written.WrittenRuleset.{WrittenRuleset}
-use Rattle.pj_rules.specs.Files.{IsRead, IsUnreadable, look_up}
-use Rattle.pj_rules.specs.Lists.{Taken, defined_in, is_among, named, not_an_xpath_rule, not_available, put, put_all, referred_in, without}
-use Rattle.pj_rules.specs.declared.entry.Entry.TheVariants as entry
-use Rattle.pj_rules.specs.declared.entry.Unusable.{Unusable}
-use Rattle.pj_rules.specs.declared.entry.Origin.{Origin}
+use Rattle.pj_rule_files.specs.Files.{IsRead, IsUnreadable}
+use Rattle.pj_rule_files.specs.declared.fault.FileFault.{FileFault}
+use Rattle.pj_rule_files.specs.declared.fault.FileFault.TheVariants as file
+use Rattle.pj_rules.specs.declared.progress.Progress.{Progress}
+use Rattle.pj_rules.specs.LookUp.{look_up}
+use Rattle.pj_rule_lists.specs.Lists.{Taken, defined_in, is_among, named, not_an_xpath_rule, not_available, put, put_all, referred_in, without}
+use Rattle.pj_rule_lists.specs.declared.entry.Entry.TheVariants as entry
+use Rattle.pj_rule_lists.specs.declared.entry.Unusable.{Unusable}
+use Rattle.pj_rule_lists.specs.declared.entry.Origin.{Origin}
 use Rattle.pj_rules.specs.declared.fault.RuleFault.{RuleFault}
 use Rattle.pj_rules.specs.declared.fault.RuleWhat.{RuleWhat}
 use Rattle.pj_rules.specs.declared.fault.RuleWhat.TheVariants as what
@@ -29,15 +33,11 @@ use Rattle.pj_xpatterns.specs.Meaning.{IsNoPattern, Pattern}
 use Rattle.pj_xpatterns.specs.Refusing.{AreTaken}
 
 -- what is read of a file so far: the names of the rules that it defines, and its list
-pub record Progress : Type 0 where
-  pub names : List Text
-  pub list : List Taken
-
 abbrev pub nothing : Progress
 nothing = record { names = []; list = [] }
 
 abbrev pub with_rule : Progress → Text → Taken → Progress
-with_rule progress name taken = record { names = name ∷ progress.names; list = put progress.list taken }
+with_rule progress name taken = record { names = progress.names ++ name ∷ []; list = put progress.list taken }
 
 abbrev pub with_taken : Progress → Taken → Progress
 with_taken progress taken = record progress { list = put progress.list taken }
@@ -57,6 +57,11 @@ what_of_expressions name (unsound.XPath fault) = Some (what.XPath name fault)
 what_of_expressions name unsound.Pattern = Some (what.PatternRefused name)
 what_of_expressions name unsound.Memory = None
 
+-- a fault of a whole file
+abbrev pub what_of_file : FileFault → RuleWhat
+what_of_file (file.Markup offset) = what.Markup offset
+what_of_file file.TooLong = what.TooLong
+
 abbrev pub path_pattern : Part → List Pattern
 path_pattern (part.Rule rule) = []
 path_pattern (part.ExcludePattern pattern) = whole pattern ∷ []
@@ -74,7 +79,7 @@ pub data Changes (rule : WrittenRule) (old : RuleTexts) : RuleTexts → Type 0 w
 pub data CannotChange (rule : WrittenRule) (old : RuleTexts) : RuleWhat → Type 0 where
   bad_texts : {fault : TextFault} {w : RuleWhat} → overridden old rule ≡ Result.Err fault → what_of_texts (new_name old rule) fault ≡ Some w → CannotChange rule old w
   bad_expressions : {new : RuleTexts} {fault : ExpressionFault} {w : RuleWhat} → overridden old rule ≡ Result.Ok new → expressions.IsFault new fault →
-      what_of_expressions (new_name old rule) fault ≡ Some w → CannotChange rule old w
+      what_of_expressions new.row.name fault ≡ Some w → CannotChange rule old w
 
 -- the same of a rule that is defined
 pub data Defines (rule_set name : Text) (rule : WrittenRule) : RuleTexts → Type 0 where
@@ -83,7 +88,7 @@ pub data Defines (rule_set name : Text) (rule : WrittenRule) : RuleTexts → Typ
 pub data CannotDefine (rule_set name : Text) (rule : WrittenRule) : RuleWhat → Type 0 where
   bad_texts : {fault : TextFault} {w : RuleWhat} → defined rule_set name rule ≡ Result.Err fault → what_of_texts name fault ≡ Some w → CannotDefine rule_set name rule w
   bad_expressions : {new : RuleTexts} {fault : ExpressionFault} {w : RuleWhat} → defined rule_set name rule ≡ Result.Ok new → expressions.IsFault new fault →
-      what_of_expressions name fault ≡ Some w → CannotDefine rule_set name rule w
+      what_of_expressions new.row.name fault ≡ Some w → CannotDefine rule_set name rule w
 
 -- the name of a rule that is not available: the reference's own, or that in the file
 abbrev pub or_name : WrittenRule → Text → Option Text
@@ -149,7 +154,7 @@ module _ (files : Files) where
       cycle : {rule : WrittenRule} {reference file other : Text} → rule.reference ≡ Some reference → RefersTo reference file → look_up files path file ≡ Some other →
           is_among other open_ ≡ true → PartFault is_top open_ path rule_set progress (part.Rule rule) (record { path = path; what = what.RefCycle reference })
       within : {rule : WrittenRule} {reference file other : Text} {fault : RuleFault} → rule.reference ≡ Some reference → RefersTo reference file →
-          look_up files path file ≡ Some other → is_among other open_ ≡ false → FileFault false (other ∷ open_) other fault →
+          look_up files path file ≡ Some other → is_among other open_ ≡ false → FileFaults false (other ∷ open_) other fault →
           PartFault is_top open_ path rule_set progress (part.Rule rule) fault
       missing_rule : {rule : WrittenRule} {reference file name other : Text} {list : List Taken} → rule.reference ≡ Some reference →
           reference_of reference ≡ Some (OneRule file name) → look_up files path file ≡ Some other → HasRules other list → named name list ≡ None →
@@ -159,11 +164,11 @@ module _ (files : Files) where
           named name list ≡ Some (origin, entry.Rule old) → CannotChange rule old w → PartFault is_top open_ path rule_set progress (part.Rule rule) (record { path = path; what = w })
 
     -- The first fault of a file that is there, where these files are open.
-    pub data FileFault (is_top : Bool) (open_ : List Text) (path : Text) : RuleFault → Type 0 where
-      unreadable : {w : RuleWhat} → IsUnreadable files path w → FileFault is_top open_ path (record { path = path; what = w })
+    pub data FileFaults (is_top : Bool) (open_ : List Text) (path : Text) : RuleFault → Type 0 where
+      unreadable : {fault : FileFault} → IsUnreadable files path fault → FileFaults is_top open_ path (record { path = path; what = what_of_file fault })
       in_part : {written : WrittenRuleset} {before behind : List Part} {p : Part} {progress : Progress} {fault : RuleFault} → IsRead files path written →
           written.parts ≡ before ++ p ∷ behind → AddAll path written.rule_set nothing before progress → AreJudged is_top before →
-          PartFault is_top open_ path written.rule_set progress p fault → FileFault is_top open_ path fault
+          PartFault is_top open_ path written.rule_set progress p fault → FileFaults is_top open_ path fault
 
     -- the reference is one to the file, or to a rule in it
     pub data RefersTo : Text → Text → Type 0 where

@@ -1,8 +1,7 @@
 -- definitions
 pub mod Active
 pub mod Effective
-pub mod Files
-pub mod Lists
 pub mod Load
+pub mod LookUp
 -- private clauses alone cite this
 pub mod Refusals

@@ -11,11 +11,12 @@ use Rattle.pj_rule_texts.specs.declared.rule.RuleTexts.{RuleTexts}
 use Rattle.pj_rule_texts.specs.declared.written.Part.{Part}
 use Rattle.pj_rule_texts.specs.declared.written.Part.TheVariants as part
 use Rattle.pj_rule_texts.specs.declared.written.WrittenRuleset.{WrittenRuleset}
-use Rattle.pj_rules.specs.Effective.{AddAll, AreJudged, FileFault, Progress, nothing}
-use Rattle.pj_rules.specs.Files.{IsRead, is_top_there}
-use Rattle.pj_rules.specs.Lists.{Taken, not_available, referred_in}
-use Rattle.pj_rules.specs.declared.entry.Entry.{Entry}
-use Rattle.pj_rules.specs.declared.entry.Entry.TheVariants as entry
+use Rattle.pj_rules.specs.Effective.{AddAll, AreJudged, FileFaults, Progress, nothing}
+use Rattle.pj_rule_files.specs.Files.{IsRead}
+use Rattle.pj_rules.specs.LookUp.{is_top_there}
+use Rattle.pj_rule_lists.specs.Lists.{Taken, not_available, referred_in}
+use Rattle.pj_rule_lists.specs.declared.entry.Entry.{Entry}
+use Rattle.pj_rule_lists.specs.declared.entry.Entry.TheVariants as entry
 use Rattle.pj_rules.specs.declared.fault.RuleFault.{RuleFault}
 use Rattle.pj_rules.specs.declared.fault.RuleWhat.TheVariants.{MissingRef}
 
@@ -58,7 +59,7 @@ module _ (files : Files) where
         IsTop path (record { list = (referred_in path path, not_available None path) ∷ []; exclude = []; include = [] })
 
   pub data IsTopFault (path : Text) : RuleFault → Type 0 where
-    file : {fault : RuleFault} → is_top_there files path ≡ true → FileFault files true (path ∷ []) path fault → IsTopFault path fault
+    file : {fault : RuleFault} → is_top_there files path ≡ true → FileFaults files true (path ∷ []) path fault → IsTopFault path fault
     missing : is_top_there files path ≡ false → is_from_elsewhere path ≡ false → IsTopFault path (record { path = path; what = MissingRef path })
 
   pub data AreTops : List Text → List Top → Type 0 where

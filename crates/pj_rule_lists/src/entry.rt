@@ -1,6 +1,6 @@
 //! The members of the lists that files make.
 
-use pj_base::Text;
+use pj_base::{Copied, NoMemory, Text};
 use pj_rule_rows::ConfigError;
 use pj_rule_texts::RuleTexts;
 
@@ -32,4 +32,32 @@ pub enum Entry {
     Rule(RuleTexts),
     /// A rule that cannot be used.
     Unusable(Unusable),
+}
+
+impl Copied for Origin {
+    fn copied(&self) -> Result<Origin, NoMemory> {
+        Ok(Origin {
+            is_reference: self.is_reference,
+            path: self.path.copied()?,
+            text: self.text.copied()?,
+        })
+    }
+}
+
+impl Copied for Unusable {
+    fn copied(&self) -> Result<Unusable, NoMemory> {
+        Ok(Unusable {
+            name: self.name.copied()?,
+            error: self.error.copied()?,
+        })
+    }
+}
+
+impl Copied for Entry {
+    fn copied(&self) -> Result<Entry, NoMemory> {
+        Ok(match self {
+            Entry::Rule(texts) => Entry::Rule(texts.copied()?),
+            Entry::Unusable(unusable) => Entry::Unusable(unusable.copied()?),
+        })
+    }
 }

@@ -1,0 +1,4 @@
+-- definitions
+pub mod Files
+-- a private clause alone cites this
+pub mod Refusals
