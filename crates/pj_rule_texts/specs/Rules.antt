@@ -123,10 +123,15 @@ defined rule_set name rule = and_then (with_pieces false nothing_read rule.piece
 abbrev pub draft_of : RuleTexts → Draft
 draft_of texts = record { priority = None; xpath = Some texts.xpath; properties = put_properties [] texts.properties }
 
+-- the name that the rule has behind the reference
 abbrev pub new_name : RuleTexts → WrittenRule → Text
 new_name texts rule = unwrap_or rule.name texts.row.name
 
--- The rule with the name, message, priority and values that the reference writes, or its first fault. Its rule set stays.
+-- the row with what the reference writes in the place of the rule's own; its rule set stays
+abbrev pub changed_row : RuleRow → Option Text → Option Text → Option ℕ → RuleRow
+changed_row own name message priority = record { name = unwrap_or name own.name; message = message_or own.message message; priority = unwrap_or priority own.priority; rule_set = own.rule_set }
+
+-- The rule with the name, message, priority and values that the reference writes, or its first fault.
 abbrev pub overridden : RuleTexts → WrittenRule → Result RuleTexts TextFault
 overridden texts rule = and_then (with_pieces true (draft_of texts) rule.pieces) (λ draft.
-    with_xpath (record { name = new_name texts rule; message = message_or texts.row.message rule.message; priority = unwrap_or draft.priority texts.row.priority; rule_set = texts.row.rule_set }) draft.xpath draft.properties)
+    with_xpath (changed_row texts.row rule.name rule.message draft.priority) draft.xpath draft.properties)

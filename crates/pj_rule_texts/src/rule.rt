@@ -1,7 +1,7 @@
 //! The texts of rules.
-ghost use Rattle.std.specs.Prelude.{◌≡◌, IfOk};
+ghost use Rattle.std.specs.Prelude.{◌≡◌, IfOk, unwrap_or};
 ghost use Rattle.std.specs.Option.{option_map};
-ghost use Rattle.pj_rule_texts.specs.Rules.{Answers, defined, draft_of, is_java, is_xpath_class, is_xpath_rule, message_or, overridden, with_xpath};
+ghost use Rattle.pj_rule_texts.specs.Rules.{Answers, changed_row, defined, draft_of, is_java, is_xpath_class, is_xpath_rule, message_or, overridden, with_xpath};
 
 use crate::draft::{Draft, with_pieces};
 use crate::fault::TextFault;
@@ -137,6 +137,34 @@ fn draft_of(alloc: Global, texts: &RuleTexts) -> Result<Draft, NoMemory>
     })
 }
 
+/// The name that is written, or the rule's own.
+fn name_or(own: &RuleRow, written: Option<Text>) -> Result<Text, NoMemory>
+    ensures { IfOk result (λ name. name ≡ unwrap_or written own.now.name) }
+{
+    match written {
+        Some(name) => Ok(name),
+        None => own.name.copied(),
+    }
+}
+
+/// The row of a rule with what is written in the place of its own.
+fn changed_row(
+    alloc: Global,
+    own: &RuleRow,
+    name: Option<Text>,
+    message: Option<Text>,
+    priority: Option<u8>,
+) -> Result<RuleRow, NoMemory>
+    ensures { IfOk result (λ row. row ≡ changed_row own.now name message priority) }
+{
+    Ok(RuleRow {
+        name: name_or(own, name)?,
+        message: message_or(alloc, own.message.copied()?, message)?,
+        priority: priority.unwrap_or(own.priority),
+        rule_set: own.rule_set.copied()?,
+    })
+}
+
 /// The rule with the name, message, priority and values that the reference writes, or its first fault.
 pub fn overridden(
     alloc: Global,
@@ -162,16 +190,6 @@ pub fn overridden(
         xpath,
         properties,
     } = draft;
-    let name = match name {
-        Some(name) => name,
-        None => texts.row.name.copied()?,
-    };
-    let message = message_or(alloc, texts.row.message.copied()?, message)?;
-    let row = RuleRow {
-        name,
-        message,
-        priority: priority.unwrap_or(texts.row.priority),
-        rule_set: texts.row.rule_set.copied()?,
-    };
+    let row = changed_row(alloc, &texts.row, name, message, priority)?;
     with_xpath(alloc, row, xpath, properties)
 }
