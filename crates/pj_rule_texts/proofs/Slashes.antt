@@ -1,12 +1,11 @@
 -- Where `rsplit_once` cuts at a slash.
-use Rattle.std.proofs.Common.{◌≡◌, ◌≢◌, ℕ, suc, ◌<◌, ◌≤◌, ◌+◌, Bool, eqb, cond, List, [], ◌∷◌, ◌++◌, length, drop, take, get_or, Option, Some, None, refl, sym, ap, ◌∙◌, arith, ne_eqb, lit<, MatchOption, subst}
+use Rattle.std.proofs.Common.{◌≡◌, ◌≢◌, ℕ, suc, ◌<◌, ◌≤◌, ◌+◌, List, [], ◌∷◌, ◌++◌, length, drop, take, get_or, Option, Some, None, refl, sym, ap, ◌∙◌, arith, ne_eqb, lit<, MatchOption}
 use Rattle.std.specs.Option.{option_map}
-use Rattle.std.specs.Str.{NoCharPasses}
 use Rattle.std.specs.Str.Pattern.{RFindsChar}
 use Rattle.std.proofs.lemmas.List.{take-append-drop}
 use Rattle.std.proofs.lemmas.Str.Pattern.{NoCharPasses-char, drop_at_char}
 use denote.Ref.{Bor}
-use Rattle.pj_rule_texts.specs.References.{around_last_slash, or_here, put_before}
+use Rattle.pj_rule_texts.specs.References.{around_last_slash, or_here}
 use Rattle.pj_rule_texts.specs.Seen.{parts_of}
 
 abbrev HasNone : List ℕ → Type 0

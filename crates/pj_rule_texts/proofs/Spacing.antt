@@ -1,10 +1,10 @@
 -- What is left of normalizing white space behind a front.
-use Rattle.std.proofs.Common.{◌≡◌, ℕ, zero, suc, ◌+◌, ◌<◌, arith, Bool, true, false, cond, not, ◌&&◌, ◌==◌, eqb, List, [], ◌∷◌, ◌++◌, length, filter, refl, sym, ap, ◌∙◌, append_assoc, append-nil, encode_utf8}
+use Rattle.std.proofs.Common.{◌≡◌, ℕ, ◌<◌, arith, Bool, true, false, cond, not, ◌&&◌, List, [], ◌∷◌, ◌++◌, length, filter, refl, sym, ap, ◌∙◌, append_assoc, append-nil, encode_utf8}
 use Rattle.std.proofs.Math.Dec.{eqb-suc-zero}
 use Rattle.std.proofs.lemmas.Str.{length-encode, len_utf8_bounds}
-use Rattle.std.specs.List.{flat_map, join_by, onto_first, slice_split}
+use Rattle.std.specs.List.{flat_map, onto_first, slice_split}
 use Rattle.std.specs.Str.{encode_utf8_all, chars}
-use Rattle.pj_rule_texts.specs.Values.{is_empty, is_space, normalized, spaced, words_of}
+use Rattle.pj_rule_texts.specs.Values.{is_empty, is_space, normalized, spaced}
 use Rattle.pj_rule_texts.specs.Spaces.{put_word_character}
 
 -- the characters that are still to come, where some stand before them or none, and white space behind these or none

@@ -1,8 +1,6 @@
 -- Small steps: texts and lists, one member further.
-use Rattle.std.proofs.Common.{◌≢◌, ◌≤◌, true≢false, ne_eqb, ◌≡◌, ℕ, zero, suc, ◌+◌, ◌<◌, Bool, true, false, cond, eqb, List, [], ◌∷◌, ◌++◌, length, drop, take, get_or, map, Option, Some, None, refl, sym, ap, ◌∙◌, arith, add-one, append-nil, append_assoc}
+use Rattle.std.proofs.Common.{◌≢◌, ◌≤◌, true≢false, ne_eqb, ◌≡◌, ℕ, suc, ◌+◌, ◌<◌, Bool, true, false, cond, eqb, List, [], ◌∷◌, ◌++◌, length, drop, take, get_or, map, Option, Some, None, refl, sym, ap, ◌∙◌, arith, append-nil, append_assoc}
 use Rattle.std.specs.List.{cons_option, filter_map, onto_first, slice_split}
-use Rattle.std.specs.Str.{chars}
-use Rattle.std.proofs.Math.Seq.{drop-cons}
 use Rattle.std.specs.Option.{option_map}
 use Rattle.std.specs.Map.{lookup}
 use Rattle.std.specs.Cmp.Lexicographic.{pointwise}

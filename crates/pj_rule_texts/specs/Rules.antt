@@ -1,6 +1,5 @@
 -- The texts of a rule: those that an element `rule` defines, and those that a reference changes.
-use Rattle.std.specs.Prelude.{⊤, ◌≡◌, ℕ, ◌&&◌, ◌||◌, Bool, true, false, not, List, [], ◌∷◌, Option, Some, None, Result, Ok, Err, codes, is_some, unwrap_or, if◌then◌else◌}
-use Rattle.std.specs.Option.{option_map}
+use Rattle.std.specs.Prelude.{⊤, ◌≡◌, ℕ, ◌&&◌, ◌||◌, Bool, true, false, List, [], ◌∷◌, Option, Some, None, Result, Ok, Err, codes, is_some, unwrap_or, if◌then◌else◌}
 use Rattle.pj_rule_rows.specs.declared.rule_row.RuleRow.{RuleRow}
 use Rattle.pj_rule_texts.specs.Values.{Text, is_same, is_xpath, needs_no_type, normalized, priority_of, typed_value}
 use Rattle.pj_rule_texts.specs.Written.{or_else}
@@ -9,7 +8,6 @@ use Rattle.pj_rule_texts.specs.declared.draft.Draft.{Draft}
 use Rattle.pj_rule_texts.specs.declared.rule.RuleTexts.{RuleTexts}
 use Rattle.pj_rule_texts.specs.declared.fault.TextFault.{TextFault}
 use Rattle.pj_rule_texts.specs.declared.fault.TextFault.TheVariants.{BadPriority, BadProperty, NoXPath, Memory}
-use Rattle.pj_rule_texts.specs.declared.written.WrittenProperty.{WrittenProperty}
 use Rattle.pj_rule_texts.specs.declared.written.Piece.{Piece}
 use Rattle.pj_rule_texts.specs.declared.written.Piece.TheVariants as piece
 use Rattle.pj_rule_texts.specs.declared.written.WrittenRule.{WrittenRule}

@@ -1,5 +1,5 @@
 -- What clauses see of values that borrow texts or hold items.
-use Rattle.std.specs.Prelude.{ℕ, List, map, Option}
+use Rattle.std.specs.Prelude.{List, map, Option}
 use Rattle.std.specs.Option.{option_map}
 use Rattle.std.specs.Borrow.{Bor}
 use Rattle.pj_xvalue.specs.declared.item.Item.{Item}

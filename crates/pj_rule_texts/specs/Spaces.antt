@@ -1,5 +1,5 @@
 -- For a private clause: one more character of a text whose white space is normalized.
-use Rattle.std.specs.Prelude.{ℕ, ◌&&◌, ◌==◌, Bool, not, List, [], ◌∷◌, ◌++◌, length, encode_utf8, if◌then◌else◌}
+use Rattle.std.specs.Prelude.{ℕ, ◌&&◌, ◌==◌, Bool, not, ◌∷◌, length, encode_utf8, if◌then◌else◌}
 use Rattle.pj_rule_texts.specs.Values.{Text}
 
 -- the character, behind a space where white space stands between it and the text

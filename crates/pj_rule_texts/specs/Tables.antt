@@ -1,5 +1,5 @@
 -- For private clauses: properties as the entries of a map from names, and what is read of a rule so far.
-use Rattle.std.specs.Prelude.{List, map, Option}
+use Rattle.std.specs.Prelude.{List, map}
 use Rattle.pj_rule_texts.specs.Values.{Text}
 use Rattle.pj_rule_texts.specs.declared.properties.Property.{Property}
 

@@ -1,10 +1,9 @@
 -- What the texts of a ruleset mean: messages, priorities and the values of properties. A text is the list of its bytes in UTF-8.
-use Rattle.std.specs.Prelude.{ℕ, ◌+◌, ◌-◌, ◌^◌, ◌==◌, ◌&&◌, ◌||◌, ℤ, pos, neg_ℤ, Bool, not, List, [], ◌∷◌, ◌++◌, length, drop, map, filter, Option, Some, None, codes, nat_lt, nat_le, slice_index, if◌then◌else◌}
+use Rattle.std.specs.Prelude.{ℕ, ◌+◌, ◌^◌, ◌==◌, ◌&&◌, ◌||◌, ℤ, pos, neg_ℤ, Bool, not, List, [], ◌∷◌, length, drop, map, filter, Option, Some, None, codes, nat_lt, if◌then◌else◌}
 use Rattle.std.specs.Option.{option_map}
 use Rattle.std.specs.List.{join_by, slice_split}
 use Rattle.std.specs.Str.{all_ascii_digits, bytes_eq, chars, encode_utf8_all}
 use Rattle.std.specs.Str.Parse.{digits_value}
-use Rattle.pj_rule_rows.specs.declared.rule_row.RuleRow.{RuleRow}
 use Rattle.pj_xvalue.specs.Items.{ItemValue, String, Integer, Boolean}
 use Rattle.pj_rule_texts.specs.declared.types.PropertyType.{PropertyType}
 use Rattle.pj_rule_texts.specs.declared.types.PropertyType.TheVariants as type

@@ -1,6 +1,6 @@
 -- What is written in a ruleset file, by the elements of its markup. Elements and attributes that are not named here are ignored, with all that they hold.
-use Rattle.std.specs.Prelude.{ℕ, pred, List, [], ◌∷◌, map, filter, length, Option, Some, None, codes, unwrap_or, if◌then◌else◌}
-use Rattle.std.specs.List.{flat_map, filter_map, cons_option}
+use Rattle.std.specs.Prelude.{pred, List, [], ◌∷◌, map, length, Option, Some, None, codes, unwrap_or, if◌then◌else◌}
+use Rattle.std.specs.List.{flat_map, filter_map}
 use Rattle.std.specs.Prelude.{Bool}
 use Rattle.pj_markup.specs.Elements.{row_at, value_of}
 use Rattle.pj_markup.specs.declared.element.Row.{Row}

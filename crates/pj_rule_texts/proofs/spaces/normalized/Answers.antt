@@ -1,4 +1,4 @@
-use Rattle.std.proofs.Common.{rules, ap, sym, ◌∙◌, true, false}
+use Rattle.std.proofs.Common.{rules, ap, sym, ◌∙◌, false}
 use Rattle.std.specs.Str.{chars}
 use Rattle.pj_rule_texts.proofs.Spacing.{all_to_come, whole, whole-word}
 use Rattle.pj_rule_texts.proofs.spaces.normalized.Goals as goal

@@ -1,9 +1,9 @@
-use Rattle.std.proofs.Common.{◌≡◌, ◌++◌, ◌∷◌, [], Some, ap, sym, ◌∙◌, ◌+◌, drop}
+use Rattle.std.proofs.Common.{◌≡◌, ◌++◌, ◌∷◌, [], ap, sym, ◌∙◌, ◌+◌, drop}
 use Rattle.std.proofs.lemmas.Int.{to_z-of_z}
 use mir.Syntax.{w32}
 use Rattle.pj_xvalue.specs.Items.{Integer, values_of}
 use Rattle.pj_rule_texts.specs.Values.{integer_of}
-use Rattle.pj_rule_texts.proofs.Steps.{integers_all, integers_behind, integers_end, integers_more, integers_none, integers_past}
+use Rattle.pj_rule_texts.proofs.Steps.{integers_all, integers_behind, integers_more, integers_none, integers_past}
 use Rattle.pj_rule_texts.proofs.value.integers.Goals as goal
 
 pub loop-member-init : goal.loop-member-init
