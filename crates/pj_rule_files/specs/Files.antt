@@ -46,7 +46,7 @@ IsRootFault rows fault = (fault ≡ Markup (root rows).offset) × (written_rules
 -- The bytes are a ruleset in UTF-8.
 pub record AreRuleset (bytes : List ℕ) (written : WrittenRuleset) : Type 0 where
   pub utf8 : IsUtf8 bytes
-  pub ruleset : IsRuleset (chars bytes) written
+  pub text : IsRuleset (chars bytes) written
 
 -- Why bytes are no ruleset. That they are not UTF-8 is told before any markup, at the length of their longest front that is.
 pub data AreFault (bytes : List ℕ) : FileFault → Type 0 where
@@ -64,7 +64,7 @@ module _ (files : Files) where
     pub bytes : List ℕ
     pub held : bytes_at files path ≡ Some bytes
     pub fits : length bytes ≤ greatest_size
-    pub ruleset : AreRuleset bytes written
+    pub content : AreRuleset bytes written
 
   -- Why what stands under the path is no ruleset.
   pub data IsUnreadable (path : Text) : FileFault → Type 0 where
@@ -98,6 +98,3 @@ IfUnread fact unread.Memory = ⊤
 abbrev pub refused_of : Unread → FileRefused
 refused_of (unread.Fault fault) = refused.Fault fault
 refused_of unread.Memory = refused.Memory
-
-abbrev pub PassesOn : Unread → FileRefused → Type 0
-PassesOn fault given = given ≡ refused_of fault

@@ -1,4 +1,5 @@
 -- definitions
 pub mod Files
--- a private clause alone cites this
+-- private clauses alone cite these
+pub mod Readings
 pub mod Refusals

@@ -9,5 +9,5 @@ abbrev pub refusal_of : Refused → FileRefused
 refusal_of tree.Failed = Failed
 refusal_of tree.Memory = Memory
 
-abbrev pub Refuses : Refused → FileRefused → Type 0
-Refuses refused given = given ≡ refusal_of refused
+abbrev pub OfTree : Refused → FileRefused → Type 0
+OfTree refused given = given ≡ refusal_of refused

@@ -43,23 +43,10 @@ impl From<NoMemory> for Unread {
     }
 }
 
-impl From<Unread> for FileRefused {
-    ghost use Rattle.pj_rule_files.specs.Files.{PassesOn};
-
-    ghost from_gives = { PassesOn };
-
-    fn from(fault: Unread) -> Self {
-        match fault {
-            Unread::Fault(fault) => FileRefused::Fault(fault),
-            Unread::Memory => FileRefused::Memory,
-        }
-    }
-}
-
 impl From<Refused> for FileRefused {
-    ghost use Rattle.pj_rule_files.specs.Refusals.{Refuses};
+    ghost use Rattle.pj_rule_files.specs.Refusals.{OfTree};
 
-    ghost from_gives = { Refuses };
+    ghost from_gives = { OfTree };
 
     fn from(refused: Refused) -> Self {
         match refused {

@@ -1,7 +1,9 @@
 //! Reading files.
 ghost use Rattle.std.specs.Prelude.{◌≡◌, ◌<◌, ◌≤◌, ◌^◌, None, Some, IfOk, IfErr, IfSome, length};
 ghost use Rattle.std.specs.Str.{chars};
-ghost use Rattle.pj_rule_files.specs.Files.{AreFault, AreRuleset, CountsFaults, GivesRead, IfFault, IfUnread, IsRootFault, IsRuleset, IsTextFault, IsUnreadable, greatest_size};
+ghost use Rattle.pj_rule_files.specs.Files.{AreFault, AreRuleset, CountsFaults, GivesRead, IfFault, IfUnread, IsRootFault, IsRuleset, IsTextFault, IsUnreadable, greatest_size, refused_of};
+ghost use Rattle.pj_outside.specs.Files.{IsAtMost};
+ghost use Rattle.pj_rule_files.specs.Readings.{Gives, Refuses, unread_of};
 ghost use Rattle.pj_rule_texts.specs.Written.{written_ruleset};
 
 use crate::fault::{FileFault, FileRefused, Unread};
@@ -19,9 +21,17 @@ fn of_markup(alloc: Global, markup: &Markup) -> Result<WrittenRuleset, Unread>
 {
     match written_ruleset(alloc, markup)? {
         Some(written) => Ok(written),
-        None => Err(Unread::Fault(FileFault::Markup(
-            markup.offset(markup.root()),
-        ))),
+        None => Err(Unread::Fault(FileFault::Markup(markup.offset(markup.root())))),
+    }
+}
+
+fn unread_of(fault: MarkupFault) -> Unread
+    ensures { result ≡ unread_of fault }
+{
+    match fault {
+        MarkupFault::At(offset) => Unread::Fault(FileFault::Markup(offset)),
+        MarkupFault::Deep(_, offset) => Unread::Fault(FileFault::Markup(offset)),
+        MarkupFault::Memory => Unread::Memory,
     }
 }
 
@@ -32,9 +42,7 @@ fn of_text(alloc: Global, text: &str) -> Result<WrittenRuleset, Unread>
 {
     match read(alloc, text) {
         Ok(markup) => of_markup(alloc, &markup),
-        Err(MarkupFault::At(offset)) => Err(Unread::Fault(FileFault::Markup(offset))),
-        Err(MarkupFault::Deep(_, offset)) => Err(Unread::Fault(FileFault::Markup(offset))),
-        Err(MarkupFault::Memory) => Err(Unread::Memory),
+        Err(fault) => Err(unread_of(fault)),
     }
 }
 
@@ -45,9 +53,31 @@ fn of_bytes(alloc: Global, bytes: &[u8]) -> Result<WrittenRuleset, Unread>
 {
     match str::from_utf8(bytes) {
         Ok(text) => of_text(alloc, text),
-        Err(error) => Err(Unread::Fault(FileFault::Markup(
-            error.valid_up_to() as u32,
-        ))),
+        Err(error) => Err(Unread::Fault(FileFault::Markup(error.valid_up_to() as u32))),
+    }
+}
+
+fn of_reading(alloc: Global, reading: Reading) -> Result<Option<WrittenRuleset>, Unread>
+    requires { IsAtMost greatest_size reading }
+    ensures value { IfOk result (Gives reading) }
+    ensures fault { IfErr result (IfUnread (Refuses reading)) }
+{
+    match reading {
+        Reading::Absent => Ok(None),
+        Reading::Longer => Err(Unread::Fault(FileFault::TooLong)),
+        Reading::Whole(bytes) => {
+            let written = of_bytes(alloc, bytes.as_slice())?;
+            Ok(Some(written))
+        }
+    }
+}
+
+fn refused_of(fault: Unread) -> FileRefused
+    ensures { result ≡ refused_of fault }
+{
+    match fault {
+        Unread::Fault(fault) => FileRefused::Fault(fault),
+        Unread::Memory => FileRefused::Memory,
     }
 }
 
@@ -65,12 +95,9 @@ pub fn read_ruleset<T: Tree>(
     ensures read { IfSome (T.holds tree.old) (λ files. IfOk result (GivesRead files path.now)) }
     ensures fault { IfSome (T.holds tree.old) (λ files. IfErr result (IfFault (IsUnreadable files path.now))) }
 {
-    match tree.read(path, GREATEST_SIZE)? {
-        Reading::Absent => Ok(None),
-        Reading::Longer => Err(FileRefused::Fault(FileFault::TooLong)),
-        Reading::Whole(bytes) => {
-            let written = of_bytes(alloc, bytes.as_slice())?;
-            Ok(Some(written))
-        }
+    let reading = tree.read(path, GREATEST_SIZE)?;
+    match of_reading(alloc, reading) {
+        Ok(written) => Ok(written),
+        Err(fault) => Err(refused_of(fault)),
     }
 }
