@@ -47,7 +47,7 @@ impl Copied for Origin {
 impl Copied for Unusable {
     fn copied(&self) -> Result<Unusable, NoMemory> {
         Ok(Unusable {
-            name: self.name.copied()?,
+            name: Copied::copied(&self.name)?,
             error: self.error.copied()?,
         })
     }
