@@ -2,7 +2,9 @@
 
 use pj_base::{NoMemory, Text};
 use pj_markup::{MarkupFault, read};
-use pj_rule_texts::{Part, RuleTexts, TextFault, WrittenRule, defined, is_xpath_rule, overridden, written_ruleset};
+use pj_rule_texts::{
+    Part, RuleTexts, TextFault, WrittenRule, defined, is_xpath_rule, overridden, written_ruleset,
+};
 use std::alloc::Global;
 use std::process::Abort;
 use std::test::Fail;
@@ -47,7 +49,10 @@ fn shown(alloc: Global, texts: &RuleTexts) -> Result<String, NoMemory> {
     Ok(shown)
 }
 
-fn shown_or_fault(alloc: Global, outcome: &Result<RuleTexts, TextFault>) -> Result<String, NoMemory> {
+fn shown_or_fault(
+    alloc: Global,
+    outcome: &Result<RuleTexts, TextFault>,
+) -> Result<String, NoMemory> {
     match outcome {
         Ok(texts) => shown(alloc, texts),
         Err(TextFault::BadPriority) => Ok(String::from_str(alloc, "BadPriority")?),
@@ -58,14 +63,11 @@ fn shown_or_fault(alloc: Global, outcome: &Result<RuleTexts, TextFault>) -> Resu
 }
 
 fn definition(alloc: Global, inside: &str) -> Result<Result<RuleTexts, TextFault>, NoMemory> {
-    let text = format!(in alloc; "<ruleset><rule name='N' message=' a  b '>{inside}</rule></ruleset>")?;
+    let text = format!(in alloc;
+        "<ruleset><rule name='N' message=' a  b '>{inside}</rule></ruleset>"
+    )?;
     match first_rule(alloc, text.as_str())? {
-        Some(rule) => Ok(defined(
-            alloc,
-            Text::new(alloc),
-            Text::from_str(alloc, "N")?,
-            rule,
-        )),
+        Some(rule) => Ok(defined(alloc, Text::new(alloc), Text::from_str(alloc, "N")?, rule)),
         None => Err(NoMemory),
     }
 }
@@ -85,11 +87,26 @@ fn defined_rules(rt: HostRuntime) -> Result<(), Fail> {
         &rt,
         rt.alloc(),
         &[
-            ("<properties><property name='xpath' value='//A'/></properties>", "N|a b|5|//A"),
-            ("<properties><property name='xpath'><value>//A</value></property></properties>", "N|a b|5|//A"),
-            ("<priority>2</priority><priority>9</priority><properties><property name='xpath' value=''/></properties>", "N|a b|2|"),
-            ("<properties/><properties><property name='xpath' value='.'/><property name='n' type='Integer' value='1'/></properties>", "N|a b|5|.|n:Integer=1"),
-            ("<properties><property name='version' value='2.0'/><property name='xpath' value='.'/></properties>", "N|a b|5|.|version:=2.0"),
+            (
+                "<properties><property name='xpath' value='//A'/></properties>",
+                "N|a b|5|//A",
+            ),
+            (
+                "<properties><property name='xpath'><value>//A</value></property></properties>",
+                "N|a b|5|//A",
+            ),
+            (
+                "<priority>2</priority><priority>9</priority><properties><property name='xpath' value=''/></properties>",
+                "N|a b|2|",
+            ),
+            (
+                "<properties/><properties><property name='xpath' value='.'/><property name='n' type='Integer' value='1'/></properties>",
+                "N|a b|5|.|n:Integer=1",
+            ),
+            (
+                "<properties><property name='version' value='2.0'/><property name='xpath' value='.'/></properties>",
+                "N|a b|5|.|version:=2.0",
+            ),
         ],
     )
 }
@@ -100,8 +117,14 @@ fn doubled_properties(rt: HostRuntime) -> Result<(), Fail> {
         &rt,
         rt.alloc(),
         &[
-            ("<properties><property name='n' type='String' value='1'/><property name='m' type='String' value='2'/><property name='n' type='Integer' value='3'/><property name='xpath' value='.'/></properties>", "N|a b|5|.|n:Integer=3|m:String=2"),
-            ("<properties><property name='n' type='String' value='1'><value>2</value></property><property name='xpath' value='.'/></properties>", "N|a b|5|.|n:String=1"),
+            (
+                "<properties><property name='n' type='String' value='1'/><property name='m' type='String' value='2'/><property name='n' type='Integer' value='3'/><property name='xpath' value='.'/></properties>",
+                "N|a b|5|.|n:Integer=3|m:String=2",
+            ),
+            (
+                "<properties><property name='n' type='String' value='1'><value>2</value></property><property name='xpath' value='.'/></properties>",
+                "N|a b|5|.|n:String=1",
+            ),
         ],
     )
 }
@@ -115,16 +138,29 @@ fn refused_rules(rt: HostRuntime) -> Result<(), Fail> {
             ("", "NoXPath"),
             ("<priority>6</priority>", "BadPriority"),
             ("<priority/>", "BadPriority"),
-            ("<properties><property value='1'/></properties>", "BadProperty"),
-            ("<properties><property name='n' type='Integer' value='x'/></properties>", "BadProperty"),
-            ("<properties><property name='n' value='x'/></properties>", "BadProperty"),
-            ("<properties><property name='xpath'/></properties>", "BadProperty"),
+            (
+                "<properties><property value='1'/></properties>",
+                "BadProperty",
+            ),
+            (
+                "<properties><property name='n' type='Integer' value='x'/></properties>",
+                "BadProperty",
+            ),
+            (
+                "<properties><property name='n' value='x'/></properties>",
+                "BadProperty",
+            ),
+            (
+                "<properties><property name='xpath'/></properties>",
+                "BadProperty",
+            ),
         ],
     )
 }
 
 fn change(alloc: Global, reference: &str) -> Result<Result<RuleTexts, TextFault>, NoMemory> {
-    let inside = "<properties><property name='xpath' value='//A'/><property name='n' type='Integer' value='1'/></properties>";
+    let inside =
+        "<properties><property name='xpath' value='//A'/><property name='n' type='Integer' value='1'/></properties>";
     let texts = match definition(alloc, inside)? {
         Ok(texts) => texts,
         Err(_) => return Err(NoMemory),
@@ -152,11 +188,26 @@ fn changed_rules(rt: HostRuntime) -> Result<(), Fail> {
         rt.alloc(),
         &[
             ("<rule ref='a.xml/N'/>", "N|a b|5|//A|n:Integer=1"),
-            ("<rule ref='a.xml/N' name='M' message='c'><priority>1</priority></rule>", "M|c|1|//A|n:Integer=1"),
-            ("<rule ref='a.xml/N'><properties><property name='n' value='2'/></properties></rule>", "N|a b|5|//A|n:Integer=2"),
-            ("<rule ref='a.xml/N'><properties><property name='n' value='x'/></properties></rule>", "BadProperty"),
-            ("<rule ref='a.xml/N'><properties><property name='m' type='String' value='x'/></properties></rule>", "BadProperty"),
-            ("<rule ref='a.xml/N'><properties><property name='xpath' value='//B'/><property name='version' value='3'/></properties></rule>", "N|a b|5|//B|n:Integer=1|version:=3"),
+            (
+                "<rule ref='a.xml/N' name='M' message='c'><priority>1</priority></rule>",
+                "M|c|1|//A|n:Integer=1",
+            ),
+            (
+                "<rule ref='a.xml/N'><properties><property name='n' value='2'/></properties></rule>",
+                "N|a b|5|//A|n:Integer=2",
+            ),
+            (
+                "<rule ref='a.xml/N'><properties><property name='n' value='x'/></properties></rule>",
+                "BadProperty",
+            ),
+            (
+                "<rule ref='a.xml/N'><properties><property name='m' type='String' value='x'/></properties></rule>",
+                "BadProperty",
+            ),
+            (
+                "<rule ref='a.xml/N'><properties><property name='xpath' value='//B'/><property name='version' value='3'/></properties></rule>",
+                "N|a b|5|//B|n:Integer=1|version:=3",
+            ),
         ],
     )
 }
@@ -173,8 +224,18 @@ fn is_usable(alloc: Global, attributes: &str) -> Result<bool, NoMemory> {
 fn languages_and_classes(rt: HostRuntime) -> Result<(), Fail> {
     let alloc = rt.alloc();
     assert!(rt; is_usable(alloc, "class='net.sourceforge.pmd.lang.rule.XPathRule'")?);
-    assert!(rt; is_usable(alloc, "language='java' class='net.sourceforge.pmd.lang.rule.xpath.XPathRule'")?);
-    assert!(rt; !is_usable(alloc, "language='kotlin' class='net.sourceforge.pmd.lang.rule.XPathRule'")?);
+    assert!(rt;
+        is_usable(
+            alloc,
+            "language='java' class='net.sourceforge.pmd.lang.rule.xpath.XPathRule'"
+        )?
+    );
+    assert!(rt;
+        !is_usable(
+            alloc,
+            "language='kotlin' class='net.sourceforge.pmd.lang.rule.XPathRule'"
+        )?
+    );
     assert!(rt; !is_usable(alloc, "class='x.J'")?);
     assert!(rt; !is_usable(alloc, "language='java'")?);
     Ok(())

@@ -1,8 +1,8 @@
 //! Messages, priorities and references.
 
 use pj_rule_texts::{Reference, beside, is_from_elsewhere, normalized, priority_of, reference_of};
-use std::process::Abort;
 use std::alloc::Global;
+use std::process::Abort;
 use std::test::Fail;
 
 fn messages(rt: &impl Abort, alloc: Global, rows: &[(&str, &str)]) -> Result<(), Fail> {

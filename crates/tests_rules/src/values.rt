@@ -22,12 +22,7 @@ fn shown(alloc: Global, kind: &str, text: &str) -> Result<String, NoMemory> {
     Ok(shown)
 }
 
-fn check(
-    rt: &impl Abort,
-    alloc: Global,
-    kind: &str,
-    rows: &[(&str, &str)],
-) -> Result<(), Fail> {
+fn check(rt: &impl Abort, alloc: Global, kind: &str, rows: &[(&str, &str)]) -> Result<(), Fail> {
     for (text, wanted) in rows {
         let found = shown(alloc, kind, text)?;
         assert_eq!(rt; found.as_str(), *wanted, "{kind} {text}");
@@ -37,14 +32,41 @@ fn check(
 
 #[test]
 fn texts(rt: HostRuntime) -> Result<(), Fail> {
-    check(&rt, rt.alloc(), "String", &[("", "[]"), ("a b", "[a b]"), (" a ", "[ a ]")])?;
+    check(
+        &rt,
+        rt.alloc(),
+        "String",
+        &[("", "[]"), ("a b", "[a b]"), (" a ", "[ a ]")],
+    )?;
     check(&rt, rt.alloc(), "Regex", &[("a(b", "[a(b]"), ("", "[]")])?;
-    check(&rt, rt.alloc(), "Boolean", &[("true", "[true]"), ("false", "[false]"), ("True", "none"), ("", "none"), (" true", "none")])
+    check(
+        &rt,
+        rt.alloc(),
+        "Boolean",
+        &[
+            ("true", "[true]"),
+            ("false", "[false]"),
+            ("True", "none"),
+            ("", "none"),
+            (" true", "none"),
+        ],
+    )
 }
 
 #[test]
 fn characters(rt: HostRuntime) -> Result<(), Fail> {
-    check(&rt, rt.alloc(), "Character", &[("a", "[a]"), ("€", "[€]"), (" ", "[ ]"), ("", "none"), ("ab", "none")])
+    check(
+        &rt,
+        rt.alloc(),
+        "Character",
+        &[
+            ("a", "[a]"),
+            ("€", "[€]"),
+            (" ", "[ ]"),
+            ("", "none"),
+            ("ab", "none"),
+        ],
+    )
 }
 
 #[test]
@@ -64,7 +86,19 @@ fn integers(rt: HostRuntime) -> Result<(), Fail> {
             ("-2147483649", "none"),
         ],
     )?;
-    check(&rt, rt.alloc(), "Integer", &[("", "none"), ("-", "none"), ("+-1", "none"), ("1 ", "none"), ("1.0", "none"), ("x", "none")])
+    check(
+        &rt,
+        rt.alloc(),
+        "Integer",
+        &[
+            ("", "none"),
+            ("-", "none"),
+            ("+-1", "none"),
+            ("1 ", "none"),
+            ("1.0", "none"),
+            ("x", "none"),
+        ],
+    )
 }
 
 #[test]
@@ -84,8 +118,31 @@ fn longs(rt: HostRuntime) -> Result<(), Fail> {
 
 #[test]
 fn lists(rt: HostRuntime) -> Result<(), Fail> {
-    check(&rt, rt.alloc(), "List[String]", &[("", ""), ("a", "[a]"), ("a,b", "[a][b]"), ("a,", "[a][]"), (",", "[][]"), ("a, b", "[a][ b]")])?;
-    check(&rt, rt.alloc(), "List[Integer]", &[("", ""), ("1,-2", "[1][-2]"), ("1,", "none"), ("1, 2", "none"), ("1,x", "none")])
+    check(
+        &rt,
+        rt.alloc(),
+        "List[String]",
+        &[
+            ("", ""),
+            ("a", "[a]"),
+            ("a,b", "[a][b]"),
+            ("a,", "[a][]"),
+            (",", "[][]"),
+            ("a, b", "[a][ b]"),
+        ],
+    )?;
+    check(
+        &rt,
+        rt.alloc(),
+        "List[Integer]",
+        &[
+            ("", ""),
+            ("1,-2", "[1][-2]"),
+            ("1,", "none"),
+            ("1, 2", "none"),
+            ("1,x", "none"),
+        ],
+    )
 }
 
 #[test]
