@@ -1,9 +1,10 @@
 -- What an expression is evaluated in.
-use Rattle.std.specs.Prelude.{ℕ, ℤ, pos, List, [], ◌∷◌, Option, nat_eq, if◌then◌else◌}
+use Rattle.std.specs.Prelude.{ℕ, ℤ, pos, map, List, [], ◌∷◌, Option, nat_eq, if◌then◌else◌}
 use Rattle.std.specs.Cmp.Lexicographic.{pointwise}
 use Rattle.pj_tree.specs.declared.node.Node.{Node}
 use Rattle.pj_tree.specs.Tree.{Tree}
-use Rattle.pj_xvalue.specs.Items.{ItemValue}
+use Rattle.pj_xvalue.specs.declared.item.Item.{Item}
+use Rattle.pj_xvalue.specs.Items.{ItemValue, values_of}
 use Rattle.pj_xpatterns.specs.Meaning.{Pattern}
 use Rattle.pj_xdenotes.specs.Means.{Means}
 
@@ -24,6 +25,10 @@ Variables = List (List ℕ × List ItemValue)
 abbrev pub value_of_variable : List ℕ → Variables → List ItemValue
 value_of_variable name [] = []
 value_of_variable name (variable ∷ rest) = if pointwise nat_eq variable.0 name then variable.1 else value_of_variable name rest
+
+-- the variables that are given to an evaluation, as values
+abbrev pub given_of : List (List ℕ × List Item) → Variables
+given_of variables = map (λ variable. (variable.0, values_of variable.1)) variables
 
 -- What is around all expressions: the tree, the attributes of its nodes, and the patterns that the functions know.
 pub record Around : Type 0 where

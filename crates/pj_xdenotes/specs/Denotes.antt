@@ -37,24 +37,24 @@ behind context variables next = next.1 context variables
 
 -- ---- what an operand's value makes of what stands before it
 
-abbrev pub with_text : Around → Denotation → List ℕ → List ItemValue → Result (List ℕ) XCode
-with_text around d text value = and_then (text_operand around value) (λ more. Ok (text ++ more))
+abbrev pub with_text : {X : Type 0} → Around → X → List ℕ → List ItemValue → Result (List ℕ) XCode
+with_text around x text value = and_then (text_operand around value) (λ more. Ok (text ++ more))
 
-abbrev pub with_nodes : Denotation → List ItemValue → List ItemValue → Result (List ItemValue) XCode
-with_nodes d found value = and_then (only_nodes value) (λ more. Ok (found ++ more))
+abbrev pub with_nodes : {X : Type 0} → X → List ItemValue → List ItemValue → Result (List ItemValue) XCode
+with_nodes x found value = and_then (only_nodes value) (λ more. Ok (found ++ more))
 
-abbrev pub with_term : Around → Additive × Denotation → Option ℤ → List ItemValue → Result (Option ℤ) XCode
+abbrev pub with_term : {X : Type 0} → Around → Additive × X → Option ℤ → List ItemValue → Result (Option ℤ) XCode
 with_term around next total value = and_then (operand around value) (λ term. sum next.0 total term)
 
-abbrev pub with_factor : Around → Multiplicative × Denotation → Option ℤ → List ItemValue → Result (Option ℤ) XCode
+abbrev pub with_factor : {X : Type 0} → Around → Multiplicative × X → Option ℤ → List ItemValue → Result (Option ℤ) XCode
 with_factor around next total value = and_then (operand around value) (λ factor. product next.0 total factor)
 
-abbrev pub with_set : SetOperator × Denotation → List ItemValue → List ItemValue → Result (List ItemValue) XCode
+abbrev pub with_set : {X : Type 0} → SetOperator × X → List ItemValue → List ItemValue → Result (List ItemValue) XCode
 with_set next items value = and_then (only_nodes value) (λ others. Ok (chosen next.0 items others))
 
 -- the arguments before it, with an argument, which is a sequence
-abbrev pub with_argument : Denotation → List (List ItemValue) → List ItemValue → Result (List (List ItemValue)) XCode
-with_argument d arguments value = Ok (arguments ++ value ∷ [])
+abbrev pub with_argument : {X : Type 0} → X → List (List ItemValue) → List ItemValue → Result (List (List ItemValue)) XCode
+with_argument x arguments value = Ok (arguments ++ value ∷ [])
 
 abbrev pub arguments_of : List Denotation → Context → Variables → Means (List (List ItemValue))
 arguments_of parts context variables = chain (here context variables) with_argument parts []

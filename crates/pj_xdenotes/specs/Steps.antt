@@ -96,10 +96,13 @@ abbrev pub has_value : Option ItemValue → Bool
 has_value (Some value) = true
 has_value None = false
 
--- the attributes of a node that pass the test: those of its names that have a value
+-- of a node's names with their places, the attributes that pass the test and have a value
+abbrev pub named_attributes : (List ℕ → Option ItemValue) → NodeTest → Node → List (ℕ × List ℕ) → List ItemValue
+named_attributes value_of test n places = map (λ p. Attribute n p.0) (filter (λ p. passes_name test p.1 && has_value (value_of p.1)) places)
+
+-- the attributes of a node that pass the test
 abbrev pub attributes_of : Around → NodeTest → Node → List ItemValue
-attributes_of around test n =
-    map (λ p. Attribute n p.0) (filter (λ p. passes_name test p.1 && has_value (around.attribute_of n p.1)) (enumerate_from 0 (around.names_of n)))
+attributes_of around test n = named_attributes (around.attribute_of n) test n (enumerate_from 0 (around.names_of n))
 
 -- only elements have attributes
 abbrev pub attributes : Around → NodeTest → ItemValue → List ItemValue

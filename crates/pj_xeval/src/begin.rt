@@ -1,0 +1,214 @@
+//! How a task begins.
+ghost use Rattle.std.specs.Prelude.{◌≡◌, ℕ, ◌∷◌, [], IfOk, length, map};
+ghost use Rattle.pj_xvalue.specs.Items.{Document as DocumentValue, IsOfTree};
+ghost use Rattle.pj_xvalue.specs.OfTree.{VariablesOfTree};
+ghost use Rattle.pj_xaxes.specs.Axes.{is_reverse};
+ghost use Rattle.pj_xdenotes.specs.Means.{give, ◌>>=◌};
+ghost use Rattle.pj_xdenotes.specs.Context.{Around, Context, around};
+ghost use Rattle.pj_xdenotes.specs.Steps.{attributes as attributes_of, from_node, in_document_order, stepped as stepped_of};
+ghost use Rattle.pj_xdenotes.specs.Turns.{narrowed, path, simple_map};
+ghost use Rattle.pj_xdenotes.specs.Denotes.{denotes};
+ghost use Rattle.pj_xeval.specs.Frames.{Replies, task_meaning};
+ghost use Rattle.pj_xeval.specs.Going.{Goes, GoesIf, NextOfTree};
+ghost use Rattle.pj_xeval.specs.Scopes.{Scoped, variables_of};
+
+use crate::bindings::{for_from, let_from, quantified_from};
+use crate::frame::{Frame, Next, Task, Turn};
+use crate::lists::{arguments, items, nodes, pmd_arguments, texts};
+use crate::scope::Scope;
+use crate::truths::truths;
+use pj_base::Copied;
+use pj_xsteps::{At, NodeItems, Setting, attributes, is_backwards, literal, one, stepped};
+use pj_xvalue::{
+    Arguments, Attributes, Axis, Expr, Item, NodeTest, Quantifier, Sequence, XCode, XFault,
+};
+use std::alloc::Global;
+
+/// `/`: the document, where the context item is a node.
+#[tactic(auto, using(crate::proofs::Steps::steps))]
+fn root<'e, 't>(alloc: Global, at: &At<'t>) -> Result<Next<'e, 't>, XFault>
+    ensures goes { (a : Around) (reply : Replies) (s : Scoped) → GoesIf a reply (from_node at.now.item (give (DocumentValue ∷ []))) at.now s at.now s result }
+    ensures of_tree { (n : ℕ) → IfOk result (λ next. NextOfTree n next) }
+{
+    if !at.item.is_node() {
+        return Err(XFault::Code(XCode::XPTY0020));
+    }
+    Ok(Next::Value(one(alloc, Item::Document)?))
+}
+
+/// An axis step: its items, over which the predicates go.
+#[tactic(auto, using(crate::proofs::Steps::steps))]
+fn axis_step<'e, 't, A: Attributes>(
+    setting: &Setting<'t, A>,
+    along: Axis,
+    test: &'e NodeTest,
+    predicates: &'e [Expr],
+    at: &At<'t>,
+) -> Result<Next<'e, 't>, XFault>
+    requires { IsOfTree (length setting.now.tree.now.nodes) at.now.item }
+    ensures goes { (reply : Replies) (s : Scoped) →
+        let a = around setting.now.tree.now (A.attribute_of setting.now.facts.now) (A.names_of setting.now.facts.now) setting.now.patterns.now in
+        GoesIf a reply (from_node at.now.item (narrowed (variables_of s) (map (denotes a reply) predicates.now) (stepped_of setting.now.tree.now along test.now at.now.item) >>= λ found. give (in_document_order (is_reverse along) found))) at.now s at.now s result }
+    ensures of_tree { IfOk result (λ next. NextOfTree (length setting.now.tree.now.nodes) next) }
+{
+    if !at.item.is_node() {
+        return Err(XFault::Code(XCode::XPTY0020));
+    }
+    let found = stepped(setting.alloc, setting.tree, along, test, &at.item)?;
+    if is_backwards(along) {
+        Ok(Next::Over(Turn::Backward, predicates, found))
+    } else {
+        Ok(Next::Over(Turn::Forward, predicates, found))
+    }
+}
+
+/// An attribute step: its items, over which the predicates go.
+#[tactic(auto, using(crate::proofs::Steps::steps))]
+fn attribute_step<'e, 't, A: Attributes>(
+    setting: &Setting<'t, A>,
+    test: &'e NodeTest,
+    predicates: &'e [Expr],
+    at: &At<'t>,
+) -> Result<Next<'e, 't>, XFault>
+    requires { IsOfTree (length setting.now.tree.now.nodes) at.now.item }
+    ensures goes { (reply : Replies) (s : Scoped) →
+        let a = around setting.now.tree.now (A.attribute_of setting.now.facts.now) (A.names_of setting.now.facts.now) setting.now.patterns.now in
+        GoesIf a reply (from_node at.now.item (narrowed (variables_of s) (map (denotes a reply) predicates.now) (attributes_of a test.now at.now.item))) at.now s at.now s result }
+    ensures of_tree { IfOk result (λ next. NextOfTree (length setting.now.tree.now.nodes) next) }
+{
+    if !at.item.is_node() {
+        return Err(XFault::Code(XCode::XPTY0020));
+    }
+    let found = attributes(setting, test, &at.item)?;
+    Ok(Next::Over(Turn::Forward, predicates, found))
+}
+
+/// A path: the first step by itself, and then the others over its items.
+fn path_from<'e, 't>(alloc: Global, steps: &'e [Expr]) -> Next<'e, 't>
+    ensures goes { (a : Around) (reply : Replies) (c : Context) (s : Scoped) → Goes a reply (path (map (denotes a reply) steps.now) c (variables_of s)) c s c s result }
+    ensures of_tree { (n : ℕ) → NextOfTree n result }
+{
+    match steps {
+        [] => Next::Value(Sequence::new(alloc)),
+        [first, rest @ ..] => Next::Within(
+            Task::Expression(first),
+            Frame::First(Turn::Step, rest),
+        ),
+    }
+}
+
+/// A simple map: the first part by itself, and then the others over its items.
+fn map_from<'e, 't>(alloc: Global, parts: &'e [Expr]) -> Next<'e, 't>
+    ensures goes { (a : Around) (reply : Replies) (c : Context) (s : Scoped) → Goes a reply (simple_map (map (denotes a reply) parts.now) c (variables_of s)) c s c s result }
+    ensures of_tree { (n : ℕ) → NextOfTree n result }
+{
+    match parts {
+        [] => Next::Value(Sequence::new(alloc)),
+        [first, rest @ ..] => Next::Within(
+            Task::Expression(first),
+            Frame::First(Turn::Part, rest),
+        ),
+    }
+}
+
+/// How an expression begins.
+#[tactic(auto, using(pj_xdenotes::proofs::Forms::forms, crate::proofs::Steps::steps))]
+fn expression<'e, 't, A: Attributes>(
+    setting: &Setting<'t, A>,
+    expr: &'e Expr,
+    at: &At<'t>,
+    scope: &Scope<'e, 't>,
+) -> Result<Next<'e, 't>, XFault>
+    requires item { IsOfTree (length setting.now.tree.now.nodes) at.now.item }
+    requires variables { VariablesOfTree (length setting.now.tree.now.nodes) (variables_of scope.now) }
+    ensures goes { (reply : Replies) →
+        let a = around setting.now.tree.now (A.attribute_of setting.now.facts.now) (A.names_of setting.now.facts.now) setting.now.patterns.now in
+        GoesIf a reply (denotes a reply expr.now at.now (variables_of scope.now)) at.now scope.now at.now scope.now result }
+    ensures of_tree { IfOk result (λ next. NextOfTree (length setting.now.tree.now.nodes) next) }
+{
+    let alloc = setting.alloc;
+    match expr {
+        Expr::Comma(parts) => Ok(items(Sequence::new(alloc), parts.as_slice())),
+        Expr::For(bindings, body) => Ok(for_from(bindings.as_slice(), body)),
+        Expr::Let(bindings, body) => Ok(let_from(bindings.as_slice(), body)),
+        Expr::Quantified(quantifier, bindings, test) => {
+            Ok(quantified_from(*quantifier, bindings.as_slice(), test))
+        }
+        Expr::If(test, chosen, other) => {
+            Ok(Next::Within(Task::Expression(test), Frame::If(chosen, other)))
+        }
+        Expr::Or(parts) => truths(alloc, Quantifier::Some, parts.as_slice()),
+        Expr::And(parts) => truths(alloc, Quantifier::Every, parts.as_slice()),
+        Expr::Comparison(op, left, right) => {
+            Ok(Next::Within(Task::Expression(left), Frame::Left(*op, right)))
+        }
+        Expr::Concatenation(parts) => texts(alloc, String::new(alloc), parts.as_slice()),
+        Expr::Range(from, to) => Ok(Next::Within(Task::Expression(from), Frame::From(to))),
+        Expr::Additive(first, rest) => Ok(Next::Within(
+            Task::Expression(first),
+            Frame::FirstTerm(rest.as_slice()),
+        )),
+        Expr::Multiplicative(first, rest) => Ok(Next::Within(
+            Task::Expression(first),
+            Frame::FirstFactor(rest.as_slice()),
+        )),
+        Expr::Union(parts) => Ok(nodes(NodeItems::new(alloc), parts.as_slice())),
+        Expr::IntersectExcept(first, rest) => Ok(Next::Within(
+            Task::Expression(first),
+            Frame::FirstSet(rest.as_slice()),
+        )),
+        Expr::Unary(sign, operand) => {
+            Ok(Next::Within(Task::Expression(operand), Frame::Sign(*sign)))
+        }
+        Expr::SimpleMap(parts) => Ok(map_from(alloc, parts.as_slice())),
+        Expr::Path(steps) => Ok(path_from(alloc, steps.as_slice())),
+        Expr::Root => root(alloc, at),
+        Expr::Step(along, test, predicates) => {
+            axis_step(setting, *along, test, predicates.as_slice(), at)
+        }
+        Expr::AttributeStep(test, predicates) => {
+            attribute_step(setting, test, predicates.as_slice(), at)
+        }
+        Expr::Filter(primary, predicates) => Ok(Next::Within(
+            Task::Expression(primary),
+            Frame::First(Turn::Forward, predicates.as_slice()),
+        )),
+        Expr::Integer(value) => Ok(Next::Value(literal(alloc, *value)?)),
+        Expr::String(text) => Ok(Next::Value(one(alloc, Item::Str(text.copied()?))?)),
+        Expr::Variable(name) => Ok(Next::Value(scope.value_of(alloc, name)?)),
+        Expr::ContextItem => Ok(Next::Value(one(alloc, at.item.copied()?)?)),
+        Expr::Call(function, parts) => arguments(
+            setting,
+            *function,
+            Arguments::new(alloc),
+            parts.as_slice(),
+            at,
+        ),
+        Expr::PmdCall(function, parts) => {
+            pmd_arguments(*function, Arguments::new(alloc), parts.as_slice())
+        }
+    }
+}
+
+/// How a task begins.
+pub fn begin<'e, 't, A: Attributes>(
+    setting: &Setting<'t, A>,
+    task: Task<'e>,
+    at: &At<'t>,
+    scope: &Scope<'e, 't>,
+) -> Result<Next<'e, 't>, XFault>
+    requires item { IsOfTree (length setting.now.tree.now.nodes) at.now.item }
+    requires variables { VariablesOfTree (length setting.now.tree.now.nodes) (variables_of scope.now) }
+    ensures goes { (reply : Replies) →
+        let a = around setting.now.tree.now (A.attribute_of setting.now.facts.now) (A.names_of setting.now.facts.now) setting.now.patterns.now in
+        GoesIf a reply (task_meaning a reply task at.now (variables_of scope.now)) at.now scope.now at.now scope.now result }
+    ensures of_tree { IfOk result (λ next. NextOfTree (length setting.now.tree.now.nodes) next) }
+{
+    match task {
+        Task::Expression(expr) => expression(setting, expr, at, scope),
+        Task::For(bindings, body) => Ok(for_from(bindings, body)),
+        Task::Quantified(quantifier, bindings, test) => {
+            Ok(quantified_from(quantifier, bindings, test))
+        }
+    }
+}
