@@ -1,10 +1,11 @@
 -- What the code's steps promise. It serves private clauses.
-use Rattle.std.specs.Prelude.{◌≡◌, ℕ, Bool, true, IsTrue, length, List, [], ◌∷◌, ◌++◌, map, flat_map, reverse, Result, Ok, Err}
+use Rattle.std.specs.Prelude.{◌≡◌, ℕ, IsTrue, length, List, map, reverse, Result, Ok, Err}
 use Rattle.pj_names.specs.declared.oracle.AskFault.{AskFault}
 use Rattle.pj_names.specs.declared.oracle.AskFault.TheVariants.{Failed, Memory}
 use Rattle.pj_xvalue.specs.declared.fault.XFault.{XFault}
 use Rattle.pj_xvalue.specs.declared.fault.XFault.TheVariants.{Code, Ask}
-use Rattle.pj_xvalue.specs.Items.{ItemValue, values_of}
+use Rattle.std.specs.List.{All}
+use Rattle.pj_xvalue.specs.Items.{ItemValue, values_of, IsOfTree}
 use Rattle.pj_xvalue.specs.Functions.{pmd_takes}
 use Rattle.pj_xvalue.specs.declared.item.Item.{Item}
 use Rattle.pj_xvalue.specs.declared.pmd_function.PmdFunction.{PmdFunction}
@@ -12,6 +13,8 @@ use Rattle.pj_xvalue.specs.OfTree.{OfTree, ArgumentsOfTree}
 use Rattle.pj_xdenotes.specs.Means.{Means, give, fail, ◌>>=◌}
 use Rattle.pj_xdenotes.specs.Calls.{node_in}
 use Rattle.pj_xdenotes.specs.Context.{Around, Context}
+use Rattle.pj_xeval.specs.declared.frame.Turns.{Turns}
+use Rattle.pj_xeval.specs.declared.frame.ForTurns.{ForTurns}
 use Rattle.pj_xeval.specs.declared.frame.Frame.{Frame}
 use Rattle.pj_xeval.specs.declared.frame.Frame.TheVariants as frame
 use Rattle.pj_xeval.specs.declared.frame.Next.{Next}
@@ -37,41 +40,45 @@ GoesIf a reply meant c s c_left s_left (Err (Code code)) = fail code ≡ meant
 GoesIf a reply meant c s c_left s_left (Err (Ask Memory)) = Unit {0}
 GoesIf a reply meant c s c_left s_left (Err (Ask Failed)) = ⊥
 
--- the sequences that a frame holds
-abbrev pub held : Frame → List (List ItemValue)
-held (frame.Items found rest) = values_of found ∷ []
-held (frame.Nodes found rest) = values_of found ∷ []
-held (frame.Arguments function arguments rest) = map values_of arguments
-held (frame.PmdArguments function arguments rest) = map values_of arguments
-held (frame.Set nodes operator rest) = values_of nodes ∷ []
-held (frame.Right op left) = values_of left ∷ []
-held (frame.Turns turns) = values_of turns.left ∷ values_of turns.found ∷ (turns.outer.item ∷ []) ∷ []
-held (frame.For turns) = values_of turns.left ∷ values_of turns.found ∷ []
-held (frame.Quantified turns) = values_of turns.left ∷ []
-held _ = []
+-- ---- that all is of the tree
 
-abbrev pub next_held : Next → List (List ItemValue)
-next_held (next.Value items) = values_of items ∷ []
-next_held (next.Within task frame) = held frame
-next_held (next.Over what parts items) = values_of items ∷ []
-next_held (next.Reply function arguments) = map values_of arguments
-next_held (next.Instead task) = []
+-- the items that are still to come in turn, those found, and the context item around
+pub record TurnsOfTree (nodes : ℕ) (turns : Turns) : Type 0 where
+  pub left : OfTree nodes (values_of turns.left)
+  pub found : OfTree nodes (values_of turns.found)
+  pub outer : IsOfTree nodes turns.outer.item
 
--- whether a function of PMD that is to be called takes so many arguments
-abbrev pub is_counted : Next → Bool
-is_counted (next.Reply function arguments) = pmd_takes function (length arguments)
-is_counted (next.Value items) = true
-is_counted (next.Within task frame) = true
-is_counted (next.Over what parts items) = true
-is_counted (next.Instead task) = true
+pub record ForTurnsOfTree (nodes : ℕ) (turns : ForTurns) : Type 0 where
+  pub left : OfTree nodes (values_of turns.left)
+  pub found : OfTree nodes (values_of turns.found)
 
--- all that is held is of the tree, and a call that is to be made may be made
-pub record NextOfTree (nodes : ℕ) (going : Next) : Type 0 where
-  pub each : ArgumentsOfTree nodes (next_held going)
-  pub counted : IsTrue (is_counted going)
+abbrev pub FrameOfTree : ℕ → Frame → Type 0
+FrameOfTree nodes (frame.Items found rest) = OfTree nodes (values_of found)
+FrameOfTree nodes (frame.Nodes found rest) = OfTree nodes (values_of found)
+FrameOfTree nodes (frame.Arguments function arguments rest) = ArgumentsOfTree nodes (map values_of arguments)
+FrameOfTree nodes (frame.PmdArguments function arguments rest) = ArgumentsOfTree nodes (map values_of arguments)
+FrameOfTree nodes (frame.Set found operator rest) = OfTree nodes (values_of found)
+FrameOfTree nodes (frame.Right op left) = OfTree nodes (values_of left)
+FrameOfTree nodes (frame.Turns turns) = TurnsOfTree nodes turns
+FrameOfTree nodes (frame.For turns) = ForTurnsOfTree nodes turns
+FrameOfTree nodes (frame.Quantified turns) = OfTree nodes (values_of turns.left)
+FrameOfTree nodes _ = Unit {0}
 
-abbrev pub FramesOfTree : ℕ → List Frame → Type 0
-FramesOfTree nodes frames = ArgumentsOfTree nodes (flat_map held frames)
+-- a call that may be made
+pub record CallOfTree (nodes : ℕ) (function : PmdFunction) (arguments : List (List Item)) : Type 0 where
+  pub each : ArgumentsOfTree nodes (map values_of arguments)
+  pub counted : IsTrue (pmd_takes function (length arguments))
+
+abbrev pub NextOfTree : ℕ → Next → Type 0
+NextOfTree nodes (next.Value items) = OfTree nodes (values_of items)
+NextOfTree nodes (next.Within task frame) = FrameOfTree nodes frame
+NextOfTree nodes (next.Over what parts items) = OfTree nodes (values_of items)
+NextOfTree nodes (next.Reply function arguments) = CallOfTree nodes function arguments
+NextOfTree nodes (next.Instead task) = Unit {0}
+
+-- all frames of a stack
+pub record FramesOfTree (nodes : ℕ) (frames : List Frame) : Type 0 where
+  pub each : All (FrameOfTree nodes) frames
 
 -- ---- the steps of a whole evaluation, with its stack of frames, the top one last
 
@@ -93,11 +100,6 @@ ComesIf from_here meant (Ok there) = from_here there ≡ meant
 ComesIf from_here meant (Err (Code code)) = fail code ≡ meant
 ComesIf from_here meant (Err (Ask Memory)) = Unit {0}
 ComesIf from_here meant (Err (Ask Failed)) = ⊥
-
--- a call that may be made
-pub record CallOfTree (nodes : ℕ) (function : PmdFunction) (arguments : List (List Item)) : Type 0 where
-  pub each : ArgumentsOfTree nodes (map values_of arguments)
-  pub counted : IsTrue (pmd_takes function (length arguments))
 
 abbrev pub PauseOfTree : ℕ → Pause → Type 0
 PauseOfTree nodes (pause.Done items) = OfTree nodes (values_of items)

@@ -25,7 +25,7 @@ use pj_xvalue::{
 use std::alloc::Global;
 
 /// `/`: the document, where the context item is a node.
-#[tactic(auto, using(crate::proofs::Steps::steps))]
+#[tactic(auto, using(crate::proofs::Steps::steps, crate::proofs::OfTree::of_tree))]
 fn root<'e, 't>(alloc: Global, at: &At<'t>) -> Result<Next<'e, 't>, XFault>
     ensures goes { (a : Around) (reply : Replies) (s : Scoped) → GoesIf a reply (from_node at.now.item (give (DocumentValue ∷ []))) at.now s at.now s result }
     ensures of_tree { (n : ℕ) → IfOk result (λ next. NextOfTree n next) }
@@ -37,7 +37,7 @@ fn root<'e, 't>(alloc: Global, at: &At<'t>) -> Result<Next<'e, 't>, XFault>
 }
 
 /// An axis step: its items, over which the predicates go.
-#[tactic(auto, using(crate::proofs::Steps::steps))]
+#[tactic(auto, using(crate::proofs::Steps::steps, crate::proofs::OfTree::of_tree))]
 fn axis_step<'e, 't, A: Attributes>(
     setting: &Setting<'t, A>,
     along: Axis,
@@ -63,7 +63,7 @@ fn axis_step<'e, 't, A: Attributes>(
 }
 
 /// An attribute step: its items, over which the predicates go.
-#[tactic(auto, using(crate::proofs::Steps::steps))]
+#[tactic(auto, using(crate::proofs::Steps::steps, crate::proofs::OfTree::of_tree))]
 fn attribute_step<'e, 't, A: Attributes>(
     setting: &Setting<'t, A>,
     test: &'e NodeTest,
@@ -112,7 +112,7 @@ fn map_from<'e, 't>(alloc: Global, parts: &'e [Expr]) -> Next<'e, 't>
 }
 
 /// How an expression begins.
-#[tactic(auto, using(pj_xdenotes::proofs::Forms::forms, crate::proofs::Steps::steps))]
+#[tactic(auto, using(pj_xdenotes::proofs::Forms::forms, crate::proofs::OfTree::of_tree))]
 fn expression<'e, 't, A: Attributes>(
     setting: &Setting<'t, A>,
     expr: &'e Expr,

@@ -10,7 +10,7 @@ ghost use Rattle.pj_xdenotes.specs.Bindings.{for_in, let_in, quantified as quant
 ghost use Rattle.pj_xdenotes.specs.Parts.{bindings_of};
 ghost use Rattle.pj_xdenotes.specs.Denotes.{denotes};
 ghost use Rattle.pj_xeval.specs.Frames.{Replies, for_left, quantified_left};
-ghost use Rattle.pj_xeval.specs.Going.{Goes, GoesIf, NextOfTree};
+ghost use Rattle.pj_xeval.specs.Going.{ForTurnsOfTree, Goes, GoesIf, NextOfTree};
 ghost use Rattle.pj_xeval.specs.Scopes.{Scoped, variables_of, without};
 
 use crate::frame::{Binder, Binding, ForTurns, Frame, Next, QuantifiedTurns, Task};
@@ -43,14 +43,15 @@ pub fn for_from<'e, 't>(bindings: &'e [(Text, Expr)], body: &'e Expr) -> Next<'e
 }
 
 /// A `for` with the items of its first variable that are still to come.
+#[tactic(auto, using(crate::proofs::OfTree::of_tree))]
 pub fn for_turn<'e, 't>(
     alloc: Global,
     turns: ForTurns<'e, 't>,
     scope: &mut Scope<'e, 't>,
 ) -> Result<Next<'e, 't>, XFault>
     ensures goes { (a : Around) (reply : Replies) (c : Context) → GoesIf a reply (for_left a reply turns.entry (values_of turns.entry.found) c (variables_of scope.old)) c scope.new c scope.old result }
-    ensures of_tree { (n : ℕ) → OfTree n (values_of turns.entry.left) → OfTree n (values_of turns.entry.found) → IfOk result (λ next. NextOfTree n next) }
-    ensures scope { (n : ℕ) → OfTree n (values_of turns.entry.left) → VariablesOfTree n (variables_of scope.old) → OnOk result (VariablesOfTree n (variables_of scope.new)) }
+    ensures of_tree { (n : ℕ) → ForTurnsOfTree n turns.entry → IfOk result (λ next. NextOfTree n next) }
+    ensures scope { (n : ℕ) → ForTurnsOfTree n turns.entry → VariablesOfTree n (variables_of scope.old) → OnOk result (VariablesOfTree n (variables_of scope.new)) }
 {
     let ForTurns { name, left, found, rest, body } = turns;
     let mut left = left;
@@ -67,6 +68,7 @@ pub fn for_turn<'e, 't>(
 }
 
 /// The sequence of the first variable of a `for`.
+#[tactic(auto, using(crate::proofs::OfTree::of_tree))]
 pub fn for_over<'e, 't>(
     alloc: Global,
     binder: Binder<'e>,
@@ -85,6 +87,7 @@ pub fn for_over<'e, 't>(
 }
 
 /// The value of one turn of a `for`.
+#[tactic(auto, using(crate::proofs::OfTree::of_tree))]
 pub fn for_after<'e, 't>(
     alloc: Global,
     turns: ForTurns<'e, 't>,
@@ -93,8 +96,8 @@ pub fn for_after<'e, 't>(
 ) -> Result<Next<'e, 't>, XFault>
     ensures goes { (a : Around) (reply : Replies) (c : Context) →
         GoesIf a reply (for_left a reply turns.entry (values_of turns.entry.found ++ values_of value.entry) c (variables_of (without 1 scope.old))) c scope.new c (without 1 scope.old) result }
-    ensures of_tree { (n : ℕ) → OfTree n (values_of turns.entry.left) → OfTree n (values_of turns.entry.found) → OfTree n (values_of value.entry) → IfOk result (λ next. NextOfTree n next) }
-    ensures scope { (n : ℕ) → OfTree n (values_of turns.entry.left) → VariablesOfTree n (variables_of scope.old) → OnOk result (VariablesOfTree n (variables_of scope.new)) }
+    ensures of_tree { (n : ℕ) → ForTurnsOfTree n turns.entry → OfTree n (values_of value.entry) → IfOk result (λ next. NextOfTree n next) }
+    ensures scope { (n : ℕ) → ForTurnsOfTree n turns.entry → VariablesOfTree n (variables_of scope.old) → OnOk result (VariablesOfTree n (variables_of scope.new)) }
 {
     scope.unbind();
     let ForTurns { name, left, found, rest, body } = turns;
@@ -129,6 +132,7 @@ pub fn quantified_from<'e, 't>(
 }
 
 /// A `some` or `every` with the items of its first variable that are still to come, of which none before decided.
+#[tactic(auto, using(crate::proofs::OfTree::of_tree))]
 pub fn quantified_turn<'e, 't>(
     alloc: Global,
     turns: QuantifiedTurns<'e, 't>,
@@ -153,6 +157,7 @@ pub fn quantified_turn<'e, 't>(
 }
 
 /// The sequence of the first variable of a `some` or `every`.
+#[tactic(auto, using(crate::proofs::OfTree::of_tree))]
 pub fn quantified_over<'e, 't>(
     alloc: Global,
     quantifier: Quantifier,
@@ -171,6 +176,7 @@ pub fn quantified_over<'e, 't>(
 }
 
 /// The value of one turn of a `some` or `every`.
+#[tactic(auto, using(crate::proofs::OfTree::of_tree))]
 pub fn quantified_after<'e, 't>(
     alloc: Global,
     turns: QuantifiedTurns<'e, 't>,
@@ -223,6 +229,7 @@ fn one_more(bound: usize) -> Result<usize, NoMemory>
 }
 
 /// The value of a variable of a `let`.
+#[tactic(auto, using(crate::proofs::OfTree::of_tree))]
 pub fn let_after<'e, 't>(
     bound: usize,
     binder: Binder<'e>,
@@ -257,6 +264,7 @@ pub fn let_after<'e, 't>(
 }
 
 /// The value of the body of a `let`.
+#[tactic(auto, using(crate::proofs::OfTree::of_tree))]
 pub fn let_body<'e, 't>(
     count: usize,
     value: Sequence<'t>,

@@ -35,6 +35,7 @@ pub struct Focus<'t> {
 }
 
 /// The value of an expression.
+#[tactic(auto, using(crate::proofs::OfTree::of_tree))]
 fn value_of<'t, A: Attributes, C: Calls>(
     setting: &Setting<'t, A>,
     expr: &Expr,

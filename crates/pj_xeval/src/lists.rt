@@ -34,6 +34,7 @@ pub fn items<'e, 't>(found: Sequence<'t>, parts: &'e [Expr]) -> Next<'e, 't>
 }
 
 /// The same with one more value.
+#[tactic(auto, using(crate::proofs::OfTree::of_tree))]
 pub fn items_after<'e, 't>(
     found: Sequence<'t>,
     parts: &'e [Expr],
@@ -55,6 +56,7 @@ fn text_item<'t>(text: String) -> Item<'t>
 }
 
 /// `a || b || ..` with the text so far and the operands left.
+#[tactic(auto, using(crate::proofs::Steps::steps))]
 pub fn texts<'e, 't>(
     alloc: Global,
     text: String,
@@ -73,6 +75,7 @@ pub fn texts<'e, 't>(
 }
 
 /// The same with one more value.
+#[tactic(auto, using(crate::proofs::Steps::steps))]
 pub fn texts_after<'e, 't, A: Attributes>(
     setting: &Setting<'t, A>,
     text: String,
@@ -92,6 +95,7 @@ pub fn texts_after<'e, 't, A: Attributes>(
 }
 
 /// `a | b | ..` with the nodes so far and the operands left.
+#[tactic(auto, using(crate::proofs::Steps::steps))]
 pub fn nodes<'e, 't>(found: NodeItems<'t>, parts: &'e [Expr]) -> Next<'e, 't>
     ensures goes { (a : Around) (reply : Replies) (c : Context) (s : Scoped) → Goes a reply (chain (here c (variables_of s)) with_nodes (map (denotes a reply) parts.now) (values_of found.entry) >>= λ all. give (ordered all)) c s c s result }
     ensures of_tree { (n : ℕ) → OfTree n (values_of found.entry) → NextOfTree n result }
@@ -103,6 +107,7 @@ pub fn nodes<'e, 't>(found: NodeItems<'t>, parts: &'e [Expr]) -> Next<'e, 't>
 }
 
 /// The same with one more value.
+#[tactic(auto, using(crate::proofs::Steps::steps, crate::proofs::OfTree::of_tree))]
 pub fn nodes_after<'e, 't>(
     found: NodeItems<'t>,
     parts: &'e [Expr],
@@ -132,6 +137,7 @@ pub fn sets<'e, 't>(found: NodeItems<'t>, parts: &'e [(SetOperator, Expr)]) -> N
 }
 
 /// The first operand's value.
+#[tactic(auto, using(crate::proofs::Steps::steps, crate::proofs::OfTree::of_tree))]
 pub fn sets_from<'e, 't>(
     parts: &'e [(SetOperator, Expr)],
     value: Sequence<'t>,
@@ -145,6 +151,7 @@ pub fn sets_from<'e, 't>(
 }
 
 /// The same with one more value, behind its operator.
+#[tactic(auto, using(crate::proofs::Steps::steps, crate::proofs::OfTree::of_tree))]
 pub fn sets_after<'e, 't>(
     found: NodeItems<'t>,
     operator: SetOperator,
@@ -161,6 +168,7 @@ pub fn sets_after<'e, 't>(
 }
 
 /// A call of a function with the arguments so far and those left.
+#[tactic(auto, using(crate::proofs::Steps::steps, crate::proofs::OfTree::of_tree))]
 pub fn arguments<'e, 't, A: Attributes>(
     setting: &Setting<'t, A>,
     function: Function,
@@ -185,6 +193,7 @@ pub fn arguments<'e, 't, A: Attributes>(
 }
 
 /// The same with one more argument.
+#[tactic(auto, using(crate::proofs::Steps::steps, crate::proofs::OfTree::of_tree))]
 pub fn arguments_after<'e, 't, A: Attributes>(
     setting: &Setting<'t, A>,
     function: Function,
@@ -207,6 +216,7 @@ pub fn arguments_after<'e, 't, A: Attributes>(
 }
 
 /// A call of a function of PMD with the arguments so far and those left.
+#[tactic(auto, using(crate::proofs::Steps::steps, crate::proofs::OfTree::of_tree))]
 pub fn pmd_arguments<'e, 't>(
     function: PmdFunction,
     values: Arguments<'t>,
@@ -231,6 +241,7 @@ pub fn pmd_arguments<'e, 't>(
 }
 
 /// The same with one more argument.
+#[tactic(auto, using(crate::proofs::Steps::steps, crate::proofs::OfTree::of_tree))]
 pub fn pmd_arguments_after<'e, 't>(
     function: PmdFunction,
     values: Arguments<'t>,

@@ -34,6 +34,7 @@ pub enum Stepped<'e, 't> {
 }
 
 /// One step.
+#[tactic(auto, using(crate::proofs::OfTree::of_tree))]
 pub fn step<'e, 't, A: Attributes>(
     setting: &Setting<'t, A>,
     next: Next<'e, 't>,
@@ -73,6 +74,7 @@ pub fn step<'e, 't, A: Attributes>(
 }
 
 /// The steps up to the next pause.
+#[tactic(auto, using(crate::proofs::OfTree::of_tree))]
 pub fn settle<'e, 't, A: Attributes>(
     setting: &Setting<'t, A>,
     next: Next<'e, 't>,

@@ -1,10 +1,10 @@
 //! What a frame makes of the value that it waits for.
 ghost use Rattle.std.specs.Prelude.{◌≡◌, IfOk, OnOk, length};
 ghost use Rattle.pj_xvalue.specs.Items.{values_of, IsOfTree};
-ghost use Rattle.pj_xvalue.specs.OfTree.{OfTree, ArgumentsOfTree, VariablesOfTree};
+ghost use Rattle.pj_xvalue.specs.OfTree.{OfTree, VariablesOfTree};
 ghost use Rattle.pj_xdenotes.specs.Context.{around};
 ghost use Rattle.pj_xeval.specs.Frames.{Replies, context_left, reacted, scope_left};
-ghost use Rattle.pj_xeval.specs.Going.{GoesIf, NextOfTree, held};
+ghost use Rattle.pj_xeval.specs.Going.{FrameOfTree, GoesIf, NextOfTree};
 ghost use Rattle.pj_xeval.specs.Scopes.{variables_of};
 
 use crate::bindings::{
@@ -25,7 +25,7 @@ use pj_xsteps::{At, Setting};
 use pj_xvalue::{Attributes, Sequence, XFault};
 
 /// What a frame makes of the value that it waits for.
-#[tactic(auto, using(crate::proofs::Steps::steps))]
+#[tactic(auto, using(crate::proofs::OfTree::of_tree))]
 pub fn react<'e, 't, A: Attributes>(
     setting: &Setting<'t, A>,
     frame: Frame<'e, 't>,
@@ -33,7 +33,7 @@ pub fn react<'e, 't, A: Attributes>(
     at: &mut At<'t>,
     scope: &mut Scope<'e, 't>,
 ) -> Result<Next<'e, 't>, XFault>
-    requires frame { ArgumentsOfTree (length setting.now.tree.now.nodes) (held frame) }
+    requires frame { FrameOfTree (length setting.now.tree.now.nodes) frame }
     requires value { OfTree (length setting.now.tree.now.nodes) (values_of value) }
     requires item { IsOfTree (length setting.now.tree.now.nodes) at.old.item }
     requires variables { VariablesOfTree (length setting.now.tree.now.nodes) (variables_of scope.old) }

@@ -8,7 +8,7 @@ ghost use Rattle.pj_xdenotes.specs.Means.{judged};
 ghost use Rattle.pj_xdenotes.specs.Context.{Around, Context, Variables, at as at_item};
 ghost use Rattle.pj_xdenotes.specs.Denotes.{denotes};
 ghost use Rattle.pj_xeval.specs.Frames.{Replies, finished, may_turn, over, taken as taken_by, turns_after, turns_left};
-ghost use Rattle.pj_xeval.specs.Going.{Goes, GoesIf, NextOfTree};
+ghost use Rattle.pj_xeval.specs.Going.{Goes, GoesIf, NextOfTree, TurnsOfTree};
 ghost use Rattle.pj_xeval.specs.Scopes.{Scoped, variables_of};
 
 use crate::frame::{Frame, Next, Task, Turn, Turns};
@@ -88,6 +88,7 @@ fn may_turn(what: Turn, item: &Item<'_>) -> bool
 }
 
 /// What follows the last turn.
+#[tactic(auto, using(crate::proofs::Steps::steps, crate::proofs::OfTree::of_tree))]
 fn finish<'e, 't>(
     what: Turn,
     parts: &'e [Expr],
@@ -108,13 +109,14 @@ fn finish<'e, 't>(
 }
 
 /// The turn of the next item, or the end of the turns, where the context around is the context again.
+#[tactic(auto, using(crate::proofs::Steps::steps, crate::proofs::OfTree::of_tree))]
 fn next_turn<'e, 't>(
     turns: Turns<'e, 't>,
     at: &mut At<'t>,
 ) -> Result<Next<'e, 't>, XFault>
     ensures goes { (a : Around) (reply : Replies) (s : Scoped) → GoesIf a reply (turns_left a reply turns.entry (values_of turns.entry.found) (variables_of s)) at.new s turns.entry.outer s result }
-    ensures of_tree { (n : ℕ) → OfTree n (values_of turns.entry.left) → OfTree n (values_of turns.entry.found) → IsOfTree n turns.entry.outer.item → IfOk result (λ next. NextOfTree n next) }
-    ensures item { (n : ℕ) → OfTree n (values_of turns.entry.left) → IsOfTree n turns.entry.outer.item → OnOk result (IsOfTree n at.new.item) }
+    ensures of_tree { (n : ℕ) → TurnsOfTree n turns.entry → IfOk result (λ next. NextOfTree n next) }
+    ensures item { (n : ℕ) → TurnsOfTree n turns.entry → OnOk result (IsOfTree n at.new.item) }
 {
     let Turns { what, part, left, position, size, found, rest, outer } = turns;
     let mut left = left;
@@ -138,6 +140,7 @@ fn next_turn<'e, 't>(
 }
 
 /// The items found with what the value of a turn adds.
+#[tactic(auto, using(crate::proofs::Steps::steps, crate::proofs::OfTree::of_tree))]
 fn with_turn<'t>(
     what: Turn,
     position: u64,
@@ -169,14 +172,15 @@ fn with_turn<'t>(
 }
 
 /// The value of one turn.
+#[tactic(auto, using(crate::proofs::Steps::steps, crate::proofs::OfTree::of_tree))]
 pub fn turn_after<'e, 't>(
     turns: Turns<'e, 't>,
     value: Sequence<'t>,
     at: &mut At<'t>,
 ) -> Result<Next<'e, 't>, XFault>
     ensures goes { (a : Around) (reply : Replies) (s : Scoped) → GoesIf a reply (turns_after a reply turns.entry (values_of value.entry) at.old (variables_of s)) at.new s turns.entry.outer s result }
-    ensures of_tree { (n : ℕ) → OfTree n (values_of turns.entry.left) → OfTree n (values_of turns.entry.found) → IsOfTree n turns.entry.outer.item → OfTree n (values_of value.entry) → IsOfTree n at.old.item → IfOk result (λ next. NextOfTree n next) }
-    ensures item { (n : ℕ) → OfTree n (values_of turns.entry.left) → IsOfTree n turns.entry.outer.item → OnOk result (IsOfTree n at.new.item) }
+    ensures of_tree { (n : ℕ) → TurnsOfTree n turns.entry → OfTree n (values_of value.entry) → IsOfTree n at.old.item → IfOk result (λ next. NextOfTree n next) }
+    ensures item { (n : ℕ) → TurnsOfTree n turns.entry → OnOk result (IsOfTree n at.new.item) }
 {
     let Turns { what, part, left, position, size, found, rest, outer } = turns;
     let found = with_turn(what, position, found, value, at)?;
@@ -184,6 +188,7 @@ pub fn turn_after<'e, 't>(
 }
 
 /// The items behind the last of the parts: those of a reverse axis are turned back to document order.
+#[tactic(auto, using(crate::proofs::Steps::steps, crate::proofs::OfTree::of_tree))]
 fn ordered_last<'t>(what: Turn, items: Sequence<'t>) -> Sequence<'t>
     ensures value { (v : Variables) → judged (Ok (values_of result)) ≡ over what v [] (values_of items.entry) }
     ensures of_tree { (n : ℕ) → OfTree n (values_of items.entry) → OfTree n (values_of result) }
@@ -197,6 +202,7 @@ fn ordered_last<'t>(what: Turn, items: Sequence<'t>) -> Sequence<'t>
 }
 
 /// Predicates, steps or parts over items.
+#[tactic(auto, using(crate::proofs::Steps::steps, crate::proofs::OfTree::of_tree))]
 pub fn turns_over<'e, 't>(
     alloc: Global,
     what: Turn,

@@ -1,8 +1,8 @@
 -- What is of the tree.
-use Rattle.std.proofs.Common.{◌≡◌, ℕ, ◌+◌, ◌-◌, ◌<◌, ◌&&◌, Bool, true, false, List, [], ◌∷◌, ◌++◌, length, map, get_or, reverse, filter, nat_eq, ◌==◌, sym, ap, ◌∙◌, subst, arith, if◌then◌else◌, Option, Some, None}
+use Rattle.std.proofs.Common.{◌≡◌, ℕ, ◌+◌, ◌-◌, ◌<◌, ◌&&◌, Bool, true, false, List, [], ◌∷◌, ◌++◌, length, map, take, drop, get_or, reverse, filter, nat_eq, ◌==◌, sym, ap, ◌∙◌, subst, arith, if◌then◌else◌, Option, Some, None}
 use Rattle.std.specs.List.{All, AllByRecursion, enumerate_from}
 use Rattle.std.proofs.lemmas.List.Elements.{All-filter, All-from_recursion, recursion_from_All, All-map, All-nil, All-cons}
-use Rattle.std.proofs.lemmas.List.{get_or-reverse, length-reverse, get_or-map, length-map}
+use Rattle.std.proofs.lemmas.List.{get_or-reverse, length-reverse, get_or-map, length-map, take_rest}
 use Rattle.pj_tree.specs.declared.node.Node.{Node}
 use Rattle.pj_tree.specs.Tree.{Tree}
 use Rattle.pj_xvalue.specs.declared.axis.Axis.{Axis}
@@ -11,7 +11,7 @@ use Rattle.pj_xvalue.specs.declared.expr.NodeTest.{NodeTest}
 use Rattle.pj_xvalue.specs.Items.{ItemValue, Document, Element, Attribute, String, Integer, Boolean, IsOfTree, AreOfTree, values_of}
 use Rattle.pj_xvalue.specs.declared.item.Item.{Item}
 use Rattle.pj_xvalue.specs.OfTree.{OfTree, ArgumentsOfTree}
-use Rattle.pj_xvalue.specs.OfTreeLaws.{of_tree-each, each-of_tree, of_tree-nil, of_tree-one, of_tree-cons, of_tree-append}
+use Rattle.pj_xvalue.specs.OfTreeLaws.{of_tree-each, each-of_tree, of_tree-nil, of_tree-one, of_tree-cons, of_tree-append, arguments-tail}
 use Rattle.pj_xaxes.specs.Axes.{axis_nodes}
 use Rattle.pj_xaxes.proofs.Inside.{axis-inside}
 use Rattle.pj_xdenotes.specs.Context.{Around}
@@ -107,3 +107,10 @@ pub arguments-at : (n : ℕ) (arguments : List (List Item)) (i : ℕ) (x : List 
 arguments-at n arguments i x lt is h = record {
   each = subst (λ ys. AreOfTree n ys) (get_or-map values_of arguments i x (values_of x) lt ∙ ap values_of (sym is)) (h.each i (values_of x) (subst (λ k. i < k) (sym (length-map arguments values_of)) lt));
 }
+
+pub arguments-behind : (n : ℕ) (arguments : List (List Item)) → ArgumentsOfTree n (map values_of arguments) → ArgumentsOfTree n (map values_of (drop 1 arguments))
+arguments-behind n [] h = h
+arguments-behind n (x ∷ xs) h = arguments-tail n (values_of x) (map values_of xs) h
+
+pub arguments-rest : (n : ℕ) (arguments : List (List Item)) → ArgumentsOfTree n (map values_of arguments) → ArgumentsOfTree n (map values_of (take (length arguments - 1) (drop 1 arguments)))
+arguments-rest n arguments h = subst (λ (xs : List (List Item)). ArgumentsOfTree n (map values_of xs)) (sym (take_rest arguments 1)) (arguments-behind n arguments h)

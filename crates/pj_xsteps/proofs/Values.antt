@@ -1,5 +1,5 @@
 -- Values in the place of attributes, item by item.
-use Rattle.std.proofs.Common.{◌≡◌, ℕ, ◌+◌, ◌<◌, List, [], ◌∷◌, ◌++◌, length, get_or, map, take, drop, filter, cond, ◌&&◌, true, false, Option, refl, sym, ap, ◌∙◌, append_assoc, append-nil, add-one, drop-cons}
+use Rattle.std.proofs.Common.{◌≡◌, ℕ, ◌+◌, ◌<◌, ◌≤◌, arith, List, [], ◌∷◌, ◌++◌, length, get_or, map, take, drop, filter, cond, ◌&&◌, true, false, Option, refl, sym, ap, ◌∙◌, append_assoc, append-nil, add-one, drop-cons}
 use Rattle.std.proofs.lemmas.List.{take_more, map-append}
 use Rattle.std.proofs.lemmas.Grind.{flat_map-append}
 use Rattle.std.proofs.lemmas.List.Elements.{filter-append}
@@ -9,7 +9,10 @@ use Rattle.pj_xvalue.specs.declared.expr.NodeTest.{NodeTest}
 use Rattle.pj_xvalue.specs.declared.item.Item.{Item}
 use Rattle.pj_xvalue.specs.Items.{ItemValue, Attribute, value_of_item, values_of}
 use Rattle.pj_xdenotes.specs.Steps.{named_attributes, passes_name, has_value}
-use Rattle.pj_xdenotes.specs.Context.{Around}
+use Rattle.pj_xvalue.specs.declared.function.Function.{Function}
+use Rattle.pj_xfuncs.specs.Library.{called as given}
+use Rattle.pj_xdenotes.specs.Context.{Around, Context}
+use Rattle.pj_xdenotes.specs.Calls.{of_text}
 use Rattle.pj_xdenotes.specs.Operands.{valued, with_values}
 
 pub values_more : (items : List Item) (i : ℕ) (x : Item) → i < length items → x ≡ get_or items i x → values_of (take (i + 1) items) ≡ values_of (take i items) ++ value_of_item x ∷ []
@@ -53,3 +56,9 @@ named-more value_of test n names i x old new whole lt is added so_far =
     ∙ ap (λ l. old ++ l) (sym (named_front value_of test n (i, x) (enumerate_from (i + 1) (drop (i + 1) names)))
       ∙ ap (λ l. named_attributes value_of test n (enumerate_from i l)) (sym (left_from names i x lt ∙ ap (λ y. y ∷ drop (i + 1) names) (sym is))))
     ∙ so_far
+
+-- a function of text with an argument
+pub of_text-some : (a : Around) (function : Function) (c : Context) (arguments : List (List Item)) → 1 ≤ length arguments
+    → of_text a function c (map values_of arguments) ≡ given a.patterns function (map (with_values a) (map values_of arguments))
+of_text-some a function c [] h = absurd (omega arith)
+of_text-some a function c (x ∷ xs) h = refl

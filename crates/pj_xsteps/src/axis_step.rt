@@ -1,5 +1,5 @@
 //! Axis steps and attribute steps.
-ghost use Rattle.std.specs.Prelude.{◌≡◌, ℕ, ◌<◌, ◌^◌, ◌++◌, ◌∷◌, [], ◌&&◌, IfOk, OnOk, length, filter};
+ghost use Rattle.std.specs.Prelude.{◌≡◌, ℕ, ◌<◌, ◌^◌, ◌++◌, ◌∷◌, [], ◌&&◌, IfOk, OnOk, length, filter, map, slice_index_or};
 ghost use Rattle.pj_tree.specs.Tree.{Tree};
 ghost use Rattle.pj_xvalue.specs.Items.{Attribute as AttributeValue, Document as DocumentValue, Element as ElementValue, value_of_item, values_of, IsOfTree};
 ghost use Rattle.pj_xvalue.specs.OfTree.{OfTree};
@@ -278,6 +278,14 @@ fn push_named<'t, A: Attributes>(
     Ok(())
 }
 
+/// The name at a place.
+fn name_at(names: &'static [&'static str], place: usize) -> &'static str
+    requires { place < length names.now }
+    ensures { result.now ≡ slice_index_or (map (λ name. name.now) names.now) place result.now }
+{
+    names[place]
+}
+
 /// The attributes of a node that pass the test, in order.
 fn node_attributes<'t, A: Attributes>(
     setting: &Setting<'t, A>,
@@ -290,7 +298,8 @@ fn node_attributes<'t, A: Attributes>(
     let mut items = Sequence::new(setting.alloc);
     let names = setting.facts.names(n);
     for i in 0..names.len() {
-        push_named(setting, &mut items, test, n, i, names[i])?;
+        let name = name_at(names, i);
+        push_named(setting, &mut items, test, n, i, name)?;
     }
     Ok(items)
 }

@@ -11,7 +11,7 @@ ghost use Rattle.pj_xdenotes.specs.Calls.{call as call_of, called, first_as_it_i
 
 use crate::at::At;
 use crate::operands::with_values;
-use crate::sequences::{copied_items, one};
+use crate::sequences::one;
 use crate::setting::Setting;
 use pj_base::{Copied, NoMemory};
 use pj_tree::Node;
@@ -90,14 +90,17 @@ fn root_in<'t>(alloc: Global, items: &Sequence<'_>) -> Result<Sequence<'t>, XFau
 fn or_context<'t>(
     alloc: Global,
     at: &At<'t>,
-    arguments: &[Sequence<'t>],
+    arguments: &Arguments<'t>,
 ) -> Result<Sequence<'t>, NoMemory>
     ensures value { IfOk result (λ items. values_of items ≡ or_context at.now (map values_of arguments.now)) }
     ensures of_tree { (n : ℕ) → IsOfTree n at.now.item → ArgumentsOfTree n (map values_of arguments.now) → IfOk result (λ items. OfTree n (values_of items)) }
 {
-    match arguments {
+    match arguments.as_slice() {
         [] => one(alloc, at.item.copied()?),
-        [argument, ..] => copied_items(alloc, argument.as_slice()),
+        [argument, ..] => {
+            let copy = argument.copied()?;
+            Ok(copy)
+        }
     }
 }
 
@@ -222,7 +225,7 @@ fn call_of_text<'t, A: Attributes>(
             let only = only(setting.alloc, text)?;
             library_call(setting.alloc, function, &only, setting.patterns)
         }
-        [_, ..] => call_valued(setting, function, arguments),
+        [_first, _rest @ ..] => call_valued(setting, function, arguments),
     }
 }
 
@@ -243,15 +246,15 @@ fn called<'t, A: Attributes>(
         Function::Position => Ok(one(setting.alloc, Item::Int(at.position))?),
         Function::Last => Ok(one(setting.alloc, Item::Int(at.size))?),
         Function::Name | Function::LocalName => {
-            let items = or_context(setting.alloc, at, arguments.as_slice())?;
+            let items = or_context(setting.alloc, at, arguments)?;
             name_in(setting, &items)
         }
         Function::Root => {
-            let items = or_context(setting.alloc, at, arguments.as_slice())?;
+            let items = or_context(setting.alloc, at, arguments)?;
             root_in(setting.alloc, &items)
         }
         Function::String => {
-            let items = or_context(setting.alloc, at, arguments.as_slice())?;
+            let items = or_context(setting.alloc, at, arguments)?;
             call_one(setting, Function::String, &items)
         }
         Function::StringLength | Function::NormalizeSpace => {
