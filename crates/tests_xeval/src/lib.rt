@@ -1,5 +1,17 @@
-//! Tests of evaluation: queries with what they give.
+//! Tests of evaluation: queries over a small tree, with what they give.
 #![tactic(auto)]
 
 #[cfg(test)]
-mod rows;
+mod calls;
+#[cfg(test)]
+mod constructs;
+mod facts;
+#[cfg(test)]
+mod lengths;
+#[cfg(test)]
+mod operators;
+#[cfg(test)]
+mod paths;
+#[cfg(test)]
+mod queries;
+mod replies;
