@@ -39,6 +39,11 @@ use Rattle.pj_xeval.specs.Scopes.{Scoped, variables_of, without}
 abbrev pub Replies : Type 0
 Replies = PmdFunction → Option Node → List (List ItemValue) → Means (List ItemValue)
 
+-- one evaluation after another, as clauses write it
+infixl 10 ◌▷◌
+abbrev pub ◌▷◌ : {A B : Type 0} → Means A → (A → Means B) → Means B
+meaning ▷ next = meaning >>= next
+
 -- predicates, steps or parts over items
 abbrev pub over : Turn → Variables → List Denotation → List ItemValue → Means (List ItemValue)
 over turn.Forward variables ds items = narrowed variables ds items
@@ -121,9 +126,9 @@ module _ (a : Around) (reply : Replies) where
   abbrev pub reacted : Frame → Context → Scoped → List ItemValue → Means (List ItemValue)
   reacted (frame.Items found rest) c s value = chain (here c (variables_of s)) with_all (map (denotes a reply) rest.now) (values_of found ++ value)
   reacted (frame.Text text rest) c s value =
-      (judged (with_text a tt (string_bytes text) value) >>= λ more. chain (here c (variables_of s)) (with_text a) (map (denotes a reply) rest.now) more) >>= λ all. give (String all ∷ [])
+      (judged (with_text a (tt {0}) (string_bytes text) value) >>= λ more. chain (here c (variables_of s)) (with_text a) (map (denotes a reply) rest.now) more) >>= λ all. give (String all ∷ [])
   reacted (frame.Nodes found rest) c s value =
-      (judged (with_nodes tt (values_of found) value) >>= λ more. chain (here c (variables_of s)) with_nodes (map (denotes a reply) rest.now) more) >>= λ all. give (ordered all)
+      (judged (with_nodes (tt {0}) (values_of found) value) >>= λ more. chain (here c (variables_of s)) with_nodes (map (denotes a reply) rest.now) more) >>= λ all. give (ordered all)
   reacted (frame.Arguments function arguments rest) c s value =
       chain (here c (variables_of s)) with_argument (map (denotes a reply) rest.now) (map values_of arguments ++ value ∷ []) >>= λ values. judged (call a function c values)
   reacted (frame.PmdArguments function arguments rest) c s value =
@@ -131,14 +136,14 @@ module _ (a : Around) (reply : Replies) where
   reacted (frame.FirstTerm rest) c s value =
       judged (operand a value) >>= λ term. chain (behind c (variables_of s)) (with_term a) (operated_by (denotes a reply) rest.now) term >>= λ total. give (number_items total)
   reacted (frame.Term total operator rest) c s value =
-      (judged (with_term a (operator, tt) total value) >>= λ more. chain (behind c (variables_of s)) (with_term a) (operated_by (denotes a reply) rest.now) more) >>= λ all. give (number_items all)
+      (judged (with_term a (operator, tt {0}) total value) >>= λ more. chain (behind c (variables_of s)) (with_term a) (operated_by (denotes a reply) rest.now) more) >>= λ all. give (number_items all)
   reacted (frame.FirstFactor rest) c s value =
       judged (operand a value) >>= λ factor. chain (behind c (variables_of s)) (with_factor a) (operated_by (denotes a reply) rest.now) factor >>= λ total. give (number_items total)
   reacted (frame.Factor total operator rest) c s value =
-      (judged (with_factor a (operator, tt) total value) >>= λ more. chain (behind c (variables_of s)) (with_factor a) (operated_by (denotes a reply) rest.now) more) >>= λ all. give (number_items all)
+      (judged (with_factor a (operator, tt {0}) total value) >>= λ more. chain (behind c (variables_of s)) (with_factor a) (operated_by (denotes a reply) rest.now) more) >>= λ all. give (number_items all)
   reacted (frame.FirstSet rest) c s value = judged (only_nodes value) >>= λ nodes. chain (behind c (variables_of s)) with_set (operated_by (denotes a reply) rest.now) nodes
   reacted (frame.Set nodes operator rest) c s value =
-      judged (with_set (operator, tt) (values_of nodes) value) >>= λ more. chain (behind c (variables_of s)) with_set (operated_by (denotes a reply) rest.now) more
+      judged (with_set (operator, tt {0}) (values_of nodes) value) >>= λ more. chain (behind c (variables_of s)) with_set (operated_by (denotes a reply) rest.now) more
   reacted (frame.Truths q rest) c s value =
       judged (effective_boolean value) >>= λ truth. if decides q truth then give (one_boolean truth) else decided q (here c (variables_of s)) (map (denotes a reply) rest.now)
   reacted frame.Truth c s value = judged (effective_boolean value) >>= λ truth. give (one_boolean truth)

@@ -1,15 +1,15 @@
 //! How a task begins.
 ghost use Rattle.std.specs.Prelude.{◌≡◌, ℕ, ◌∷◌, [], IfOk, length, map};
-ghost use Rattle.pj_xvalue.specs.Items.{Document as DocumentValue, IsOfTree};
-ghost use Rattle.pj_xvalue.specs.OfTree.{VariablesOfTree};
+ghost use Rattle.pj_xvalue.specs.Items.{Document as DocumentValue, values_of, IsOfTree};
+ghost use Rattle.pj_xvalue.specs.OfTree.{OfTree, VariablesOfTree};
 ghost use Rattle.pj_xaxes.specs.Axes.{is_reverse};
-ghost use Rattle.pj_xdenotes.specs.Means.{give, ◌>>=◌};
+ghost use Rattle.pj_xdenotes.specs.Means.{give};
 ghost use Rattle.pj_xdenotes.specs.Context.{Around, Context, around};
 ghost use Rattle.pj_xdenotes.specs.Steps.{attributes as attributes_of, from_node, in_document_order, stepped as stepped_of};
 ghost use Rattle.pj_xdenotes.specs.Turns.{narrowed, path, simple_map};
 ghost use Rattle.pj_xdenotes.specs.Denotes.{denotes};
-ghost use Rattle.pj_xeval.specs.Frames.{Replies, task_meaning};
-ghost use Rattle.pj_xeval.specs.Going.{Goes, GoesIf, NextOfTree};
+ghost use Rattle.pj_xeval.specs.Frames.{◌▷◌, Replies, context_left, reacted, scope_left, task_meaning};
+ghost use Rattle.pj_xeval.specs.Going.{FrameOfTree, Goes, GoesIf, NextOfTree};
 ghost use Rattle.pj_xeval.specs.Scopes.{Scoped, variables_of};
 
 use crate::bindings::{for_from, let_from, quantified_from};
@@ -48,7 +48,7 @@ fn axis_step<'e, 't, A: Attributes>(
     requires { IsOfTree (length setting.now.tree.now.nodes) at.now.item }
     ensures goes { (reply : Replies) (s : Scoped) →
         let a = around setting.now.tree.now (A.attribute_of setting.now.facts.now) (A.names_of setting.now.facts.now) setting.now.patterns.now in
-        GoesIf a reply (from_node at.now.item (narrowed (variables_of s) (map (denotes a reply) predicates.now) (stepped_of setting.now.tree.now along test.now at.now.item) >>= λ found. give (in_document_order (is_reverse along) found))) at.now s at.now s result }
+        GoesIf a reply (from_node at.now.item (narrowed (variables_of s) (map (denotes a reply) predicates.now) (stepped_of setting.now.tree.now along test.now at.now.item) ▷ λ found. give (in_document_order (is_reverse along) found))) at.now s at.now s result }
     ensures of_tree { IfOk result (λ next. NextOfTree (length setting.now.tree.now.nodes) next) }
 {
     if !at.item.is_node() {
@@ -111,6 +111,22 @@ fn map_from<'e, 't>(alloc: Global, parts: &'e [Expr]) -> Next<'e, 't>
     }
 }
 
+/// A construct that waits for the value of an expression.
+fn within<'e, 't>(expr: &'e Expr, frame: Frame<'e, 't>) -> Result<Next<'e, 't>, XFault>
+    ensures goes { (a : Around) (reply : Replies) (c : Context) (s : Scoped) → GoesIf a reply (denotes a reply expr.now c (variables_of s) ▷ λ value. reacted a reply frame.entry c s value) c s (context_left frame.entry c) (scope_left frame.entry s) result }
+    ensures of_tree { (n : ℕ) → FrameOfTree n frame.entry → IfOk result (λ next. NextOfTree n next) }
+{
+    Ok(Next::Within(Task::Expression(expr), frame))
+}
+
+/// A construct whose value is there.
+fn valued<'e, 't>(items: Sequence<'t>) -> Result<Next<'e, 't>, XFault>
+    ensures goes { (a : Around) (reply : Replies) (c : Context) (s : Scoped) → GoesIf a reply (give (values_of items.entry)) c s c s result }
+    ensures of_tree { (n : ℕ) → OfTree n (values_of items.entry) → IfOk result (λ next. NextOfTree n next) }
+{
+    Ok(Next::Value(items))
+}
+
 /// How an expression begins.
 #[tactic(auto, using(pj_xdenotes::proofs::Forms::forms, crate::proofs::OfTree::of_tree))]
 fn expression<'e, 't, A: Attributes>(
@@ -128,64 +144,46 @@ fn expression<'e, 't, A: Attributes>(
 {
     let alloc = setting.alloc;
     match expr {
-        Expr::Comma(parts) => Ok(items(Sequence::new(alloc), parts.as_slice())),
-        Expr::For(bindings, body) => Ok(for_from(bindings.as_slice(), body)),
-        Expr::Let(bindings, body) => Ok(let_from(bindings.as_slice(), body)),
+        Expr::Comma(parts) => return Ok(items(Sequence::new(alloc), parts.as_slice())),
+        Expr::For(bindings, body) => return Ok(for_from(bindings.as_slice(), body)),
+        Expr::Let(bindings, body) => return Ok(let_from(bindings.as_slice(), body)),
         Expr::Quantified(quantifier, bindings, test) => {
-            Ok(quantified_from(*quantifier, bindings.as_slice(), test))
+            return Ok(quantified_from(*quantifier, bindings.as_slice(), test));
         }
         Expr::If(test, chosen, other) => {
-            Ok(Next::Within(Task::Expression(test), Frame::If(chosen, other)))
+            return within(test, Frame::If(chosen, other));
         }
-        Expr::Or(parts) => truths(alloc, Quantifier::Some, parts.as_slice()),
-        Expr::And(parts) => truths(alloc, Quantifier::Every, parts.as_slice()),
+        Expr::Or(parts) => return truths(alloc, Quantifier::Some, parts.as_slice()),
+        Expr::And(parts) => return truths(alloc, Quantifier::Every, parts.as_slice()),
         Expr::Comparison(op, left, right) => {
-            Ok(Next::Within(Task::Expression(left), Frame::Left(*op, right)))
+            return within(left, Frame::Left(*op, right));
         }
-        Expr::Concatenation(parts) => texts(alloc, String::new(alloc), parts.as_slice()),
-        Expr::Range(from, to) => Ok(Next::Within(Task::Expression(from), Frame::From(to))),
-        Expr::Additive(first, rest) => Ok(Next::Within(
-            Task::Expression(first),
-            Frame::FirstTerm(rest.as_slice()),
-        )),
-        Expr::Multiplicative(first, rest) => Ok(Next::Within(
-            Task::Expression(first),
-            Frame::FirstFactor(rest.as_slice()),
-        )),
-        Expr::Union(parts) => Ok(nodes(NodeItems::new(alloc), parts.as_slice())),
-        Expr::IntersectExcept(first, rest) => Ok(Next::Within(
-            Task::Expression(first),
-            Frame::FirstSet(rest.as_slice()),
-        )),
+        Expr::Concatenation(parts) => return texts(alloc, String::new(alloc), parts.as_slice()),
+        Expr::Range(from, to) => return within(from, Frame::From(to)),
+        Expr::Additive(first, rest) => return within(first, Frame::FirstTerm(rest.as_slice())),
+        Expr::Multiplicative(first, rest) => return within(first, Frame::FirstFactor(rest.as_slice())),
+        Expr::Union(parts) => return Ok(nodes(NodeItems::new(alloc), parts.as_slice())),
+        Expr::IntersectExcept(first, rest) => return within(first, Frame::FirstSet(rest.as_slice())),
         Expr::Unary(sign, operand) => {
-            Ok(Next::Within(Task::Expression(operand), Frame::Sign(*sign)))
+            return within(operand, Frame::Sign(*sign));
         }
-        Expr::SimpleMap(parts) => Ok(map_from(alloc, parts.as_slice())),
-        Expr::Path(steps) => Ok(path_from(alloc, steps.as_slice())),
-        Expr::Root => root(alloc, at),
+        Expr::SimpleMap(parts) => return Ok(map_from(alloc, parts.as_slice())),
+        Expr::Path(steps) => return Ok(path_from(alloc, steps.as_slice())),
+        Expr::Root => return root(alloc, at),
         Expr::Step(along, test, predicates) => {
-            axis_step(setting, *along, test, predicates.as_slice(), at)
+            return axis_step(setting, *along, test, predicates.as_slice(), at);
         }
         Expr::AttributeStep(test, predicates) => {
-            attribute_step(setting, test, predicates.as_slice(), at)
+            return attribute_step(setting, test, predicates.as_slice(), at);
         }
-        Expr::Filter(primary, predicates) => Ok(Next::Within(
-            Task::Expression(primary),
-            Frame::First(Turn::Forward, predicates.as_slice()),
-        )),
-        Expr::Integer(value) => Ok(Next::Value(literal(alloc, *value)?)),
-        Expr::String(text) => Ok(Next::Value(one(alloc, Item::Str(text.copied()?))?)),
-        Expr::Variable(name) => Ok(Next::Value(scope.value_of(alloc, name)?)),
-        Expr::ContextItem => Ok(Next::Value(one(alloc, at.item.copied()?)?)),
-        Expr::Call(function, parts) => arguments(
-            setting,
-            *function,
-            Arguments::new(alloc),
-            parts.as_slice(),
-            at,
-        ),
+        Expr::Filter(primary, predicates) => return within(primary, Frame::First(Turn::Forward, predicates.as_slice())),
+        Expr::Integer(value) => return valued(literal(alloc, *value)?),
+        Expr::String(text) => return valued(one(alloc, Item::Str(text.copied()?))?),
+        Expr::Variable(name) => return valued(scope.value_of(alloc, name)?),
+        Expr::ContextItem => return valued(one(alloc, at.item.copied()?)?),
+        Expr::Call(function, parts) => return arguments( setting, *function, Arguments::new(alloc), parts.as_slice(), at, ),
         Expr::PmdCall(function, parts) => {
-            pmd_arguments(*function, Arguments::new(alloc), parts.as_slice())
+            return pmd_arguments(*function, Arguments::new(alloc), parts.as_slice());
         }
     }
 }
@@ -201,7 +199,7 @@ pub fn begin<'e, 't, A: Attributes>(
     requires variables { VariablesOfTree (length setting.now.tree.now.nodes) (variables_of scope.now) }
     ensures goes { (reply : Replies) →
         let a = around setting.now.tree.now (A.attribute_of setting.now.facts.now) (A.names_of setting.now.facts.now) setting.now.patterns.now in
-        GoesIf a reply (task_meaning a reply task at.now (variables_of scope.now)) at.now scope.now at.now scope.now result }
+        GoesIf a reply (task_meaning a reply task.entry at.now (variables_of scope.now)) at.now scope.now at.now scope.now result }
     ensures of_tree { IfOk result (λ next. NextOfTree (length setting.now.tree.now.nodes) next) }
 {
     match task {

@@ -3,13 +3,13 @@ ghost use Rattle.std.specs.Prelude.{◌≡◌, ℕ, ◌+◌, ◌∷◌, ◌++◌
 ghost use Rattle.pj_xvalue.specs.Boolean.{effective_boolean};
 ghost use Rattle.pj_xvalue.specs.Items.{values_of};
 ghost use Rattle.pj_xvalue.specs.OfTree.{OfTree, VariablesOfTree};
-ghost use Rattle.pj_xdenotes.specs.Means.{give, judged, ◌>>=◌, chain, decided, decides as decides_meaning, one_boolean};
+ghost use Rattle.pj_xdenotes.specs.Means.{give, judged, chain, decided, decides as decides_meaning, one_boolean};
 ghost use Rattle.pj_xdenotes.specs.Context.{Around, Context};
 ghost use Rattle.pj_xdenotes.specs.Turns.{with_all};
 ghost use Rattle.pj_xdenotes.specs.Bindings.{for_in, let_in, quantified as quantified_in, with_item};
 ghost use Rattle.pj_xdenotes.specs.Parts.{bindings_of};
 ghost use Rattle.pj_xdenotes.specs.Denotes.{denotes};
-ghost use Rattle.pj_xeval.specs.Frames.{Replies, for_left, quantified_left};
+ghost use Rattle.pj_xeval.specs.Frames.{◌▷◌, Replies, for_left, quantified_left};
 ghost use Rattle.pj_xeval.specs.Going.{ForTurnsOfTree, Goes, GoesIf, NextOfTree};
 ghost use Rattle.pj_xeval.specs.Scopes.{Scoped, variables_of, without};
 
@@ -76,7 +76,7 @@ pub fn for_over<'e, 't>(
     scope: &mut Scope<'e, 't>,
 ) -> Result<Next<'e, 't>, XFault>
     ensures goes { (a : Around) (reply : Replies) (c : Context) →
-        GoesIf a reply (chain (with_item binder.name.now (for_in (bindings_of (denotes a reply) binder.rest.now) (denotes a reply binder.body.now)) c (variables_of scope.old)) with_all (values_of value.entry) []) c scope.new c scope.old result }
+        GoesIf a reply (chain (with_item binder.entry.name.now (for_in (bindings_of (denotes a reply) binder.entry.rest.now) (denotes a reply binder.entry.body.now)) c (variables_of scope.old)) with_all (values_of value.entry) []) c scope.new c scope.old result }
     ensures of_tree { (n : ℕ) → OfTree n (values_of value.entry) → IfOk result (λ next. NextOfTree n next) }
     ensures scope { (n : ℕ) → OfTree n (values_of value.entry) → VariablesOfTree n (variables_of scope.old) → OnOk result (VariablesOfTree n (variables_of scope.new)) }
 {
@@ -166,7 +166,7 @@ pub fn quantified_over<'e, 't>(
     scope: &mut Scope<'e, 't>,
 ) -> Result<Next<'e, 't>, XFault>
     ensures goes { (a : Around) (reply : Replies) (c : Context) →
-        GoesIf a reply (decided quantifier (with_item binder.name.now (quantified_in quantifier (bindings_of (denotes a reply) binder.rest.now) (denotes a reply binder.body.now)) c (variables_of scope.old)) (values_of value.entry)) c scope.new c scope.old result }
+        GoesIf a reply (decided quantifier (with_item binder.entry.name.now (quantified_in quantifier (bindings_of (denotes a reply) binder.entry.rest.now) (denotes a reply binder.entry.body.now)) c (variables_of scope.old)) (values_of value.entry)) c scope.new c scope.old result }
     ensures of_tree { (n : ℕ) → OfTree n (values_of value.entry) → IfOk result (λ next. NextOfTree n next) }
     ensures scope { (n : ℕ) → OfTree n (values_of value.entry) → VariablesOfTree n (variables_of scope.old) → OnOk result (VariablesOfTree n (variables_of scope.new)) }
 {
@@ -184,7 +184,7 @@ pub fn quantified_after<'e, 't>(
     scope: &mut Scope<'e, 't>,
 ) -> Result<Next<'e, 't>, XFault>
     ensures goes { (a : Around) (reply : Replies) (c : Context) →
-        GoesIf a reply (judged (effective_boolean (values_of value.now)) >>= λ truth. if decides_meaning turns.entry.quantifier truth then give (one_boolean truth) else quantified_left a reply turns.entry c (variables_of (without 1 scope.old))) c scope.new c (without 1 scope.old) result }
+        GoesIf a reply (judged (effective_boolean (values_of value.now)) ▷ λ truth. if decides_meaning turns.entry.quantifier truth then give (one_boolean truth) else quantified_left a reply turns.entry c (variables_of (without 1 scope.old))) c scope.new c (without 1 scope.old) result }
     ensures of_tree { (n : ℕ) → OfTree n (values_of turns.entry.left) → IfOk result (λ next. NextOfTree n next) }
     ensures scope { (n : ℕ) → OfTree n (values_of turns.entry.left) → VariablesOfTree n (variables_of scope.old) → OnOk result (VariablesOfTree n (variables_of scope.new)) }
 {
@@ -237,7 +237,7 @@ pub fn let_after<'e, 't>(
     scope: &mut Scope<'e, 't>,
 ) -> Result<Next<'e, 't>, XFault>
     ensures goes { (a : Around) (reply : Replies) (c : Context) →
-        GoesIf a reply (let_in (bindings_of (denotes a reply) binder.rest.now) (denotes a reply binder.body.now) c ((binder.name.now, values_of value.entry) ∷ variables_of scope.old)) c scope.new c (without bound scope.old) result }
+        GoesIf a reply (let_in (bindings_of (denotes a reply) binder.entry.rest.now) (denotes a reply binder.entry.body.now) c ((binder.entry.name.now, values_of value.entry) ∷ variables_of scope.old)) c scope.new c (without bound scope.old) result }
     ensures of_tree { (n : ℕ) → IfOk result (λ next. NextOfTree n next) }
     ensures scope { (n : ℕ) → OfTree n (values_of value.entry) → VariablesOfTree n (variables_of scope.old) → OnOk result (VariablesOfTree n (variables_of scope.new)) }
 {

@@ -1,16 +1,16 @@
 //! Constructs of a list of operands: `,`, `||`, `|`, `intersect`, `except`, and the arguments of functions.
 ghost use Rattle.std.specs.Prelude.{◌≡◌, ℕ, ◌∷◌, ◌++◌, [], IfOk, length, map, string_bytes};
-ghost use Rattle.pj_xvalue.specs.Items.{String as StringValue, value_of_item, values_of};
+ghost use Rattle.pj_xvalue.specs.Items.{String as StringValue, value_of_item, values_of, IsOfTree};
 ghost use Rattle.pj_xvalue.specs.OfTree.{OfTree, ArgumentsOfTree};
 ghost use Rattle.pj_xaxes.specs.Order.{ordered};
-ghost use Rattle.pj_xdenotes.specs.Means.{give, judged, ◌>>=◌, chain};
+ghost use Rattle.pj_xdenotes.specs.Means.{give, judged, chain};
 ghost use Rattle.pj_xdenotes.specs.Context.{Around, Context, around};
 ghost use Rattle.pj_xdenotes.specs.Operands.{only_nodes};
 ghost use Rattle.pj_xdenotes.specs.Calls.{call as call_of, pmd_call};
 ghost use Rattle.pj_xdenotes.specs.Turns.{with_all};
 ghost use Rattle.pj_xdenotes.specs.Parts.{operated_by};
 ghost use Rattle.pj_xdenotes.specs.Denotes.{behind, denotes, here, with_argument, with_nodes, with_set, with_text};
-ghost use Rattle.pj_xeval.specs.Frames.{Replies};
+ghost use Rattle.pj_xeval.specs.Frames.{◌▷◌, Replies};
 ghost use Rattle.pj_xeval.specs.Going.{Goes, GoesIf, NextOfTree};
 ghost use Rattle.pj_xeval.specs.Scopes.{Scoped, variables_of};
 
@@ -62,7 +62,7 @@ pub fn texts<'e, 't>(
     text: String,
     parts: &'e [Expr],
 ) -> Result<Next<'e, 't>, XFault>
-    ensures goes { (a : Around) (reply : Replies) (c : Context) (s : Scoped) → GoesIf a reply (chain (here c (variables_of s)) (with_text a) (map (denotes a reply) parts.now) (string_bytes text) >>= λ all. give (StringValue all ∷ [])) c s c s result }
+    ensures goes { (a : Around) (reply : Replies) (c : Context) (s : Scoped) → GoesIf a reply (chain (here c (variables_of s)) (with_text a) (map (denotes a reply) parts.now) (string_bytes text) ▷ λ all. give (StringValue all ∷ [])) c s c s result }
     ensures of_tree { (n : ℕ) → IfOk result (λ next. NextOfTree n next) }
 {
     match parts {
@@ -85,7 +85,7 @@ pub fn texts_after<'e, 't, A: Attributes>(
     requires { OfTree (length setting.now.tree.now.nodes) (values_of value.now) }
     ensures goes { (reply : Replies) (c : Context) (s : Scoped) →
         let a = around setting.now.tree.now (A.attribute_of setting.now.facts.now) (A.names_of setting.now.facts.now) setting.now.patterns.now in
-        GoesIf a reply ((judged (with_text a tt (string_bytes text) (values_of value.now)) >>= λ more. chain (here c (variables_of s)) (with_text a) (map (denotes a reply) parts.now) more) >>= λ all. give (StringValue all ∷ [])) c s c s result }
+        GoesIf a reply ((judged (with_text a (tt {0}) (string_bytes text) (values_of value.now)) ▷ λ more. chain (here c (variables_of s)) (with_text a) (map (denotes a reply) parts.now) more) ▷ λ all. give (StringValue all ∷ [])) c s c s result }
     ensures of_tree { (n : ℕ) → IfOk result (λ next. NextOfTree n next) }
 {
     let more = text_operand(setting, value)?;
@@ -97,7 +97,7 @@ pub fn texts_after<'e, 't, A: Attributes>(
 /// `a | b | ..` with the nodes so far and the operands left.
 #[tactic(auto, using(crate::proofs::Steps::steps))]
 pub fn nodes<'e, 't>(found: NodeItems<'t>, parts: &'e [Expr]) -> Next<'e, 't>
-    ensures goes { (a : Around) (reply : Replies) (c : Context) (s : Scoped) → Goes a reply (chain (here c (variables_of s)) with_nodes (map (denotes a reply) parts.now) (values_of found.entry) >>= λ all. give (ordered all)) c s c s result }
+    ensures goes { (a : Around) (reply : Replies) (c : Context) (s : Scoped) → Goes a reply (chain (here c (variables_of s)) with_nodes (map (denotes a reply) parts.now) (values_of found.entry) ▷ λ all. give (ordered all)) c s c s result }
     ensures of_tree { (n : ℕ) → OfTree n (values_of found.entry) → NextOfTree n result }
 {
     match parts {
@@ -114,7 +114,7 @@ pub fn nodes_after<'e, 't>(
     value: Sequence<'t>,
 ) -> Result<Next<'e, 't>, XFault>
     ensures goes { (a : Around) (reply : Replies) (c : Context) (s : Scoped) →
-        GoesIf a reply ((judged (with_nodes tt (values_of found.entry) (values_of value.entry)) >>= λ more. chain (here c (variables_of s)) with_nodes (map (denotes a reply) parts.now) more) >>= λ all. give (ordered all)) c s c s result }
+        GoesIf a reply ((judged (with_nodes (tt {0}) (values_of found.entry) (values_of value.entry)) ▷ λ more. chain (here c (variables_of s)) with_nodes (map (denotes a reply) parts.now) more) ▷ λ all. give (ordered all)) c s c s result }
     ensures of_tree { (n : ℕ) → OfTree n (values_of found.entry) → OfTree n (values_of value.entry) → IfOk result (λ next. NextOfTree n next) }
 {
     let more = NodeItems::of(value)?;
@@ -143,7 +143,7 @@ pub fn sets_from<'e, 't>(
     value: Sequence<'t>,
 ) -> Result<Next<'e, 't>, XFault>
     ensures goes { (a : Around) (reply : Replies) (c : Context) (s : Scoped) →
-        GoesIf a reply (judged (only_nodes (values_of value.entry)) >>= λ nodes. chain (behind c (variables_of s)) with_set (operated_by (denotes a reply) parts.now) nodes) c s c s result }
+        GoesIf a reply (judged (only_nodes (values_of value.entry)) ▷ λ nodes. chain (behind c (variables_of s)) with_set (operated_by (denotes a reply) parts.now) nodes) c s c s result }
     ensures of_tree { (n : ℕ) → OfTree n (values_of value.entry) → IfOk result (λ next. NextOfTree n next) }
 {
     let found = NodeItems::of(value)?;
@@ -159,7 +159,7 @@ pub fn sets_after<'e, 't>(
     value: Sequence<'t>,
 ) -> Result<Next<'e, 't>, XFault>
     ensures goes { (a : Around) (reply : Replies) (c : Context) (s : Scoped) →
-        GoesIf a reply (judged (with_set (operator, tt) (values_of found.entry) (values_of value.entry)) >>= λ more. chain (behind c (variables_of s)) with_set (operated_by (denotes a reply) parts.now) more) c s c s result }
+        GoesIf a reply (judged (with_set (operator, tt {0}) (values_of found.entry) (values_of value.entry)) ▷ λ more. chain (behind c (variables_of s)) with_set (operated_by (denotes a reply) parts.now) more) c s c s result }
     ensures of_tree { (n : ℕ) → OfTree n (values_of found.entry) → OfTree n (values_of value.entry) → IfOk result (λ next. NextOfTree n next) }
 {
     let others = NodeItems::of(value)?;
@@ -180,7 +180,7 @@ pub fn arguments<'e, 't, A: Attributes>(
     requires values { ArgumentsOfTree (length setting.now.tree.now.nodes) (map values_of values) }
     ensures goes { (reply : Replies) (s : Scoped) →
         let a = around setting.now.tree.now (A.attribute_of setting.now.facts.now) (A.names_of setting.now.facts.now) setting.now.patterns.now in
-        GoesIf a reply (chain (here at.now (variables_of s)) with_argument (map (denotes a reply) parts.now) (map values_of values.entry) >>= λ all. judged (call_of a function at.now all)) at.now s at.now s result }
+        GoesIf a reply (chain (here at.now (variables_of s)) with_argument (map (denotes a reply) parts.now) (map values_of values.entry) ▷ λ all. judged (call_of a function at.now all)) at.now s at.now s result }
     ensures of_tree { IfOk result (λ next. NextOfTree (length setting.now.tree.now.nodes) next) }
 {
     match parts {
@@ -207,7 +207,7 @@ pub fn arguments_after<'e, 't, A: Attributes>(
     requires value { OfTree (length setting.now.tree.now.nodes) (values_of value) }
     ensures goes { (reply : Replies) (s : Scoped) →
         let a = around setting.now.tree.now (A.attribute_of setting.now.facts.now) (A.names_of setting.now.facts.now) setting.now.patterns.now in
-        GoesIf a reply (chain (here at.now (variables_of s)) with_argument (map (denotes a reply) parts.now) (map values_of values.entry ++ values_of value.entry ∷ []) >>= λ all. judged (call_of a function at.now all)) at.now s at.now s result }
+        GoesIf a reply (chain (here at.now (variables_of s)) with_argument (map (denotes a reply) parts.now) (map values_of values.entry ++ values_of value.entry ∷ []) ▷ λ all. judged (call_of a function at.now all)) at.now s at.now s result }
     ensures of_tree { IfOk result (λ next. NextOfTree (length setting.now.tree.now.nodes) next) }
 {
     let mut values = values;
@@ -223,7 +223,7 @@ pub fn pmd_arguments<'e, 't>(
     parts: &'e [Expr],
 ) -> Result<Next<'e, 't>, XFault>
     ensures goes { (a : Around) (reply : Replies) (c : Context) (s : Scoped) →
-        GoesIf a reply (chain (here c (variables_of s)) with_argument (map (denotes a reply) parts.now) (map values_of values.entry) >>= λ all. pmd_call reply function c all) c s c s result }
+        GoesIf a reply (chain (here c (variables_of s)) with_argument (map (denotes a reply) parts.now) (map values_of values.entry) ▷ λ all. pmd_call reply function c all) c s c s result }
     ensures of_tree { (n : ℕ) → ArgumentsOfTree n (map values_of values.entry) → IfOk result (λ next. NextOfTree n next) }
 {
     match parts {
@@ -249,7 +249,7 @@ pub fn pmd_arguments_after<'e, 't>(
     value: Sequence<'t>,
 ) -> Result<Next<'e, 't>, XFault>
     ensures goes { (a : Around) (reply : Replies) (c : Context) (s : Scoped) →
-        GoesIf a reply (chain (here c (variables_of s)) with_argument (map (denotes a reply) parts.now) (map values_of values.entry ++ values_of value.entry ∷ []) >>= λ all. pmd_call reply function c all) c s c s result }
+        GoesIf a reply (chain (here c (variables_of s)) with_argument (map (denotes a reply) parts.now) (map values_of values.entry ++ values_of value.entry ∷ []) ▷ λ all. pmd_call reply function c all) c s c s result }
     ensures of_tree { (n : ℕ) → ArgumentsOfTree n (map values_of values.entry) → OfTree n (values_of value.entry) → IfOk result (λ next. NextOfTree n next) }
 {
     let mut values = values;

@@ -2,13 +2,13 @@
 ghost use Rattle.std.specs.Prelude.{◌≡◌, ℕ, IfOk, length, map};
 ghost use Rattle.pj_xvalue.specs.Items.{values_of};
 ghost use Rattle.pj_xvalue.specs.OfTree.{OfTree};
-ghost use Rattle.pj_xdenotes.specs.Means.{give, judged, ◌>>=◌, chain};
+ghost use Rattle.pj_xdenotes.specs.Means.{give, judged, chain};
 ghost use Rattle.pj_xdenotes.specs.Context.{Around, Context, around};
 ghost use Rattle.pj_xdenotes.specs.Operands.{operand as operand_of};
 ghost use Rattle.pj_xdenotes.specs.Arithmetic.{number_items as number_items_of, range as range_of, signed as signed_of};
 ghost use Rattle.pj_xdenotes.specs.Parts.{operated_by};
 ghost use Rattle.pj_xdenotes.specs.Denotes.{behind, denotes, with_factor, with_term};
-ghost use Rattle.pj_xeval.specs.Frames.{Replies};
+ghost use Rattle.pj_xeval.specs.Frames.{◌▷◌, Replies};
 ghost use Rattle.pj_xeval.specs.Going.{Goes, GoesIf, NextOfTree};
 ghost use Rattle.pj_xeval.specs.Scopes.{Scoped, variables_of};
 
@@ -25,7 +25,7 @@ pub fn terms<'e, 't>(
     parts: &'e [(Additive, Expr)],
 ) -> Result<Next<'e, 't>, XFault>
     ensures goes { (a : Around) (reply : Replies) (c : Context) (s : Scoped) →
-        GoesIf a reply (chain (behind c (variables_of s)) (with_term a) (operated_by (denotes a reply) parts.now) total >>= λ all. give (number_items_of all)) c s c s result }
+        GoesIf a reply (chain (behind c (variables_of s)) (with_term a) (operated_by (denotes a reply) parts.now) total ▷ λ all. give (number_items_of all)) c s c s result }
     ensures of_tree { (n : ℕ) → IfOk result (λ next. NextOfTree n next) }
 {
     match parts {
@@ -47,7 +47,7 @@ pub fn terms_from<'e, 't, A: Attributes>(
     requires { OfTree (length setting.now.tree.now.nodes) (values_of value.now) }
     ensures goes { (reply : Replies) (c : Context) (s : Scoped) →
         let a = around setting.now.tree.now (A.attribute_of setting.now.facts.now) (A.names_of setting.now.facts.now) setting.now.patterns.now in
-        GoesIf a reply (judged (operand_of a (values_of value.now)) >>= λ term. chain (behind c (variables_of s)) (with_term a) (operated_by (denotes a reply) parts.now) term >>= λ all. give (number_items_of all)) c s c s result }
+        GoesIf a reply (judged (operand_of a (values_of value.now)) ▷ λ term. chain (behind c (variables_of s)) (with_term a) (operated_by (denotes a reply) parts.now) term ▷ λ all. give (number_items_of all)) c s c s result }
     ensures of_tree { (n : ℕ) → IfOk result (λ next. NextOfTree n next) }
 {
     let term = operand(setting, value)?;
@@ -66,7 +66,7 @@ pub fn terms_after<'e, 't, A: Attributes>(
     requires { OfTree (length setting.now.tree.now.nodes) (values_of value.now) }
     ensures goes { (reply : Replies) (c : Context) (s : Scoped) →
         let a = around setting.now.tree.now (A.attribute_of setting.now.facts.now) (A.names_of setting.now.facts.now) setting.now.patterns.now in
-        GoesIf a reply ((judged (with_term a (operator, tt) total (values_of value.now)) >>= λ more. chain (behind c (variables_of s)) (with_term a) (operated_by (denotes a reply) parts.now) more) >>= λ all. give (number_items_of all)) c s c s result }
+        GoesIf a reply ((judged (with_term a (operator, tt {0}) total (values_of value.now)) ▷ λ more. chain (behind c (variables_of s)) (with_term a) (operated_by (denotes a reply) parts.now) more) ▷ λ all. give (number_items_of all)) c s c s result }
     ensures of_tree { (n : ℕ) → IfOk result (λ next. NextOfTree n next) }
 {
     let term = operand(setting, value)?;
@@ -82,7 +82,7 @@ pub fn factors<'e, 't>(
     parts: &'e [(Multiplicative, Expr)],
 ) -> Result<Next<'e, 't>, XFault>
     ensures goes { (a : Around) (reply : Replies) (c : Context) (s : Scoped) →
-        GoesIf a reply (chain (behind c (variables_of s)) (with_factor a) (operated_by (denotes a reply) parts.now) total >>= λ all. give (number_items_of all)) c s c s result }
+        GoesIf a reply (chain (behind c (variables_of s)) (with_factor a) (operated_by (denotes a reply) parts.now) total ▷ λ all. give (number_items_of all)) c s c s result }
     ensures of_tree { (n : ℕ) → IfOk result (λ next. NextOfTree n next) }
 {
     match parts {
@@ -104,7 +104,7 @@ pub fn factors_from<'e, 't, A: Attributes>(
     requires { OfTree (length setting.now.tree.now.nodes) (values_of value.now) }
     ensures goes { (reply : Replies) (c : Context) (s : Scoped) →
         let a = around setting.now.tree.now (A.attribute_of setting.now.facts.now) (A.names_of setting.now.facts.now) setting.now.patterns.now in
-        GoesIf a reply (judged (operand_of a (values_of value.now)) >>= λ factor. chain (behind c (variables_of s)) (with_factor a) (operated_by (denotes a reply) parts.now) factor >>= λ all. give (number_items_of all)) c s c s result }
+        GoesIf a reply (judged (operand_of a (values_of value.now)) ▷ λ factor. chain (behind c (variables_of s)) (with_factor a) (operated_by (denotes a reply) parts.now) factor ▷ λ all. give (number_items_of all)) c s c s result }
     ensures of_tree { (n : ℕ) → IfOk result (λ next. NextOfTree n next) }
 {
     let factor = operand(setting, value)?;
@@ -123,7 +123,7 @@ pub fn factors_after<'e, 't, A: Attributes>(
     requires { OfTree (length setting.now.tree.now.nodes) (values_of value.now) }
     ensures goes { (reply : Replies) (c : Context) (s : Scoped) →
         let a = around setting.now.tree.now (A.attribute_of setting.now.facts.now) (A.names_of setting.now.facts.now) setting.now.patterns.now in
-        GoesIf a reply ((judged (with_factor a (operator, tt) total (values_of value.now)) >>= λ more. chain (behind c (variables_of s)) (with_factor a) (operated_by (denotes a reply) parts.now) more) >>= λ all. give (number_items_of all)) c s c s result }
+        GoesIf a reply ((judged (with_factor a (operator, tt {0}) total (values_of value.now)) ▷ λ more. chain (behind c (variables_of s)) (with_factor a) (operated_by (denotes a reply) parts.now) more) ▷ λ all. give (number_items_of all)) c s c s result }
     ensures of_tree { (n : ℕ) → IfOk result (λ next. NextOfTree n next) }
 {
     let factor = operand(setting, value)?;
@@ -140,7 +140,7 @@ pub fn signed_value<'e, 't, A: Attributes>(
     requires { OfTree (length setting.now.tree.now.nodes) (values_of value.now) }
     ensures goes { (reply : Replies) (c : Context) (s : Scoped) →
         let a = around setting.now.tree.now (A.attribute_of setting.now.facts.now) (A.names_of setting.now.facts.now) setting.now.patterns.now in
-        GoesIf a reply (judged (operand_of a (values_of value.now)) >>= λ number. judged (signed_of sign number) >>= λ all. give (number_items_of all)) c s c s result }
+        GoesIf a reply (judged (operand_of a (values_of value.now)) ▷ λ number. judged (signed_of sign number) ▷ λ all. give (number_items_of all)) c s c s result }
     ensures of_tree { (n : ℕ) → IfOk result (λ next. NextOfTree n next) }
 {
     let number = operand(setting, value)?;
@@ -157,7 +157,7 @@ pub fn range_from<'e, 't, A: Attributes>(
     requires { OfTree (length setting.now.tree.now.nodes) (values_of value.now) }
     ensures goes { (reply : Replies) (c : Context) (s : Scoped) →
         let a = around setting.now.tree.now (A.attribute_of setting.now.facts.now) (A.names_of setting.now.facts.now) setting.now.patterns.now in
-        GoesIf a reply (judged (operand_of a (values_of value.now)) >>= λ x. denotes a reply to.now c (variables_of s) >>= λ ys. judged (operand_of a ys) >>= λ y. give (range_of x y)) c s c s result }
+        GoesIf a reply (judged (operand_of a (values_of value.now)) ▷ λ x. denotes a reply to.now c (variables_of s) ▷ λ ys. judged (operand_of a ys) ▷ λ y. give (range_of x y)) c s c s result }
     ensures of_tree { (n : ℕ) → IfOk result (λ next. NextOfTree n next) }
 {
     let from = operand(setting, value)?;
@@ -173,7 +173,7 @@ pub fn range_to<'e, 't, A: Attributes>(
     requires { OfTree (length setting.now.tree.now.nodes) (values_of value.now) }
     ensures goes { (reply : Replies) (c : Context) (s : Scoped) →
         let a = around setting.now.tree.now (A.attribute_of setting.now.facts.now) (A.names_of setting.now.facts.now) setting.now.patterns.now in
-        GoesIf a reply (judged (operand_of a (values_of value.now)) >>= λ y. give (range_of from y)) c s c s result }
+        GoesIf a reply (judged (operand_of a (values_of value.now)) ▷ λ y. give (range_of from y)) c s c s result }
     ensures of_tree { (n : ℕ) → IfOk result (λ next. NextOfTree n next) }
 {
     let to = operand(setting, value)?;

@@ -4,11 +4,11 @@ ghost use Rattle.pj_xvalue.specs.Boolean.{effective_boolean};
 ghost use Rattle.pj_xvalue.specs.Comparison.{general_comparison};
 ghost use Rattle.pj_xvalue.specs.Items.{values_of};
 ghost use Rattle.pj_xvalue.specs.OfTree.{OfTree};
-ghost use Rattle.pj_xdenotes.specs.Means.{give, judged, ◌>>=◌, decided, decides as decides_meaning, one_boolean};
+ghost use Rattle.pj_xdenotes.specs.Means.{give, judged, decided, decides as decides_meaning, one_boolean};
 ghost use Rattle.pj_xdenotes.specs.Context.{Around, Context, around};
 ghost use Rattle.pj_xdenotes.specs.Operands.{with_values};
 ghost use Rattle.pj_xdenotes.specs.Denotes.{denotes, here};
-ghost use Rattle.pj_xeval.specs.Frames.{Replies};
+ghost use Rattle.pj_xeval.specs.Frames.{◌▷◌, Replies};
 ghost use Rattle.pj_xeval.specs.Going.{Goes, GoesIf, NextOfTree};
 ghost use Rattle.pj_xeval.specs.Scopes.{Scoped, variables_of};
 
@@ -44,13 +44,13 @@ pub fn truths<'e, 't>(
     ensures goes { (a : Around) (reply : Replies) (c : Context) (s : Scoped) → GoesIf a reply (decided quantifier (here c (variables_of s)) (map (denotes a reply) parts.now)) c s c s result }
     ensures of_tree { (n : ℕ) → IfOk result (λ next. NextOfTree n next) }
 {
-    match parts {
-        [] => boolean(alloc, !decides(quantifier, true)),
-        [part, rest @ ..] => Ok(Next::Within(
-            Task::Expression(part),
-            Frame::Truths(quantifier, rest),
-        )),
-    }
+    let [part, rest @ ..] = parts else {
+        return boolean(alloc, !decides(quantifier, true));
+    };
+    Ok(Next::Within(
+        Task::Expression(part),
+        Frame::Truths(quantifier, rest),
+    ))
 }
 
 /// The same with one more value.
@@ -61,20 +61,19 @@ pub fn truths_after<'e, 't>(
     value: &Sequence<'t>,
 ) -> Result<Next<'e, 't>, XFault>
     ensures goes { (a : Around) (reply : Replies) (c : Context) (s : Scoped) →
-        GoesIf a reply (judged (effective_boolean (values_of value.now)) >>= λ truth. if decides_meaning quantifier truth then give (one_boolean truth) else decided quantifier (here c (variables_of s)) (map (denotes a reply) parts.now)) c s c s result }
+        GoesIf a reply (judged (effective_boolean (values_of value.now)) ▷ λ truth. if decides_meaning quantifier truth then give (one_boolean truth) else decided quantifier (here c (variables_of s)) (map (denotes a reply) parts.now)) c s c s result }
     ensures of_tree { (n : ℕ) → IfOk result (λ next. NextOfTree n next) }
 {
     let truth = boolean_value(value)?;
     if decides(quantifier, truth) {
-        boolean(alloc, truth)
-    } else {
-        truths(alloc, quantifier, parts)
+        return boolean(alloc, truth);
     }
+    truths(alloc, quantifier, parts)
 }
 
 /// The value of a test.
 pub fn tested<'e, 't>(alloc: Global, value: &Sequence<'t>) -> Result<Next<'e, 't>, XFault>
-    ensures goes { (a : Around) (reply : Replies) (c : Context) (s : Scoped) → GoesIf a reply (judged (effective_boolean (values_of value.now)) >>= λ truth. give (one_boolean truth)) c s c s result }
+    ensures goes { (a : Around) (reply : Replies) (c : Context) (s : Scoped) → GoesIf a reply (judged (effective_boolean (values_of value.now)) ▷ λ truth. give (one_boolean truth)) c s c s result }
     ensures of_tree { (n : ℕ) → IfOk result (λ next. NextOfTree n next) }
 {
     let truth = boolean_value(value)?;
@@ -88,7 +87,7 @@ pub fn chosen<'e, 't>(
     value: &Sequence<'t>,
 ) -> Result<Next<'e, 't>, XFault>
     ensures goes { (a : Around) (reply : Replies) (c : Context) (s : Scoped) →
-        GoesIf a reply (judged (effective_boolean (values_of value.now)) >>= λ truth. if truth then denotes a reply chosen.now c (variables_of s) else denotes a reply other.now c (variables_of s)) c s c s result }
+        GoesIf a reply (judged (effective_boolean (values_of value.now)) ▷ λ truth. if truth then denotes a reply chosen.now c (variables_of s) else denotes a reply other.now c (variables_of s)) c s c s result }
     ensures of_tree { (n : ℕ) → IfOk result (λ next. NextOfTree n next) }
 {
     if boolean_value(value)? {
@@ -109,7 +108,7 @@ pub fn comparison<'e, 't, A: Attributes>(
     requires value { OfTree (length setting.now.tree.now.nodes) (values_of value.now) }
     ensures goes { (reply : Replies) (c : Context) (s : Scoped) →
         let a = around setting.now.tree.now (A.attribute_of setting.now.facts.now) (A.names_of setting.now.facts.now) setting.now.patterns.now in
-        GoesIf a reply (judged (general_comparison op (with_values a (values_of left.now)) (with_values a (values_of value.now))) >>= λ truth. give (one_boolean truth)) c s c s result }
+        GoesIf a reply (judged (general_comparison op (with_values a (values_of left.now)) (with_values a (values_of value.now))) ▷ λ truth. give (one_boolean truth)) c s c s result }
     ensures of_tree { (n : ℕ) → IfOk result (λ next. NextOfTree n next) }
 {
     let truth = compared(setting, op, left, value)?;

@@ -10,7 +10,7 @@ use pj_tree::{Builder, Kind, ShapeFault, SyntaxTree};
 use pj_xeval::{Focus, evaluate};
 use pj_xfuncs::Patterns;
 use pj_xparse::parse;
-use pj_xvalue::{BoundVars, Item, Sequence, XFault};
+use pj_xvalue::{BoundVars, Expr, Item, Sequence, XFault};
 use std::alloc::{AllocError, Global};
 use std::fmt::Write;
 use std::process::Abort;
@@ -77,18 +77,13 @@ fn written(alloc: Global, items: &Sequence<'_>) -> Result<String, AllocError> {
     Ok(text)
 }
 
-/// What the query gives at the document: its items, or the code of its error.
-fn answer(alloc: Global, query: &str) -> Result<String, Fail> {
+/// What the expression gives at the document: its items, or the code of its error.
+pub fn evaluated(alloc: Global, expr: &Expr) -> Result<String, Fail> {
     let tree = tree(alloc)?;
     let facts = Facts { nodes: tree.len() };
     let mut calls = Replies { nodes: tree.len() };
     let variables = given(alloc)?;
-    let mut names = Names::new(alloc);
-    names.push(Text::from_str(alloc, "given")?)?;
-    let Ok(expr) = parse(alloc, query, &names) else {
-        return Ok(String::from_str(alloc, "no expression")?);
-    };
-    let Ok(patterns) = Patterns::of(alloc, &expr, &variables) else {
+    let Ok(patterns) = Patterns::of(alloc, expr, &variables) else {
         return Ok(String::from_str(alloc, "no patterns")?);
     };
     let focus = Focus {
@@ -98,11 +93,21 @@ fn answer(alloc: Global, query: &str) -> Result<String, Fail> {
         variables: &variables,
         patterns: &patterns,
     };
-    match evaluate(alloc, &expr, focus, &tree, &facts, &mut calls) {
+    match evaluate(alloc, expr, focus, &tree, &facts, &mut calls) {
         Ok(items) => Ok(written(alloc, &items)?),
         Err(XFault::Code(code)) => Ok(format!(in alloc; "{code:?}")?),
         Err(XFault::Ask(asked)) => Ok(format!(in alloc; "{asked:?}")?),
     }
+}
+
+/// What the query gives at the document.
+fn answer(alloc: Global, query: &str) -> Result<String, Fail> {
+    let mut names = Names::new(alloc);
+    names.push(Text::from_str(alloc, "given")?)?;
+    let Ok(expr) = parse(alloc, query, &names) else {
+        return Ok(String::from_str(alloc, "no expression")?);
+    };
+    evaluated(alloc, &expr)
 }
 
 /// Evaluates each query, and wants what stands beside it.
@@ -112,10 +117,4 @@ pub fn check(rt: &impl Abort, alloc: Global, table: &[(&str, &str)]) -> Result<(
         assert_eq!(rt; found.as_str(), *wanted, "of {query:?}");
     }
     Ok(())
-}
-
-/// Whether the query, which is long, gives this.
-pub fn gives(alloc: Global, query: &str, wanted: &str) -> Result<bool, Fail> {
-    let found = answer(alloc, query)?;
-    Ok(found.as_str() == wanted)
 }
