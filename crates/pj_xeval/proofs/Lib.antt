@@ -1,0 +1,3 @@
+pub mod OfTree
+pub mod Steps
+pub mod Whole
