@@ -71,19 +71,17 @@ fn reason_of(word: &str) -> Option<Reason> {
 }
 
 fn finding_of(case: &FindingCase) -> Finding {
-    let (rule, [line, column, end_line, end_column], reason) = case;
+    let places = case.1;
+    let [line, column, end_line, end_column] = places;
     Finding {
-        rule: *rule,
+        rule: case.0,
         node: 7,
-        begin: Place {
-            line: *line,
-            column: *column,
-        },
+        begin: Place { line, column },
         end: Place {
-            line: *end_line,
-            column: *end_column,
+            line: end_line,
+            column: end_column,
         },
-        reason: reason_of(reason),
+        reason: reason_of(case.2),
     }
 }
 
