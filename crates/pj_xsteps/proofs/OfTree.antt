@@ -21,8 +21,8 @@ use Rattle.pj_xdenotes.specs.Steps.{elements, root, document_behind, of_element,
 pub of_tree-reverse : (n : ℕ) (xs : List ItemValue) → OfTree n xs → OfTree n (reverse xs)
 of_tree-reverse n xs h = record {
   each = λ i d lt.
-    let at : i < length xs = subst (λ k. i < k) (length-reverse xs) lt in
-    subst (IsOfTree n) (sym (get_or-reverse xs i d at)) (h.each (length xs - 1 - i) d (omega arith));
+      let at : i < length xs = subst (λ k. i < k) (length-reverse xs) lt in
+      subst (IsOfTree n) (sym (get_or-reverse xs i d at)) (h.each (length xs - 1 - i) d (omega arith));
 }
 
 pub of_tree-filter : (n : ℕ) (p : ItemValue → Bool) (xs : List ItemValue) → OfTree n xs → OfTree n (filter p xs)

@@ -54,7 +54,7 @@ named-more value_of test n names i x old new whole lt is added so_far =
     let rest = named_attributes value_of test n (enumerate_from (i + 1) (drop (i + 1) names)) in
     ap (λ l. l ++ rest) added ∙ append_assoc old (named_attributes value_of test n ((i, x) ∷ [])) rest
     ∙ ap (λ l. old ++ l) (sym (named_front value_of test n (i, x) (enumerate_from (i + 1) (drop (i + 1) names)))
-      ∙ ap (λ l. named_attributes value_of test n (enumerate_from i l)) (sym (left_from names i x lt ∙ ap (λ y. y ∷ drop (i + 1) names) (sym is))))
+    ∙ ap (λ l. named_attributes value_of test n (enumerate_from i l)) (sym (left_from names i x lt ∙ ap (λ y. y ∷ drop (i + 1) names) (sym is))))
     ∙ so_far
 
 -- a function of text with an argument

@@ -86,7 +86,12 @@ impl<'t> NodeItems<'t> {
     {
         let NodeItems { items } = self;
         let sorted = others.in_order();
-        let found = kept(items.allocator(), operator, items.as_slice(), sorted.as_slice())?;
+        let found = kept(
+            items.allocator(),
+            operator,
+            items.as_slice(),
+            sorted.as_slice(),
+        )?;
         let all = in_order(found);
         Ok(NodeItems { items: all })
     }

@@ -11,4 +11,4 @@ loop-i-preserved g c =
     let x = c.name_at-name.result.now in
     let within : c.loop-i.i < length names = omega (arith, ap length c.names-names.ensures.value, length-map c.names-names.result.now (λ name. name.now)) in
     named-more value_of c.args.test.now c.args.n names c.loop-i.i x (values_of c.loop-i.items) _ _ within
-      (c.name_at-name.ensures ∙ ap (λ (l : List (List ℕ)). get_or l c.loop-i.i x) c.names-names.ensures.value) c.in_ok-push_named.ensures c.loop-i.invariant
+    (c.name_at-name.ensures ∙ ap (λ (l : List (List ℕ)). get_or l c.loop-i.i x) c.names-names.ensures.value) c.in_ok-push_named.ensures c.loop-i.invariant

@@ -8,4 +8,4 @@ use Rattle.pj_xsteps.proofs.calling.or_context.Goals as goal
 pub returns-in_ok-copy-in-len1-up-clause-of_tree : goal.returns-in_ok-copy-in-len1-up-clause-of_tree
 returns-in_ok-copy-in-len1-up-clause-of_tree c = λ n item all.
     subst (λ (xs : List Item). OfTree n (values_of xs)) (sym c.in_ok-copy-in-len1-up.ensures)
-      (arguments-at n c.as_slice.result.now 0 c.argument-item.result (omega arith) c.argument-item.is (subst (λ (xs : List (List Item)). ArgumentsOfTree n (map values_of xs)) (sym c.as_slice.ensures) all))
+    (arguments-at n c.as_slice.result.now 0 c.argument-item.result (omega arith) c.argument-item.is (subst (λ (xs : List (List Item)). ArgumentsOfTree n (map values_of xs)) (sym c.as_slice.ensures) all))

@@ -9,6 +9,6 @@ abbrev pub invariant-loop-argument : goal.invariant-loop-argument
 invariant-loop-argument g l =
     record {
       value : map values_of l.all ≡ map values_of l.fn.before
-        ++ map (with_values (around l.setting.tree.now (g.A.Attributes.attribute_of l.setting.facts.now) (g.A.Attributes.names_of l.setting.facts.now) l.setting.patterns.now)) (map values_of (take l.argument-index l.arguments));
+          ++ map (with_values (around l.setting.tree.now (g.A.Attributes.attribute_of l.setting.facts.now) (g.A.Attributes.names_of l.setting.facts.now) l.setting.patterns.now)) (map values_of (take l.argument-index l.arguments));
       of_tree : ArgumentsOfTree (length l.setting.tree.now.nodes) (map values_of l.all);
     }

@@ -11,7 +11,7 @@ use Rattle.pj_xsteps.proofs.nodes.NodeItems.chosen.Goals as goal
 pub in_order-all-requires : goal.in_order-all-requires
 in_order-all-requires c =
     subst (λ (xs : List ItemValue). IsTrue (are_nodes xs)) (sym (c.in_ok-found.ensures ∙ (λ i. filter (λ x. stays c.args.operator (has_item (values_of (c.as_slice-2.ensures i)) x)) (values_of (c.as_slice.ensures i)))))
-      (are_nodes-filter (λ x. stays c.args.operator (has_item (values_of c.in_order-sorted.result) x)) (values_of c.self.inside.items) c.self.invariant)
+    (are_nodes-filter (λ x. stays c.args.operator (has_item (values_of c.in_order-sorted.result) x)) (values_of c.self.inside.items) c.self.invariant)
 
 pub invariant_of-result : goal.invariant_of-result
 invariant_of-result c =
@@ -33,4 +33,4 @@ returns-clause-of_tree c =
     let same : c.args.self ≡ c.self.inside.items = cc in
     let is = c.in_ok-found.ensures ∙ (λ i. filter (λ x. stays c.args.operator (has_item (values_of (c.as_slice-2.ensures i)) x)) (values_of (c.as_slice.ensures i))) in
     λ n h. c.in_order-all.ensures.of_tree n (subst (λ (xs : List ItemValue). OfTree n xs) (sym is)
-      (of_tree-filter n (λ x. stays c.args.operator (has_item (values_of c.in_order-sorted.result) x)) (values_of c.self.inside.items) (subst (λ (xs : List Item). OfTree n (values_of xs)) same h)))
+    (of_tree-filter n (λ x. stays c.args.operator (has_item (values_of c.in_order-sorted.result) x)) (values_of c.self.inside.items) (subst (λ (xs : List Item). OfTree n (values_of xs)) same h)))

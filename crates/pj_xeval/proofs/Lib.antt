@@ -1,3 +1,0 @@
-pub mod OfTree
-pub mod Steps
-pub mod Whole
