@@ -1,7 +1,7 @@
 -- What is of the tree.
-use Rattle.std.proofs.Common.{◌≡◌, ℕ, ◌+◌, ◌-◌, ◌<◌, ◌&&◌, Bool, true, false, List, [], ◌∷◌, ◌++◌, length, map, take, drop, get_or, reverse, filter, nat_eq, ◌==◌, sym, ap, ◌∙◌, subst, arith, if◌then◌else◌, Option, Some, None}
-use Rattle.std.specs.List.{All, AllByRecursion, enumerate_from}
-use Rattle.std.proofs.lemmas.List.Elements.{All-filter, All-from_recursion, recursion_from_All, All-map, All-nil, All-cons}
+use Rattle.std.proofs.Common.{◌≡◌, ℕ, ◌-◌, ◌<◌, ◌&&◌, Bool, true, false, List, [], ◌∷◌, length, map, take, drop, get_or, reverse, filter, ◌==◌, sym, ap, ◌∙◌, subst, arith, if◌then◌else◌}
+use Rattle.std.specs.List.{All, enumerate_from}
+use Rattle.std.proofs.lemmas.List.Elements.{All-filter, All-map}
 use Rattle.std.proofs.lemmas.List.{get_or-reverse, length-reverse, get_or-map, length-map, take_rest}
 use Rattle.pj_tree.specs.declared.node.Node.{Node}
 use Rattle.pj_tree.specs.Tree.{Tree}
@@ -11,11 +11,11 @@ use Rattle.pj_xvalue.specs.declared.expr.NodeTest.{NodeTest}
 use Rattle.pj_xvalue.specs.Items.{ItemValue, Document, Element, Attribute, String, Integer, Boolean, IsOfTree, AreOfTree, values_of}
 use Rattle.pj_xvalue.specs.declared.item.Item.{Item}
 use Rattle.pj_xvalue.specs.OfTree.{OfTree, ArgumentsOfTree}
-use Rattle.pj_xvalue.specs.OfTreeLaws.{of_tree-each, each-of_tree, of_tree-nil, of_tree-one, of_tree-cons, of_tree-append, arguments-tail}
+use Rattle.pj_xvalue.specs.OfTreeLaws.{of_tree-nil, of_tree-one, of_tree-cons, of_tree-append, arguments-tail}
 use Rattle.pj_xaxes.specs.Axes.{axis_nodes}
 use Rattle.pj_xaxes.proofs.Inside.{axis-inside}
 use Rattle.pj_xdenotes.specs.Context.{Around}
-use Rattle.pj_xdenotes.specs.Steps.{elements, root, document_behind, of_element, of_document, of_attribute, axis_items, passes, stepped, passes_name, has_value, attributes_of, attributes}
+use Rattle.pj_xdenotes.specs.Steps.{elements, root, document_behind, of_element, of_document, of_attribute, axis_items, passes, stepped, passes_name, has_value, attributes}
 
 -- the items from the last to the first
 pub of_tree-reverse : (n : ℕ) (xs : List ItemValue) → OfTree n xs → OfTree n (reverse xs)

@@ -5,7 +5,7 @@ use Rattle.std.proofs.lemmas.Int.{ints}
 use Rattle.std.proofs.lemmas.List.{map-append}
 use Rattle.std.proofs.lemmas.List.FromFn.{map-range_with_len_more}
 use Rattle.pj_xvalue.specs.declared.item.Item.{Item}
-use Rattle.pj_xvalue.specs.Items.{ItemValue, Integer, value_of_item, values_of}
+use Rattle.pj_xvalue.specs.Items.{Integer, value_of_item, values_of}
 use Rattle.pj_xdenotes.specs.Arithmetic.{natural}
 
 no_less : (z : ℤ) → z <ℤ pos 1 → natural z ≡ 0

@@ -1,4 +1,4 @@
-use Rattle.std.proofs.Common.{◌≡◌, sym, subst, length, List}
+use Rattle.std.proofs.Common.{sym, subst, length, List}
 use Rattle.pj_xvalue.specs.Items.{ItemValue, Element}
 use Rattle.pj_xvalue.specs.OfTree.{OfTree}
 use Rattle.pj_xdenotes.specs.Context.{around}

@@ -1,4 +1,4 @@
-use Rattle.std.proofs.Common.{◌≡◌, ℕ, Bor, List, sym, ap, ◌∙◌, rules}
+use Rattle.std.proofs.Common.{ℕ, Bor, List, sym}
 use Rattle.std.proofs.lemmas.List.{get_or-map}
 use Rattle.pj_xsteps.proofs.axis_step.name_at.Goals as goal
 

@@ -1,4 +1,4 @@
-use Rattle.std.proofs.Common.{◌≡◌, ◌++◌, ◌<◌, ◌∙◌, length, filter, ap, sym, subst, List}
+use Rattle.std.proofs.Common.{◌++◌, ◌<◌, ◌∙◌, length, filter, ap, sym, subst, List}
 use Rattle.std.specs.List.{AllByRecursion}
 use Rattle.std.proofs.lemmas.List.Elements.{recursion_from_All}
 use Rattle.pj_tree.specs.declared.node.Node.{Node}

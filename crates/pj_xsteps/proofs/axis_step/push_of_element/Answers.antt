@@ -1,4 +1,4 @@
-use Rattle.std.proofs.Common.{◌≡◌, ◌++◌, ◌∙◌, ap, sym, filter, append_assoc, List}
+use Rattle.std.proofs.Common.{◌++◌, ◌∙◌, ap, sym, filter, append_assoc, List}
 use Rattle.std.proofs.lemmas.List.Elements.{filter-append}
 use Rattle.pj_xvalue.specs.Items.{ItemValue, values_of}
 use Rattle.pj_xaxes.specs.Axes.{axis_nodes}

@@ -1,4 +1,4 @@
-use Rattle.std.proofs.Common.{◌≡◌, sym, subst, length, List, rules}
+use Rattle.std.proofs.Common.{sym, subst, length, List, rules}
 use Rattle.pj_xvalue.specs.Items.{ItemValue, value_of_item}
 use Rattle.pj_xvalue.specs.OfTree.{OfTree}
 use Rattle.pj_xsteps.proofs.OfTree.{stepped-of_tree}

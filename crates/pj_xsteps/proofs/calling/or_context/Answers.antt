@@ -1,4 +1,4 @@
-use Rattle.std.proofs.Common.{◌≡◌, sym, subst, ◌∙◌, ap, map, length, arith, List}
+use Rattle.std.proofs.Common.{sym, subst, map, arith, List}
 use Rattle.pj_xvalue.specs.declared.item.Item.{Item}
 use Rattle.pj_xvalue.specs.Items.{values_of}
 use Rattle.pj_xvalue.specs.OfTree.{OfTree, ArgumentsOfTree}

@@ -1,4 +1,4 @@
-use Rattle.std.proofs.Common.{◌≡◌, ◌++◌, sym, ap, ◌∙◌, arith, length, List}
+use Rattle.std.proofs.Common.{◌++◌, sym, ap, ◌∙◌, arith, length, List}
 use Rattle.pj_xvalue.specs.Items.{ItemValue, value_of_item}
 use Rattle.pj_xvalue.specs.OfTreeLaws.{of_tree-at}
 use Rattle.pj_xdenotes.specs.Context.{around}

@@ -1,4 +1,4 @@
-use Rattle.std.proofs.Common.{◌≡◌, ◌++◌, take, length, IsTrue}
+use Rattle.std.proofs.Common.{◌≡◌, take, length, IsTrue}
 use Rattle.pj_xvalue.specs.Items.{values_of, have_no_attribute}
 use Rattle.pj_xvalue.specs.OfTree.{OfTree}
 use Rattle.pj_xdenotes.specs.Context.{around}
