@@ -64,7 +64,8 @@ impl<'e, 't> Scope<'e, 't> {
     pub fn unbind_all(&mut self, count: usize)
         ensures { self.new ≡ without count self.old }
     {
-        for _i in 0..count {
+        for i in 0..count {
+            let _ = i;
             self.unbind();
         }
     }
