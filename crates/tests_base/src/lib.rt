@@ -4,8 +4,6 @@
 #[cfg(test)]
 mod base;
 #[cfg(test)]
-mod keepers;
-#[cfg(test)]
 mod names;
 #[cfg(test)]
 mod outside;

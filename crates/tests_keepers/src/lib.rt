@@ -1,0 +1,5 @@
+//! Tests of a keeper in memory.
+#![tactic(auto)]
+
+#[cfg(test)]
+mod keepers;
