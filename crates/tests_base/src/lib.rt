@@ -4,6 +4,8 @@
 #[cfg(test)]
 mod base;
 #[cfg(test)]
+mod keepers;
+#[cfg(test)]
 mod names;
 #[cfg(test)]
 mod outside;
