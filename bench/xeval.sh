@@ -1,0 +1,170 @@
+#!/usr/bin/env bash
+# Time of the evaluation of expressions, against the number of nodes of a file.
+#
+# It makes a scratch repository of the libraries and of a small program, proves both (which takes minutes where nothing of them
+# is kept on this machine), and runs the program. The program parses one class with more and more times the same members, so
+# that its trees have about a quarter, a half and a whole million nodes, and evaluates some expressions at the document. It
+# prints a row for each: the expression, the nodes of the tree, the items that it gives, and nanoseconds of processor time for
+# each node of the tree. The last should stay the same, and grow no more than by the logarithm where nodes are sorted.
+set -euo pipefail
+. "$(dirname "$0")/scratch.sh"
+libraries='pj_attrs pj_base pj_lex pj_parse pj_symbols pj_tree pj_xdenotes pj_xeval pj_xfuncs pj_xparse pj_xvalue'
+# each of these with what it stands on, lowest first
+needed=$(python3 - "$here/crates.txt" $libraries <<'PYTHON'
+import sys
+uses = {}
+for line in open(sys.argv[1]):
+    name, _, rest = line.split('#')[0].partition(':')
+    if rest or name.strip():
+        uses[name.strip()] = rest.split()
+order = []
+def put(name):
+    if name in uses and name not in order:
+        for below in uses[name]:
+            put(below)
+        order.append(name)
+for name in sys.argv[2:]:
+    put(name)
+print(' '.join(order))
+PYTHON
+)
+scratch_repository xeval_bench "$libraries" $needed
+for part in src/replies.rt proofs/Replies.antt; do
+    sed 's/tests_xeval/xeval_bench/g' "$here/crates/tests_xeval/$part" > "$bench/$part"
+done
+echo 'pub mod Replies' > "$bench/proofs/Lib.antt"
+cat > "$bench/src/main.rt" <<'PROGRAM'
+// Rows of time.
+#![tactic(auto)]
+
+ghost use Rattle.std.specs.Prelude.{◌≡◌, ℕ, Ok, length};
+ghost use Rattle.pj_parse.specs.Parses.{Parses, file_parsed};
+ghost use Rattle.pj_parse.specs.PoolText.{IsPoolOf};
+
+mod replies;
+
+use crate::replies::Replies;
+use pj_attrs::{Facts, tokens_are_in_order};
+use pj_base::Names;
+use pj_lex::Source;
+use pj_parse::{Parsed, parse};
+use pj_symbols::Symbols;
+use pj_tree::SyntaxTree;
+use pj_xeval::{Focus, evaluate};
+use pj_xfuncs::Patterns;
+use pj_xparse::parse as parse_expression;
+use pj_xvalue::{Attributes, BoundVars, Expr, Item};
+use std::alloc::{AllocError, Global};
+use std::io;
+use std::time::CpuClock;
+
+const MEMBER: &str = "    /** A member. */ private static final int FIELD = 0x1F + (a) * \"text\".length(), other[] = { 1, 2L, 3.0f };
+    @Override public <T extends Comparable<T>> int method(final int first, String... rest) throws E {
+        for (int i = 0, n = ((first)); i < n; i++) { if (x.y.z == this.w) { call(i, (n)); } else { continue; } }
+        try (var r = open(); s) { switch (first) { case 1: break; default: throw new E() { int inner; }; } } catch (E | F e) { }
+        return first > 0 ? rest.length : list.stream().map(v -> v + 1).mapToInt(Integer::intValue).sum();
+    }
+";
+
+fn text_of(alloc: Global, members: u32) -> Result<String, AllocError> {
+    let mut text = String::from_str(alloc, "package a.b;\nclass A {\n")?;
+    for _ in 0..members {
+        text.push_str(MEMBER)?;
+    }
+    text.push_str("}\n")?;
+    Ok(text)
+}
+
+static EXPRESSIONS: [&str; 9] = [
+    "//MethodDeclaration",
+    "//MethodDeclaration[@Name = 'method']",
+    "//MethodCall[ancestor::ForStatement]",
+    "//MethodDeclaration[.//ThrowStatement]",
+    "count(//*)",
+    "/CompilationUnit/ClassDeclaration/ClassBody/MethodDeclaration/Block",
+    "for $m in //MethodDeclaration return if ($m/@Final) then () else $m",
+    "//* intersect //Block",
+    "//* except //Block",
+];
+
+// How many items the expression gives, or none where it gives a code.
+fn items_of<A: Attributes>(alloc: Global, expr: &Expr, tree: &SyntaxTree<'_>, facts: &A) -> Option<usize>
+    requires { A.nodes facts.now ≡ length tree.now.nodes }
+{
+    let variables = BoundVars::new(alloc);
+    let Ok(patterns) = Patterns::of(alloc, expr, &variables) else {
+        return None;
+    };
+    let mut calls = Replies { nodes: tree.len() };
+    let focus = Focus { item: Item::Document, position: 1, size: 1, variables: &variables, patterns: &patterns };
+    match evaluate(alloc, expr, focus, tree, facts, &mut calls) {
+        Ok(items) => Some(items.len()),
+        Err(_) => None,
+    }
+}
+
+// The row of an expression.
+fn row_of_expression<A: Attributes>(rt: &HostRuntime, text: &str, tree: &SyntaxTree<'_>, facts: &A) -> io::Result<()>
+    requires { A.nodes facts.now ≡ length tree.now.nodes }
+{
+    let names = Names::new(rt.alloc());
+    let Ok(expr) = parse_expression(rt.alloc(), text, &names) else {
+        return println!(rt; "{text}: no expression");
+    };
+    let start = rt.process_cpu_time()?.as_nanos();
+    let found = items_of(rt.alloc(), &expr, tree, facts);
+    let end = rt.process_cpu_time()?.as_nanos();
+    let nodes = tree.len();
+    let each = end.saturating_sub(start) / u128::from(nodes.max(1));
+    match found {
+        Some(items) => println!(rt; "{text}: {nodes} nodes, {items} items, {each} ns a node"),
+        None => println!(rt; "{text}: no items"),
+    }
+}
+
+// The rows of a file.
+fn rows_of_file(rt: &HostRuntime, source: &Source, parsed: &Parsed<'_>) -> io::Result<()>
+    requires parses { Parses source.now.text (Ok (file_parsed parsed.now)) }
+    requires text { parsed.now.tree.text ≡ source.now.text }
+    requires pool { IsPoolOf parsed.now.tree parsed.now.pool }
+{
+    tokens_are_in_order(source.text(), parsed);
+    let Ok(symbols) = Symbols::of(rt.alloc(), &parsed.tree) else {
+        return println!(rt; "no memory");
+    };
+    let facts = Facts::new(source, parsed, &symbols);
+    for text in EXPRESSIONS {
+        row_of_expression(rt, text, &parsed.tree, &facts)?;
+    }
+    Ok(())
+}
+
+// The rows of a source.
+fn rows_of_source(rt: &HostRuntime, source: &Source) -> io::Result<()> {
+    match parse(rt.alloc(), source) {
+        Ok(parsed) => rows_of_file(rt, source, &parsed),
+        Err(_) => println!(rt; "no tree"),
+    }
+}
+
+// The rows of so many members.
+fn rows(rt: &HostRuntime, members: u32) -> io::Result<()> {
+    let text = text_of(rt.alloc(), members)?;
+    if text.len() > 100_000_000 {
+        return Ok(());
+    }
+    match Source::read(rt.alloc(), text.as_str().as_bytes()) {
+        Ok(source) => rows_of_source(rt, &source),
+        Err(_) => println!(rt; "no text"),
+    }
+}
+
+fn main(rt: HostRuntime) -> io::Result<()> {
+    for members in [1710u32, 3425, 6850] {
+        rows(&rt, members)?;
+    }
+    Ok(())
+}
+PROGRAM
+cd "$bench"
+rt run
