@@ -11,10 +11,6 @@ use Rattle.pj_xaxes.proofs.Ordered.{has_item-ordered, places-ordered, places_fro
 use Rattle.pj_xdenotes.specs.Sets.{stays, chosen}
 use Rattle.pj_xsteps.proofs.Values.{values_more}
 
-pub has_item-items : (x : ItemValue) (items : List Item) → has_item (values_of items) x ≡ list_any (λ other. eq_by_cmp document_order x (value_of_item other)) items
-has_item-items x [] = refl
-has_item-items x (y ∷ ys) = ap (λ b. eq_by_cmp document_order x (value_of_item y) || b) (has_item-items x ys)
-
 are_from : (xs : List ItemValue) → AllByRecursion IsNode xs → IsTrue (are_nodes xs)
 are_from [] h = refl
 are_from (x ∷ xs) h = ap (λ b. b && are_nodes xs) h.0 ∙ are_from xs h.1
