@@ -1,6 +1,7 @@
 -- Lists of patterns: all of them are patterns, or one is none.
-use Rattle.std.proofs.Common.{◌≡◌, ℕ, ◌+◌, ◌<◌, Bool, true, false, List, [], ◌∷◌, ◌++◌, length, take, drop, get_or, map, Option, Some, None, refl, sym, ap, ◌∙◌, subst, append_assoc, append-nil, arith}
+use Rattle.std.proofs.Common.{◌≡◌, ℕ, ◌+◌, ◌<◌, Bool, true, false, List, [], ◌∷◌, ◌++◌, length, take, drop, get_or, map, Option, Some, None, Result, Ok, Err, IfErr, refl, sym, ap, ◌∙◌, subst, append_assoc, append-nil, arith}
 use Rattle.std.specs.List.{AllByRecursion, flat_map}
+use Rattle.std.specs.Prelude.{IsErrAnd}
 use Rattle.std.proofs.lemmas.List.{at_drop_more, drop_all, map-append, take_more, take-append-drop}
 use Rattle.std.proofs.lemmas.List.Concat.{flat_map-append}
 use Rattle.pj_xpatterns.specs.Meaning.{IsNoPattern, Pattern}
@@ -35,6 +36,11 @@ none-one p h = record { before = []; refused = p; behind = []; stands = refl; is
 
 pub none-first : (xs : List Pattern) (text : List ℕ) → IsFirstRefused xs text → HasNoPattern xs
 none-first xs text h = record { before = h.before; refused = h.pattern; behind = h.behind; stands = h.stands; is_none = h.refused }
+
+-- a fault that is handed on
+pub handed_on : {T F : Type 0} (result : Result T F) (fault : F) (P : F → Type 0) → IsErrAnd result (λ given. given ≡ fault) → P fault → IfErr result P
+handed_on (Ok value) fault P same h = absurd same
+handed_on (Err given) fault P same h = subst P (sym same) h
 
 -- a fact of a refusal that implies another
 pub weaken : (P Q : Type 0) → (P → Q) → (fault : PatternFault) → IfNoPattern fault P → IfNoPattern fault Q

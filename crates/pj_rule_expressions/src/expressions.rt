@@ -17,7 +17,7 @@ use crate::patterns::{is_covered_by, judge_properties, value_of};
 use crate::spelled::Spelled;
 use pj_base::{Copied, Names, NoMemory, Text};
 use pj_rule_texts::{RuleTexts, variables_of};
-use pj_xparse::{XSyntax, parse};
+use pj_xparse::parse;
 use pj_xpatterns::{PatternFault, Patterns};
 use pj_xvalue::{BoundVars, Expr, Sequence};
 use std::alloc::Global;
@@ -52,11 +52,8 @@ fn parsed(alloc: Global, text: &str, names: &Names) -> Result<Expr, ExpressionFa
     ensures expression { IfOk result (IsExpression names.now) }
     ensures fault { IfErr result (IsParseFault names.now text.now) }
 {
-    match parse(alloc, text, names) {
-        Ok(expr) => Ok(expr),
-        Err(XSyntax::Memory) => Err(ExpressionFault::Memory),
-        Err(fault) => Err(ExpressionFault::XPath(fault)),
-    }
+    let expr = parse(alloc, text, names)?;
+    Ok(expr)
 }
 
 /// The expression that a text spells, where there is one.
@@ -146,5 +143,6 @@ pub fn expressions_of(
     let query = parsed(alloc, texts.xpath.as_str(), &names)?;
     let text = value_of(texts.properties.as_slice(), "violationSuppressXPath");
     let suppression = parsed_some(alloc, text, &names)?;
-    Ok(kept(alloc, texts, query, suppression, variables)?)
+    let kept = kept(alloc, texts, query, suppression, variables)?;
+    Ok(kept)
 }
