@@ -32,7 +32,7 @@ pub names-seen : (variables : List (List ℕ × List Item)) → map (λ v. v.0) 
 names-seen [] = refl
 names-seen (v ∷ vs) = ap (λ t. v.0 ∷ t) (names-seen vs)
 
-is_memory : XSyntax → Bool
+abbrev is_memory : XSyntax → Bool
 is_memory refusal.Memory = true
 is_memory _ = false
 

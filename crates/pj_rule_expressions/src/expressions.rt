@@ -111,7 +111,10 @@ fn kept(
     variables: BoundVars<'static>,
 ) -> Result<RuleExpressions, PatternFault>
     requires { variables_seen variables ≡ variables_of texts.now }
-    ensures value { IfOk result (λ kept. IsSpelled (variables_of texts.now) query kept.query × Both suppression kept.suppression (IsSpelled (variables_of texts.now)) × (variables_seen kept.variables ≡ variables_of texts.now) × (kept.is_covered ≡ is_covered texts.now)) }
+    ensures query_kept { IfOk result (λ kept. IsSpelled (variables_of texts.now) query kept.query) }
+    ensures suppression_kept { IfOk result (λ kept. Both suppression kept.suppression (IsSpelled (variables_of texts.now))) }
+    ensures variables_kept { IfOk result (λ kept. variables_seen kept.variables ≡ variables_of texts.now) }
+    ensures covers { IfOk result (λ kept. kept.is_covered ≡ is_covered texts.now) }
     ensures taken { OnOk result (AreTaken (patterns_of texts.now query suppression)) }
     ensures refused { IfErr result (λ fault. IfNoPattern fault (HasNoPattern (patterns_of texts.now query suppression))) }
 {

@@ -66,8 +66,8 @@ returns-clause-value c =
     let text : option_copied c.value_of-text.result ≡ suppression_of texts = c.value_of-text.ensures ∙ ap (value_of (codes "violationSuppressXPath")) c.as_slice-3.ensures in
     let suppression = c.in_ok-suppression.suppression in
     let s : Both (suppression_of texts) suppression (IsParsed names) = subst (λ t. Both t suppression (IsParsed names)) text c.in_ok-suppression.ensures.value in
-    let value = c.in_ok-kept.ensures.value in
-    are_of texts names same query suppression c.in_ok-kept.kept q s value.0 value.1.0 value.1.1.0 value.1.1.1
+    let kept = c.in_ok-kept.ensures in
+    are_of texts names same query suppression c.in_ok-kept.kept q s kept.query_kept kept.suppression_kept kept.variables_kept kept.covers
 
 pub returns-clause-sound : goal.returns-clause-sound
 returns-clause-sound c =
