@@ -1,5 +1,5 @@
 -- From what the parts of a rule say to what the rule is.
-use Rattle.std.proofs.Common.{◌≡◌, ◌≢◌, ℕ, Bool, true, false, List, [], ◌∷◌, ◌++◌, map, Option, Some, None, refl, sym, ap, ◌∙◌, subst}
+use Rattle.std.proofs.Common.{◌≡◌, ◌≢◌, ℕ, Bool, true, false, List, [], ◌∷◌, map, Option, Some, None, refl, sym, ap, ◌∙◌, subst}
 use Rattle.std.specs.Str.{chars}
 use Rattle.std.specs.List.{flat_map}
 use Rattle.std.proofs.lemmas.Bool.{false≢true}
@@ -7,7 +7,7 @@ use Rattle.pj_rule_texts.specs.Values.{variable_of}
 use Rattle.pj_rule_texts.specs.declared.properties.Property.{Property}
 use Rattle.pj_rule_texts.specs.Seen.{variables_seen}
 use Rattle.pj_rule_texts.specs.declared.rule.RuleTexts.{RuleTexts}
-use Rattle.pj_rule_expressions.specs.Expressions.{AreOf, Both, HasPatterns, IsKept, IsParsed, IsSound, IsSpelled, IsSpelledBy, Spell, names_of, patterns_of, variables_of}
+use Rattle.pj_rule_expressions.specs.Expressions.{AreOf, Both, IsKept, IsParsed, IsSound, IsSpelled, IsSpelledBy, Spell, names_of, patterns_of, variables_of}
 use Rattle.pj_rule_expressions.specs.Faults.{HasNoPattern, IfNoPattern, IsFault, IsParseFault, IsSomeParseFault}
 use Rattle.pj_rule_expressions.specs.Patterns.{is_covered, suppression_of}
 use Rattle.pj_rule_expressions.specs.Refusals.{of_pattern, of_syntax}
@@ -20,7 +20,6 @@ use Rattle.pj_xparse.specs.Faults as syntax
 use Rattle.pj_xparse.specs.declared.fault.XSyntax.{XSyntax}
 use Rattle.pj_xparse.specs.declared.fault.XSyntax.TheVariants as refusal
 use Rattle.pj_xpatterns.specs.Refusing.{AreTaken}
-use Rattle.pj_xpatterns.specs.Written.{Variables}
 use Rattle.pj_xpatterns.specs.declared.compiled.PatternFault.{PatternFault}
 use Rattle.pj_xpatterns.specs.declared.compiled.PatternFault.TheVariants.{Refused}
 use Rattle.pj_xpatterns.specs.declared.compiled.PatternFault.TheVariants as pattern

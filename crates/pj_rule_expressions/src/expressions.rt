@@ -133,10 +133,7 @@ fn kept(
 
 /// The expressions that the rule's texts spell, with its variables and patterns, or why they spell none: the fault of `xpath`, or
 /// else of `violationSuppressXPath`, or else that a pattern is none.
-pub fn expressions_of(
-    alloc: Global,
-    texts: &RuleTexts,
-) -> Result<RuleExpressions, ExpressionFault>
+pub fn expressions_of(alloc: Global, texts: &RuleTexts) -> Result<RuleExpressions, ExpressionFault>
     ensures value { IfOk result (AreOf texts.now) }
     ensures sound { OnOk result (IsSound texts.now) }
     ensures fault { IfErr result (IsFault texts.now) }

@@ -1,4 +1,4 @@
-use Rattle.std.proofs.Common.{◌≡◌, List, ℕ, Option, codes, ap, ◌∙◌, subst}
+use Rattle.std.proofs.Common.{◌≡◌, codes, ap, ◌∙◌, subst}
 use Rattle.std.specs.Option.{option_copied}
 use Rattle.pj_rule_expressions.specs.Expressions.{Both, IsParsed, IsSpelledBy, names_of}
 use Rattle.pj_rule_expressions.specs.Faults.{IsFault, IsParseFault, IsSomeParseFault}

@@ -15,7 +15,7 @@ returns-in_err-query-clause-refused c =
     handed_on c.from_residual-in_err-query.result fault (λ f. IfNoPattern f (HasNoPattern (patterns_of texts c.args.query c.args.suppression)))
     c.from_residual-in_err-query.ensures.1
     (none-2 (property_patterns texts) (patterns_in variables c.args.query) (patterns_in_some variables c.args.suppression) (whole_of (suppressing_regex_of texts)) fault
-        (subst (λ vs. IfNoPattern fault (HasNoPattern (patterns_in vs c.args.query))) c.requires c.in_err-query.ensures.refused))
+    (subst (λ vs. IfNoPattern fault (HasNoPattern (patterns_in vs c.args.query))) c.requires c.in_err-query.ensures.refused))
 
 pub returns-in_err-suppression-clause-refused : goal.returns-in_err-suppression-clause-refused
 returns-in_err-suppression-clause-refused c =
@@ -25,7 +25,7 @@ returns-in_err-suppression-clause-refused c =
     handed_on c.from_residual-in_err-suppression.result fault (λ f. IfNoPattern f (HasNoPattern (patterns_of texts c.args.query c.args.suppression)))
     c.from_residual-in_err-suppression.ensures.1
     (none-3 (property_patterns texts) (patterns_in variables c.args.query) (patterns_in_some variables c.args.suppression) (whole_of (suppressing_regex_of texts)) fault
-        (subst (λ vs. IfNoPattern fault (HasNoPattern (patterns_in_some vs c.args.suppression))) c.requires c.in_err-suppression.ensures.refused))
+    (subst (λ vs. IfNoPattern fault (HasNoPattern (patterns_in_some vs c.args.suppression))) c.requires c.in_err-suppression.ensures.refused))
 
 pub returns-in_err-is_covered-clause-refused : goal.returns-in_err-is_covered-clause-refused
 returns-in_err-is_covered-clause-refused c =
@@ -36,4 +36,4 @@ returns-in_err-is_covered-clause-refused c =
     handed_on c.from_residual-in_err-is_covered.result fault (λ f. IfNoPattern f (HasNoPattern (patterns_of texts c.args.query c.args.suppression)))
     c.from_residual-in_err-is_covered.ensures.1
     (none-4 (property_patterns texts) (patterns_in variables c.args.query) (patterns_in_some variables c.args.suppression) (whole_of (suppressing_regex_of texts)) fault
-        (subst (λ o. IfNoPattern fault (HasNoPattern (whole_of o))) is c.in_err-is_covered.ensures.refused))
+    (subst (λ o. IfNoPattern fault (HasNoPattern (whole_of o))) is c.in_err-is_covered.ensures.refused))

@@ -10,5 +10,5 @@ pub returns-in-Err-clause-refused : goal.returns-in-Err-clause-refused
 returns-in-Err-clause-refused c =
     weaken (IsNoPattern (whole c.as_str.result.now)) (HasNoPattern (whole_of (option_copied c.args.pattern)))
     (λ h. subst (λ (o : Option (Bor (List ℕ))). HasNoPattern (whole_of (option_copied o))) (sym c.in-Some.is)
-        (none-one (whole c.in-Some.pattern.now) (subst (λ t. IsNoPattern (whole t)) c.as_str.ensures h)))
+    (none-one (whole c.in-Some.pattern.now) (subst (λ t. IsNoPattern (whole t)) c.as_str.ensures h)))
     c.in-Err.fault c.in-Err.ensures.refused
