@@ -1,5 +1,5 @@
 -- The elements among items in document order.
-use Rattle.std.proofs.Common.{◌≡◌, ◌∙◌, ◌==◌, ◌||◌, ◌++◌, ◌&&◌, ℕ, Bool, true, false, cond, IsTrue, List, [], ◌∷◌, Option, Some, None, Ok, Err, ap, arith, flat_map, map, not, refl, subst, sym, true≢false}
+use Rattle.std.proofs.Common.{◌≡◌, ◌∙◌, ◌==◌, ◌||◌, ◌++◌, ◌&&◌, ℕ, Bool, true, false, cond, IsTrue, List, [], ◌∷◌, Option, Some, None, Result, Ok, Err, ap, arith, flat_map, map, not, refl, subst, sym, true≢false}
 use Rattle.std.specs.Prelude.{nat_lt}
 use Rattle.std.proofs.lemmas.Bool.Decides.{nat_tests}
 use Rattle.std.specs.List.{AllByRecursion, list_all, list_any}
@@ -99,7 +99,7 @@ any_element n (Boolean b ∷ xs) = any_element n xs
 -- ---- the nodes of a query
 
 pub denoted_ok : (items : List ItemValue) (nodes : List Node) → IsTrue (list_all is_element items) → nodes ≡ flat_map element_in (ordered items) → Ok nodes ≡ denoted items
-denoted_ok items nodes all is = ap (λ (l : List Node). Ok {E = XCode} l) is ∙ sym (ap (λ b. cond b (Ok (flat_map element_in (ordered items))) (Err XPTY0004)) all)
+denoted_ok items nodes all is = let given : List Node → Result (List Node) XCode = λ l. Ok l in ap given is ∙ sym (ap (λ b. cond b (Ok (flat_map element_in (ordered items))) (Err XPTY0004)) all)
 
 pub denoted_err : (items : List ItemValue) → list_all is_element items ≡ false → Err XPTY0004 ≡ denoted items
 denoted_err items some = sym (ap (λ b. cond b (Ok (flat_map element_in (ordered items))) (Err XPTY0004)) some)

@@ -5,8 +5,8 @@ use Rattle.pj_findings.specs.Denoted.{element_in}
 use Rattle.pj_findings.proofs.Elements.{elements_are_nodes, elements_of_values}
 use Rattle.pj_findings.proofs.denoted.nodes_in_order.Goals as goal
 
-pub in_order-requires : goal.in_order-requires
-in_order-requires c = elements_are_nodes (values_of c.args.items) c.requires
+pub in_order-ordered-requires : goal.in_order-ordered-requires
+in_order-ordered-requires c = elements_are_nodes (values_of c.args.items) c.requires
 
 pub returns : goal.returns
 returns c =
