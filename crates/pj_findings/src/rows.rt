@@ -102,19 +102,19 @@ fn in_node_order(findings: Vec<Finding>) -> Result<Vec<Finding>, NoMemory>
     Ok(ordered)
 }
 
-/// The rows of a file of this package in which the rules came to this, in the order of their numbers, which count from 0: the
+/// The rows of a file of the package of this name in which the rules came to this, in the order of their numbers, which count from 0: the
 /// findings in the order of the node, then of the rule, and the errors in the order of the rules.
 pub fn file_rows(
     alloc: Global,
-    package: Text,
+    name: Text,
     results: &RuleResults,
 ) -> Result<FileRows, NoMemory>
-    ensures { IfOk result (λ rows. rows ≡ merged package results.now) }
+    ensures { IfOk result (λ rows. rows ≡ merged name results.now) }
 {
     let findings = in_node_order(all_findings(alloc, results.as_slice())?)?;
     let errors = all_errors(alloc, results.as_slice())?;
     Ok(FileRows {
-        package,
+        package: name,
         findings: Findings::from_vec(findings),
         errors: FileErrors::from_vec(errors),
     })
