@@ -1,5 +1,5 @@
 -- The elements among items in document order.
-use Rattle.std.proofs.Common.{◌≡◌, ◌∙◌, ◌==◌, ◌||◌, ◌++◌, ◌&&◌, ℕ, Bool, true, false, cond, IsTrue, List, [], ◌∷◌, Option, Some, None, Result, Ok, Err, ap, arith, flat_map, map, not, refl, subst, sym, true≢false}
+use Rattle.std.proofs.Common.{◌≡◌, ◌∙◌, ◌==◌, ◌||◌, ◌++◌, ◌&&◌, ℕ, Bool, true, false, cond, IsTrue, List, [], ◌∷◌, Result, Ok, Err, ap, arith, flat_map, not, refl, subst, sym, true≢false}
 use Rattle.std.specs.Prelude.{nat_lt}
 use Rattle.std.proofs.lemmas.Bool.Decides.{nat_tests}
 use Rattle.std.specs.List.{AllByRecursion, list_all, list_any}
@@ -11,7 +11,7 @@ use Rattle.pj_tree.specs.declared.node.Node.{Node}
 use Rattle.pj_xaxes.specs.Order.{document_order, has_item, ordered}
 use Rattle.pj_xaxes.proofs.Ordered.{has_item-ordered, sorted-ordered}
 use Rattle.pj_xvalue.specs.declared.item.Item.{Item}
-use Rattle.pj_xvalue.specs.Items.{ItemValue, Document, Element, Attribute, String, Integer, Boolean, are_nodes, is_node, value_of_item, values_of}
+use Rattle.pj_xvalue.specs.Items.{ItemValue, Document, Element, Attribute, String, Integer, Boolean, is_node, value_of_item, values_of}
 use Rattle.pj_xvalue.specs.declared.fault.XCode.{XCode}
 use Rattle.pj_xvalue.specs.declared.fault.XCode.TheVariants.{XPTY0004}
 use Rattle.pj_findings.specs.Denoted.{denoted, element_in, is_element}

@@ -1,5 +1,5 @@
 -- A stable sort by nodes gives the findings node by node.
-use Rattle.std.proofs.Common.{◌≡◌, ◌∙◌, ◌+◌, ◌<◌, ◌≤◌, ◌==◌, ◌++◌, ℕ, zero, suc, Bool, true, false, cond, not, ◌&&◌, List, [], ◌∷◌, ap, arith, eqb, eqb-true, eq-eqb, flat_map, get_or, length, max, ne_eqb, refl, subst, sym, inl, inr, true≢false, zero-add}
+use Rattle.std.proofs.Common.{◌≡◌, ◌∙◌, ◌+◌, ◌<◌, ◌≤◌, ◌==◌, ◌++◌, ℕ, zero, suc, Bool, true, false, cond, not, ◌&&◌, List, [], ◌∷◌, ap, arith, eqb-true, eq-eqb, flat_map, max, ne_eqb, refl, subst, sym, inl, inr, true≢false, zero-add}
 use Rattle.std.specs.Prelude.{filter, nat_lt}
 use Rattle.std.specs.List.{AllByRecursion, range_with_len}
 use Rattle.std.specs.List.Sorted.{IsNonDecreasingBy, IsPermutation, IsSortedByKey, IsStableByKey, ties}

@@ -1,5 +1,5 @@
 -- What follows from the definitions.
-use Rattle.std.specs.Prelude.{◌≡◌, ℕ, ◌==◌, ◌<◌, ◌↔◌, ⊤, IsTrue, List, [], ◌∷◌, Ok, Some, filter, map, slice_get}
+use Rattle.std.specs.Prelude.{◌≡◌, ℕ, ◌==◌, List, Ok, Some, filter, map, slice_get}
 use Rattle.std.specs.List.{AllByRecursion, list_any}
 use Rattle.std.specs.List.Sorted.{IsStrictlySortedBy}
 use Rattle.std.specs.Ordering.{nat_cmp, on, then_cmp}

@@ -68,10 +68,7 @@ fn nodes_in_order(alloc: Global, items: Sequence<'_>) -> Result<Nodes, NoMemory>
 
 /// The nodes that a query of these items finds, in the order of their numbers, each once. XPTY0004 comes exactly where an
 /// item is an attribute, the document or an atomic value.
-pub fn denoted_nodes(
-    alloc: Global,
-    items: Sequence<'_>,
-) -> Result<Result<Nodes, XCode>, NoMemory>
+pub fn denoted_nodes(alloc: Global, items: Sequence<'_>) -> Result<Result<Nodes, XCode>, NoMemory>
     ensures { IfOk result (λ nodes. nodes ≡ denoted (values_of items.entry)) }
 {
     if are_elements(items.as_slice()) {

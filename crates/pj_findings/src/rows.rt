@@ -44,11 +44,7 @@ fn put_findings(
 }
 
 /// Puts the error of a rule behind those of others, where it has one.
-fn put_error(
-    errors: &mut Vec<FileError>,
-    rule: u32,
-    came_to: &RuleResult,
-) -> Result<(), NoMemory>
+fn put_error(errors: &mut Vec<FileError>, rule: u32, came_to: &RuleResult) -> Result<(), NoMemory>
     ensures { OnOk result (errors.new.items ≡ errors.old.items ++ error_by rule came_to.now) }
 {
     match came_to {
@@ -104,11 +100,7 @@ fn in_node_order(findings: Vec<Finding>) -> Result<Vec<Finding>, NoMemory>
 
 /// The rows of a file of the package of this name in which the rules came to this, in the order of their numbers, which count from 0: the
 /// findings in the order of the node, then of the rule, and the errors in the order of the rules.
-pub fn file_rows(
-    alloc: Global,
-    name: Text,
-    results: &RuleResults,
-) -> Result<FileRows, NoMemory>
+pub fn file_rows(alloc: Global, name: Text, results: &RuleResults) -> Result<FileRows, NoMemory>
     ensures { IfOk result (λ rows. rows ≡ merged name results.now) }
 {
     let findings = in_node_order(all_findings(alloc, results.as_slice())?)?;
