@@ -30,11 +30,7 @@ pub fn report_text(alloc: Global, format: Format, report: &Report) -> Result<Byt
 }
 
 /// The report, written whole in memory.
-pub fn written_report(
-    alloc: Global,
-    format: Format,
-    report: &Report,
-) -> Result<Written, NoMemory>
+pub fn written_report(alloc: Global, format: Format, report: &Report) -> Result<Written, NoMemory>
     ensures text { IfOk result (λ written. written.text ≡ report_text format report.now) }
     ensures verdict { IfOk result (λ written. written.verdict ≡ verdict_of report.now) }
 {

@@ -1,6 +1,6 @@
 //! Items with the nodes that a query of them finds.
-use pj_findings::{denoted_nodes, rule_message};
 use pj_base::Text;
+use pj_findings::{denoted_nodes, rule_message};
 use pj_tree::Node;
 use pj_xvalue::{Item, Sequence, XCode};
 use std::alloc::Global;
@@ -22,12 +22,21 @@ static ROWS: [(&[Case], &str); 12] = [
     (&[], ""),
     (&[Case::Element(0)], "0 "),
     (&[Case::Element(5), Case::Element(2)], "2 5 "),
-    (&[Case::Element(5), Case::Element(2), Case::Element(5)], "2 5 "),
-    (&[Case::Element(3), Case::Element(3), Case::Element(3)], "3 "),
+    (
+        &[Case::Element(5), Case::Element(2), Case::Element(5)],
+        "2 5 ",
+    ),
+    (
+        &[Case::Element(3), Case::Element(3), Case::Element(3)],
+        "3 ",
+    ),
     (&[Case::Document], "XPTY0004"),
     (&[Case::Element(1), Case::Document], "XPTY0004"),
     (&[Case::Attribute(1, 0)], "XPTY0004"),
-    (&[Case::Element(1), Case::Attribute(1, 0), Case::Element(2)], "XPTY0004"),
+    (
+        &[Case::Element(1), Case::Attribute(1, 0), Case::Element(2)],
+        "XPTY0004",
+    ),
     (&[Case::Integer(1)], "XPTY0004"),
     (&[Case::Truth(true)], "XPTY0004"),
     (&[Case::Element(1), Case::Characters("1")], "XPTY0004"),

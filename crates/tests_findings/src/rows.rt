@@ -18,18 +18,50 @@ static ROWS: [(&[Case], &str, &str); 8] = [
     (&[], "", ""),
     (&[Case::Nodes(&[])], "", ""),
     (&[Case::Nodes(&[1, 4])], "1/0 4/0 ", ""),
-    (&[Case::Nodes(&[1, 4]), Case::Nodes(&[0, 1, 9])], "0/1 1/0 1/1 4/0 9/1 ", ""),
-    (&[Case::Nodes(&[]), Case::Nodes(&[2]), Case::Nodes(&[2]), Case::Nodes(&[2])], "2/1 2/2 2/3 ", ""),
+    (
+        &[Case::Nodes(&[1, 4]), Case::Nodes(&[0, 1, 9])],
+        "0/1 1/0 1/1 4/0 9/1 ",
+        "",
+    ),
+    (
+        &[
+            Case::Nodes(&[]),
+            Case::Nodes(&[2]),
+            Case::Nodes(&[2]),
+            Case::Nodes(&[2]),
+        ],
+        "2/1 2/2 2/3 ",
+        "",
+    ),
     (&[Case::Message("a")], "", "0=a "),
-    (&[Case::Nodes(&[3]), Case::Message("b"), Case::Nodes(&[3, 7]), Case::Message("a")], "3/0 3/2 7/2 ", "1=b 3=a "),
-    (&[Case::Nodes(&[9]), Case::Nodes(&[8]), Case::Nodes(&[7])], "7/2 8/1 9/0 ", ""),
+    (
+        &[
+            Case::Nodes(&[3]),
+            Case::Message("b"),
+            Case::Nodes(&[3, 7]),
+            Case::Message("a"),
+        ],
+        "3/0 3/2 7/2 ",
+        "1=b 3=a ",
+    ),
+    (
+        &[Case::Nodes(&[9]), Case::Nodes(&[8]), Case::Nodes(&[7])],
+        "7/2 8/1 9/0 ",
+        "",
+    ),
 ];
 
 fn found_of(n: u32) -> Found {
     Found {
         node: n,
-        begin: Place { line: n + 1, column: 2 },
-        end: Place { line: n + 1, column: 3 },
+        begin: Place {
+            line: n + 1,
+            column: 2,
+        },
+        end: Place {
+            line: n + 1,
+            column: 3,
+        },
         reason: if n == 4 { Some(Reason::Regex) } else { None },
     }
 }

@@ -26,19 +26,84 @@ struct Case {
 }
 
 static CASES: [Case; 13] = [
-    Case { file: "class A {}", kind: Kind::ClassDeclaration, is_covered: false, wanted: "1:1-1:10 " },
-    Case { file: "class A {}", kind: Kind::ClassDeclaration, is_covered: true, wanted: "1:1-1:10 regex " },
-    Case { file: "", kind: Kind::CompilationUnit, is_covered: false, wanted: "1:1-1:1 " },
-    Case { file: "  \n ", kind: Kind::CompilationUnit, is_covered: false, wanted: "2:2-2:2 " },
-    Case { file: "class A { int f(int a, int b, int c) { return a+b+c; } }", kind: Kind::InfixExpression, is_covered: false, wanted: "1:47-1:51 1:47-1:49 " },
-    Case { file: "class A { void f() { g(h()); } }", kind: Kind::ArgumentList, is_covered: false, wanted: "1:23-1:27 1:25-1:26 " },
-    Case { file: "class A {\n\tint x;\r\n}", kind: Kind::FieldDeclaration, is_covered: false, wanted: "2:2-2:7 " },
-    Case { file: "\u{feff}class A {}", kind: Kind::ClassDeclaration, is_covered: false, wanted: "1:2-1:11 " },
-    Case { file: "class \\u0041 {}", kind: Kind::ClassDeclaration, is_covered: false, wanted: "1:1-1:15 " },
-    Case { file: "class A {\n  void f() { // NOPMD\n    g();\n  }\n  void h() {\n    g(); // NOPMD\n  }\n  @SuppressWarnings({\"x\", \"PMD.N\"})\n  void k() {}\n}", kind: Kind::MethodDeclaration, is_covered: false, wanted: "2:3-4:3 comment 5:3-7:3 8:3-9:13 annotation " },
-    Case { file: "class A {\n  void f() { // NOPMD\n    g();\n  }\n  void h() {\n    g(); // NOPMD\n  }\n  @SuppressWarnings({\"x\", \"PMD.N\"})\n  void k() {}\n}", kind: Kind::MethodDeclaration, is_covered: true, wanted: "2:3-4:3 comment 5:3-7:3 regex 8:3-9:13 annotation " },
-    Case { file: "@SuppressWarnings(\"PMD\") class A { // NOPMD\n}", kind: Kind::ClassDeclaration, is_covered: true, wanted: "1:1-2:1 annotation " },
-    Case { file: "/* NOPMD */ class A {}", kind: Kind::ClassDeclaration, is_covered: false, wanted: "1:13-1:22 " },
+    Case {
+        file: "class A {}",
+        kind: Kind::ClassDeclaration,
+        is_covered: false,
+        wanted: "1:1-1:10 ",
+    },
+    Case {
+        file: "class A {}",
+        kind: Kind::ClassDeclaration,
+        is_covered: true,
+        wanted: "1:1-1:10 regex ",
+    },
+    Case {
+        file: "",
+        kind: Kind::CompilationUnit,
+        is_covered: false,
+        wanted: "1:1-1:1 ",
+    },
+    Case {
+        file: "  \n ",
+        kind: Kind::CompilationUnit,
+        is_covered: false,
+        wanted: "2:2-2:2 ",
+    },
+    Case {
+        file: "class A { int f(int a, int b, int c) { return a+b+c; } }",
+        kind: Kind::InfixExpression,
+        is_covered: false,
+        wanted: "1:47-1:51 1:47-1:49 ",
+    },
+    Case {
+        file: "class A { void f() { g(h()); } }",
+        kind: Kind::ArgumentList,
+        is_covered: false,
+        wanted: "1:23-1:27 1:25-1:26 ",
+    },
+    Case {
+        file: "class A {\n\tint x;\r\n}",
+        kind: Kind::FieldDeclaration,
+        is_covered: false,
+        wanted: "2:2-2:7 ",
+    },
+    Case {
+        file: "\u{feff}class A {}",
+        kind: Kind::ClassDeclaration,
+        is_covered: false,
+        wanted: "1:2-1:11 ",
+    },
+    Case {
+        file: "class \\u0041 {}",
+        kind: Kind::ClassDeclaration,
+        is_covered: false,
+        wanted: "1:1-1:15 ",
+    },
+    Case {
+        file: "class A {\n  void f() { // NOPMD\n    g();\n  }\n  void h() {\n    g(); // NOPMD\n  }\n  @SuppressWarnings({\"x\", \"PMD.N\"})\n  void k() {}\n}",
+        kind: Kind::MethodDeclaration,
+        is_covered: false,
+        wanted: "2:3-4:3 comment 5:3-7:3 8:3-9:13 annotation ",
+    },
+    Case {
+        file: "class A {\n  void f() { // NOPMD\n    g();\n  }\n  void h() {\n    g(); // NOPMD\n  }\n  @SuppressWarnings({\"x\", \"PMD.N\"})\n  void k() {}\n}",
+        kind: Kind::MethodDeclaration,
+        is_covered: true,
+        wanted: "2:3-4:3 comment 5:3-7:3 regex 8:3-9:13 annotation ",
+    },
+    Case {
+        file: "@SuppressWarnings(\"PMD\") class A { // NOPMD\n}",
+        kind: Kind::ClassDeclaration,
+        is_covered: true,
+        wanted: "1:1-2:1 annotation ",
+    },
+    Case {
+        file: "/* NOPMD */ class A {}",
+        kind: Kind::ClassDeclaration,
+        is_covered: false,
+        wanted: "1:13-1:22 ",
+    },
 ];
 
 fn reason_word(reason: Option<Reason>) -> &'static str {
@@ -72,9 +137,21 @@ fn spots_in(
         if parsed.tree.kind(Node(n)) == case.kind {
             let spot = spot_of(&parsed.tree, &facts, Node(n));
             let line = spot.begin.line;
-            let reason = plain_reason(&parsed.tree, &facts, &marked, &rule, case.is_covered, Node(n), line);
+            let reason = plain_reason(
+                &parsed.tree,
+                &facts,
+                &marked,
+                &rule,
+                case.is_covered,
+                Node(n),
+                line,
+            );
             let word = reason_word(reason);
-            write!(text, "{}:{}-{}:{} {word}", spot.begin.line, spot.begin.column, spot.end.line, spot.end.column)?;
+            write!(
+                text,
+                "{}:{}-{}:{} {word}",
+                spot.begin.line, spot.begin.column, spot.end.line, spot.end.column
+            )?;
         }
     }
     Ok(text)
