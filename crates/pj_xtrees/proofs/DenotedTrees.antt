@@ -1,13 +1,13 @@
 -- What an expression denotes is told by its tree.
-use Rattle.std.proofs.Common.{◌≡◌, sym, ap, ◌∙◌, List, [], ◌∷◌, ◌++◌, map, Option, refl}
+use Rattle.std.proofs.Common.{◌≡◌, sym, ap, ◌∙◌, List, [], ◌∷◌, ◌++◌, map, Option}
 use Rattle.std.specs.Prelude.{if◌then◌else◌}
 use Rattle.pj_tree.specs.declared.node.Node.{Node}
 use Rattle.pj_xaxes.specs.Axes.{is_reverse}
 use Rattle.pj_xaxes.specs.Order.{ordered}
-use Rattle.pj_xdenotes.specs.Arithmetic.{sum, product, signed, range, literal, number_items}
+use Rattle.pj_xdenotes.specs.Arithmetic.{signed, range, literal, number_items}
 use Rattle.pj_xdenotes.specs.Bindings.{for_in, quantified, let_in}
 use Rattle.pj_xdenotes.specs.Calls.{call, pmd_call}
-use Rattle.pj_xdenotes.specs.Context.{Around, Context, Variables, Denotation, value_of_variable}
+use Rattle.pj_xdenotes.specs.Context.{Around, Denotation, value_of_variable}
 use Rattle.pj_xdenotes.specs.Denotes.{here, behind, with_text, with_nodes, with_term, with_factor, with_set, arguments_of, step, denotes}
 use Rattle.pj_xdenotes.specs.Means.{Means, give, judged, ◌>>=◌, chain, decided, one_boolean}
 use Rattle.pj_xdenotes.specs.Operands.{with_values, operand, only_nodes}
@@ -23,7 +23,7 @@ use Rattle.pj_xvalue.specs.declared.expr.Expr.TheOpen.{Expr-F}
 use Rattle.pj_xvalue.specs.declared.expr.Expr.TheFolds.{map-Expr}
 use Rattle.pj_xvalue.specs.declared.expr.Quantifier.TheVariants as quantifier
 use Rattle.pj_xvalue.specs.declared.pmd_function.PmdFunction.{PmdFunction}
-use Rattle.pj_xtrees.proofs.TreeFolds.{fold_tree, fold_node, fold_by_tree, first, rest, bound, behind_all, with_part, bound_is, body_is, operands_are}
+use Rattle.pj_xtrees.proofs.TreeFolds.{fold_tree, fold_node, fold_by_tree, first, rest, bound, behind_all, bound_is, body_is, operands_are}
 
 abbrev nothing : Denotation
 nothing context variables = give []

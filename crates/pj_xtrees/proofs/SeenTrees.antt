@@ -1,5 +1,5 @@
 -- The patterns of an expression are told by its tree.
-use Rattle.std.proofs.Common.{◌≡◌, sym, ap, ◌∙◌, ℕ, List, [], ◌∷◌, ◌++◌, map, refl}
+use Rattle.std.proofs.Common.{◌≡◌, sym, ap, ◌∙◌, ℕ, List, [], ◌∷◌, ◌++◌, map}
 use Rattle.pj_xmeaning.specs.Trees as tree
 use Rattle.pj_xmeaning.specs.Trees.{Construct, Tree, tree_step, tree_of}
 use Rattle.pj_xpatterns.specs.Meaning.{Pattern}
