@@ -1,7 +1,9 @@
 //! Laws of the definitions, each the contract of a call that does nothing.
-ghost use Rattle.pj_workers.specs.Laws.{InactiveIsNothing, NoTreeIsOneError, OneCold, RuleAscends, SpotsAreNodes};
+ghost use Rattle.pj_workers.specs.Laws.{InactiveIsNothing, ListsAreTexts, MarksAreOne, NoTreeIsOneError, OneCold, RuleAscends, RulesAreTexts, SpotsAreNodes};
 
 use pj_findings::laws::nodes_are_the_items;
+use pj_xparse::one_expression;
+use pj_xtrees::trees_tell_expressions;
 
 /// A rule that is not active for a path means nothing at a file of that path, and asks for no class.
 pub fn inactive_rules_mean_nothing()
@@ -24,4 +26,19 @@ pub fn rules_find_nodes()
 /// Rules have one cold report of files at most.
 pub fn one_cold_report()
     ensures { OneCold }
+{}
+
+/// What rules mean is determined by their texts, the path patterns of their rulesets and the marker: so rules with one key mean
+/// the same.
+pub fn rules_are_their_texts()
+    ensures one { RulesAreTexts }
+    ensures all { ListsAreTexts }
+{
+    one_expression();
+    trees_tell_expressions();
+}
+
+/// The lines that comments mark in a Java file are those that `pj_suppress` has of its tokens.
+pub fn marked_lines_are_those_of_tokens()
+    ensures { MarksAreOne }
 {}
