@@ -1,8 +1,8 @@
 -- There is one cold report at most.
-use Rattle.std.proofs.Common.{◌≡◌, ◌∙◌, ◌+◌, ◌≤◌, ℕ, List, [], ◌∷◌, ap, arith, max, refl, sym}
+use Rattle.std.proofs.Common.{◌≡◌, ◌∙◌, List, [], ◌∷◌, arith, max, refl, sym}
 use Rattle.std.specs.List.{AllZip}
 use Rattle.pj_names.specs.ClassName.{Name}
-use Rattle.pj_names.specs.Meaning.{Meaning, Done, Means, Source, over}
+use Rattle.pj_names.specs.Meaning.{Done, Means, Source}
 use Rattle.pj_names.specs.Asking.{Asking}
 use Rattle.pj_outside.specs.Files.{Files}
 use Rattle.pj_reports.specs.declared.report.Report.{Report}

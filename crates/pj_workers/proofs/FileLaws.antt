@@ -1,5 +1,5 @@
 -- Where rules mean nothing.
-use Rattle.std.proofs.Common.{◌≡◌, ◌∙◌, Bool, false, cond, List, [], ◌∷◌, Result, Ok, Err, ap, refl, subst, sym}
+use Rattle.std.proofs.Common.{◌≡◌, ◌∙◌, false, cond, List, [], ◌∷◌, Result, Ok, Err, ap, refl}
 use Rattle.pj_findings.specs.Merged.{only_error}
 use Rattle.pj_findings.specs.declared.found.RuleResult.{RuleResult}
 use Rattle.pj_findings.specs.declared.found.RuleResult.TheVariants.{Findings}

@@ -1,5 +1,5 @@
 -- What a rule finds in a file.
-use Rattle.std.proofs.Common.{◌≡◌, ◌∙◌, ℕ, Bool, true, false, cond, List, [], ◌∷◌, Option, Result, Ok, Err, ap, map, refl, subst, sym}
+use Rattle.std.proofs.Common.{◌≡◌, ℕ, true, false, cond, List, [], ◌∷◌, Option, Result, Ok, Err, ap, map, refl, subst, sym}
 use Rattle.std.specs.List.{AllByRecursion}
 use Rattle.std.specs.List.Sorted.{IsStrictlySortedBy}
 use Rattle.std.specs.Ordering.{nat_cmp, on}
@@ -8,8 +8,7 @@ use Rattle.pj_findings.specs.Denoted.{denoted}
 use Rattle.pj_findings.specs.Laws.{IsAscending, NodesAscend}
 use Rattle.pj_findings.specs.Merged.{found_by}
 use Rattle.pj_findings.specs.declared.found.Found.{Found}
-use Rattle.pj_findings.specs.declared.found.RuleResult.{RuleResult}
-use Rattle.pj_names.specs.Asking.{Asking, Return, bind, value_of}
+use Rattle.pj_names.specs.Asking.{Return, value_of}
 use Rattle.pj_names.specs.MeaningLaws.{value_of-bind}
 use Rattle.pj_parse.specs.FileOutcome.{outcome_of}
 use Rattle.pj_parse.specs.JavaFile.{JavaFile}

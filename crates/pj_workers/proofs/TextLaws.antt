@@ -1,16 +1,12 @@
 -- What rules mean is determined by their texts.
-use Rattle.std.proofs.Common.{◌≡◌, ◌∙◌, ℕ, Bool, cond, List, [], ◌∷◌, Option, None, Some, Result, Ok, Err, ap, refl, subst, sym}
-use Rattle.std.specs.List.{AllZip}
+use Rattle.std.proofs.Common.{◌≡◌, ◌∙◌, ℕ, cond, List, [], ◌∷◌, Option, None, Some, Result, Ok, Err, ap, refl, subst}
 use Rattle.std.specs.Str.{chars}
 use Rattle.pj_findings.specs.Denoted.{denoted}
-use Rattle.pj_findings.specs.declared.found.Found.{Found}
-use Rattle.pj_findings.specs.declared.found.RuleResult.{RuleResult}
-use Rattle.pj_names.specs.Asking.{Asking, Return, bind, each}
+use Rattle.pj_names.specs.Asking.{Return, bind, each}
 use Rattle.pj_parse.specs.FileOutcome.{outcome_of}
 use Rattle.pj_parse.specs.JavaFile.{JavaFile}
 use Rattle.pj_parse.specs.declared.file_fault.FileFault.{FileFault}
 use Rattle.pj_reports.specs.declared.rows.Reason.{Reason}
-use Rattle.pj_rule_texts.specs.declared.rule.RuleTexts.{RuleTexts}
 use Rattle.pj_tree.specs.declared.node.Node.{Node}
 use Rattle.pj_xdenotes.specs.Context.{Context, Variables, at}
 use Rattle.pj_xdenotes.specs.Denotes.{denotes}
@@ -25,7 +21,7 @@ use Rattle.pj_workers.specs.FileFacts.{around_file}
 use Rattle.pj_workers.specs.FileMeaning.{Bytes, Replies, file_meaning, head, merge, nothing, rule_at, rule_meaning}
 use Rattle.pj_workers.specs.Laws.{AreAlike, RulesAreTexts}
 use Rattle.pj_workers.specs.Reasons.{plain_reason_of, xpath_reason}
-use Rattle.pj_workers.specs.RuleMeaning.{Reply, found, found_at, found_of, items, reason_after, reason_at, result_of, rule_in_file, spot_at, value_of}
+use Rattle.pj_workers.specs.RuleMeaning.{Reply, found_at, found_of, reason_after, result_of, rule_in_file, spot_at, value_of}
 use Rattle.pj_workers.specs.Rules.{Both, IsSpelled, IsSpelledBy, Rule, Source, is_active, names_of, patterns_of, suppression_of, variables_of}
 
 abbrev OneExpression : Type 0

@@ -1,5 +1,5 @@
 -- What follows from the definitions.
-use Rattle.std.specs.Prelude.{◌≡◌, ℕ, Bool, false, List, [], map, Ok, Err}
+use Rattle.std.specs.Prelude.{◌≡◌, ℕ, false, List, map, Err}
 use Rattle.std.specs.List.{AllByRecursion, AllZip}
 use Rattle.std.specs.Str.{IsUtf8}
 use Rattle.pj_grammar.specs.Words.{seen}
@@ -10,7 +10,6 @@ use Rattle.pj_findings.specs.Laws.{IsAscending}
 use Rattle.pj_findings.specs.Merged.{found_by, only_error}
 use Rattle.pj_findings.specs.Spots.{spot_of}
 use Rattle.pj_findings.specs.declared.found.Found.{Found}
-use Rattle.pj_findings.specs.declared.found.RuleResult.{RuleResult}
 use Rattle.pj_names.specs.Asking.{Return, value_of}
 use Rattle.pj_outside.specs.Files.{Files}
 use Rattle.pj_parse.specs.FileOutcome.{outcome_of}

@@ -1,5 +1,5 @@
 -- The lines of a Java file on which comments suppress findings, as `pj_suppress` has them of the tokens of the program.
-use Rattle.std.specs.Prelude.{ℕ, Bool, ◌==◌, ◌&&◌, List, codes, nat_eq, slice_index_or}
+use Rattle.std.specs.Prelude.{ℕ, Bool, ◌==◌, ◌&&◌, codes, nat_eq, slice_index_or}
 use Rattle.std.specs.List.{list_any, starts_with}
 use Rattle.std.specs.Str.{encode_utf8_all}
 use Rattle.pj_grammar.specs.Words.{TokenSeen}

@@ -1,5 +1,5 @@
 -- What a rule means by its texts.
-use Rattle.std.specs.Prelude.{⊤, ◌≡◌, Bool, false, ◌||◌, not, List, [], ◌∷◌, ◌++◌, flat_map, map, Option, Some, None, codes, if◌then◌else◌}
+use Rattle.std.specs.Prelude.{⊤, Bool, false, ◌||◌, not, List, [], ◌∷◌, ◌++◌, flat_map, map, Option, Some, None, codes, if◌then◌else◌}
 use Rattle.std.specs.List.{list_any}
 use Rattle.std.specs.Str.{chars}
 use Rattle.pj_rule_texts.specs.Values.{Text, is_same, variable_of}
