@@ -1,5 +1,5 @@
 -- A report's text is empty exactly where nothing is shown.
-use Rattle.std.proofs.Common.{◌≡◌, ◌∙◌, ◌++◌, ◌&&◌, ◌||◌, ◌==◌, ◌↔◌, ℕ, Bool, true, false, cond, not, List, [], ◌∷◌, ap, arith, flat_map, length, map, ne_eqb, refl, sym, true≢false}
+use Rattle.std.proofs.Common.{◌≡◌, ◌∙◌, ◌++◌, ◌&&◌, ◌||◌, ◌==◌, ◌↔◌, Bool, true, false, cond, not, List, [], ◌∷◌, ap, arith, flat_map, length, map, ne_eqb, refl, sym, true≢false}
 use Rattle.std.specs.Prelude.{filter}
 use Rattle.std.specs.List.{list_any}
 use Rattle.pj_rule_rows.specs.declared.rule_row.ConfigError.{ConfigError}
@@ -7,11 +7,8 @@ use Rattle.pj_rule_rows.specs.declared.rule_row.RuleRow.{RuleRow}
 use Rattle.pj_reports.specs.ReportText.{fault_line, problem_line, text_report}
 use Rattle.pj_reports.specs.Shown.{Bytes, PathError, Problem, errors, errors_of, is_reported, problems, problems_of}
 use Rattle.pj_reports.specs.declared.report.Report.{Report}
-use Rattle.pj_reports.specs.declared.rows.FileError.{FileError}
 use Rattle.pj_reports.specs.declared.rows.FileRows.{FileRows}
-use Rattle.pj_reports.specs.declared.rows.Finding.{Finding}
 use Rattle.pj_writing.specs.Verdicts.{has_error, has_errors, has_finding, has_findings, has_some, verdict_of}
-use Rattle.pj_writing.specs.declared.verdict.Verdict.{Verdict}
 use Rattle.pj_writing.specs.declared.verdict.Verdict.TheVariants.{Clean, Violations, Errors}
 
 abbrev is_nil : {A : Type 0} → List A → Bool
