@@ -1,0 +1,5 @@
+pub mod FileLaws
+pub mod RuleLaws
+pub mod ColdLaws
+pub mod MarkLaws
+pub mod TextLaws

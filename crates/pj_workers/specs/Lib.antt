@@ -1,0 +1,11 @@
+-- definitions, in the order in which they are read
+pub mod FileFacts
+pub mod Marked
+pub mod Rules
+pub mod Reasons
+pub mod RuleMeaning
+pub mod Faults
+pub mod FileMeaning
+pub mod Cold
+-- what the laws say
+pub mod Laws

@@ -1,0 +1,3 @@
+pub mod TreeFolds
+pub mod DenotedTrees
+pub mod SeenTrees
