@@ -1,6 +1,8 @@
 //! Bodies of classes, and the scopes of their members.
 
 ghost use Rattle.std.specs.Prelude.{◌≡◌, ◌<◌, ◌≤◌, length, IfSome};
+ghost use Rattle.std.specs.Option.{option_map};
+ghost use Rattle.pj_declared.specs.Scope.{scope_from};
 ghost use Rattle.pj_declared.specs.Bodies.{body_kind, body_of, member_scopes, is_body, shows_members, class_at};
 
 use crate::scope::{Scope, Scopes, scope_from};
@@ -31,7 +33,7 @@ fn body_of(tree: &SyntaxTree<'_>, class: Node) -> Option<Node>
 
 /// The scope of a member, or of the class itself, within a part of the class.
 fn within_part(declared: Node, class: Node, part: Option<Node>) -> Option<Scope>
-    ensures { result ≡ within_part declared class part }
+    ensures { result ≡ option_map (scope_from declared class.0) part }
 {
     let part = part?;
     Some(scope_from(declared, class.0, part))

@@ -36,7 +36,7 @@ fn put_named(
     name: Option<&str>,
     scopes: Scopes,
 ) -> Result<(), NoMemory>
-    ensures { OnOk result (rows.new.items ≡ rows.old.items ++ named (option_copied name) scopes) }
+    ensures { OnOk result (rows.new.items ≡ rows.old.items ++ named (option_copied name.entry) scopes) }
 {
     if let Some(name) = name {
         put_scope(alloc, rows, name, scopes.first)?;

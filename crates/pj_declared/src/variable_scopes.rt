@@ -1,6 +1,9 @@
 //! The scopes of variables (JLS 6.3).
 
 ghost use Rattle.std.specs.Prelude.{◌≡◌, ◌<◌, length, IfSome};
+ghost use Rattle.std.specs.Option.{option_map};
+ghost use Rattle.pj_declared.specs.Behind.{behind};
+ghost use Rattle.pj_declared.specs.Scope.{scope_from};
 ghost use Rattle.pj_declared.specs.VariableScopes.{above_declaration, around_declaration, field_scopes, block_of, local_scope, for_scope, repeated_scope, foreach_scope, try_block, resource_scopes, parameter_scope, lambda_scope, catch_scope, pattern_scope, binding_scope, variable_scopes};
 
 use crate::behind::behind;
@@ -103,7 +106,7 @@ fn try_block(tree: &SyntaxTree<'_>, resources: Node) -> Option<Node>
 /// The scope of a resource within a part of the `try`.
 fn resource_scope(tree: &SyntaxTree<'_>, id: Node, part: Option<Node>) -> Option<Scope>
     requires inside { id.0 < length tree.now.nodes }
-    ensures { result ≡ resource_scope tree.now id part }
+    ensures { result ≡ option_map (scope_from id (behind tree.now id)) part }
 {
     let part = part?;
     Some(scope_from(id, behind(tree, id), part))
