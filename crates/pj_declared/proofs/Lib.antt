@@ -1,0 +1,4 @@
+pub mod Past
+pub mod Around
+pub mod Nearer
+pub mod Ordered
