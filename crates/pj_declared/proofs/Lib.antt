@@ -2,3 +2,4 @@ pub mod Past
 pub mod Around
 pub mod Nearer
 pub mod Ordered
+pub mod Within

@@ -33,12 +33,12 @@ up_to_from d m up = elim (cases_Bool (is_nearer d m)) [
   where
     refuted : is_nearer d m ≡ true → ⊥
     refuted is = elim (cases_Bool (nat_lt m.opened d.opened)) [
-      | inl lt ↦ (let l = ltb-true _ _ lt in ⊎_elim (λ a. omega arith) (λ a. omega arith) up)
+      | inl lt ↦ (let l : m.opened < d.opened = ltb-true _ _ lt in ⊎_elim (λ a. omega arith) (λ a. omega arith) up)
       | inr ge ↦ (
           let both : (d.opened == m.opened && nat_lt d.node.0 m.node.0) ≡ true = ap (λ b. b || (d.opened == m.opened && nat_lt d.node.0 m.node.0)) (sym ge) ∙ is in
           let parts = and_parts _ _ both in
-          let same = eqb-true _ _ parts.0 in
-          let lower = ltb-true _ _ parts.1 in
+          let same : d.opened ≡ m.opened = eqb-true _ _ parts.0 in
+          let lower : d.node.0 < m.node.0 = ltb-true _ _ parts.1 in
           ⊎_elim (λ a. omega arith) (λ a. omega arith) up)
     ]
 
@@ -120,7 +120,7 @@ nearer_assoc r s u =
     let R : Declared → Type 0 = λ d. u ≡ Some d in
     let right = nearest_either P (λ d. Q d ⊎ R d) r (nearer_of s u) (is_itself r) (nearest_either Q R s u (is_itself s) (is_itself u)) in
     let left = nearest_either (λ d. P d ⊎ Q d) R (nearer_of r s) u (nearest_either P Q r s (is_itself r) (is_itself s)) (is_itself u) in
-    nearest_one (λ d. P d ⊎ (Q d ⊎ R d)) _ _ right (nearest_same (λ d. (P d ⊎ Q d) ⊎ R d) (λ d. P d ⊎ (Q d ⊎ R d)) _
+    nearest_one (λ d. P d ⊎ (Q d ⊎ R d)) (nearer_of r (nearer_of s u)) (nearer_of (nearer_of r s) u) right (nearest_same (λ d. (P d ⊎ Q d) ⊎ R d) (λ d. P d ⊎ (Q d ⊎ R d)) (nearer_of (nearer_of r s) u)
       (λ d. ⊎_elim (⊎_elim (λ h. inl h) (λ h. inr (inl h))) (λ h. inr (inr h)))
       (λ d. ⊎_elim (λ h. inl (inl h)) (⊎_elim (λ h. inl (inr h)) (λ h. inr h)))
       left)
@@ -137,11 +137,11 @@ one_of x = (refl, λ d e. subst (λ y. IsUpTo y (declared_by x.scope)) e (up_to_
 
 with_first : (keep : Named → Bool) (x : Named) (xs : List Named) (b : Bool) → keep x ≡ b → IsNearest (IsOf keep xs) (nearest (filter keep xs)) → IsNearest (IsOf keep (x ∷ xs)) (nearest (cond b (x ∷ filter keep xs) (filter keep xs)))
 with_first keep x xs true is rest =
-    nearest_same (λ d. (declared_by x.scope ≡ d) ⊎ IsOf keep xs d) (IsOf keep (x ∷ xs)) _
+    nearest_same (λ d. (declared_by x.scope ≡ d) ⊎ IsOf keep xs d) (IsOf keep (x ∷ xs)) (nearer_of (Some (declared_by x.scope)) (nearest (filter keep xs)))
     (λ d. ⊎_elim (λ e. inl (is, e)) (λ h. inr h)) (λ d. ⊎_elim (λ e. inl e.1) (λ h. inr h))
     (nearest_either (λ d. declared_by x.scope ≡ d) (IsOf keep xs) (Some (declared_by x.scope)) (nearest (filter keep xs)) (one_of x) rest)
 with_first keep x xs false is rest =
-    nearest_same (IsOf keep xs) (IsOf keep (x ∷ xs)) _ (λ d h. inr h) (λ d. ⊎_elim (λ e. absurd (true≢false (sym e.0 ∙ is))) (λ h. h)) rest
+    nearest_same (IsOf keep xs) (IsOf keep (x ∷ xs)) (nearest (filter keep xs)) (λ d h. inr h) (λ d. ⊎_elim (λ e. absurd (true≢false (sym e.0 ∙ is))) (λ h. h)) rest
 
 pub nearest_is : (keep : Named → Bool) (xs : List Named) → IsNearest (IsOf keep xs) (nearest (filter keep xs))
 nearest_is keep [] = λ d h. h
