@@ -3,3 +3,4 @@ pub mod Around
 pub mod Nearer
 pub mod Ordered
 pub mod Within
+pub mod Along
