@@ -1,5 +1,5 @@
 -- What is meant at a place, node by node from the inside out.
-use Rattle.std.proofs.Common.{ℕ, zero, suc, ◌≡◌, ◌<◌, ◌⊎◌, Bool, true, false, ◌&&◌, ◌||◌, nat_eq, nat_le, ◌==◌, List, [], ◌∷◌, filter, Option, None, Some, IsPermutation, Contains, length, get_or, refl, ap, sym, ◌∙◌, subst, inl, inr, ⊎_elim, true≢false, arith}
+use Rattle.std.proofs.Common.{ℕ, zero, suc, ◌≡◌, ◌<◌, ◌⊎◌, Bool, true, false, ◌&&◌, nat_eq, nat_le, ◌==◌, List, [], ◌∷◌, filter, Option, None, IsPermutation, Contains, length, get_or, refl, ap, sym, ◌∙◌, subst, inl, inr, ⊎_elim, true≢false, arith}
 use Rattle.std.specs.List.{list_any}
 use Rattle.std.specs.Cmp.Lexicographic.{pointwise}
 use Rattle.std.proofs.lemmas.Bool.{and_parts, and_from, or_cases, or_left, or_right, eqb-true, eq-eqb}
@@ -10,7 +10,7 @@ use Rattle.pj_declared.specs.declared.named.Named.{Named}
 use Rattle.pj_declared.specs.declared.nearest.Declared.{Declared}
 use Rattle.pj_declared.specs.Nearest.{declared_by, nearer_of, nearest, is_meant, meant_among}
 use Rattle.pj_declared.specs.Table.{is_of, is_open}
-use Rattle.pj_declared.proofs.Nearer.{IsNearest, IsOf, nearest_one, nearest_same, nearest_either, nearest_is, nearer_assoc}
+use Rattle.pj_declared.proofs.Nearer.{IsOf, nearest_one, nearest_same, nearest_either, nearest_is, nearer_assoc}
 
 of_some : (p q : Named → Bool) (xs : List Named) (d : Declared) → ((x : Named) → p x ≡ true → q x ≡ true) → IsOf p xs d → IsOf q xs d
 of_some p q [] d f h = h
@@ -40,9 +40,9 @@ module _ (rows : List Named) (name : List ℕ) (place : Node) where
       let parts = and_parts (pointwise nat_eq x.name name) _ is in
       let inner = and_parts (nat_le x.scope.opened place.0) _ parts.1 in
       ⊎_elim
-        (λ here. inr (and_from _ _ (and_from _ _ parts.0 (flipped a.0 x.scope.within.0 here)) inner.0))
-        (λ there. inl (and_from _ _ parts.0 (and_from _ _ inner.0 there)))
-        (or_cases (a.0 == x.scope.within.0) (list_any (λ (b : Node). b.0 == x.scope.within.0) path) inner.1)
+      (λ here. inr (and_from _ _ (and_from _ _ parts.0 (flipped a.0 x.scope.within.0 here)) inner.0))
+      (λ there. inl (and_from _ _ parts.0 (and_from _ _ inner.0 there)))
+      (or_cases (a.0 == x.scope.within.0) (list_any (λ (b : Node). b.0 == x.scope.within.0) path) inner.1)
 
   further : (a : Node) (path : List Node) (x : Named) → open_among name place path x ≡ true → open_among name place (a ∷ path) x ≡ true
   further a path x is =
@@ -63,9 +63,9 @@ module _ (rows : List Named) (name : List ℕ) (place : Node) where
       let here : Named → Bool = is_open name a place in
       nearest_one (IsOf all rows) (nearest (filter all rows)) (nearer_of (nearest (filter rest rows)) (nearest (filter here rows))) (nearest_is all rows)
       (nearest_same (λ d. IsOf rest rows d ⊎ IsOf here rows d) (IsOf all rows) (nearer_of (nearest (filter rest rows)) (nearest (filter here rows)))
-        (λ d. ⊎_elim (of_some rest all rows d (further a path)) (of_some here all rows d (here_too a path)))
-        (λ d. of_either all rest here rows d (one_more a path))
-        (nearest_either (IsOf rest rows) (IsOf here rows) (nearest (filter rest rows)) (nearest (filter here rows)) (nearest_is rest rows) (nearest_is here rows)))
+      (λ d. ⊎_elim (of_some rest all rows d (further a path)) (of_some here all rows d (here_too a path)))
+      (λ d. of_either all rest here rows d (one_more a path))
+      (nearest_either (IsOf rest rows) (IsOf here rows) (nearest (filter rest rows)) (nearest (filter here rows)) (nearest_is rest rows) (nearest_is here rows)))
 
   pub among_none : nearest (filter (open_among name place []) rows) ≡ None
   among_none =

@@ -1,11 +1,10 @@
 -- The nearest of several declarations, whatever their order.
-use Rattle.std.proofs.Common.{ℕ, ◌≡◌, ◌<◌, ◌≤◌, ◌⊎◌, Bool, true, false, cond, ◌&&◌, ◌||◌, nat_lt, ◌==◌, List, [], ◌∷◌, length, filter, Contains, Option, None, Some, IsPermutation, refl, ap, sym, ◌∙◌, subst, inl, inr, ⊎_elim, arith, true≢false}
-use Rattle.std.proofs.lemmas.Bool.{cases_Bool, cases_order, and_parts, and_from, or_parts, or_left, or_right, lt-ltb, ltb-true, ltb-false, eqb-true, eqb-false, le-ltb, eq-eqb}
-use Rattle.std.proofs.lemmas.List.Sorted.{Contains-permutation, IsPermutation-sym}
+use Rattle.std.proofs.Common.{ℕ, ◌≡◌, ◌<◌, ◌≤◌, ◌⊎◌, Bool, true, false, cond, ◌&&◌, ◌||◌, nat_lt, ◌==◌, List, [], ◌∷◌, filter, Option, None, Some, refl, ap, sym, ◌∙◌, subst, inl, inr, ⊎_elim, arith, true≢false}
+use Rattle.std.proofs.lemmas.Bool.{cases_Bool, and_parts, or_parts, ltb-true, ltb-false, eqb-true, eqb-false}
 use Rattle.pj_tree.specs.declared.node.Node.{Node}
 use Rattle.pj_declared.specs.declared.named.Named.{Named}
 use Rattle.pj_declared.specs.declared.nearest.Declared.{Declared}
-use Rattle.pj_declared.specs.Nearest.{declared_by, is_nearer, nearer, nearer_of, nearest}
+use Rattle.pj_declared.specs.Nearest.{declared_by, is_nearer, nearer_of, nearest}
 
 -- ---- the order of declarations
 
@@ -121,9 +120,9 @@ nearer_assoc r s u =
     let right = nearest_either P (λ d. Q d ⊎ R d) r (nearer_of s u) (is_itself r) (nearest_either Q R s u (is_itself s) (is_itself u)) in
     let left = nearest_either (λ d. P d ⊎ Q d) R (nearer_of r s) u (nearest_either P Q r s (is_itself r) (is_itself s)) (is_itself u) in
     nearest_one (λ d. P d ⊎ (Q d ⊎ R d)) (nearer_of r (nearer_of s u)) (nearer_of (nearer_of r s) u) right (nearest_same (λ d. (P d ⊎ Q d) ⊎ R d) (λ d. P d ⊎ (Q d ⊎ R d)) (nearer_of (nearer_of r s) u)
-      (λ d. ⊎_elim (⊎_elim (λ h. inl h) (λ h. inr (inl h))) (λ h. inr (inr h)))
-      (λ d. ⊎_elim (λ h. inl (inl h)) (⊎_elim (λ h. inl (inr h)) (λ h. inr h)))
-      left)
+    (λ d. ⊎_elim (⊎_elim (λ h. inl h) (λ h. inr (inl h))) (λ h. inr (inr h)))
+    (λ d. ⊎_elim (λ h. inl (inl h)) (⊎_elim (λ h. inl (inr h)) (λ h. inr h)))
+    left)
 
 -- ---- of a list
 

@@ -1,14 +1,14 @@
 -- Rows in the order in which they are searched.
-use Rattle.std.proofs.Common.{ℕ, zero, suc, ◌≡◌, ◌+◌, ◌<◌, ◌≤◌, ◌⊎◌, Bool, true, false, cond, ◌&&◌, ◌||◌, nat_lt, nat_eq, nat_le, ◌==◌, List, length, get_or, refl, ap, sym, ◌∙◌, subst, inl, inr, ⊎_elim, arith, true≢false, Ordering, Less, Equal, Greater, nat_cmp, is_lt, is_gt, is_eq}
-use Rattle.std.specs.Ordering.{ordering_then, ordering_reverse, ordering_index, then_cmp, on, eq_by_cmp}
-use Rattle.std.specs.Cmp.{IsTotalOrder, then_total, on_total, nat_cmp_total, alike_right, tied_back, tied_itself, upto}
-use Rattle.std.specs.Cmp.Lexicographic.{pointwise, slice_cmp, nat_list_cmp_total, texts_ties}
+use Rattle.std.proofs.Common.{ℕ, ◌≡◌, ◌<◌, ◌≤◌, ◌⊎◌, Bool, true, false, cond, ◌&&◌, ◌||◌, nat_lt, ◌==◌, List, get_or, refl, ap, sym, ◌∙◌, inl, inr, arith, true≢false, Ordering, Less, Equal, Greater, nat_cmp, is_lt, is_gt}
+use Rattle.std.specs.Ordering.{ordering_then, ordering_reverse, ordering_index, then_cmp, on}
+use Rattle.std.specs.Cmp.{IsTotalOrder, then_total, on_total, nat_cmp_total}
+use Rattle.std.specs.Cmp.Lexicographic.{slice_cmp, nat_list_cmp_total}
 use Rattle.std.specs.List.Sorted.{IsPartitionedBy}
-use Rattle.std.proofs.lemmas.Bool.{cases_Bool, and_parts, and_from, ltb-true, ltb-false, lt-ltb, le-ltb, leb-true, eqb-true, eqb-false, eq-eqb, cases_lt}
-use Rattle.std.proofs.lemmas.List.Sorted.{searchable_from_sorted, sorted_far, ranks_by}
+use Rattle.std.proofs.lemmas.Bool.{cases_Bool, ltb-false, le-ltb, eqb-true, eqb-false}
+use Rattle.std.proofs.lemmas.List.Sorted.{searchable_from_sorted}
 use Rattle.pj_tree.specs.declared.node.Node.{Node}
 use Rattle.pj_declared.specs.declared.named.Named.{Named}
-use Rattle.pj_declared.specs.Table.{before_by, is_before, is_of, is_open, row_order, IsInOrder}
+use Rattle.pj_declared.specs.Table.{before_by, is_before, row_order, IsInOrder}
 
 -- ---- the order of rows
 
@@ -108,6 +108,7 @@ numbers_up a b c d h = elim (cases_Bool (nat_lt b a)) [
   where
     less : (m n : ℕ) → m ≤ n → (n ≡ m → ⊥) → m < n
     less m n le ne = omega arith
+
     lt_of : (m n : ℕ) → is_lt (nat_cmp m n) ≡ false → nat_lt m n ≡ false
     lt_of m n e = elim (cases_Bool (nat_lt m n)) [
       | inl is ↦ absurd (true≢false (sym (ap (λ t. is_lt (cond t Less (cond (m == n) Equal Greater))) is) ∙ e))

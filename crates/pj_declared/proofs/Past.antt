@@ -1,5 +1,5 @@
 -- The number behind a node, from the numbers of its descendants.
-use Rattle.std.proofs.Common.{ℕ, zero, suc, ◌≡◌, ◌+◌, ◌<◌, ◌≤◌, ◌↔◌, Bool, true, false, cond, IsTrue, length, ap, sym, ◌∙◌, arith, inl, inr, true≢false}
+use Rattle.std.proofs.Common.{ℕ, zero, suc, ◌≡◌, ◌+◌, ◌<◌, ◌≤◌, ◌↔◌, false, cond, IsTrue, length, ap, sym, ◌∙◌, arith, inl, inr, true≢false}
 use Rattle.std.proofs.lemmas.Bool.{cases_Bool, cases_lt as which}
 use Rattle.pj_tree.specs.Tree.{Tree, is_descendant}
 use Rattle.pj_tree.specs.declared.node.Node.{Node}
@@ -24,6 +24,7 @@ past_is t n end all (suc left) k above below near = elim (cases_Bool (is_descend
       | inl inside ↦ absurd (true≢false (sym ((all (record { 0 = k })).1 (above, inside)) ∙ is))
       | inr past ↦ past
     ]
+
     same : end ≤ k → k ≡ end
     same last = omega arith
 

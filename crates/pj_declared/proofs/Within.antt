@@ -1,8 +1,8 @@
 -- The nearest declaration of a name with a scope within one node, by two bisections.
-use Rattle.std.proofs.Common.{ℕ, zero, suc, ◌≡◌, ◌+◌, ◌-◌, ◌<◌, ◌≤◌, ◌⊎◌, Bool, true, false, cond, ◌&&◌, ◌||◌, nat_lt, nat_eq, nat_le, ◌==◌, List, [], ◌∷◌, length, get_or, filter, Option, None, Some, refl, ap, sym, ◌∙◌, subst, inl, inr, ⊎_elim, arith, true≢false, Ordering, Less, Equal, Greater, nat_cmp, is_lt, is_gt, is_eq}
+use Rattle.std.proofs.Common.{ℕ, zero, suc, ◌≡◌, ◌+◌, ◌-◌, ◌<◌, ◌≤◌, ◌⊎◌, Bool, true, false, cond, ◌&&◌, ◌||◌, nat_lt, ◌==◌, List, [], ◌∷◌, length, get_or, filter, None, Some, refl, ap, sym, ◌∙◌, subst, inl, inr, ⊎_elim, arith, true≢false, Ordering, Less, Equal, Greater, nat_cmp, is_lt, is_gt, is_eq}
 use Rattle.std.specs.Ordering.{ordering_then}
 use Rattle.std.specs.Cmp.{alike_right, tied_back}
-use Rattle.std.specs.Cmp.Lexicographic.{pointwise, slice_cmp, texts_ties}
+use Rattle.std.specs.Cmp.Lexicographic.{slice_cmp, texts_ties}
 use Rattle.std.specs.List.Sorted.{IsPartitionPoint}
 use Rattle.std.proofs.lemmas.Bool.{cases_Bool, and_parts, and_from, ltb-true, ltb-false, lt-ltb, le-ltb, leb-true, le-leb, eqb-true, cases_lt}
 use Rattle.std.proofs.lemmas.List.Sorted.{sorted_far, ranks_by}
@@ -11,7 +11,7 @@ use Rattle.pj_declared.specs.declared.named.Named.{Named}
 use Rattle.pj_declared.specs.declared.nearest.Declared.{Declared}
 use Rattle.pj_declared.specs.Nearest.{declared_by, nearest}
 use Rattle.pj_declared.specs.Table.{before_by, is_before, is_of, is_open, row_order, IsInOrder}
-use Rattle.pj_declared.proofs.Nearer.{IsUpTo, IsNearest, IsOf, nearest_one, nearest_is}
+use Rattle.pj_declared.proofs.Nearer.{IsUpTo, IsOf, nearest_one, nearest_is}
 use Rattle.pj_declared.proofs.Ordered.{probe, place_order, place_total, row_total, row_tied, place_up, place_below, place_between, numbers_up, before_is}
 
 -- ---- rows of the name, within the node
@@ -203,6 +203,7 @@ module _ (rows : List Named) (up : IsInOrder rows) (name : List ℕ) (within pla
               omega arith)
           | inr ge ↦ ap (λ (y : Named). is_lt (row_order y found)) is_x ∙ far first i last ge il
         ]
+
         tied_up : (x : Named) → is_of name within x ≡ true → x.scope.opened ≡ last.scope.opened → is_lt (row_order x found) ≡ false → IsUpTo (declared_by x.scope) (declared_by found.scope)
         tied_up x x_of same h =
             let opened = found_opened in

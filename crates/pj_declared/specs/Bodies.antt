@@ -1,5 +1,5 @@
 -- Bodies of classes, and the scopes of members (JLS 6.3, 8.1.7, 8.10.1).
-use Rattle.std.specs.Prelude.{ℕ, Bool, true, false, Option, None, Some, if◌then◌else◌, List, [], ◌∷◌}
+use Rattle.std.specs.Prelude.{Bool, true, false, Option, None, Some, if◌then◌else◌, List, [], ◌∷◌}
 use Rattle.std.specs.Option.{option_map, option_map_or, option_and_then}
 use Rattle.pj_tree.specs.Tree.{Tree, kind_of, parent_of, ancestors_of}
 use Rattle.pj_tree.specs.declared.kind.Kind.{Kind}

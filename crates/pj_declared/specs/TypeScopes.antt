@@ -1,5 +1,5 @@
 -- The scopes of classes and type parameters (JLS 6.3).
-use Rattle.std.specs.Prelude.{ℕ, ◌+◌, Option, None, Some}
+use Rattle.std.specs.Prelude.{◌+◌, Option}
 use Rattle.std.specs.Option.{option_map, option_map_or, option_and_then}
 use Rattle.pj_tree.specs.Tree.{Tree, parent_of}
 use Rattle.pj_tree.specs.declared.node.Node.{Node}

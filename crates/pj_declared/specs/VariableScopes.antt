@@ -1,5 +1,5 @@
 -- The scopes of variables (JLS 6.3).
-use Rattle.std.specs.Prelude.{ℕ, Option, None, Some}
+use Rattle.std.specs.Prelude.{Option, None, Some}
 use Rattle.std.specs.Option.{option_map, option_map_or, option_and_then}
 use Rattle.pj_tree.specs.Tree.{Tree, kind_of, parent_of}
 use Rattle.pj_tree.specs.declared.kind.Kind.{Kind}

@@ -1,6 +1,5 @@
-use Rattle.std.proofs.Common.{◌≡◌, true, false, None, Some, arith, sym, ◌∙◌}
+use Rattle.std.proofs.Common.{◌≡◌, None, Some, arith, sym, ◌∙◌}
 use Rattle.pj_tree.specs.Tree.{parent_of}
-use Rattle.pj_declared.specs.Bindings.{ends_binding}
 use Rattle.pj_declared.proofs.Around.{end_found, end_skipped, end_none}
 use Rattle.pj_declared.proofs.bindings.binding_end.Goals as goal
 

@@ -1,6 +1,5 @@
-use Rattle.std.proofs.Common.{◌≡◌, None, Some, arith, sym, ◌∙◌, subst}
+use Rattle.std.proofs.Common.{◌≡◌, Some, arith, sym, ◌∙◌, subst}
 use Rattle.pj_tree.specs.Tree.{parent_of}
-use Rattle.pj_declared.specs.Nearest.{nearer_of}
 use Rattle.pj_declared.proofs.Around.{above_is, root_is}
 use Rattle.pj_declared.proofs.Along.{IsLeft, left_first, left_next, left_last}
 use Rattle.pj_declared.proofs.search.meant_among.Goals as goal

@@ -1,4 +1,4 @@
-use Rattle.std.proofs.Common.{◌≡◌, ◌<◌, length}
+use Rattle.std.proofs.Common.{◌<◌, length}
 use Rattle.pj_declared.proofs.Along.{IsLeft}
 use Rattle.pj_declared.proofs.search.meant_among.Given as goal
 

@@ -1,6 +1,4 @@
-use Rattle.std.proofs.Common.{◌≡◌, ◌<◌, List, length, get_or, Some, sym, ap, ◌∙◌, arith}
-use Rattle.pj_declared.specs.declared.named.Named.{Named}
-use Rattle.pj_declared.specs.Nearest.{declared_by}
+use Rattle.std.proofs.Common.{◌<◌, Some, sym, ap, ◌∙◌, arith}
 use Rattle.pj_declared.proofs.Within.{none_before, none_there, first_inside, found_there}
 use Rattle.pj_declared.proofs.search.nearest_within.Goals as goal
 
@@ -28,5 +26,5 @@ pub returns : goal.returns
 returns c =
     ap Some c.declared_by.ensures
     ∙ found_there c.args.rows.now c.requires.ordered c.args.name.now c.args.within c.args.place c.count_before-past.result c.count_before-past.ensures.split
-      c.index-rows-past.result (omega arith) c.count_before-past.ensures.few (sym c.index-rows-past.is) (sym c.is_of.ensures ∙ c.if-not-is_of.false)
-      c.count_before-first.result c.count_before-first.ensures.split c.index-rows-first.result
+    c.index-rows-past.result (omega arith) c.count_before-past.ensures.few (sym c.index-rows-past.is) (sym c.is_of.ensures ∙ c.if-not-is_of.false)
+    c.count_before-first.result c.count_before-first.ensures.split c.index-rows-first.result

@@ -1,4 +1,4 @@
-use Rattle.std.proofs.Common.{◌≡◌, ap, ◌∙◌}
+use Rattle.std.proofs.Common.{ap, ◌∙◌}
 use Rattle.pj_tree.specs.Tree.{Tree}
 use Rattle.pj_declared.specs.Nearest.{variable_meant, meant_among}
 use Rattle.pj_declared.specs.Rows.{variables_of}
