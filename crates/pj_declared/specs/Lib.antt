@@ -5,6 +5,7 @@ pub mod Bindings
 pub mod VariableScopes
 pub mod TypeScopes
 pub mod Rows
+pub mod Imports
 pub mod Nearest
 -- private clauses alone cite this
 pub mod Table

@@ -5,11 +5,14 @@
 -- nearest before the place. Of several that one node opens the first in the text counts.
 use Rattle.std.specs.Prelude.{ℕ, ◌==◌, ◌&&◌, ◌||◌, Bool, Option, None, Some, if◌then◌else◌, List, [], ◌∷◌, filter, nat_eq, nat_lt}
 use Rattle.std.specs.Cmp.Lexicographic.{pointwise}
+use Rattle.std.specs.Option.{option_map}
 use Rattle.pj_tree.specs.Tree.{Tree}
 use Rattle.pj_tree.specs.declared.node.Node.{Node}
 use Rattle.pj_declared.specs.declared.scope.Scope.{Scope}
 use Rattle.pj_declared.specs.declared.nearest.Declared.{Declared}
+use Rattle.pj_declared.specs.declared.imports.ImportSort.{ImportSort}
 use Rattle.pj_declared.specs.Scope.{has_place}
+use Rattle.pj_declared.specs.Imports.{imports_of}
 use Rattle.pj_declared.specs.declared.named.Named.{Named}
 use Rattle.pj_declared.specs.Rows.{variables_of, types_of}
 
@@ -48,3 +51,7 @@ variable_meant t text place = meant_among t (variables_of t) text place
 -- the class or type parameter of the name at the place
 abbrev pub type_meant : Tree → List ℕ → Node → Option Declared
 type_meant t text place = meant_among t (types_of t) text place
+
+-- the import of one name by which the name is known in the file, and none where no import of the sort has it; the first in the text counts
+abbrev pub single_import : Tree → ImportSort → List ℕ → Option Node
+single_import t sort text = option_map (λ d. d.node) (meant_among t (imports_of t sort) text (record { 0 = 0 }))

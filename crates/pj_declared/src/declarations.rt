@@ -1,11 +1,13 @@
 //! The declarations of a file.
 
 ghost use Rattle.std.specs.Prelude.{◌≡◌, ◌<◌, length, IfOk};
-ghost use Rattle.pj_declared.specs.Nearest.{variable_meant, type_meant};
+ghost use Rattle.pj_declared.specs.Nearest.{variable_meant, type_meant, single_import};
 ghost use Rattle.pj_declared.specs.Table.{IsTableOf};
 ghost use Rattle.pj_declared.specs.Rows.{variables_of, types_of};
+ghost use Rattle.pj_declared.specs.Imports.{imports_of};
 
 use crate::gather::{types_of, variables_of};
+use crate::imports::{ImportSort, imports_of};
 use crate::named::Named;
 use crate::nearest::Declared;
 use crate::search::meant_among;
@@ -20,18 +22,22 @@ pub struct Declarations<'t> {
     tree: &'t SyntaxTree<'t>,
     variables: Vec<Named>,
     types: Vec<Named>,
+    type_imports: Vec<Named>,
+    static_imports: Vec<Named>,
 }
 
 impl<'t> Model for Declarations<'t> {
     ghost use Rattle.pj_tree.specs.Tree.{Tree};
     ghost use Rattle.pj_declared.specs.Rows.{variables_of, types_of};
+    ghost use Rattle.pj_declared.specs.Imports.{imports_of};
+    ghost use Rattle.pj_declared.specs.declared.imports.ImportSort.TheVariants.{OfType, Static};
     ghost use Rattle.pj_declared.specs.Table.{IsTableOf};
 
     ghost Value = { Tree };
 
     ghost view = { λ d. d.tree.now };
 
-    ghost invariant = { λ d. IsTableOf (variables_of d.tree.now) d.variables.items × IsTableOf (types_of d.tree.now) d.types.items };
+    ghost invariant = { λ d. IsTableOf (variables_of d.tree.now) d.variables.items × IsTableOf (types_of d.tree.now) d.types.items × IsTableOf (imports_of d.tree.now OfType) d.type_imports.items × IsTableOf (imports_of d.tree.now Static) d.static_imports.items };
 }
 
 /// The rows in the order of their names and scopes. It takes no memory.
@@ -50,10 +56,14 @@ impl<'t> Declarations<'t> {
     {
         let variables = variables_of(alloc, tree)?;
         let types = types_of(alloc, tree)?;
+        let type_imports = imports_of(alloc, tree, ImportSort::OfType)?;
+        let static_imports = imports_of(alloc, tree, ImportSort::Static)?;
         Ok(Declarations {
             tree,
             variables: in_order(variables),
             types: in_order(types),
+            type_imports: in_order(type_imports),
+            static_imports: in_order(static_imports),
         })
     }
 
@@ -74,5 +84,27 @@ impl<'t> Declarations<'t> {
         ensures { result ≡ type_meant self.now name.now place }
     {
         meant_among(self.tree, self.types.as_slice(), name, place)
+    }
+
+    /// The first import of one name, of the sort, that imports the simple name (JLS 7.5.1, 7.5.3), and `None` where none of the
+    /// file does. It takes no memory.
+    pub fn single_import(&self, sort: ImportSort, name: &str) -> Option<Node>
+        ensures { result ≡ single_import self.now sort name.now }
+    {
+        let _nodes = self.tree.len();
+        match meant_among(self.tree, self.imports(sort), name, Node(0)) {
+            Some(import) => Some(import.node),
+            None => None,
+        }
+    }
+
+    /// The names that imports of the sort import.
+    fn imports(&self, sort: ImportSort) -> &[Named]
+        ensures { IsTableOf (imports_of self.now sort) result.now }
+    {
+        match sort {
+            ImportSort::OfType => self.type_imports.as_slice(),
+            ImportSort::Static => self.static_imports.as_slice(),
+        }
     }
 }

@@ -30,7 +30,7 @@ fn put_scope(
 }
 
 /// Puts the name with its scopes at the end, if there is a name.
-fn put_named(
+pub fn put_named(
     alloc: Global,
     rows: &mut Vec<Named>,
     name: Option<&str>,

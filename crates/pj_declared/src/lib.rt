@@ -9,6 +9,7 @@ mod bindings;
 mod bodies;
 mod declarations;
 mod gather;
+mod imports;
 mod named;
 mod nearest;
 mod scope;
@@ -18,4 +19,5 @@ mod variable_scopes;
 
 pub use bodies::class_at;
 pub use declarations::Declarations;
+pub use imports::ImportSort;
 pub use nearest::Declared;
