@@ -7,6 +7,8 @@ mod classes;
 #[cfg(test)]
 mod fields;
 #[cfg(test)]
+mod imports;
+#[cfg(test)]
 mod locals;
 #[cfg(test)]
 mod marked;

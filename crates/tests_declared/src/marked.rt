@@ -5,7 +5,7 @@
 
 ghost use Rattle.std.specs.Prelude.{◌≡◌, ◌<◌, length, IfSome};
 
-use pj_declared::{Declarations, Declared};
+use pj_declared::{Declarations, Declared, ImportSort};
 use pj_lex::Source;
 use pj_parse::parse;
 use pj_tree::{Node, SyntaxTree};
@@ -13,11 +13,13 @@ use std::alloc::Global;
 use std::process::Abort;
 use std::test::Fail;
 
-/// Whether a name is one of a variable, or of a class or type parameter.
+/// What a name is looked up as: as a variable, as a class or type parameter, or as imported by an import of one name.
 #[derive(Clone, Copy)]
 pub enum Sort {
     Variable,
     Type,
+    TypeImport,
+    StaticImport,
 }
 
 /// The offset behind the marks that stand from here on.
@@ -71,13 +73,23 @@ fn place_of(tree: &SyntaxTree<'_>, text: &str) -> Option<Node>
     outermost_from(tree, offset)
 }
 
+/// The node that declares what is meant.
+fn node_of(declared: Option<Declared>) -> Option<Node> {
+    match declared {
+        Some(declared) => Some(declared.node),
+        None => None,
+    }
+}
+
 /// What the name means at the place.
-fn meant(declarations: &Declarations<'_>, sort: Sort, name: &str, place: Node) -> Option<Declared>
+fn meant(declarations: &Declarations<'_>, sort: Sort, name: &str, place: Node) -> Option<Node>
     requires inside { place.0 < length declarations.now.nodes }
 {
     match sort {
-        Sort::Variable => declarations.variable(name, place),
-        Sort::Type => declarations.class_or_type_parameter(name, place),
+        Sort::Variable => node_of(declarations.variable(name, place)),
+        Sort::Type => node_of(declarations.class_or_type_parameter(name, place)),
+        Sort::TypeImport => declarations.single_import(ImportSort::OfType, name),
+        Sort::StaticImport => declarations.single_import(ImportSort::Static, name),
     }
 }
 
@@ -94,9 +106,7 @@ fn shown_in(
     };
     let declarations = Declarations::of(alloc, tree)?;
     match meant(&declarations, sort, name, place) {
-        Some(declared) if declared.node.0 < tree.len() => {
-            Ok(tree.span(declared.node).from.to_string(alloc)?)
-        }
+        Some(node) if node.0 < tree.len() => Ok(tree.span(node).from.to_string(alloc)?),
         Some(_) => Ok(String::from_str(alloc, "no node")?),
         None => Ok(String::from_str(alloc, "nothing")?),
     }
