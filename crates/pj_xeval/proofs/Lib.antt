@@ -1,5 +1,6 @@
 pub mod Asked
 pub mod Fronts
+pub mod ListGoals
 pub mod OfTree
 pub mod Steps
 pub mod Turning

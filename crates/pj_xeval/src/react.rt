@@ -1,8 +1,9 @@
 //! What a frame makes of the value that it waits for.
-ghost use Rattle.std.specs.Prelude.{◌≡◌, IfOk, OnOk, length};
+ghost use Rattle.std.specs.Prelude.{◌≡◌, ℕ, IfOk, OnOk, length};
 ghost use Rattle.pj_xvalue.specs.Items.{values_of, IsOfTree};
 ghost use Rattle.pj_xvalue.specs.OfTree.{OfTree, VariablesOfTree};
-ghost use Rattle.pj_xdenotes.specs.Context.{around};
+ghost use Rattle.pj_xdenotes.specs.Context.{Around, Context, around};
+ghost use Rattle.pj_xeval.specs.declared.frame.Frame.TheVariants.{Source as SourceFrame};
 ghost use Rattle.pj_xeval.specs.Frames.{Replies, context_left, reacted, scope_left};
 ghost use Rattle.pj_xeval.specs.Going.{FrameOfTree, GoesIf, NextOfTree};
 ghost use Rattle.pj_xeval.specs.Scopes.{variables_of};
@@ -10,7 +11,7 @@ ghost use Rattle.pj_xeval.specs.Scopes.{variables_of};
 use crate::bindings::{
     for_after, for_over, let_after, let_body, quantified_after, quantified_over,
 };
-use crate::frame::{Binding, Frame, Next, Task};
+use crate::frame::{Binder, Binding, Frame, Next, Task};
 use crate::lists::{
     arguments_after, items_after, nodes_after, pmd_arguments_after, sets_after, sets_from,
     texts_after,
@@ -23,9 +24,31 @@ use crate::truths::{chosen, comparison, tested, truths_after};
 use crate::turns::turn_after;
 use pj_xsteps::{At, Setting};
 use pj_xvalue::{Attributes, Sequence, XFault};
+use std::alloc::Global;
+
+/// What comes of the sequence of a variable.
+fn source_after<'e, 't>(
+    alloc: Global,
+    binding: Binding,
+    binder: Binder<'e>,
+    value: Sequence<'t>,
+    scope: &mut Scope<'e, 't>,
+) -> Result<Next<'e, 't>, XFault>
+    ensures goes { (a : Around) (reply : Replies) (c : Context) →
+        GoesIf a reply (reacted a reply (SourceFrame binding.entry binder.entry) c scope.old (values_of value.entry)) c scope.new c (scope_left (SourceFrame binding.entry binder.entry) scope.old) result }
+    ensures of_tree { (n : ℕ) → OfTree n (values_of value.entry) → IfOk result (λ next. NextOfTree n next) }
+    ensures scope { (n : ℕ) → OfTree n (values_of value.entry) → VariablesOfTree n (variables_of scope.old) → OnOk result (VariablesOfTree n (variables_of scope.new)) }
+{
+    match binding {
+        Binding::For => for_over(alloc, binder, value, scope),
+        Binding::Quantified(quantifier) => {
+            quantified_over(alloc, quantifier, binder, value, scope)
+        }
+        Binding::Let(bound) => let_after(bound, binder, value, scope),
+    }
+}
 
 /// What a frame makes of the value that it waits for.
-#[tactic(auto, using(crate::proofs::OfTree::of_tree))]
 pub fn react<'e, 't, A: Attributes>(
     setting: &Setting<'t, A>,
     frame: Frame<'e, 't>,
@@ -75,11 +98,7 @@ pub fn react<'e, 't, A: Attributes>(
         Frame::Sign(sign) => signed_value(setting, sign, &value),
         Frame::First(what, rest) => Ok(Next::Over(what, rest, value)),
         Frame::Turns(turns) => turn_after(turns, value, at),
-        Frame::Source(Binding::For, binder) => for_over(alloc, binder, value, scope),
-        Frame::Source(Binding::Quantified(quantifier), binder) => {
-            quantified_over(alloc, quantifier, binder, value, scope)
-        }
-        Frame::Source(Binding::Let(bound), binder) => let_after(bound, binder, value, scope),
+        Frame::Source(binding, binder) => source_after(alloc, binding, binder, value, scope),
         Frame::For(turns) => for_after(alloc, turns, value, scope),
         Frame::Quantified(turns) => quantified_after(alloc, turns, &value, scope),
         Frame::LetBody(count) => Ok(let_body(count, value, scope)),
