@@ -1,5 +1,5 @@
 -- What constructs of several operands promise, in the form in which the code's facts stand.
-use Rattle.std.proofs.Common.{◌≡◌, ℕ, ◌-◌, ◌<◌, ◌≤◌, ℤ, pos, ◌+ℤ◌, ◌-ℤ◌, Bool, true, List, [], ◌∷◌, map, length, take, drop, get_or, IsTrue, Option, Some, None, Result, Ok, Err, sym, ◌∙◌, ap, subst, arith}
+use Rattle.std.proofs.Common.{◌≡◌, ℕ, ◌-◌, ◌<◌, ◌≤◌, ℤ, pos, ◌+ℤ◌, ◌-ℤ◌, Bool, true, false, List, [], ◌∷◌, map, length, take, drop, get_or, IsTrue, Option, Some, None, Result, Ok, Err, refl, sym, ◌∙◌, ap, subst, arith}
 use Rattle.std.specs.List.{range_with_len}
 use Rattle.std.specs.Prelude.{if◌then◌else◌, not}
 use Rattle.pj_xvalue.specs.declared.expr.Quantifier.{Quantifier}
@@ -40,9 +40,23 @@ pub goes-same : (a : Around) (reply : Replies) (c : Context) (s : Scoped) (c_lef
     → GoesIf a reply m c s c_left s_left result → GoesIf a reply n c s c_left s_left result
 goes-same a reply c s c_left s_left result m n is h = subst (λ (meant : Means (List ItemValue)). GoesIf a reply meant c s c_left s_left result) is h
 
+-- the same of a construct that begins with what was made without asking
+pub goes-made : {A : Type 0} (a : Around) (reply : Replies) (c : Context) (s : Scoped) (c_left : Context) (s_left : Scoped) (result : Result Next XFault) (meant : Result A XCode → Means (List ItemValue)) (r : Result A XCode) (value : A) → Ok value ≡ r
+    → GoesIf a reply (meant (Ok value)) c s c_left s_left result → GoesIf a reply (meant r) c s c_left s_left result
+goes-made {A} a reply c s c_left s_left result meant r value is h = subst (λ (made : Result A XCode). GoesIf a reply (meant made) c s c_left s_left result) is h
+
+-- a construct with a test
+pub goes-then : (a : Around) (reply : Replies) (c : Context) (s : Scoped) (c_left : Context) (s_left : Scoped) (result : Result Next XFault) (b : Bool) (m n : Means (List ItemValue)) → b ≡ true
+    → GoesIf a reply m c s c_left s_left result → GoesIf a reply (if b then m else n) c s c_left s_left result
+goes-then a reply c s c_left s_left result b m n is h = subst (λ (test : Bool). GoesIf a reply (if test then m else n) c s c_left s_left result) (sym is) h
+
+pub goes-else : (a : Around) (reply : Replies) (c : Context) (s : Scoped) (c_left : Context) (s_left : Scoped) (result : Result Next XFault) (b : Bool) (m n : Means (List ItemValue)) → b ≡ false
+    → GoesIf a reply n c s c_left s_left result → GoesIf a reply (if b then m else n) c s c_left s_left result
+goes-else a reply c s c_left s_left result b m n is h = subst (λ (test : Bool). GoesIf a reply (if test then m else n) c s c_left s_left result) (sym is) h
+
 -- numbers are of every tree
 each_integer : (from : ℤ) (ks : List ℕ) → IsTrue (are_atomic (map (λ k. Integer (from +ℤ pos k)) ks))
-each_integer from [] = tt
+each_integer from [] = refl
 each_integer from (k ∷ ks) = each_integer from ks
 
 pub range-of_tree : (n : ℕ) (from to : Option ℤ) → OfTree n (range from to)

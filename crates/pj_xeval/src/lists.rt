@@ -34,7 +34,6 @@ pub fn items<'e, 't>(found: Sequence<'t>, parts: &'e [Expr]) -> Next<'e, 't>
 }
 
 /// The same with one more value.
-#[tactic(auto, using(crate::proofs::OfTree::of_tree))]
 pub fn items_after<'e, 't>(
     found: Sequence<'t>,
     parts: &'e [Expr],
@@ -56,7 +55,6 @@ fn text_item<'t>(text: String) -> Item<'t>
 }
 
 /// `a || b || ..` with the text so far and the operands left.
-#[tactic(auto, using(crate::proofs::Steps::steps))]
 pub fn texts<'e, 't>(
     alloc: Global,
     text: String,
@@ -75,7 +73,6 @@ pub fn texts<'e, 't>(
 }
 
 /// The same with one more value.
-#[tactic(auto, using(crate::proofs::Steps::steps))]
 pub fn texts_after<'e, 't, A: Attributes>(
     setting: &Setting<'t, A>,
     text: String,
@@ -95,7 +92,6 @@ pub fn texts_after<'e, 't, A: Attributes>(
 }
 
 /// `a | b | ..` with the nodes so far and the operands left.
-#[tactic(auto, using(crate::proofs::Steps::steps))]
 pub fn nodes<'e, 't>(found: NodeItems<'t>, parts: &'e [Expr]) -> Next<'e, 't>
     ensures goes { (a : Around) (reply : Replies) (c : Context) (s : Scoped) → Goes a reply (chain (here c (variables_of s)) with_nodes (map (denotes a reply) parts.now) (values_of found.entry) ▷ λ all. give (ordered all)) c s c s result }
     ensures of_tree { (n : ℕ) → OfTree n (values_of found.entry) → NextOfTree n result }
@@ -107,7 +103,6 @@ pub fn nodes<'e, 't>(found: NodeItems<'t>, parts: &'e [Expr]) -> Next<'e, 't>
 }
 
 /// The same with one more value.
-#[tactic(auto, using(crate::proofs::Steps::steps, crate::proofs::OfTree::of_tree))]
 pub fn nodes_after<'e, 't>(
     found: NodeItems<'t>,
     parts: &'e [Expr],
@@ -137,7 +132,6 @@ pub fn sets<'e, 't>(found: NodeItems<'t>, parts: &'e [(SetOperator, Expr)]) -> N
 }
 
 /// The first operand's value.
-#[tactic(auto, using(crate::proofs::Steps::steps, crate::proofs::OfTree::of_tree))]
 pub fn sets_from<'e, 't>(
     parts: &'e [(SetOperator, Expr)],
     value: Sequence<'t>,
@@ -151,7 +145,6 @@ pub fn sets_from<'e, 't>(
 }
 
 /// The same with one more value, behind its operator.
-#[tactic(auto, using(crate::proofs::Steps::steps, crate::proofs::OfTree::of_tree))]
 pub fn sets_after<'e, 't>(
     found: NodeItems<'t>,
     operator: SetOperator,
@@ -168,7 +161,6 @@ pub fn sets_after<'e, 't>(
 }
 
 /// A call of a function with the arguments so far and those left.
-#[tactic(auto, using(crate::proofs::Steps::steps, crate::proofs::OfTree::of_tree))]
 pub fn arguments<'e, 't, A: Attributes>(
     setting: &Setting<'t, A>,
     function: Function,
@@ -183,17 +175,17 @@ pub fn arguments<'e, 't, A: Attributes>(
         GoesIf a reply (chain (here at.now (variables_of s)) with_argument (map (denotes a reply) parts.now) (map values_of values.entry) ▷ λ all. judged (call_of a function at.now all)) at.now s at.now s result }
     ensures of_tree { IfOk result (λ next. NextOfTree (length setting.now.tree.now.nodes) next) }
 {
-    match parts {
-        [] => Ok(Next::Value(call(setting, function, at, &values)?)),
-        [part, rest @ ..] => Ok(Next::Within(
-            Task::Expression(part),
-            Frame::Arguments(function, values, rest),
-        )),
-    }
+    let [part, rest @ ..] = parts else {
+        let value = call(setting, function, at, &values)?;
+        return Ok(Next::Value(value));
+    };
+    Ok(Next::Within(
+        Task::Expression(part),
+        Frame::Arguments(function, values, rest),
+    ))
 }
 
 /// The same with one more argument.
-#[tactic(auto, using(crate::proofs::Steps::steps, crate::proofs::OfTree::of_tree))]
 pub fn arguments_after<'e, 't, A: Attributes>(
     setting: &Setting<'t, A>,
     function: Function,
@@ -216,7 +208,6 @@ pub fn arguments_after<'e, 't, A: Attributes>(
 }
 
 /// A call of a function of PMD with the arguments so far and those left.
-#[tactic(auto, using(crate::proofs::Steps::steps, crate::proofs::OfTree::of_tree))]
 pub fn pmd_arguments<'e, 't>(
     function: PmdFunction,
     values: Arguments<'t>,
@@ -241,7 +232,6 @@ pub fn pmd_arguments<'e, 't>(
 }
 
 /// The same with one more argument.
-#[tactic(auto, using(crate::proofs::Steps::steps, crate::proofs::OfTree::of_tree))]
 pub fn pmd_arguments_after<'e, 't>(
     function: PmdFunction,
     values: Arguments<'t>,

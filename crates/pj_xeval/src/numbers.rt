@@ -18,7 +18,6 @@ use pj_xvalue::{Additive, Attributes, Expr, Multiplicative, Sequence, Sign, XFau
 use std::alloc::Global;
 
 /// A sum with the total so far and the operands left.
-#[tactic(auto, using(crate::proofs::Steps::steps))]
 pub fn terms<'e, 't>(
     alloc: Global,
     total: Option<i64>,
@@ -38,7 +37,6 @@ pub fn terms<'e, 't>(
 }
 
 /// The first operand's value.
-#[tactic(auto, using(crate::proofs::Steps::steps))]
 pub fn terms_from<'e, 't, A: Attributes>(
     setting: &Setting<'t, A>,
     parts: &'e [(Additive, Expr)],
@@ -55,7 +53,6 @@ pub fn terms_from<'e, 't, A: Attributes>(
 }
 
 /// A further operand's value, behind its operator.
-#[tactic(auto, using(crate::proofs::Steps::steps))]
 pub fn terms_after<'e, 't, A: Attributes>(
     setting: &Setting<'t, A>,
     total: Option<i64>,
@@ -75,7 +72,6 @@ pub fn terms_after<'e, 't, A: Attributes>(
 }
 
 /// A product with the total so far and the operands left.
-#[tactic(auto, using(crate::proofs::Steps::steps))]
 pub fn factors<'e, 't>(
     alloc: Global,
     total: Option<i64>,
@@ -95,7 +91,6 @@ pub fn factors<'e, 't>(
 }
 
 /// The first operand's value.
-#[tactic(auto, using(crate::proofs::Steps::steps))]
 pub fn factors_from<'e, 't, A: Attributes>(
     setting: &Setting<'t, A>,
     parts: &'e [(Multiplicative, Expr)],
@@ -112,7 +107,6 @@ pub fn factors_from<'e, 't, A: Attributes>(
 }
 
 /// A further operand's value, behind its operator.
-#[tactic(auto, using(crate::proofs::Steps::steps))]
 pub fn factors_after<'e, 't, A: Attributes>(
     setting: &Setting<'t, A>,
     total: Option<i64>,

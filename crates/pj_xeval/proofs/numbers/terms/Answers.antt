@@ -1,4 +1,4 @@
-use Rattle.std.proofs.Common.{◌×◌, refl}
+use Rattle.std.proofs.Common.{refl}
 use Rattle.pj_xvalue.specs.declared.expr.Additive.{Additive}
 use Rattle.pj_xvalue.specs.declared.expr.Expr.{Expr}
 use Rattle.pj_xdenotes.specs.Arithmetic.{number_items}
