@@ -9,6 +9,7 @@ use Rattle.pj_xvalue.specs.Boolean.{effective_boolean}
 use Rattle.pj_xvalue.specs.Items.{ItemValue, Integer, are_atomic}
 use Rattle.pj_xvalue.specs.OfTree.{OfTree}
 use Rattle.pj_xvalue.specs.OfTreeLaws.{of_tree-nil, of_tree-one, of_tree-atomic}
+use Rattle.pj_xfuncs.specs.Arguments.{and_then}
 use Rattle.pj_xdenotes.specs.Arithmetic.{integers, natural, number_items, range}
 use Rattle.pj_xdenotes.specs.Context.{Around, Context}
 use Rattle.pj_xdenotes.specs.Means.{Means, give, judged, ◌>>=◌, chain, decided, decides, one_boolean}
@@ -44,6 +45,16 @@ goes-same a reply c s c_left s_left result m n is h = subst (λ (meant : Means (
 pub goes-made : {A : Type 0} (a : Around) (reply : Replies) (c : Context) (s : Scoped) (c_left : Context) (s_left : Scoped) (result : Result Next XFault) (meant : Result A XCode → Means (List ItemValue)) (r : Result A XCode) (value : A) → Ok value ≡ r
     → GoesIf a reply (meant (Ok value)) c s c_left s_left result → GoesIf a reply (meant r) c s c_left s_left result
 goes-made {A} a reply c s c_left s_left result meant r value is h = subst (λ (made : Result A XCode). GoesIf a reply (meant made) c s c_left s_left result) is h
+
+abbrev ok_of : {B : Type 0} → B → Result B XCode
+ok_of value = Ok value
+
+-- what is made of what was made
+pub made-then : {A B : Type 0} (r : Result A XCode) (x : A) (f : A → Result B XCode) (value : B) → Ok x ≡ r → Ok value ≡ f x → Ok value ≡ and_then r f
+made-then {A} r x f value is then_is = then_is ∙ ap (λ (made : Result A XCode). and_then made f) is
+
+pub made-as : {A B : Type 0} (r : Result A XCode) (x : A) (f : A → B) (value : B) → Ok x ≡ r → value ≡ f x → Ok value ≡ and_then r (λ y. Ok (f y))
+made-as {A} {B} r x f value is as_is = ap (λ (v : B). ok_of v) as_is ∙ ap (λ (made : Result A XCode). and_then made (λ y. Ok (f y))) is
 
 -- a construct with a test
 pub goes-then : (a : Around) (reply : Replies) (c : Context) (s : Scoped) (c_left : Context) (s_left : Scoped) (result : Result Next XFault) (b : Bool) (m n : Means (List ItemValue)) → b ≡ true

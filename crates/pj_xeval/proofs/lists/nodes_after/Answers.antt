@@ -10,7 +10,7 @@ use Rattle.pj_xdenotes.specs.Denotes.{denotes, here, with_nodes}
 use Rattle.pj_xdenotes.specs.Means.{◌>>=◌, chain, give, judged}
 use Rattle.pj_xdenotes.specs.Operands.{only_nodes}
 use Rattle.pj_xeval.specs.Scopes.{variables_of}
-use Rattle.pj_xeval.proofs.ListGoals.{goes-made}
+use Rattle.pj_xeval.proofs.ListGoals.{goes-made, made-as}
 use Rattle.pj_xeval.proofs.OfTree.{of_tree-behind}
 use Rattle.pj_xeval.proofs.lists.nodes_after.Goals as goal
 
@@ -19,8 +19,8 @@ returns-clause-goes c = λ a reply at s.
     goes-made a reply at s at s (Ok c.nodes.result)
         (λ (made : Result (List ItemValue) XCode). (judged made >>= λ more. chain (here at (variables_of s)) with_nodes (map (denotes a reply) c.args.parts.now) more) >>= λ all. give (ordered all))
         (and_then (only_nodes (values_of c.args.value)) (λ more. Ok (values_of c.args.found ++ more))) (values_of c.in_ok-found.found)
-        (ap (λ (all : List ItemValue). Ok {A = List ItemValue} {E = XCode} all) (ap values_of c.in_ok-found.ensures ∙ map-append value_of_item c.args.found c.in_ok-more.more)
-            ∙ ap (λ (made : Result (List ItemValue) XCode). and_then made (λ more. Ok (values_of c.args.found ++ more))) c.in_ok-more.ensures.value)
+        (made-as (only_nodes (values_of c.args.value)) (values_of c.in_ok-more.more) (λ more. values_of c.args.found ++ more) (values_of c.in_ok-found.found) c.in_ok-more.ensures.value
+            (ap values_of c.in_ok-found.ensures ∙ map-append value_of_item c.args.found c.in_ok-more.more))
         (c.nodes.ensures.goes a reply at s)
 
 pub returns-clause-of_tree : goal.returns-clause-of_tree
