@@ -1,6 +1,10 @@
 pub mod Asked
+pub mod Binding
 pub mod Fronts
 pub mod OfTree
+pub mod Scoping
+pub mod Stepping
 pub mod Steps
+pub mod Turned
 pub mod Turning
 pub mod Whole
