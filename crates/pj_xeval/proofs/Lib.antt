@@ -1,6 +1,8 @@
 pub mod Asked
+pub mod Asking
 pub mod Binding
 pub mod Fronts
+pub mod Kept
 pub mod OfTree
 pub mod Scoping
 pub mod Stepping

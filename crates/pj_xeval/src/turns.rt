@@ -109,7 +109,7 @@ fn finish<'e, 't>(
 }
 
 /// The turn of the next item, or the end of the turns, where the context around is the context again.
-#[tactic(auto, using(crate::proofs::Steps::steps, crate::proofs::OfTree::of_tree))]
+#[tactic(auto, using(crate::proofs::OfTree::of_tree))]
 fn next_turn<'e, 't>(
     turns: Turns<'e, 't>,
     at: &mut At<'t>,
@@ -140,7 +140,7 @@ fn next_turn<'e, 't>(
 }
 
 /// The items found with what the value of a turn adds.
-#[tactic(auto, using(crate::proofs::Steps::steps, crate::proofs::OfTree::of_tree))]
+#[tactic(auto, using(crate::proofs::OfTree::of_tree))]
 fn with_turn<'t>(
     what: Turn,
     position: u64,
@@ -172,7 +172,7 @@ fn with_turn<'t>(
 }
 
 /// The value of one turn.
-#[tactic(auto, using(crate::proofs::Steps::steps, crate::proofs::OfTree::of_tree))]
+#[tactic(auto, using(crate::proofs::OfTree::of_tree))]
 pub fn turn_after<'e, 't>(
     turns: Turns<'e, 't>,
     value: Sequence<'t>,
@@ -202,7 +202,7 @@ fn ordered_last<'t>(what: Turn, items: Sequence<'t>) -> Sequence<'t>
 }
 
 /// Predicates, steps or parts over items.
-#[tactic(auto, using(crate::proofs::Steps::steps, crate::proofs::OfTree::of_tree))]
+#[tactic(auto, using(crate::proofs::OfTree::of_tree))]
 pub fn turns_over<'e, 't>(
     alloc: Global,
     what: Turn,
