@@ -1,5 +1,5 @@
 -- What stays of the tree where variables are bound and taken back, and truths that decide.
-use Rattle.std.proofs.Common.{◌≡◌, ℕ, Bool, true, false, List, [], ◌∷◌, ◌++◌, Result, Ok, Err, refl, sym, ◌∙◌, ap, subst}
+use Rattle.std.proofs.Common.{◌≡◌, ℕ, ◌<◌, Bool, true, false, List, [], ◌∷◌, ◌++◌, length, Result, Ok, Err, refl, sym, ◌∙◌, ap, subst, arith}
 use Rattle.std.specs.Prelude.{if◌then◌else◌, OnOk}
 use Rattle.pj_xvalue.specs.declared.expr.Quantifier.{Quantifier}
 use Rattle.pj_xvalue.specs.declared.fault.XCode.{XCode}
@@ -10,6 +10,11 @@ use Rattle.pj_xvalue.specs.OfTreeLaws.{of_tree-nil, of_tree-one}
 use Rattle.pj_xdenotes.specs.Means.{Means, give, after, decides, one_boolean}
 use Rattle.pj_xeval.specs.Scopes.{Scoped, variables_of, with_variable, without}
 use Rattle.pj_xeval.proofs.OfTree.{of_tree-last, variables-with, variables-without}
+
+-- no member is left
+pub nothing : {X : Type 0} (xs : List X) → length xs < 1 → xs ≡ []
+nothing [] h = refl
+nothing (x ∷ xs) h = absurd (omega arith)
 
 -- what holds also holds where there is a value
 pub on-ok : {A E : Type 0} (P : Type 0) (r : Result A E) → P → OnOk r P
@@ -34,8 +39,8 @@ unbound-of_tree n count s less is k = subst (λ (t : Scoped). VariablesOfTree n 
 -- a truth that decides, and one that does not
 pub decides-now : (q : Quantifier) (truth : Bool) (e : Result Bool XCode) (others : Means (List ItemValue)) → Ok truth ≡ e → decides q truth ≡ true
     → give (one_boolean truth) ≡ after (λ t. if decides q t then give (one_boolean t) else others) e
-decides-now q truth e others is yes = sym (ap (λ (b : Bool). if b then give (one_boolean truth) else others) yes) ∙ ap (λ (r : Result Bool XCode). after (λ t. if decides q t then give (one_boolean t) else others) r) is
+decides-now q truth e others is decided = sym (ap (λ (b : Bool). if b then give (one_boolean truth) else others) decided) ∙ ap (λ (r : Result Bool XCode). after (λ t. if decides q t then give (one_boolean t) else others) r) is
 
 pub decides-not : (q : Quantifier) (truth : Bool) (e : Result Bool XCode) (others : Means (List ItemValue)) → Ok truth ≡ e → decides q truth ≡ false
     → others ≡ after (λ t. if decides q t then give (one_boolean t) else others) e
-decides-not q truth e others is not = sym (ap (λ (b : Bool). if b then give (one_boolean truth) else others) not) ∙ ap (λ (r : Result Bool XCode). after (λ t. if decides q t then give (one_boolean t) else others) r) is
+decides-not q truth e others is undecided = sym (ap (λ (b : Bool). if b then give (one_boolean truth) else others) undecided) ∙ ap (λ (r : Result Bool XCode). after (λ t. if decides q t then give (one_boolean t) else others) r) is

@@ -116,7 +116,7 @@ fn next_turn<'e, 't>(
 ) -> Result<Next<'e, 't>, XFault>
     ensures goes { (a : Around) (reply : Replies) (s : Scoped) → GoesIf a reply (turns_left a reply turns.entry (values_of turns.entry.found) (variables_of s)) at.new s turns.entry.outer s result }
     ensures of_tree { (n : ℕ) → TurnsOfTree n turns.entry → IfOk result (λ next. NextOfTree n next) }
-    ensures item { (n : ℕ) → TurnsOfTree n turns.entry → OnOk result (IsOfTree n at.new.item) }
+    ensures item { (n : ℕ) → OfTree n (values_of turns.entry.left) → IsOfTree n turns.entry.outer.item → OnOk result (IsOfTree n at.new.item) }
 {
     let Turns { what, part, left, position, size, found, rest, outer } = turns;
     let mut left = left;

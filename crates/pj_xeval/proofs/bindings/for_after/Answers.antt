@@ -9,7 +9,7 @@ use Rattle.pj_xeval.proofs.Kept.{unbound-of_tree}
 use Rattle.pj_xeval.proofs.OfTree.{of_tree-behind}
 use Rattle.pj_xeval.proofs.bindings.for_after.Goals as goal
 
-pub returns-clause-goes : goal.returns-in_ok-append-clause-goes
+pub returns-clause-goes : goal.returns-clause-goes
 returns-clause-goes c = λ a reply k.
     subst (λ (m : Means (List ItemValue)). GoesIf a reply m k c.for_turn.new.scope k (without 1 c.args.scope.now) c.for_turn.result)
     (for-more a reply k c.args.turns c.append.new.self c.args.value (variables_of (without 1 c.args.scope.now)) c.in_ok-append.ensures.ok)
@@ -21,4 +21,4 @@ returns-clause-of_tree c = λ n h more.
 
 pub returns-clause-scope : goal.returns-clause-scope
 returns-clause-scope c = λ n h k.
-    c.for_turn.ensures.scope n (record { left = h.left; found = ? }) (unbound-of_tree n 1 c.args.scope.now c.unbind.new.self c.unbind.ensures k)
+    c.for_turn.ensures.scope n h.left (unbound-of_tree n 1 c.args.scope.now c.unbind.new.self c.unbind.ensures k)

@@ -19,4 +19,4 @@ pub returns-clause-of_tree : goal.returns-clause-of_tree
 returns-clause-of_tree c = λ n h. c.for_turn.ensures.of_tree n (record { left = c.turned_back-left.ensures.of_tree n h; found = none-of_tree n c.new-found.result c.new-found.ensures })
 
 pub returns-clause-scope : goal.returns-clause-scope
-returns-clause-scope c = λ n h k. c.for_turn.ensures.scope n (record { left = c.turned_back-left.ensures.of_tree n h; found = none-of_tree n c.new-found.result c.new-found.ensures }) k
+returns-clause-scope c = λ n h k. c.for_turn.ensures.scope n (c.turned_back-left.ensures.of_tree n h) k

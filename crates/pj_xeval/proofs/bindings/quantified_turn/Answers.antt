@@ -19,11 +19,11 @@ returns-in-None-clause-of_tree c = λ n h. c.boolean.ensures.of_tree n
 
 pub returns-clause-goes : goal.returns-clause-goes
 returns-clause-goes c = λ a reply k.
-    quantified-taken a reply k c.args.turns c.pop.new.self c.in-Some.item c.one.result-ok c.args.scope.now c.bind.new.self c.in-Some.ensures c.in_ok-one-in-Some.ensures c.in_ok-bind-in-Some.ensures
+    quantified-taken a reply k c.args.turns c.pop.new.self c.in-Some.item c.in_ok-one-in-Some.field-0 c.args.scope.now c.bind.new.self c.in-Some.ensures c.in_ok-one-in-Some.ensures c.in_ok-bind-in-Some.ensures
 
 pub returns-clause-of_tree : goal.returns-clause-of_tree
 returns-clause-of_tree c = λ n h. of_tree-before n c.args.turns.left c.pop.new.self c.in-Some.item c.in-Some.ensures h
 
 pub returns-clause-scope : goal.returns-clause-scope
 returns-clause-scope c = λ n h k.
-    taken-of_tree n c.args.turns.name.now c.args.turns.left c.pop.new.self c.in-Some.item c.one.result-ok c.args.scope.now c.bind.new.self c.in-Some.ensures c.in_ok-one-in-Some.ensures c.in_ok-bind-in-Some.ensures h k
+    taken-of_tree n c.args.turns.name.now c.args.turns.left c.pop.new.self c.in-Some.item c.in_ok-one-in-Some.field-0 c.args.scope.now c.bind.new.self c.in-Some.ensures c.in_ok-one-in-Some.ensures c.in_ok-bind-in-Some.ensures h k
