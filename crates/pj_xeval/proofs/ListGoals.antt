@@ -3,6 +3,7 @@ use Rattle.std.proofs.Common.{◌≡◌, ℕ, ◌-◌, ◌<◌, ◌≤◌, ℤ, 
 use Rattle.std.specs.List.{range_with_len}
 use Rattle.std.specs.Prelude.{if◌then◌else◌, not}
 use Rattle.pj_xvalue.specs.declared.expr.Quantifier.{Quantifier}
+use Rattle.pj_xvalue.specs.declared.expr.Expr.{Expr}
 use Rattle.pj_xvalue.specs.declared.fault.XCode.{XCode}
 use Rattle.pj_xvalue.specs.declared.fault.XFault.{XFault}
 use Rattle.pj_xvalue.specs.Boolean.{effective_boolean}
@@ -12,11 +13,12 @@ use Rattle.pj_xvalue.specs.OfTreeLaws.{of_tree-nil, of_tree-one, of_tree-atomic}
 use Rattle.pj_xfuncs.specs.Arguments.{and_then}
 use Rattle.pj_xdenotes.specs.Arithmetic.{integers, natural, number_items, range}
 use Rattle.pj_xdenotes.specs.Context.{Around, Context}
+use Rattle.pj_xdenotes.specs.Denotes.{denotes}
 use Rattle.pj_xdenotes.specs.Means.{Means, give, judged, ◌>>=◌, chain, decided, decides, one_boolean}
 use Rattle.pj_xeval.specs.declared.frame.Next.{Next}
 use Rattle.pj_xeval.specs.Frames.{Replies}
 use Rattle.pj_xeval.specs.Going.{GoesIf}
-use Rattle.pj_xeval.specs.Scopes.{Scoped}
+use Rattle.pj_xeval.specs.Scopes.{Scoped, variables_of}
 use Rattle.pj_xeval.proofs.Fronts.{whole}
 use Rattle.pj_xeval.proofs.Steps.{chain-then}
 
@@ -40,6 +42,11 @@ decided-none f q m (p ∷ ps) truth few is = absurd (omega arith)
 pub goes-same : (a : Around) (reply : Replies) (c : Context) (s : Scoped) (c_left : Context) (s_left : Scoped) (result : Result Next XFault) (m n : Means (List ItemValue)) → m ≡ n
     → GoesIf a reply m c s c_left s_left result → GoesIf a reply n c s c_left s_left result
 goes-same a reply c s c_left s_left result m n is h = subst (λ (meant : Means (List ItemValue)). GoesIf a reply meant c s c_left s_left result) is h
+
+-- a construct of one form of an expression, which means what the form denotes
+pub goes-form : (a : Around) (reply : Replies) (c : Context) (s : Scoped) (result : Result Next XFault) (e form : Expr) (m : Means (List ItemValue)) → e ≡ form → m ≡ denotes a reply form c (variables_of s)
+    → GoesIf a reply m c s c s result → GoesIf a reply (denotes a reply e c (variables_of s)) c s c s result
+goes-form a reply c s result e form m is means h = goes-same a reply c s c s result m (denotes a reply e c (variables_of s)) (means ∙ ap (λ (x : Expr). denotes a reply x c (variables_of s)) (sym is)) h
 
 -- the same of a construct that begins with what was made without asking
 pub goes-made : {A : Type 0} (a : Around) (reply : Replies) (c : Context) (s : Scoped) (c_left : Context) (s_left : Scoped) (result : Result Next XFault) (meant : Result A XCode → Means (List ItemValue)) (r : Result A XCode) (value : A) → Ok value ≡ r

@@ -128,7 +128,7 @@ fn valued<'e, 't>(items: Sequence<'t>) -> Result<Next<'e, 't>, XFault>
 }
 
 /// How an expression begins.
-#[tactic(none)]
+#[tactic(auto, using(pj_xdenotes::proofs::Forms::forms, crate::proofs::OfTree::of_tree))]
 fn expression<'e, 't, A: Attributes>(
     setting: &Setting<'t, A>,
     expr: &'e Expr,

@@ -51,7 +51,7 @@ pub fn for_turn<'e, 't>(
 ) -> Result<Next<'e, 't>, XFault>
     ensures goes { (a : Around) (reply : Replies) (c : Context) → GoesIf a reply (for_left a reply turns.entry (values_of turns.entry.found) c (variables_of scope.old)) c scope.new c scope.old result }
     ensures of_tree { (n : ℕ) → ForTurnsOfTree n turns.entry → IfOk result (λ next. NextOfTree n next) }
-    ensures scope { (n : ℕ) → ForTurnsOfTree n turns.entry → VariablesOfTree n (variables_of scope.old) → OnOk result (VariablesOfTree n (variables_of scope.new)) }
+    ensures scope { (n : ℕ) → OfTree n (values_of turns.entry.left) → VariablesOfTree n (variables_of scope.old) → OnOk result (VariablesOfTree n (variables_of scope.new)) }
 {
     let ForTurns { name, left, found, rest, body } = turns;
     let mut left = left;

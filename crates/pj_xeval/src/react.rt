@@ -69,38 +69,42 @@ pub fn react<'e, 't, A: Attributes>(
 {
     let alloc = setting.alloc;
     match frame {
-        Frame::Items(found, rest) => items_after(found, rest, value),
-        Frame::Text(text, rest) => texts_after(setting, text, rest, &value),
-        Frame::Nodes(found, rest) => nodes_after(found, rest, value),
+        Frame::Items(found, rest) => return items_after(found, rest, value),
+        Frame::Text(text, rest) => return texts_after(setting, text, rest, &value),
+        Frame::Nodes(found, rest) => return nodes_after(found, rest, value),
         Frame::Arguments(function, values, rest) => {
-            arguments_after(setting, function, values, rest, at, value)
+            return arguments_after(setting, function, values, rest, at, value);
         }
         Frame::PmdArguments(function, values, rest) => {
-            pmd_arguments_after(function, values, rest, value)
+            return pmd_arguments_after(function, values, rest, value);
         }
-        Frame::FirstTerm(rest) => terms_from(setting, rest, &value),
-        Frame::Term(total, operator, rest) => terms_after(setting, total, operator, rest, &value),
-        Frame::FirstFactor(rest) => factors_from(setting, rest, &value),
+        Frame::FirstTerm(rest) => return terms_from(setting, rest, &value),
+        Frame::Term(total, operator, rest) => {
+            return terms_after(setting, total, operator, rest, &value);
+        }
+        Frame::FirstFactor(rest) => return factors_from(setting, rest, &value),
         Frame::Factor(total, operator, rest) => {
-            factors_after(setting, total, operator, rest, &value)
+            return factors_after(setting, total, operator, rest, &value);
         }
-        Frame::FirstSet(rest) => sets_from(rest, value),
-        Frame::Set(found, operator, rest) => sets_after(found, operator, rest, value),
-        Frame::Truths(quantifier, rest) => truths_after(alloc, quantifier, rest, &value),
-        Frame::Truth => tested(alloc, &value),
-        Frame::If(yes, no) => chosen(yes, no, &value),
+        Frame::FirstSet(rest) => return sets_from(rest, value),
+        Frame::Set(found, operator, rest) => return sets_after(found, operator, rest, value),
+        Frame::Truths(quantifier, rest) => return truths_after(alloc, quantifier, rest, &value),
+        Frame::Truth => return tested(alloc, &value),
+        Frame::If(yes, no) => return chosen(yes, no, &value),
         Frame::Left(op, right) => {
-            Ok(Next::Within(Task::Expression(right), Frame::Right(op, value)))
+            return Ok(Next::Within(Task::Expression(right), Frame::Right(op, value)));
         }
-        Frame::Right(op, left) => comparison(setting, op, &left, &value),
-        Frame::From(to) => range_from(setting, to, &value),
-        Frame::To(from) => range_to(setting, from, &value),
-        Frame::Sign(sign) => signed_value(setting, sign, &value),
-        Frame::First(what, rest) => Ok(Next::Over(what, rest, value)),
-        Frame::Turns(turns) => turn_after(turns, value, at),
-        Frame::Source(binding, binder) => source_after(alloc, binding, binder, value, scope),
-        Frame::For(turns) => for_after(alloc, turns, value, scope),
-        Frame::Quantified(turns) => quantified_after(alloc, turns, &value, scope),
-        Frame::LetBody(count) => Ok(let_body(count, value, scope)),
+        Frame::Right(op, left) => return comparison(setting, op, &left, &value),
+        Frame::From(to) => return range_from(setting, to, &value),
+        Frame::To(from) => return range_to(setting, from, &value),
+        Frame::Sign(sign) => return signed_value(setting, sign, &value),
+        Frame::First(what, rest) => return Ok(Next::Over(what, rest, value)),
+        Frame::Turns(turns) => return turn_after(turns, value, at),
+        Frame::Source(binding, binder) => {
+            return source_after(alloc, binding, binder, value, scope);
+        }
+        Frame::For(turns) => return for_after(alloc, turns, value, scope),
+        Frame::Quantified(turns) => return quantified_after(alloc, turns, &value, scope),
+        Frame::LetBody(count) => return Ok(let_body(count, value, scope)),
     }
 }

@@ -109,14 +109,14 @@ fn finish<'e, 't>(
 }
 
 /// The turn of the next item, or the end of the turns, where the context around is the context again.
-#[tactic(auto, using(crate::proofs::Steps::steps, crate::proofs::OfTree::of_tree))]
+#[tactic(auto, using(crate::proofs::OfTree::of_tree))]
 fn next_turn<'e, 't>(
     turns: Turns<'e, 't>,
     at: &mut At<'t>,
 ) -> Result<Next<'e, 't>, XFault>
     ensures goes { (a : Around) (reply : Replies) (s : Scoped) → GoesIf a reply (turns_left a reply turns.entry (values_of turns.entry.found) (variables_of s)) at.new s turns.entry.outer s result }
     ensures of_tree { (n : ℕ) → TurnsOfTree n turns.entry → IfOk result (λ next. NextOfTree n next) }
-    ensures item { (n : ℕ) → TurnsOfTree n turns.entry → OnOk result (IsOfTree n at.new.item) }
+    ensures item { (n : ℕ) → OfTree n (values_of turns.entry.left) → IsOfTree n turns.entry.outer.item → OnOk result (IsOfTree n at.new.item) }
 {
     let Turns { what, part, left, position, size, found, rest, outer } = turns;
     let mut left = left;
@@ -140,7 +140,7 @@ fn next_turn<'e, 't>(
 }
 
 /// The items found with what the value of a turn adds.
-#[tactic(auto, using(crate::proofs::Steps::steps, crate::proofs::OfTree::of_tree))]
+#[tactic(auto, using(crate::proofs::OfTree::of_tree))]
 fn with_turn<'t>(
     what: Turn,
     position: u64,
@@ -172,7 +172,7 @@ fn with_turn<'t>(
 }
 
 /// The value of one turn.
-#[tactic(auto, using(crate::proofs::Steps::steps, crate::proofs::OfTree::of_tree))]
+#[tactic(auto, using(crate::proofs::OfTree::of_tree))]
 pub fn turn_after<'e, 't>(
     turns: Turns<'e, 't>,
     value: Sequence<'t>,
@@ -202,7 +202,7 @@ fn ordered_last<'t>(what: Turn, items: Sequence<'t>) -> Sequence<'t>
 }
 
 /// Predicates, steps or parts over items.
-#[tactic(auto, using(crate::proofs::Steps::steps, crate::proofs::OfTree::of_tree))]
+#[tactic(auto, using(crate::proofs::OfTree::of_tree))]
 pub fn turns_over<'e, 't>(
     alloc: Global,
     what: Turn,
