@@ -32,10 +32,10 @@ pub frame-is : (n : ℕ) (top form : Frame) → top ≡ form → FrameOfTree n t
 frame-is n top form is h = subst (λ (f : Frame). FrameOfTree n f) is h
 
 -- the variable of one construct
-pub goes-source : (a : Around) (reply : Replies) (b form : Binding) (binder : Binder) (c : Context) (s s_new : Scoped) (value : List ItemValue) (result : Result Next XFault) → b ≡ form
-    → GoesIf a reply (reacted a reply (frame.Source form binder) c s value) c s_new c (scope_left (frame.Source form binder) s) result
+pub goes-source : (a : Around) (reply : Replies) (b like : Binding) (binder : Binder) (c : Context) (s s_new : Scoped) (value : List ItemValue) (result : Result Next XFault) → b ≡ like
+    → GoesIf a reply (reacted a reply (frame.Source like binder) c s value) c s_new c (scope_left (frame.Source like binder) s) result
     → GoesIf a reply (reacted a reply (frame.Source b binder) c s value) c s_new c (scope_left (frame.Source b binder) s) result
-goes-source a reply b form binder c s s_new value result is h = subst (λ (x : Binding). GoesIf a reply (reacted a reply (frame.Source x binder) c s value) c s_new c (scope_left (frame.Source x binder) s) result) (sym is) h
+goes-source a reply b like binder c s s_new value result is h = subst (λ (x : Binding). GoesIf a reply (reacted a reply (frame.Source x binder) c s value) c s_new c (scope_left (frame.Source x binder) s) result) (sym is) h
 
 -- a literal is of every tree
 pub literal-of_tree : (n : ℕ) (value : Option ℤ) (items : List ItemValue) → Ok items ≡ literal value → OfTree n items

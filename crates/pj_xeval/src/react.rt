@@ -35,7 +35,7 @@ fn source_after<'e, 't>(
     scope: &mut Scope<'e, 't>,
 ) -> Result<Next<'e, 't>, XFault>
     ensures goes { (a : Around) (reply : Replies) (c : Context) →
-        GoesIf a reply (reacted a reply (SourceFrame binding.entry binder.entry) c scope.old (values_of value.entry)) c scope.new c (scope_left (SourceFrame binding.entry binder.entry) scope.old) result }
+        GoesIf a reply (reacted a reply (SourceFrame binding binder.entry) c scope.old (values_of value.entry)) c scope.new c (scope_left (SourceFrame binding binder.entry) scope.old) result }
     ensures of_tree { (n : ℕ) → OfTree n (values_of value.entry) → IfOk result (λ next. NextOfTree n next) }
     ensures scope { (n : ℕ) → OfTree n (values_of value.entry) → VariablesOfTree n (variables_of scope.old) → OnOk result (VariablesOfTree n (variables_of scope.new)) }
 {

@@ -14,7 +14,7 @@ pub returns-in-Items-clause-goes : goal.returns-in-Items-clause-goes
 returns-in-Items-clause-goes g c = λ reply.
     let a = around c.args.setting.now.tree.now (g.A.Attributes.attribute_of c.args.setting.now.facts.now) (g.A.Attributes.names_of c.args.setting.now.facts.now) c.args.setting.now.patterns.now in
     let at = c.args.at.now in
-    let s = s in
+    let s = c.args.scope.now in
     goes-frame a reply c.args.frame _ at s (values_of c.args.value) at s c.items_after.result c.in-Items.is (c.items_after.ensures.goes a reply at s)
 
 pub returns-in-Items-clause-of_tree : goal.returns-in-Items-clause-of_tree
@@ -30,7 +30,7 @@ pub returns-in-Text-clause-goes : goal.returns-in-Text-clause-goes
 returns-in-Text-clause-goes g c = λ reply.
     let a = around c.args.setting.now.tree.now (g.A.Attributes.attribute_of c.args.setting.now.facts.now) (g.A.Attributes.names_of c.args.setting.now.facts.now) c.args.setting.now.patterns.now in
     let at = c.args.at.now in
-    let s = s in
+    let s = c.args.scope.now in
     goes-frame a reply c.args.frame _ at s (values_of c.args.value) at s c.texts_after.result c.in-Text.is (c.texts_after.ensures.goes reply at s)
 
 pub returns-in-Text-clause-of_tree : goal.returns-in-Text-clause-of_tree
@@ -46,7 +46,7 @@ pub returns-in-Nodes-clause-goes : goal.returns-in-Nodes-clause-goes
 returns-in-Nodes-clause-goes g c = λ reply.
     let a = around c.args.setting.now.tree.now (g.A.Attributes.attribute_of c.args.setting.now.facts.now) (g.A.Attributes.names_of c.args.setting.now.facts.now) c.args.setting.now.patterns.now in
     let at = c.args.at.now in
-    let s = s in
+    let s = c.args.scope.now in
     goes-frame a reply c.args.frame _ at s (values_of c.args.value) at s c.nodes_after.result c.in-Nodes.is (c.nodes_after.ensures.goes a reply at s)
 
 pub returns-in-Nodes-clause-of_tree : goal.returns-in-Nodes-clause-of_tree
@@ -62,7 +62,7 @@ pub returns-in-Arguments-clause-goes : goal.returns-in-Arguments-clause-goes
 returns-in-Arguments-clause-goes g c = λ reply.
     let a = around c.args.setting.now.tree.now (g.A.Attributes.attribute_of c.args.setting.now.facts.now) (g.A.Attributes.names_of c.args.setting.now.facts.now) c.args.setting.now.patterns.now in
     let at = c.args.at.now in
-    let s = s in
+    let s = c.args.scope.now in
     goes-frame a reply c.args.frame _ at s (values_of c.args.value) at s c.arguments_after.result c.in-Arguments.is (c.arguments_after.ensures.goes reply s)
 
 pub returns-in-Arguments-clause-of_tree : goal.returns-in-Arguments-clause-of_tree
@@ -87,7 +87,7 @@ pub returns-in-PmdArguments-clause-goes : goal.returns-in-PmdArguments-clause-go
 returns-in-PmdArguments-clause-goes g c = λ reply.
     let a = around c.args.setting.now.tree.now (g.A.Attributes.attribute_of c.args.setting.now.facts.now) (g.A.Attributes.names_of c.args.setting.now.facts.now) c.args.setting.now.patterns.now in
     let at = c.args.at.now in
-    let s = s in
+    let s = c.args.scope.now in
     goes-frame a reply c.args.frame _ at s (values_of c.args.value) at s c.pmd_arguments_after.result c.in-PmdArguments.is (c.pmd_arguments_after.ensures.goes a reply at s)
 
 pub returns-in-PmdArguments-clause-of_tree : goal.returns-in-PmdArguments-clause-of_tree
@@ -103,7 +103,7 @@ pub returns-in-FirstTerm-clause-goes : goal.returns-in-FirstTerm-clause-goes
 returns-in-FirstTerm-clause-goes g c = λ reply.
     let a = around c.args.setting.now.tree.now (g.A.Attributes.attribute_of c.args.setting.now.facts.now) (g.A.Attributes.names_of c.args.setting.now.facts.now) c.args.setting.now.patterns.now in
     let at = c.args.at.now in
-    let s = s in
+    let s = c.args.scope.now in
     goes-frame a reply c.args.frame _ at s (values_of c.args.value) at s c.terms_from.result c.in-FirstTerm.is (c.terms_from.ensures.goes reply at s)
 
 pub returns-in-FirstTerm-clause-of_tree : goal.returns-in-FirstTerm-clause-of_tree
@@ -122,7 +122,7 @@ pub returns-in-Term-clause-goes : goal.returns-in-Term-clause-goes
 returns-in-Term-clause-goes g c = λ reply.
     let a = around c.args.setting.now.tree.now (g.A.Attributes.attribute_of c.args.setting.now.facts.now) (g.A.Attributes.names_of c.args.setting.now.facts.now) c.args.setting.now.patterns.now in
     let at = c.args.at.now in
-    let s = s in
+    let s = c.args.scope.now in
     goes-frame a reply c.args.frame _ at s (values_of c.args.value) at s c.terms_after.result c.in-Term.is (c.terms_after.ensures.goes reply at s)
 
 pub returns-in-Term-clause-of_tree : goal.returns-in-Term-clause-of_tree
@@ -141,7 +141,7 @@ pub returns-in-FirstFactor-clause-goes : goal.returns-in-FirstFactor-clause-goes
 returns-in-FirstFactor-clause-goes g c = λ reply.
     let a = around c.args.setting.now.tree.now (g.A.Attributes.attribute_of c.args.setting.now.facts.now) (g.A.Attributes.names_of c.args.setting.now.facts.now) c.args.setting.now.patterns.now in
     let at = c.args.at.now in
-    let s = s in
+    let s = c.args.scope.now in
     goes-frame a reply c.args.frame _ at s (values_of c.args.value) at s c.factors_from.result c.in-FirstFactor.is (c.factors_from.ensures.goes reply at s)
 
 pub returns-in-FirstFactor-clause-of_tree : goal.returns-in-FirstFactor-clause-of_tree
@@ -160,7 +160,7 @@ pub returns-in-Factor-clause-goes : goal.returns-in-Factor-clause-goes
 returns-in-Factor-clause-goes g c = λ reply.
     let a = around c.args.setting.now.tree.now (g.A.Attributes.attribute_of c.args.setting.now.facts.now) (g.A.Attributes.names_of c.args.setting.now.facts.now) c.args.setting.now.patterns.now in
     let at = c.args.at.now in
-    let s = s in
+    let s = c.args.scope.now in
     goes-frame a reply c.args.frame _ at s (values_of c.args.value) at s c.factors_after.result c.in-Factor.is (c.factors_after.ensures.goes reply at s)
 
 pub returns-in-Factor-clause-of_tree : goal.returns-in-Factor-clause-of_tree
@@ -179,7 +179,7 @@ pub returns-in-From-clause-goes : goal.returns-in-From-clause-goes
 returns-in-From-clause-goes g c = λ reply.
     let a = around c.args.setting.now.tree.now (g.A.Attributes.attribute_of c.args.setting.now.facts.now) (g.A.Attributes.names_of c.args.setting.now.facts.now) c.args.setting.now.patterns.now in
     let at = c.args.at.now in
-    let s = s in
+    let s = c.args.scope.now in
     goes-frame a reply c.args.frame _ at s (values_of c.args.value) at s c.range_from.result c.in-From.is (c.range_from.ensures.goes reply at s)
 
 pub returns-in-From-clause-of_tree : goal.returns-in-From-clause-of_tree
@@ -198,7 +198,7 @@ pub returns-in-To-clause-goes : goal.returns-in-To-clause-goes
 returns-in-To-clause-goes g c = λ reply.
     let a = around c.args.setting.now.tree.now (g.A.Attributes.attribute_of c.args.setting.now.facts.now) (g.A.Attributes.names_of c.args.setting.now.facts.now) c.args.setting.now.patterns.now in
     let at = c.args.at.now in
-    let s = s in
+    let s = c.args.scope.now in
     goes-frame a reply c.args.frame _ at s (values_of c.args.value) at s c.range_to.result c.in-To.is (c.range_to.ensures.goes reply at s)
 
 pub returns-in-To-clause-of_tree : goal.returns-in-To-clause-of_tree
@@ -217,7 +217,7 @@ pub returns-in-Sign-clause-goes : goal.returns-in-Sign-clause-goes
 returns-in-Sign-clause-goes g c = λ reply.
     let a = around c.args.setting.now.tree.now (g.A.Attributes.attribute_of c.args.setting.now.facts.now) (g.A.Attributes.names_of c.args.setting.now.facts.now) c.args.setting.now.patterns.now in
     let at = c.args.at.now in
-    let s = s in
+    let s = c.args.scope.now in
     goes-frame a reply c.args.frame _ at s (values_of c.args.value) at s c.signed_value.result c.in-Sign.is (c.signed_value.ensures.goes reply at s)
 
 pub returns-in-Sign-clause-of_tree : goal.returns-in-Sign-clause-of_tree
@@ -239,7 +239,7 @@ pub returns-in-FirstSet-clause-goes : goal.returns-in-FirstSet-clause-goes
 returns-in-FirstSet-clause-goes g c = λ reply.
     let a = around c.args.setting.now.tree.now (g.A.Attributes.attribute_of c.args.setting.now.facts.now) (g.A.Attributes.names_of c.args.setting.now.facts.now) c.args.setting.now.patterns.now in
     let at = c.args.at.now in
-    let s = s in
+    let s = c.args.scope.now in
     goes-frame a reply c.args.frame _ at s (values_of c.args.value) at s c.sets_from.result c.in-FirstSet.is (c.sets_from.ensures.goes a reply at s)
 
 pub returns-in-FirstSet-clause-of_tree : goal.returns-in-FirstSet-clause-of_tree
@@ -255,7 +255,7 @@ pub returns-in-Set-clause-goes : goal.returns-in-Set-clause-goes
 returns-in-Set-clause-goes g c = λ reply.
     let a = around c.args.setting.now.tree.now (g.A.Attributes.attribute_of c.args.setting.now.facts.now) (g.A.Attributes.names_of c.args.setting.now.facts.now) c.args.setting.now.patterns.now in
     let at = c.args.at.now in
-    let s = s in
+    let s = c.args.scope.now in
     goes-frame a reply c.args.frame _ at s (values_of c.args.value) at s c.sets_after.result c.in-Set.is (c.sets_after.ensures.goes a reply at s)
 
 pub returns-in-Set-clause-of_tree : goal.returns-in-Set-clause-of_tree
@@ -271,7 +271,7 @@ pub returns-in-Truths-clause-goes : goal.returns-in-Truths-clause-goes
 returns-in-Truths-clause-goes g c = λ reply.
     let a = around c.args.setting.now.tree.now (g.A.Attributes.attribute_of c.args.setting.now.facts.now) (g.A.Attributes.names_of c.args.setting.now.facts.now) c.args.setting.now.patterns.now in
     let at = c.args.at.now in
-    let s = s in
+    let s = c.args.scope.now in
     goes-frame a reply c.args.frame _ at s (values_of c.args.value) at s c.truths_after.result c.in-Truths.is (c.truths_after.ensures.goes a reply at s)
 
 pub returns-in-Truths-clause-of_tree : goal.returns-in-Truths-clause-of_tree
@@ -287,7 +287,7 @@ pub returns-in-Truth-clause-goes : goal.returns-in-Truth-clause-goes
 returns-in-Truth-clause-goes g c = λ reply.
     let a = around c.args.setting.now.tree.now (g.A.Attributes.attribute_of c.args.setting.now.facts.now) (g.A.Attributes.names_of c.args.setting.now.facts.now) c.args.setting.now.patterns.now in
     let at = c.args.at.now in
-    let s = s in
+    let s = c.args.scope.now in
     goes-frame a reply c.args.frame _ at s (values_of c.args.value) at s c.tested.result c.in-Truth.is (c.tested.ensures.goes a reply at s)
 
 pub returns-in-Truth-clause-of_tree : goal.returns-in-Truth-clause-of_tree
@@ -303,7 +303,7 @@ pub returns-in-If-clause-goes : goal.returns-in-If-clause-goes
 returns-in-If-clause-goes g c = λ reply.
     let a = around c.args.setting.now.tree.now (g.A.Attributes.attribute_of c.args.setting.now.facts.now) (g.A.Attributes.names_of c.args.setting.now.facts.now) c.args.setting.now.patterns.now in
     let at = c.args.at.now in
-    let s = s in
+    let s = c.args.scope.now in
     goes-frame a reply c.args.frame _ at s (values_of c.args.value) at s c.chosen.result c.in-If.is (c.chosen.ensures.goes a reply at s)
 
 pub returns-in-If-clause-of_tree : goal.returns-in-If-clause-of_tree
@@ -319,7 +319,7 @@ pub returns-in-Left-clause-goes : goal.returns-in-Left-clause-goes
 returns-in-Left-clause-goes g c = λ reply.
     let a = around c.args.setting.now.tree.now (g.A.Attributes.attribute_of c.args.setting.now.facts.now) (g.A.Attributes.names_of c.args.setting.now.facts.now) c.args.setting.now.patterns.now in
     let at = c.args.at.now in
-    let s = s in
+    let s = c.args.scope.now in
     goes-frame a reply c.args.frame _ at s (values_of c.args.value) at s (Ok (next.Within (task.Expression c.in-Left.right) (frame.Right c.in-Left.op c.args.value))) c.in-Left.is (record { meaning = refl; context = refl; scope = refl })
 
 pub returns-in-Left-clause-of_tree : goal.returns-in-Left-clause-of_tree
@@ -335,7 +335,7 @@ pub returns-in-Right-clause-goes : goal.returns-in-Right-clause-goes
 returns-in-Right-clause-goes g c = λ reply.
     let a = around c.args.setting.now.tree.now (g.A.Attributes.attribute_of c.args.setting.now.facts.now) (g.A.Attributes.names_of c.args.setting.now.facts.now) c.args.setting.now.patterns.now in
     let at = c.args.at.now in
-    let s = s in
+    let s = c.args.scope.now in
     goes-frame a reply c.args.frame _ at s (values_of c.args.value) at s c.comparison.result c.in-Right.is (c.comparison.ensures.goes reply at s)
 
 pub returns-in-Right-clause-of_tree : goal.returns-in-Right-clause-of_tree
@@ -357,7 +357,7 @@ pub returns-in-First-clause-goes : goal.returns-in-First-clause-goes
 returns-in-First-clause-goes g c = λ reply.
     let a = around c.args.setting.now.tree.now (g.A.Attributes.attribute_of c.args.setting.now.facts.now) (g.A.Attributes.names_of c.args.setting.now.facts.now) c.args.setting.now.patterns.now in
     let at = c.args.at.now in
-    let s = s in
+    let s = c.args.scope.now in
     goes-frame a reply c.args.frame _ at s (values_of c.args.value) at s (Ok (next.Over c.in-First.what c.in-First.rest c.args.value)) c.in-First.is (record { meaning = refl; context = refl; scope = refl })
 
 pub returns-in-First-clause-of_tree : goal.returns-in-First-clause-of_tree
@@ -373,7 +373,7 @@ pub returns-in-Turns-clause-goes : goal.returns-in-Turns-clause-goes
 returns-in-Turns-clause-goes g c = λ reply.
     let a = around c.args.setting.now.tree.now (g.A.Attributes.attribute_of c.args.setting.now.facts.now) (g.A.Attributes.names_of c.args.setting.now.facts.now) c.args.setting.now.patterns.now in
     let at = c.args.at.now in
-    let s = s in
+    let s = c.args.scope.now in
     goes-frame a reply c.args.frame _ at s (values_of c.args.value) c.turn_after.new.at s c.turn_after.result c.in-Turns.is (c.turn_after.ensures.goes a reply s)
 
 pub returns-in-Turns-clause-of_tree : goal.returns-in-Turns-clause-of_tree
@@ -389,7 +389,7 @@ pub returns-in-Source-clause-goes : goal.returns-in-Source-clause-goes
 returns-in-Source-clause-goes g c = λ reply.
     let a = around c.args.setting.now.tree.now (g.A.Attributes.attribute_of c.args.setting.now.facts.now) (g.A.Attributes.names_of c.args.setting.now.facts.now) c.args.setting.now.patterns.now in
     let at = c.args.at.now in
-    let s = s in
+    let s = c.args.scope.now in
     goes-frame a reply c.args.frame _ at s (values_of c.args.value) at c.source_after.new.scope c.source_after.result c.in-Source.is (c.source_after.ensures.goes a reply at)
 
 pub returns-in-Source-clause-of_tree : goal.returns-in-Source-clause-of_tree
@@ -405,7 +405,7 @@ pub returns-in-For-clause-goes : goal.returns-in-For-clause-goes
 returns-in-For-clause-goes g c = λ reply.
     let a = around c.args.setting.now.tree.now (g.A.Attributes.attribute_of c.args.setting.now.facts.now) (g.A.Attributes.names_of c.args.setting.now.facts.now) c.args.setting.now.patterns.now in
     let at = c.args.at.now in
-    let s = s in
+    let s = c.args.scope.now in
     goes-frame a reply c.args.frame _ at s (values_of c.args.value) at c.for_after.new.scope c.for_after.result c.in-For.is (c.for_after.ensures.goes a reply at)
 
 pub returns-in-For-clause-of_tree : goal.returns-in-For-clause-of_tree
@@ -421,7 +421,7 @@ pub returns-in-Quantified-clause-goes : goal.returns-in-Quantified-clause-goes
 returns-in-Quantified-clause-goes g c = λ reply.
     let a = around c.args.setting.now.tree.now (g.A.Attributes.attribute_of c.args.setting.now.facts.now) (g.A.Attributes.names_of c.args.setting.now.facts.now) c.args.setting.now.patterns.now in
     let at = c.args.at.now in
-    let s = s in
+    let s = c.args.scope.now in
     goes-frame a reply c.args.frame _ at s (values_of c.args.value) at c.quantified_after.new.scope c.quantified_after.result c.in-Quantified.is (c.quantified_after.ensures.goes a reply at)
 
 pub returns-in-Quantified-clause-of_tree : goal.returns-in-Quantified-clause-of_tree
@@ -437,7 +437,7 @@ pub returns-in-LetBody-clause-goes : goal.returns-in-LetBody-clause-goes
 returns-in-LetBody-clause-goes g c = λ reply.
     let a = around c.args.setting.now.tree.now (g.A.Attributes.attribute_of c.args.setting.now.facts.now) (g.A.Attributes.names_of c.args.setting.now.facts.now) c.args.setting.now.patterns.now in
     let at = c.args.at.now in
-    let s = s in
+    let s = c.args.scope.now in
     goes-frame a reply c.args.frame _ at s (values_of c.args.value) at c.let_body.new.scope (Ok c.let_body.result) c.in-LetBody.is (c.let_body.ensures.goes a reply at)
 
 pub returns-in-LetBody-clause-of_tree : goal.returns-in-LetBody-clause-of_tree
