@@ -8,8 +8,8 @@ use Rattle.pj_xeval.specs.Going.{NextOfTree, FramesOfTree, state_meaning}
 use Rattle.pj_xeval.specs.Scopes.{variables_of}
 use Rattle.pj_xeval.proofs.evaluator.value_of.Given as goal
 
-abbrev pub invariant-loop-_call : goal.invariant-loop-_call
-invariant-loop-_call g l =
+abbrev pub invariant-loop-call : goal.invariant-loop-call
+invariant-loop-call g l =
     let a = around l.setting.tree.now (g.A.Attributes.attribute_of l.setting.facts.now) (g.A.Attributes.names_of l.setting.facts.now) l.setting.patterns.now in
     let reply = g.C.Calls.reply l.fn.calls in
     record {
