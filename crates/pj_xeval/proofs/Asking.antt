@@ -1,8 +1,9 @@
 -- The beginning of a whole evaluation, and its calls of functions of PMD.
 use Rattle.std.proofs.Common.{◌≡◌, ℕ, ◌<◌, List, [], map, reverse, refl, sym, ◌∙◌, ap, subst}
 use Rattle.std.specs.Option.{ForSome}
-use Rattle.pj_names.specs.Told.{Told, Asks}
+use Rattle.pj_names.specs.Told.{Told}
 use Rattle.pj_names.specs.AskingLaws.{ComesTo, comes-begin}
+use Rattle.pj_tree.specs.declared.node.Node.{Node}
 use Rattle.pj_xvalue.specs.declared.expr.Expr.{Expr}
 use Rattle.pj_xvalue.specs.Items.{ItemValue, Document, Element, Attribute, String, Integer, Boolean, IsOfTree}
 use Rattle.pj_xvalue.specs.OfTree.{VariablesOfTree}
@@ -18,12 +19,12 @@ use Rattle.pj_xeval.proofs.Whole.{resumed-nil}
 
 -- the context node is of the tree
 pub node-inside : (n : ℕ) (x : ItemValue) → IsOfTree n x → ForSome (node_in x) (λ m. m.0 < n)
-node-inside n Document h = tt
-node-inside n (Element m) h = h
-node-inside n (Attribute m place) h = tt
-node-inside n (String text) h = tt
-node-inside n (Integer z) h = tt
-node-inside n (Boolean b) h = tt
+node-inside n Document h = λ m is. absurd (cc)
+node-inside n (Element k) h = λ m is. let same : k ≡ m = cc in subst (λ (y : Node). y.0 < n) same h
+node-inside n (Attribute k place) h = λ m is. absurd (cc)
+node-inside n (String text) h = λ m is. absurd (cc)
+node-inside n (Integer z) h = λ m is. absurd (cc)
+node-inside n (Boolean b) h = λ m is. absurd (cc)
 
 -- the variables that are given
 pub given-of_tree : (n : ℕ) (given : Variables) (s : Scoped) → s ≡ record { bound = []; given = given } → VariablesOfTree n given → VariablesOfTree n (variables_of s)

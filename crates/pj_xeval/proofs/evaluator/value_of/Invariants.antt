@@ -14,7 +14,7 @@ invariant-loop-call g l =
     let reply = g.C.Calls.reply l.fn.calls in
     record {
       nodes : g.C.Calls.nodes l.calls ≡ g.C.Calls.nodes l.fn.calls;
-      reply : g.C.Calls.reply l.calls ≡ reply;
+      same_reply : g.C.Calls.reply l.calls ≡ reply;
       next : NextOfTree (length l.setting.tree.now.nodes) l.next;
       frames : FramesOfTree (length l.setting.tree.now.nodes) l.frames;
       item : IsOfTree (length l.setting.tree.now.nodes) l.at.item;
