@@ -37,7 +37,7 @@ module _ (a : Around) (reply : Replies) where
   pub turns-ended : (turns : Turns) (v : Variables) → turns.left ≡ [] → finished turns.what v (map (denotes a reply) turns.rest.now) (values_of turns.found) ≡ turns_left a reply turns (values_of turns.found) v
   turns-ended turns v is =
       ap (λ (xs : List Item). chain (evaluated turns.what (denotes a reply turns.part.now) turns.size v) (taken turns.what) (numbered (turns.position + 1) (reverse (values_of xs))) (values_of turns.found)
-        >>= λ all. finished turns.what v (map (denotes a reply) turns.rest.now) all) (sym is)
+      >>= λ all. finished turns.what v (map (denotes a reply) turns.rest.now) all) (sym is)
 
   -- the next item's turn
   pub turns-taken : (turns : Turns) (left : List Item) (x : Item) (q : ℕ) (c : Context) (s : Scoped) → turns.left ≡ left ++ x ∷ [] → q ≡ turns.position + 1 → c ≡ at (value_of_item x) q turns.size → may_turn turns.what (is_node (value_of_item x)) ≡ true
@@ -62,14 +62,14 @@ module _ (a : Around) (reply : Replies) where
       → turns_left a reply (record turns { found = found }) (values_of found) v ≡ turns_after a reply turns (values_of value) c v
   turn-added turns found value c v is =
       ap (λ (m : Result (List ItemValue) XCode). (judged m >>= λ more. chain (evaluated turns.what (denotes a reply turns.part.now) turns.size v) (taken turns.what) (numbered (turns.position + 1) (reverse (values_of turns.left))) more)
-        >>= λ all. finished turns.what v (map (denotes a reply) turns.rest.now) all) is
+      >>= λ all. finished turns.what v (map (denotes a reply) turns.rest.now) all) is
 
   -- a value that is an error
   pub turn-stops : (turns : Turns) (value : List ItemValue) (c : Context) (s : Scoped) (e : XFault) (r : Result (List Item) XFault) → r ≡ Err e → IsGiven (taken turns.what (turns.position, c.item) (values_of turns.found) value) (outcome values_of r)
       → (c' : Context) → GoesIf a reply (turns_after a reply turns value c (variables_of s)) c' s turns.outer s (Err e)
   turn-stops turns value c s (Code code) r is h = λ c'.
       ap (λ (m : Result (List ItemValue) XCode). (judged m >>= λ more. chain (evaluated turns.what (denotes a reply turns.part.now) turns.size (variables_of s)) (taken turns.what) (numbered (turns.position + 1) (reverse (values_of turns.left))) more)
-        >>= λ all. finished turns.what (variables_of s) (map (denotes a reply) turns.rest.now) all)
+      >>= λ all. finished turns.what (variables_of s) (map (denotes a reply) turns.rest.now) all)
       (subst (λ (q : Result (List Item) XFault). IsGiven (taken turns.what (turns.position, c.item) (values_of turns.found) value) (outcome values_of q)) is h)
   turn-stops turns value c s (Ask Memory) r is h = λ c'. tt
   turn-stops turns value c s (Ask Failed) r is h = λ c'. subst (λ (q : Result (List Item) XFault). IsGiven (taken turns.what (turns.position, c.item) (values_of turns.found) value) (outcome values_of q)) is h
@@ -77,7 +77,7 @@ module _ (a : Around) (reply : Replies) where
   -- the first turn
   pub turns-begin : (what : Turn) (parts : List Expr) (part : Expr) (rest : List Expr) (size : ℕ) (items left found : List Item) (v : Variables) → parts ≡ part ∷ rest → size ≡ length items → values_of left ≡ reverse (values_of items) → found ≡ []
       → (chain (evaluated what (denotes a reply part) size v) (taken what) (numbered (0 + 1) (reverse (values_of left))) (values_of found) >>= λ all. finished what v (map (denotes a reply) rest) all)
-        ≡ over what v (map (denotes a reply) parts) (values_of items)
+      ≡ over what v (map (denotes a reply) parts) (values_of items)
   turns-begin what parts part rest size items left found v is counted back none =
       ap (λ (xs : List Item). chain (evaluated what (denotes a reply part) size v) (taken what) (numbered 1 (reverse (values_of left))) (values_of xs) >>= λ all. finished what v (map (denotes a reply) rest) all) none
       ∙ ap (λ (xs : List ItemValue). chain (evaluated what (denotes a reply part) size v) (taken what) (numbered 1 xs) [] >>= λ all. finished what v (map (denotes a reply) rest) all) (ap reverse back ∙ reverse-reverse (values_of items))

@@ -37,7 +37,7 @@ module _ (what : Turn) (d : Denotation) (size : ℕ) (v : Variables) (end : List
   -- the next item's turn
   pub turn-next : (all before : List Item) (x : Item) (p q : ℕ) (found : List ItemValue) → all ≡ before ++ x ∷ [] → q ≡ p + 1 → may_turn what (is_node (value_of_item x)) ≡ true
       → (d (at (value_of_item x) q size) v >>= λ value. ((judged (taken what (q, value_of_item x) found value) >>= λ more. chain (evaluated what d size v) (taken what) (numbered (q + 1) (reverse (values_of before))) more) >>= end))
-        ≡ (chain (evaluated what d size v) (taken what) (numbered (p + 1) (reverse (values_of all))) found >>= end)
+      ≡ (chain (evaluated what d size v) (taken what) (numbered (p + 1) (reverse (values_of all))) found >>= end)
   turn-next all before x p q found is at_q may =
       ap (λ (m : Means (List ItemValue)). m >>= λ value. ((judged (taken what (q, value_of_item x) found value) >>= λ more. chain (evaluated what d size v) (taken what) (numbered (q + 1) (reverse (values_of before))) more) >>= end)) (sym (evaluated-may what d size v q (value_of_item x) may))
       ∙ chain-then (evaluated what d size v) (taken what) end (q, value_of_item x) (numbered (q + 1) (reverse (values_of before))) found
@@ -58,5 +58,5 @@ module _ (name : List ℕ) (d : Denotation) (c : Context) (v : Variables) where
 
   pub quantified-next : (q : Quantifier) (all before : List Item) (x : Item) → all ≡ before ++ x ∷ []
       → (d c ((name, value_of_item x ∷ []) ∷ v) >>= λ value. judged (effective_boolean value) >>= λ truth. if decides q truth then give (one_boolean truth) else decided q (with_item name d c v) (reverse (values_of before)))
-        ≡ decided q (with_item name d c v) (reverse (values_of all))
+      ≡ decided q (with_item name d c v) (reverse (values_of all))
   quantified-next q all before x is = ap (λ xs. decided q (with_item name d c v) xs) (sym (next_first all before x is))

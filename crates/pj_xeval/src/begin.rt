@@ -90,10 +90,7 @@ fn path_from<'e, 't>(alloc: Global, steps: &'e [Expr]) -> Next<'e, 't>
 {
     match steps {
         [] => Next::Value(Sequence::new(alloc)),
-        [first, rest @ ..] => Next::Within(
-            Task::Expression(first),
-            Frame::First(Turn::Step, rest),
-        ),
+        [first, rest @ ..] => Next::Within(Task::Expression(first), Frame::First(Turn::Step, rest)),
     }
 }
 
@@ -104,10 +101,7 @@ fn map_from<'e, 't>(alloc: Global, parts: &'e [Expr]) -> Next<'e, 't>
 {
     match parts {
         [] => Next::Value(Sequence::new(alloc)),
-        [first, rest @ ..] => Next::Within(
-            Task::Expression(first),
-            Frame::First(Turn::Part, rest),
-        ),
+        [first, rest @ ..] => Next::Within(Task::Expression(first), Frame::First(Turn::Part, rest)),
     }
 }
 
@@ -161,9 +155,15 @@ fn expression<'e, 't, A: Attributes>(
         Expr::Concatenation(parts) => return texts(alloc, String::new(alloc), parts.as_slice()),
         Expr::Range(from, to) => return within(from, Frame::From(to)),
         Expr::Additive(first, rest) => return within(first, Frame::FirstTerm(rest.as_slice())),
-        Expr::Multiplicative(first, rest) => return within(first, Frame::FirstFactor(rest.as_slice())),
+        Expr::Multiplicative(first, rest) => return within(
+            first,
+            Frame::FirstFactor(rest.as_slice()),
+        ),
         Expr::Union(parts) => return Ok(nodes(NodeItems::new(alloc), parts.as_slice())),
-        Expr::IntersectExcept(first, rest) => return within(first, Frame::FirstSet(rest.as_slice())),
+        Expr::IntersectExcept(first, rest) => return within(
+            first,
+            Frame::FirstSet(rest.as_slice()),
+        ),
         Expr::Unary(sign, operand) => {
             return within(operand, Frame::Sign(*sign));
         }
@@ -176,12 +176,21 @@ fn expression<'e, 't, A: Attributes>(
         Expr::AttributeStep(test, predicates) => {
             return attribute_step(setting, test, predicates.as_slice(), at);
         }
-        Expr::Filter(primary, predicates) => return within(primary, Frame::First(Turn::Forward, predicates.as_slice())),
+        Expr::Filter(primary, predicates) => return within(
+            primary,
+            Frame::First(Turn::Forward, predicates.as_slice()),
+        ),
         Expr::Integer(value) => return valued(literal(alloc, *value)?),
         Expr::String(text) => return valued(one(alloc, Item::Str(text.copied()?))?),
         Expr::Variable(name) => return valued(scope.value_of(alloc, name)?),
         Expr::ContextItem => return valued(one(alloc, at.item.copied()?)?),
-        Expr::Call(function, parts) => return arguments( setting, *function, Arguments::new(alloc), parts.as_slice(), at, ),
+        Expr::Call(function, parts) => return arguments(
+            setting,
+            *function,
+            Arguments::new(alloc),
+            parts.as_slice(),
+            at,
+        ),
         Expr::PmdCall(function, parts) => {
             return pmd_arguments(*function, Arguments::new(alloc), parts.as_slice());
         }

@@ -53,7 +53,13 @@ pub fn for_turn<'e, 't>(
     ensures of_tree { (n : ℕ) → ForTurnsOfTree n turns.entry → IfOk result (λ next. NextOfTree n next) }
     ensures scope { (n : ℕ) → OfTree n (values_of turns.entry.left) → VariablesOfTree n (variables_of scope.old) → OnOk result (VariablesOfTree n (variables_of scope.new)) }
 {
-    let ForTurns { name, left, found, rest, body } = turns;
+    let ForTurns {
+        name,
+        left,
+        found,
+        rest,
+        body,
+    } = turns;
     let mut left = left;
     match left.pop() {
         None => Ok(Next::Value(found)),
@@ -61,7 +67,13 @@ pub fn for_turn<'e, 't>(
             scope.bind(name, one(alloc, item)?)?;
             Ok(Next::Within(
                 Task::For(rest, body),
-                Frame::For(ForTurns { name, left, found, rest, body }),
+                Frame::For(ForTurns {
+                    name,
+                    left,
+                    found,
+                    rest,
+                    body,
+                }),
             ))
         }
     }
@@ -83,7 +95,17 @@ pub fn for_over<'e, 't>(
     let Binder { name, rest, body } = binder;
     let left = turned_back(value);
     let found = Sequence::new(alloc);
-    for_turn(alloc, ForTurns { name, left, found, rest, body }, scope)
+    for_turn(
+        alloc,
+        ForTurns {
+            name,
+            left,
+            found,
+            rest,
+            body,
+        },
+        scope,
+    )
 }
 
 /// The value of one turn of a `for`.
@@ -100,10 +122,26 @@ pub fn for_after<'e, 't>(
     ensures scope { (n : ℕ) → ForTurnsOfTree n turns.entry → VariablesOfTree n (variables_of scope.old) → OnOk result (VariablesOfTree n (variables_of scope.new)) }
 {
     scope.unbind();
-    let ForTurns { name, left, found, rest, body } = turns;
+    let ForTurns {
+        name,
+        left,
+        found,
+        rest,
+        body,
+    } = turns;
     let mut found = found;
     found.append(value)?;
-    for_turn(alloc, ForTurns { name, left, found, rest, body }, scope)
+    for_turn(
+        alloc,
+        ForTurns {
+            name,
+            left,
+            found,
+            rest,
+            body,
+        },
+        scope,
+    )
 }
 
 /// Begins a `some` or `every`.
@@ -142,7 +180,13 @@ pub fn quantified_turn<'e, 't>(
     ensures of_tree { (n : ℕ) → OfTree n (values_of turns.entry.left) → IfOk result (λ next. NextOfTree n next) }
     ensures scope { (n : ℕ) → OfTree n (values_of turns.entry.left) → VariablesOfTree n (variables_of scope.old) → OnOk result (VariablesOfTree n (variables_of scope.new)) }
 {
-    let QuantifiedTurns { quantifier, name, left, rest, test } = turns;
+    let QuantifiedTurns {
+        quantifier,
+        name,
+        left,
+        rest,
+        test,
+    } = turns;
     let mut left = left;
     match left.pop() {
         None => boolean(alloc, !decides(quantifier, true)),
@@ -150,7 +194,13 @@ pub fn quantified_turn<'e, 't>(
             scope.bind(name, one(alloc, item)?)?;
             Ok(Next::Within(
                 Task::Quantified(quantifier, rest, test),
-                Frame::Quantified(QuantifiedTurns { quantifier, name, left, rest, test }),
+                Frame::Quantified(QuantifiedTurns {
+                    quantifier,
+                    name,
+                    left,
+                    rest,
+                    test,
+                }),
             ))
         }
     }
@@ -172,7 +222,17 @@ pub fn quantified_over<'e, 't>(
 {
     let Binder { name, rest, body } = binder;
     let left = turned_back(value);
-    quantified_turn(alloc, QuantifiedTurns { quantifier, name, left, rest, test: body }, scope)
+    quantified_turn(
+        alloc,
+        QuantifiedTurns {
+            quantifier,
+            name,
+            left,
+            rest,
+            test: body,
+        },
+        scope,
+    )
 }
 
 /// The value of one turn of a `some` or `every`.
@@ -245,10 +305,7 @@ pub fn let_after<'e, 't>(
     let count = one_more(bound)?;
     scope.bind(name, value)?;
     match rest {
-        [] => Ok(Next::Within(
-            Task::Expression(body),
-            Frame::LetBody(count),
-        )),
+        [] => Ok(Next::Within(Task::Expression(body), Frame::LetBody(count))),
         [first, others @ ..] => Ok(Next::Within(
             Task::Expression(&first.1),
             Frame::Source(

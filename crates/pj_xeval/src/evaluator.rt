@@ -91,7 +91,13 @@ pub fn evaluate<'t, A: Attributes, C: Calls>(
     ensures asks { Asks (denotes (around tree.now (A.attribute_of facts.now) (A.names_of facts.now) focus.entry.patterns.now) (C.reply calls.old) expr.now
         (record { item = value_of_item focus.entry.item; position = focus.entry.position; size = focus.entry.size }) (given_of focus.entry.variables.now)) (C.tells calls.old) (C.tells calls.new) (outcome values_of result) }
 {
-    let Focus { item, position, size, variables, patterns } = focus;
+    let Focus {
+        item,
+        position,
+        size,
+        variables,
+        patterns,
+    } = focus;
     let setting = Setting {
         alloc,
         tree,

@@ -113,11 +113,7 @@ pub enum Frame<'e, 't> {
     /// The first operand of a product.
     FirstFactor(&'e [(Multiplicative, Expr)]),
     /// A further one behind its operator.
-    Factor(
-        Option<i64>,
-        Multiplicative,
-        &'e [(Multiplicative, Expr)],
-    ),
+    Factor(Option<i64>, Multiplicative, &'e [(Multiplicative, Expr)]),
     /// The first operand of `intersect` or `except`.
     FirstSet(&'e [(SetOperator, Expr)]),
     /// A further one behind its operator.

@@ -55,20 +55,13 @@ fn text_item<'t>(text: String) -> Item<'t>
 }
 
 /// `a || b || ..` with the text so far and the operands left.
-pub fn texts<'e, 't>(
-    alloc: Global,
-    text: String,
-    parts: &'e [Expr],
-) -> Result<Next<'e, 't>, XFault>
+pub fn texts<'e, 't>(alloc: Global, text: String, parts: &'e [Expr]) -> Result<Next<'e, 't>, XFault>
     ensures goes { (a : Around) (reply : Replies) (c : Context) (s : Scoped) → GoesIf a reply (chain (here c (variables_of s)) (with_text a) (map (denotes a reply) parts.now) (string_bytes text) ▷ λ all. give (StringValue all ∷ [])) c s c s result }
     ensures of_tree { (n : ℕ) → IfOk result (λ next. NextOfTree n next) }
 {
     match parts {
         [] => Ok(Next::Value(one(alloc, text_item(text))?)),
-        [part, rest @ ..] => Ok(Next::Within(
-            Task::Expression(part),
-            Frame::Text(text, rest),
-        )),
+        [part, rest @ ..] => Ok(Next::Within(Task::Expression(part), Frame::Text(text, rest))),
     }
 }
 

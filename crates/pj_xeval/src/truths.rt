@@ -47,10 +47,7 @@ pub fn truths<'e, 't>(
     let [part, rest @ ..] = parts else {
         return boolean(alloc, !decides(quantifier, true));
     };
-    Ok(Next::Within(
-        Task::Expression(part),
-        Frame::Truths(quantifier, rest),
-    ))
+    Ok(Next::Within(Task::Expression(part), Frame::Truths(quantifier, rest)))
 }
 
 /// The same with one more value.

@@ -71,7 +71,11 @@ fn item_out<'t>(at: &mut At<'t>) -> Item<'t>
     ensures value { value_of_item result ≡ at.old.item }
     ensures left { at.new.item ≡ DocumentValue }
 {
-    let At { item, position: _, size: _ } = taken_out(at);
+    let At {
+        item,
+        position: _,
+        size: _,
+    } = taken_out(at);
     item
 }
 
@@ -110,15 +114,21 @@ fn finish<'e, 't>(
 
 /// The turn of the next item, or the end of the turns, where the context around is the context again.
 #[tactic(auto, using(crate::proofs::OfTree::of_tree))]
-fn next_turn<'e, 't>(
-    turns: Turns<'e, 't>,
-    at: &mut At<'t>,
-) -> Result<Next<'e, 't>, XFault>
+fn next_turn<'e, 't>(turns: Turns<'e, 't>, at: &mut At<'t>) -> Result<Next<'e, 't>, XFault>
     ensures goes { (a : Around) (reply : Replies) (s : Scoped) → GoesIf a reply (turns_left a reply turns.entry (values_of turns.entry.found) (variables_of s)) at.new s turns.entry.outer s result }
     ensures of_tree { (n : ℕ) → TurnsOfTree n turns.entry → IfOk result (λ next. NextOfTree n next) }
     ensures item { (n : ℕ) → OfTree n (values_of turns.entry.left) → IsOfTree n turns.entry.outer.item → OnOk result (IsOfTree n at.new.item) }
 {
-    let Turns { what, part, left, position, size, found, rest, outer } = turns;
+    let Turns {
+        what,
+        part,
+        left,
+        position,
+        size,
+        found,
+        rest,
+        outer,
+    } = turns;
     let mut left = left;
     match left.pop() {
         None => {
@@ -133,7 +143,16 @@ fn next_turn<'e, 't>(
             *at = context(item, position, size)?;
             Ok(Next::Within(
                 Task::Expression(part),
-                Frame::Turns(Turns { what, part, left, position, size, found, rest, outer }),
+                Frame::Turns(Turns {
+                    what,
+                    part,
+                    left,
+                    position,
+                    size,
+                    found,
+                    rest,
+                    outer,
+                }),
             ))
         }
     }
@@ -182,9 +201,30 @@ pub fn turn_after<'e, 't>(
     ensures of_tree { (n : ℕ) → TurnsOfTree n turns.entry → OfTree n (values_of value.entry) → IsOfTree n at.old.item → IfOk result (λ next. NextOfTree n next) }
     ensures item { (n : ℕ) → TurnsOfTree n turns.entry → OnOk result (IsOfTree n at.new.item) }
 {
-    let Turns { what, part, left, position, size, found, rest, outer } = turns;
+    let Turns {
+        what,
+        part,
+        left,
+        position,
+        size,
+        found,
+        rest,
+        outer,
+    } = turns;
     let found = with_turn(what, position, found, value, at)?;
-    next_turn(Turns { what, part, left, position, size, found, rest, outer }, at)
+    next_turn(
+        Turns {
+            what,
+            part,
+            left,
+            position,
+            size,
+            found,
+            rest,
+            outer,
+        },
+        at,
+    )
 }
 
 /// The items behind the last of the parts: those of a reverse axis are turned back to document order.
@@ -221,7 +261,19 @@ pub fn turns_over<'e, 't>(
             let left = turned_back(items);
             let found = Sequence::new(alloc);
             let outer = taken_out(at);
-            next_turn(Turns { what, part, left, position: 0, size, found, rest, outer }, at)
+            next_turn(
+                Turns {
+                    what,
+                    part,
+                    left,
+                    position: 0,
+                    size,
+                    found,
+                    rest,
+                    outer,
+                },
+                at,
+            )
         }
     }
 }

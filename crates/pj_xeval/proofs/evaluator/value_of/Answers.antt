@@ -45,7 +45,7 @@ returns-in_err-value-clause-asks g c =
     let p = err_from_is_err_and c.from_residual.result c.from_residual.ensures.1 in
     rw (p.1, p.2)
     (settled-err (state_meaning a reply c.loop-call.next c.loop-call.frames c.loop-call.at c.loop-call.scope) c.loop-call.invariant.rest (λ (pause : Pause). pause_meaning a reply pause c.loop-call.frames c.loop-call.at c.loop-call.scope) values_of c.in_err-value.field-0.0
-      (c.in_err-value.ensures.comes reply))
+    (c.in_err-value.ensures.comes reply))
 
 pub returns-in-Done-clause-nodes : goal.returns-in-Done-clause-nodes
 returns-in-Done-clause-nodes g c = c.loop-call.invariant.nodes
@@ -89,10 +89,10 @@ returns-in_err-value-in-Reply-clause-asks g c =
     let p = err_from_is_err_and c.from_residual-in_err-value-in-Reply.result c.from_residual-in_err-value-in-Reply.ensures.1 in
     rw (p.1, p.2)
     (replied-err (state_meaning a reply c.loop-call.next c.loop-call.frames c.loop-call.at c.loop-call.scope) c.loop-call.invariant.rest
-      (reply c.in-Reply.function (node_in c.settle.new.at.item) (map values_of c.in-Reply.arguments)) (λ value. resumed a reply (reverse c.settle.new.frames) c.settle.new.at c.settle.new.scope value)
-      (g.C.Calls.tells c.pmd.new.self) values_of values_of c.in_err-value-in-Reply.field-0.0 is
-      (subst (λ (m : Means (List ItemValue)). Asks m (g.C.Calls.tells c.loop-call.calls) (g.C.Calls.tells c.pmd.new.self) (outcome values_of (Err c.in_err-value-in-Reply.field-0.0)))
-        (λ i. c.loop-call.invariant.same_reply i c.in-Reply.function (node i) (map values_of c.in-Reply.arguments)) c.in_err-value-in-Reply.ensures.asks))
+    (reply c.in-Reply.function (node_in c.settle.new.at.item) (map values_of c.in-Reply.arguments)) (λ value. resumed a reply (reverse c.settle.new.frames) c.settle.new.at c.settle.new.scope value)
+    (g.C.Calls.tells c.pmd.new.self) values_of values_of c.in_err-value-in-Reply.field-0.0 is
+    (subst (λ (m : Means (List ItemValue)). Asks m (g.C.Calls.tells c.loop-call.calls) (g.C.Calls.tells c.pmd.new.self) (outcome values_of (Err c.in_err-value-in-Reply.field-0.0)))
+    (λ i. c.loop-call.invariant.same_reply i c.in-Reply.function (node i) (map values_of c.in-Reply.arguments)) c.in_err-value-in-Reply.ensures.asks))
 
 pub loop-call-preserved : goal.loop-call-preserved
 loop-call-preserved g c =
@@ -112,7 +112,7 @@ loop-call-preserved g c =
           (reply c.in-Reply.function (node_in c.settle.new.at.item) (map values_of c.in-Reply.arguments)) (λ value. resumed a reply (reverse c.settle.new.frames) c.settle.new.at c.settle.new.scope value)
           (g.C.Calls.tells c.pmd.new.self) (values_of c.in_ok-value-in-Reply.value) is
           (subst (λ (m : Means (List ItemValue)). Asks m (g.C.Calls.tells c.loop-call.calls) (g.C.Calls.tells c.pmd.new.self) (Ok (Ok (values_of c.in_ok-value-in-Reply.value))))
-            (λ i. c.loop-call.invariant.same_reply i c.in-Reply.function (node i) (map values_of c.in-Reply.arguments)) c.in_ok-value-in-Reply.ensures.asks);
+          (λ i. c.loop-call.invariant.same_reply i c.in-Reply.function (node i) (map values_of c.in-Reply.arguments)) c.in_ok-value-in-Reply.ensures.asks);
     }
 
 pub returns-clause-nodes : goal.returns-clause-nodes

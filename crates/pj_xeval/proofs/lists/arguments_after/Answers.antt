@@ -18,6 +18,6 @@ returns-clause-goes g c = λ reply s.
     let a = around c.args.setting.now.tree.now (g.A.Attributes.attribute_of c.args.setting.now.facts.now) (g.A.Attributes.names_of c.args.setting.now.facts.now) c.args.setting.now.patterns.now in
     let at = c.args.at.now in
     goes-same a reply at s at s c.arguments.result _ _
-        (ap (λ (values : List (List ItemValue)). chain (here at (variables_of s)) with_argument (map (denotes a reply) c.args.parts.now) values >>= λ all. judged (call a c.args.function at all))
-            (ap (map values_of) c.in_ok-push.ensures.ok ∙ map-append values_of c.args.values (c.args.value ∷ [])))
-        (c.arguments.ensures.goes reply s)
+    (ap (λ (values : List (List ItemValue)). chain (here at (variables_of s)) with_argument (map (denotes a reply) c.args.parts.now) values >>= λ all. judged (call a c.args.function at all))
+    (ap (map values_of) c.in_ok-push.ensures.ok ∙ map-append values_of c.args.values (c.args.value ∷ [])))
+    (c.arguments.ensures.goes reply s)

@@ -17,11 +17,11 @@ use Rattle.pj_xeval.proofs.lists.nodes_after.Goals as goal
 pub returns-clause-goes : goal.returns-clause-goes
 returns-clause-goes c = λ a reply at s.
     goes-made a reply at s at s (Ok c.nodes.result)
-        (λ (made : Result (List ItemValue) XCode). (judged made >>= λ more. chain (here at (variables_of s)) with_nodes (map (denotes a reply) c.args.parts.now) more) >>= λ all. give (ordered all))
-        (and_then (only_nodes (values_of c.args.value)) (λ more. Ok (values_of c.args.found ++ more))) (values_of c.in_ok-found.found)
-        (made-as (only_nodes (values_of c.args.value)) (values_of c.in_ok-more.more) (λ more. values_of c.args.found ++ more) (values_of c.in_ok-found.found) c.in_ok-more.ensures.value
-            (ap values_of c.in_ok-found.ensures ∙ map-append value_of_item c.args.found c.in_ok-more.more))
-        (c.nodes.ensures.goes a reply at s)
+    (λ (made : Result (List ItemValue) XCode). (judged made >>= λ more. chain (here at (variables_of s)) with_nodes (map (denotes a reply) c.args.parts.now) more) >>= λ all. give (ordered all))
+    (and_then (only_nodes (values_of c.args.value)) (λ more. Ok (values_of c.args.found ++ more))) (values_of c.in_ok-found.found)
+    (made-as (only_nodes (values_of c.args.value)) (values_of c.in_ok-more.more) (λ more. values_of c.args.found ++ more) (values_of c.in_ok-found.found) c.in_ok-more.ensures.value
+    (ap values_of c.in_ok-found.ensures ∙ map-append value_of_item c.args.found c.in_ok-more.more))
+    (c.nodes.ensures.goes a reply at s)
 
 pub returns-clause-of_tree : goal.returns-clause-of_tree
 returns-clause-of_tree c = λ n found value.

@@ -13,8 +13,8 @@ use Rattle.pj_xeval.proofs.lists.sets_from.Goals as goal
 pub returns-clause-goes : goal.returns-clause-goes
 returns-clause-goes c = λ a reply at s.
     subst (λ (meant : Means (List ItemValue)). Goes a reply meant at s at s c.sets.result)
-        (ap (λ (nodes : Result (List ItemValue) XCode). judged nodes >>= λ found. chain (behind at (variables_of s)) with_set (operated_by (denotes a reply) c.args.parts.now) found) c.in_ok-found.ensures.value)
-        (c.sets.ensures.goes a reply at s)
+    (ap (λ (nodes : Result (List ItemValue) XCode). judged nodes >>= λ found. chain (behind at (variables_of s)) with_set (operated_by (denotes a reply) c.args.parts.now) found) c.in_ok-found.ensures.value)
+    (c.sets.ensures.goes a reply at s)
 
 pub returns-clause-of_tree : goal.returns-clause-of_tree
 returns-clause-of_tree c = λ n value. c.sets.ensures.of_tree n (subst (λ (items : List Item). OfTree n (values_of items)) (sym c.in_ok-found.ensures.same) value)

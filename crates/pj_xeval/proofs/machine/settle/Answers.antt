@@ -12,7 +12,7 @@ returns-in_err-more-clause-comes g c = λ reply.
     let p = err_from_is_err_and c.from_residual.result c.from_residual.ensures.1 in
     rw (p.1, p.2)
     (stops-alike (λ (stepped : Stepped). stepped_meaning a reply stepped c.args.frames.now c.args.at.now c.args.scope.now) (λ (stepped : Stepped). stepped_meaning a reply stepped c.args.frames.now c.args.at.now c.args.scope.now) _ _ c.in_err-more.field-0.0
-      (c.loop-step.invariant.same reply) (c.in_err-more.ensures.comes reply))
+    (c.loop-step.invariant.same reply) (c.in_err-more.ensures.comes reply))
 
 pub returns-in-Paused-clause-comes : goal.returns-in-Paused-clause-comes
 returns-in-Paused-clause-comes g c = λ reply.

@@ -19,9 +19,9 @@ returns-in_err-react-in-Some-clause-comes g c = λ reply.
     let p = err_from_is_err_and c.from_residual.result c.from_residual.ensures.1 in
     rw (p.1, p.2)
     (stops-alike (λ (stepped : Stepped). stepped_meaning a reply stepped c.args.frames.now c.args.at.now c.args.scope.now) (λ (stepped : Stepped). stepped_meaning a reply stepped c.args.frames.now c.args.at.now c.args.scope.now) _ (state_meaning a reply c.args.next c.args.frames.now c.args.at.now c.args.scope.now) c.in_err-react-in-Some.field-0.0
-      (ap (λ (x : Next). state_meaning a reply x c.args.frames.now c.args.at.now c.args.scope.now) (sym c.in-Value.is))
-      (value-stops a reply (λ (stepped : Stepped). stepped_meaning a reply stepped c.args.frames.now c.args.at.now c.args.scope.now) c.in-Some.frame c.pop.new.self c.args.frames.now c.args.at.now c.args.scope.now c.in-Value.value c.args.at.now c.args.at.now c.args.scope.now c.args.scope.now c.in_err-react-in-Some.field-0.0 c.in-Some.ensures
-        (c.in_err-react-in-Some.ensures.goes reply)))
+    (ap (λ (x : Next). state_meaning a reply x c.args.frames.now c.args.at.now c.args.scope.now) (sym c.in-Value.is))
+    (value-stops a reply (λ (stepped : Stepped). stepped_meaning a reply stepped c.args.frames.now c.args.at.now c.args.scope.now) c.in-Some.frame c.pop.new.self c.args.frames.now c.args.at.now c.args.scope.now c.in-Value.value c.args.at.now c.args.at.now c.args.scope.now c.args.scope.now c.in_err-react-in-Some.field-0.0 c.in-Some.ensures
+    (c.in_err-react-in-Some.ensures.goes reply)))
 
 pub returns-in_err-begin-in-Within-clause-comes : goal.returns-in_err-begin-in-Within-clause-comes
 returns-in_err-begin-in-Within-clause-comes g c = λ reply.
@@ -29,9 +29,9 @@ returns-in_err-begin-in-Within-clause-comes g c = λ reply.
     let p = err_from_is_err_and c.from_residual-in_err-begin-in-Within.result c.from_residual-in_err-begin-in-Within.ensures.1 in
     rw (p.1, p.2)
     (stops-alike (λ (stepped : Stepped). stepped_meaning a reply stepped c.args.frames.now c.args.at.now c.args.scope.now) (λ (stepped : Stepped). stepped_meaning a reply stepped c.args.frames.now c.args.at.now c.args.scope.now) _ (state_meaning a reply c.args.next c.args.frames.now c.args.at.now c.args.scope.now) c.in_err-begin-in-Within.field-0.0
-      (ap (λ (x : Next). state_meaning a reply x c.args.frames.now c.args.at.now c.args.scope.now) (sym c.in-Within.is))
-      (within-stops a reply (λ (stepped : Stepped). stepped_meaning a reply stepped c.args.frames.now c.args.at.now c.args.scope.now) c.in-Within.task c.in-Within.frame c.args.frames.now c.push.new.self c.args.at.now c.args.scope.now c.in_err-begin-in-Within.field-0.0 c.in_ok-push-in-Within.ensures.ok
-        (c.in_err-begin-in-Within.ensures.goes reply)))
+    (ap (λ (x : Next). state_meaning a reply x c.args.frames.now c.args.at.now c.args.scope.now) (sym c.in-Within.is))
+    (within-stops a reply (λ (stepped : Stepped). stepped_meaning a reply stepped c.args.frames.now c.args.at.now c.args.scope.now) c.in-Within.task c.in-Within.frame c.args.frames.now c.push.new.self c.args.at.now c.args.scope.now c.in_err-begin-in-Within.field-0.0 c.in_ok-push-in-Within.ensures.ok
+    (c.in_err-begin-in-Within.ensures.goes reply)))
 
 pub returns-in_err-begin-in-Instead-clause-comes : goal.returns-in_err-begin-in-Instead-clause-comes
 returns-in_err-begin-in-Instead-clause-comes g c = λ reply.
@@ -39,9 +39,9 @@ returns-in_err-begin-in-Instead-clause-comes g c = λ reply.
     let p = err_from_is_err_and c.from_residual-in_err-begin-in-Instead.result c.from_residual-in_err-begin-in-Instead.ensures.1 in
     rw (p.1, p.2)
     (stops-alike (λ (stepped : Stepped). stepped_meaning a reply stepped c.args.frames.now c.args.at.now c.args.scope.now) (λ (stepped : Stepped). stepped_meaning a reply stepped c.args.frames.now c.args.at.now c.args.scope.now) _ (state_meaning a reply c.args.next c.args.frames.now c.args.at.now c.args.scope.now) c.in_err-begin-in-Instead.field-0.0
-      (ap (λ (x : Next). state_meaning a reply x c.args.frames.now c.args.at.now c.args.scope.now) (sym c.in-Instead.is))
-      (same-stops a reply (λ (stepped : Stepped). stepped_meaning a reply stepped c.args.frames.now c.args.at.now c.args.scope.now) (task_meaning a reply c.in-Instead.task c.args.at.now (variables_of c.args.scope.now)) c.args.frames.now c.args.at.now c.args.at.now c.args.scope.now c.args.scope.now c.in_err-begin-in-Instead.field-0.0
-        (c.in_err-begin-in-Instead.ensures.goes reply)))
+    (ap (λ (x : Next). state_meaning a reply x c.args.frames.now c.args.at.now c.args.scope.now) (sym c.in-Instead.is))
+    (same-stops a reply (λ (stepped : Stepped). stepped_meaning a reply stepped c.args.frames.now c.args.at.now c.args.scope.now) (task_meaning a reply c.in-Instead.task c.args.at.now (variables_of c.args.scope.now)) c.args.frames.now c.args.at.now c.args.at.now c.args.scope.now c.args.scope.now c.in_err-begin-in-Instead.field-0.0
+    (c.in_err-begin-in-Instead.ensures.goes reply)))
 
 pub returns-in_err-turns_over-in-Over-clause-comes : goal.returns-in_err-turns_over-in-Over-clause-comes
 returns-in_err-turns_over-in-Over-clause-comes g c = λ reply.
@@ -49,9 +49,9 @@ returns-in_err-turns_over-in-Over-clause-comes g c = λ reply.
     let p = err_from_is_err_and c.from_residual-in_err-turns_over-in-Over.result c.from_residual-in_err-turns_over-in-Over.ensures.1 in
     rw (p.1, p.2)
     (stops-alike (λ (stepped : Stepped). stepped_meaning a reply stepped c.args.frames.now c.args.at.now c.args.scope.now) (λ (stepped : Stepped). stepped_meaning a reply stepped c.args.frames.now c.args.at.now c.args.scope.now) _ (state_meaning a reply c.args.next c.args.frames.now c.args.at.now c.args.scope.now) c.in_err-turns_over-in-Over.field-0.0
-      (ap (λ (x : Next). state_meaning a reply x c.args.frames.now c.args.at.now c.args.scope.now) (sym c.in-Over.is))
-      (same-stops a reply (λ (stepped : Stepped). stepped_meaning a reply stepped c.args.frames.now c.args.at.now c.args.scope.now) (over c.in-Over.what (variables_of c.args.scope.now) (map (denotes a reply) c.in-Over.parts.now) (values_of c.in-Over.items)) c.args.frames.now c.args.at.now c.turns_over.new.at c.args.scope.now c.args.scope.now c.in_err-turns_over-in-Over.field-0.0
-        (c.in_err-turns_over-in-Over.ensures.goes a reply c.args.scope.now)))
+    (ap (λ (x : Next). state_meaning a reply x c.args.frames.now c.args.at.now c.args.scope.now) (sym c.in-Over.is))
+    (same-stops a reply (λ (stepped : Stepped). stepped_meaning a reply stepped c.args.frames.now c.args.at.now c.args.scope.now) (over c.in-Over.what (variables_of c.args.scope.now) (map (denotes a reply) c.in-Over.parts.now) (values_of c.in-Over.items)) c.args.frames.now c.args.at.now c.turns_over.new.at c.args.scope.now c.args.scope.now c.in_err-turns_over-in-Over.field-0.0
+    (c.in_err-turns_over-in-Over.ensures.goes a reply c.args.scope.now)))
 
 pub returns-in_ok-react-in-Some-clause-comes : goal.returns-in_ok-react-in-Some-clause-comes
 returns-in_ok-react-in-Some-clause-comes g c = λ reply.
@@ -89,7 +89,7 @@ pub returns-in_ok-turns_over-in-Over-clause-comes : goal.returns-in_ok-turns_ove
 returns-in_ok-turns_over-in-Over-clause-comes g c = λ reply.
     let a = around c.args.setting.now.tree.now (g.A.Attributes.attribute_of c.args.setting.now.facts.now) (g.A.Attributes.names_of c.args.setting.now.facts.now) c.args.setting.now.patterns.now in
     same-goes a reply (over c.in-Over.what (variables_of c.args.scope.now) (map (denotes a reply) c.in-Over.parts.now) (values_of c.in-Over.items)) c.args.frames.now c.args.at.now c.args.scope.now c.turns_over.new.at c.args.scope.now c.in_ok-turns_over-in-Over.field-0
-      (c.in_ok-turns_over-in-Over.ensures.goes a reply c.args.scope.now)
+    (c.in_ok-turns_over-in-Over.ensures.goes a reply c.args.scope.now)
     ∙ ap (λ (x : Next). state_meaning a reply x c.args.frames.now c.args.at.now c.args.scope.now) (sym c.in-Over.is)
 
 pub returns-in_ok-turns_over-in-Over-clause-of_tree : goal.returns-in_ok-turns_over-in-Over-clause-of_tree

@@ -16,7 +16,7 @@ pub returns-clause-goes : goal.returns-clause-goes
 returns-clause-goes g c = λ reply at s.
     let a = around c.args.setting.now.tree.now (g.A.Attributes.attribute_of c.args.setting.now.facts.now) (g.A.Attributes.names_of c.args.setting.now.facts.now) c.args.setting.now.patterns.now in
     goes-made a reply at s at s c.factors.result
-        (λ (made : Result (Option ℤ) XCode). (judged made >>= λ more. chain (behind at (variables_of s)) (with_factor a) (operated_by (denotes a reply) c.args.parts.now) more) >>= λ all. give (number_items all))
-        (and_then (operand a (values_of c.args.value.now)) (λ factor. result_of c.args.operator c.args.total factor)) c.in_ok-total.total
-        (made-then (operand a (values_of c.args.value.now)) c.in_ok-factor.factor (λ factor. result_of c.args.operator c.args.total factor) c.in_ok-total.total c.in_ok-factor.ensures c.in_ok-total.ensures)
-        (c.factors.ensures.goes a reply at s)
+    (λ (made : Result (Option ℤ) XCode). (judged made >>= λ more. chain (behind at (variables_of s)) (with_factor a) (operated_by (denotes a reply) c.args.parts.now) more) >>= λ all. give (number_items all))
+    (and_then (operand a (values_of c.args.value.now)) (λ factor. result_of c.args.operator c.args.total factor)) c.in_ok-total.total
+    (made-then (operand a (values_of c.args.value.now)) c.in_ok-factor.factor (λ factor. result_of c.args.operator c.args.total factor) c.in_ok-total.total c.in_ok-factor.ensures c.in_ok-total.ensures)
+    (c.factors.ensures.goes a reply at s)

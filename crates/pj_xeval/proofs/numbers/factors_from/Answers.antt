@@ -15,6 +15,6 @@ pub returns-clause-goes : goal.returns-clause-goes
 returns-clause-goes g c = λ reply at s.
     let a = around c.args.setting.now.tree.now (g.A.Attributes.attribute_of c.args.setting.now.facts.now) (g.A.Attributes.names_of c.args.setting.now.facts.now) c.args.setting.now.patterns.now in
     goes-made a reply at s at s c.factors.result
-        (λ (made : Result (Option ℤ) XCode). judged made >>= λ first. chain (behind at (variables_of s)) (with_factor a) (operated_by (denotes a reply) c.args.parts.now) first >>= λ all. give (number_items all))
-        (operand a (values_of c.args.value.now)) c.in_ok-factor.factor c.in_ok-factor.ensures
-        (c.factors.ensures.goes a reply at s)
+    (λ (made : Result (Option ℤ) XCode). judged made >>= λ first. chain (behind at (variables_of s)) (with_factor a) (operated_by (denotes a reply) c.args.parts.now) first >>= λ all. give (number_items all))
+    (operand a (values_of c.args.value.now)) c.in_ok-factor.factor c.in_ok-factor.ensures
+    (c.factors.ensures.goes a reply at s)

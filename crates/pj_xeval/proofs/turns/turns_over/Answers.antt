@@ -19,7 +19,7 @@ returns-in-len1-up-clause-goes c = λ a reply s.
     subst (λ (k : Context). GoesIf a reply (over c.args.what (variables_of s) (map (denotes a reply) c.args.parts.now) (values_of c.args.items)) c.next_turn.new.at s k s c.next_turn.result) c.taken_out-outer.ensures.value
     (subst (λ (m : Means (List ItemValue)). GoesIf a reply m c.next_turn.new.at s c.taken_out-outer.result s c.next_turn.result)
     (turns-begin a reply c.args.what c.args.parts.now c.part-item.result _ c.len-size.result c.args.items c.turned_back-left.result c.new-found.result (variables_of s)
-      (whole c.args.parts.now c.part-item.result c.in-len1-up.len_at_least c.part-item.is) c.len-size.ensures c.turned_back-left.ensures.value c.new-found.ensures)
+    (whole c.args.parts.now c.part-item.result c.in-len1-up.len_at_least c.part-item.is) c.len-size.ensures c.turned_back-left.ensures.value c.new-found.ensures)
     (c.next_turn.ensures.goes a reply s))
 
 pub returns-in-len1-up-clause-of_tree : goal.returns-in-len1-up-clause-of_tree
