@@ -1,16 +1,13 @@
 -- Predicates that keep all.
-use Rattle.std.proofs.Common.{◌≡◌, ℕ, ◌+◌, true, List, [], ◌∷◌, ◌++◌, Box, Vec, Global, map, length, Option, Result, Ok, refl, sym, ◌∙◌, ap, append_assoc}
+use Rattle.std.proofs.Common.{◌≡◌, ℕ, ◌+◌, true, List, [], ◌∷◌, ◌++◌, map, length, sym, ◌∙◌, ap, append_assoc}
 use Rattle.std.proofs.lemmas.List.{append-nil}
-use Rattle.pj_tree.specs.declared.node.Node.{Node}
-use Rattle.pj_xvalue.specs.declared.fault.XCode.{XCode}
 use Rattle.pj_xvalue.specs.declared.expr.Expr.{Expr}
 use Rattle.pj_xvalue.specs.declared.expr.Expr.TheVariants as expr
 use Rattle.pj_xvalue.specs.declared.function.Function.TheVariants as f
-use Rattle.pj_xvalue.specs.declared.pmd_function.PmdFunction.{PmdFunction}
 use Rattle.pj_xvalue.specs.Items.{ItemValue, Boolean}
 use Rattle.pj_xdenotes.specs.Means.{Means, give, judged, ◌>>=◌, chain}
-use Rattle.pj_xdenotes.specs.Context.{Around, Context, Variables, Denotation, at}
-use Rattle.pj_xdenotes.specs.Turns.{numbered, in_turn, with_kept, passing, narrowed}
+use Rattle.pj_xdenotes.specs.Context.{Context, Variables, Denotation, at}
+use Rattle.pj_xdenotes.specs.Turns.{numbered, in_turn, with_kept, narrowed}
 use Rattle.pj_xdenotes.specs.Calls.{call}
 use Rattle.pj_xdenotes.specs.Denotes.{denotes, arguments_of}
 use Rattle.pj_xdenotes.proofs.Forms.{denotes_filter, denotes_call}
@@ -30,6 +27,6 @@ filtered a reply primary predicates arguments c v is none =
     denotes_filter a reply c v primary predicates
     ∙ ap (λ (es : List Expr). denotes a reply primary.value c v >>= λ items. narrowed v (map (denotes a reply) es) items) is
     ∙ (λ i. denotes a reply primary.value c v >>= λ items. (
-        let t : (k : Context) → denotes a reply (expr.Call f.True arguments) k v ≡ give (Boolean true ∷ []) = λ k. denotes_call a reply k v f.True arguments ∙ ap (λ (es : List Expr). arguments_of (map (denotes a reply) es) k v >>= λ values. judged (call a f.True k values)) none in
-        (ap (λ (m : Means (List ItemValue)). m >>= λ found. give found) (all_kept (denotes a reply (expr.Call f.True arguments)) (length items) v t 1 items [])) i))
+    let t : (k : Context) → denotes a reply (expr.Call f.True arguments) k v ≡ give (Boolean true ∷ []) = λ k. denotes_call a reply k v f.True arguments ∙ ap (λ (es : List Expr). arguments_of (map (denotes a reply) es) k v >>= λ values. judged (call a f.True k values)) none in
+    (ap (λ (m : Means (List ItemValue)). m >>= λ found. give found) (all_kept (denotes a reply (expr.Call f.True arguments)) (length items) v t 1 items [])) i))
     ∙ then-give (denotes a reply primary.value c v)
