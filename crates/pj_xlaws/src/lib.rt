@@ -9,7 +9,7 @@ pub fn filtered_by_true()
 {}
 
 /// `E | E` comes to the nodes of `E` in document order, each once, and to a code where `E` does, or where it gives what is no
-/// node (XPath 2.0, 3.3.1).
+/// node (XPath 2.0, 3.3.3).
 pub fn united_with_itself()
     ensures { UnitedWithItself }
 {}
