@@ -1,6 +1,5 @@
 -- What the arms of a match promise, where the value is of one form.
-use Rattle.std.proofs.Common.{◌≡◌, ℕ, ℤ, List, [], ◌∷◌, Option, Some, None, Result, Ok, Err, sym, subst}
-use Rattle.pj_xvalue.specs.declared.fault.XCode.{XCode}
+use Rattle.std.proofs.Common.{◌≡◌, ℕ, ℤ, List, [], ◌∷◌, Option, Some, None, Result, Ok, sym, subst}
 use Rattle.pj_xvalue.specs.declared.fault.XFault.{XFault}
 use Rattle.pj_xvalue.specs.Items.{ItemValue, Integer}
 use Rattle.pj_xvalue.specs.OfTree.{OfTree}

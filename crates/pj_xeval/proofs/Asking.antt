@@ -1,5 +1,5 @@
 -- The beginning of a whole evaluation, and its calls of functions of PMD.
-use Rattle.std.proofs.Common.{◌≡◌, ℕ, ◌<◌, List, [], map, reverse, refl, sym, ◌∙◌, ap, subst}
+use Rattle.std.proofs.Common.{◌≡◌, ℕ, ◌<◌, List, [], reverse, sym, ◌∙◌, subst}
 use Rattle.std.specs.Option.{ForSome}
 use Rattle.pj_names.specs.Told.{Told}
 use Rattle.pj_names.specs.AskingLaws.{ComesTo, comes-begin}
@@ -7,7 +7,7 @@ use Rattle.pj_tree.specs.declared.node.Node.{Node}
 use Rattle.pj_xvalue.specs.declared.expr.Expr.{Expr}
 use Rattle.pj_xvalue.specs.Items.{ItemValue, Document, Element, Attribute, String, Integer, Boolean, IsOfTree}
 use Rattle.pj_xvalue.specs.OfTree.{VariablesOfTree}
-use Rattle.pj_xdenotes.specs.Means.{Means, give, after, ◌>>=◌}
+use Rattle.pj_xdenotes.specs.Means.{Means, ◌>>=◌}
 use Rattle.pj_xdenotes.specs.Context.{Around, Context, Variables}
 use Rattle.pj_xdenotes.specs.Calls.{node_in}
 use Rattle.pj_xdenotes.specs.Denotes.{denotes}

@@ -1,12 +1,11 @@
 -- How the constructs that bind variables go on.
-use Rattle.std.proofs.Common.{◌≡◌, ℕ, ◌+◌, Bool, true, not, List, [], ◌∷◌, ◌++◌, map, reverse, drop, refl, sym, ◌∙◌, ap, subst, add-one}
+use Rattle.std.proofs.Common.{◌≡◌, ℕ, ◌+◌, true, not, List, [], ◌∷◌, ◌++◌, reverse, drop, refl, sym, ◌∙◌, ap, subst, add-one}
 use Rattle.std.proofs.lemmas.List.{reverse-reverse, map-append}
 use Rattle.pj_xvalue.specs.declared.expr.Expr.{Expr}
-use Rattle.pj_xvalue.specs.declared.expr.Quantifier.{Quantifier}
 use Rattle.pj_xvalue.specs.declared.item.Item.{Item}
 use Rattle.pj_xvalue.specs.Items.{ItemValue, value_of_item, values_of}
-use Rattle.pj_xdenotes.specs.Means.{Means, give, ◌>>=◌, chain, decided, decides, one_boolean}
-use Rattle.pj_xdenotes.specs.Context.{Around, Context, Variables, Denotation}
+use Rattle.pj_xdenotes.specs.Means.{give, ◌>>=◌, chain, decided, decides, one_boolean}
+use Rattle.pj_xdenotes.specs.Context.{Around, Context, Variables}
 use Rattle.pj_xdenotes.specs.Turns.{with_all}
 use Rattle.pj_xdenotes.specs.Bindings.{with_item, for_in, quantified, let_in}
 use Rattle.pj_xdenotes.specs.Parts.{bindings_of}

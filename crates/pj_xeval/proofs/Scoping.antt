@@ -1,5 +1,5 @@
 -- Variables taken back.
-use Rattle.std.proofs.Common.{◌≡◌, ℕ, ◌+◌, drop, refl}
+use Rattle.std.proofs.Common.{◌≡◌, ℕ, ◌+◌, refl}
 use Rattle.std.proofs.lemmas.List.{drop-drop}
 use Rattle.pj_xeval.specs.Scopes.{Scoped, without}
 

@@ -1,18 +1,18 @@
 -- The steps of a whole evaluation, as they come to a code, want memory, or go on.
-use Rattle.std.proofs.Common.{◌≡◌, ℕ, List, [], ◌∷◌, ◌++◌, map, reverse, Result, Ok, Err, refl, sym, ◌∙◌, ap, subst}
+use Rattle.std.proofs.Common.{◌≡◌, List, [], ◌∷◌, ◌++◌, reverse, Err, sym, ◌∙◌, ap}
 use Rattle.pj_names.specs.declared.oracle.AskFault.TheVariants.{Failed, Memory}
 use Rattle.pj_xvalue.specs.declared.fault.XCode.{XCode}
 use Rattle.pj_xvalue.specs.declared.fault.XFault.{XFault}
 use Rattle.pj_xvalue.specs.declared.fault.XFault.TheVariants.{Code, Ask}
 use Rattle.pj_xvalue.specs.declared.item.Item.{Item}
 use Rattle.pj_xvalue.specs.Items.{ItemValue, values_of}
-use Rattle.pj_xdenotes.specs.Means.{Means, give, fail, after, ◌>>=◌}
+use Rattle.pj_xdenotes.specs.Means.{Means, give, fail, ◌>>=◌}
 use Rattle.pj_xdenotes.specs.Context.{Around, Context}
 use Rattle.pj_xeval.specs.declared.frame.Task.{Task}
 use Rattle.pj_xeval.specs.declared.frame.Frame.{Frame}
 use Rattle.pj_xeval.specs.declared.frame.Next.TheVariants as next
 use Rattle.pj_xeval.specs.Scopes.{Scoped, variables_of}
-use Rattle.pj_xeval.specs.Frames.{Replies, task_meaning, reacted, resumed, context_left, scope_left}
+use Rattle.pj_xeval.specs.Frames.{Replies, task_meaning, reacted, resumed}
 use Rattle.pj_xeval.specs.Going.{GoesIf, ComesIf, state_meaning}
 use Rattle.pj_xeval.proofs.Whole.{resumed-nil, value-fails, within-fails, same-fails}
 

@@ -1,11 +1,10 @@
 -- Steps of an evaluation.
-use Rattle.std.proofs.Common.{◌≡◌, ℕ, List, [], ◌∷◌, ◌++◌, map, length, Result, Ok, Err, true, false, refl, sym, ◌∙◌, ap}
-use Rattle.pj_xvalue.specs.declared.expr.Expr.{Expr}
+use Rattle.std.proofs.Common.{◌≡◌, List, [], ◌∷◌, length, Result, true, false, refl, sym}
 use Rattle.pj_xvalue.specs.declared.fault.XCode.{XCode}
 use Rattle.pj_xvalue.specs.Items.{ItemValue}
-use Rattle.pj_xdenotes.specs.Means.{Means, give, judged, after, ◌>>=◌, chain}
-use Rattle.pj_xdenotes.specs.Context.{Around, Context, Variables, Denotation}
-use Rattle.pj_xdenotes.specs.Turns.{narrowed, through, walked, passing, mapped, numbered, in_turn, step_in_turn, with_kept, with_all, united}
+use Rattle.pj_xdenotes.specs.Means.{Means, give, judged, ◌>>=◌, chain}
+use Rattle.pj_xdenotes.specs.Context.{Variables, Denotation}
+use Rattle.pj_xdenotes.specs.Turns.{narrowed, through, walked, passing, numbered, step_in_turn, with_all, united}
 use Rattle.pj_xdenotes.specs.Steps.{in_document_order}
 use Rattle.pj_xdenotes.proofs.Sequences.{then-assoc, then-give}
 use Rattle.pj_xeval.specs.declared.frame.Turn.{Turn}

@@ -12,7 +12,7 @@ use Rattle.pj_xvalue.specs.Items.{ItemValue, is_node, value_of_item, values_of, 
 use Rattle.pj_xvalue.specs.OfTree.{OfTree}
 use Rattle.pj_xvalue.specs.Replies.{outcome}
 use Rattle.pj_xfuncs.specs.Arguments.{IsGiven}
-use Rattle.pj_xdenotes.specs.Means.{Means, fail, judged, ◌>>=◌, chain}
+use Rattle.pj_xdenotes.specs.Means.{fail, judged, ◌>>=◌, chain}
 use Rattle.pj_xdenotes.specs.Context.{Around, Context, Variables, at}
 use Rattle.pj_xdenotes.specs.Turns.{numbered}
 use Rattle.pj_xdenotes.specs.Denotes.{denotes}

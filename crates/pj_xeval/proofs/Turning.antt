@@ -1,16 +1,15 @@
 -- One turn more.
-use Rattle.std.proofs.Common.{◌≡◌, ℕ, ◌+◌, Bool, true, false, List, [], ◌∷◌, ◌++◌, map, reverse, Result, Ok, Err, refl, sym, ◌∙◌, ap, subst}
+use Rattle.std.proofs.Common.{◌≡◌, ℕ, ◌+◌, true, false, List, [], ◌∷◌, ◌++◌, reverse, refl, sym, ◌∙◌, ap}
 use Rattle.std.specs.Prelude.{if◌then◌else◌}
 use Rattle.std.proofs.lemmas.List.{reverse-append, map-append}
 use Rattle.pj_xvalue.specs.declared.expr.Quantifier.{Quantifier}
-use Rattle.pj_xvalue.specs.declared.fault.XCode.{XCode}
 use Rattle.pj_xvalue.specs.declared.fault.XCode.TheVariants.{XPTY0019}
 use Rattle.pj_xvalue.specs.declared.item.Item.{Item}
 use Rattle.pj_xvalue.specs.Boolean.{effective_boolean}
 use Rattle.pj_xvalue.specs.Items.{ItemValue, is_node, value_of_item, values_of}
 use Rattle.pj_xdenotes.specs.Means.{Means, give, fail, judged, ◌>>=◌, chain, decided, decides, one_boolean}
 use Rattle.pj_xdenotes.specs.Context.{Context, Variables, Denotation, at}
-use Rattle.pj_xdenotes.specs.Turns.{numbered, in_turn, step_in_turn, with_kept, with_all}
+use Rattle.pj_xdenotes.specs.Turns.{numbered, in_turn, with_all}
 use Rattle.pj_xdenotes.specs.Bindings.{with_item}
 use Rattle.pj_xeval.specs.declared.frame.Turn.{Turn}
 use Rattle.pj_xeval.specs.declared.frame.Turn.TheVariants as turn

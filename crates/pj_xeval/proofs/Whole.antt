@@ -1,10 +1,10 @@
 -- The steps of a whole evaluation, with its stack of frames.
-use Rattle.std.proofs.Common.{◌≡◌, ℕ, List, [], ◌∷◌, ◌++◌, map, reverse, Result, Ok, Err, refl, sym, ◌∙◌, ap}
+use Rattle.std.proofs.Common.{◌≡◌, List, [], ◌∷◌, ◌++◌, reverse, refl, sym, ◌∙◌, ap}
 use Rattle.std.proofs.lemmas.List.{reverse-append}
 use Rattle.pj_xvalue.specs.declared.fault.XCode.{XCode}
 use Rattle.pj_xvalue.specs.declared.item.Item.{Item}
 use Rattle.pj_xvalue.specs.Items.{ItemValue, values_of}
-use Rattle.pj_xdenotes.specs.Means.{Means, give, fail, judged, after, ◌>>=◌}
+use Rattle.pj_xdenotes.specs.Means.{Means, give, fail, ◌>>=◌}
 use Rattle.pj_xdenotes.specs.Context.{Around, Context}
 use Rattle.pj_xdenotes.proofs.Sequences.{then-assoc}
 use Rattle.pj_xeval.specs.declared.frame.Task.{Task}
@@ -12,7 +12,7 @@ use Rattle.pj_xeval.specs.declared.frame.Frame.{Frame}
 use Rattle.pj_xeval.specs.declared.frame.Next.{Next}
 use Rattle.pj_xeval.specs.declared.frame.Next.TheVariants as next
 use Rattle.pj_xeval.specs.Scopes.{Scoped, variables_of}
-use Rattle.pj_xeval.specs.Frames.{Replies, task_meaning, reacted, resumed, next_meaning, context_left, scope_left, context_after, scope_after}
+use Rattle.pj_xeval.specs.Frames.{Replies, task_meaning, reacted, resumed, context_left, scope_left}
 use Rattle.pj_xeval.specs.Going.{Goes, state_meaning}
 
 module _ (a : Around) (reply : Replies) where

@@ -1,19 +1,18 @@
 -- What the code's frames mean: what a construct comes to once the value is there that its frame waits for. This serves private
 -- clauses.
-use Rattle.std.specs.Prelude.{ℕ, ◌+◌, ℤ, Bool, true, false, List, [], ◌∷◌, ◌++◌, map, reverse, Option, Result, Ok, Err, if◌then◌else◌, string_bytes}
+use Rattle.std.specs.Prelude.{ℕ, ◌+◌, Bool, true, List, [], ◌∷◌, ◌++◌, map, reverse, Option, Result, if◌then◌else◌, string_bytes}
 use Rattle.pj_tree.specs.declared.node.Node.{Node}
-use Rattle.pj_xvalue.specs.declared.expr.Expr.{Expr}
 use Rattle.pj_xvalue.specs.declared.fault.XCode.{XCode}
 use Rattle.pj_xvalue.specs.declared.pmd_function.PmdFunction.{PmdFunction}
 use Rattle.pj_xvalue.specs.Boolean.{effective_boolean}
 use Rattle.pj_xvalue.specs.Comparison.{general_comparison}
 use Rattle.pj_xvalue.specs.Items.{ItemValue, String, values_of}
 use Rattle.pj_xaxes.specs.Order.{ordered}
-use Rattle.pj_xdenotes.specs.Means.{Means, give, judged, after, ◌>>=◌, chain, decides, decided, one_boolean}
+use Rattle.pj_xdenotes.specs.Means.{Means, give, judged, ◌>>=◌, chain, decides, decided, one_boolean}
 use Rattle.pj_xdenotes.specs.Context.{Around, Context, Variables, Denotation}
 use Rattle.pj_xdenotes.specs.Operands.{with_values, operand, only_nodes}
 use Rattle.pj_xdenotes.specs.Arithmetic.{signed, range, number_items}
-use Rattle.pj_xdenotes.specs.Turns.{numbered, in_turn, step_in_turn, with_kept, with_all, passing, walked, mapped, through, narrowed, united}
+use Rattle.pj_xdenotes.specs.Turns.{numbered, in_turn, step_in_turn, with_kept, with_all, walked, mapped, through, narrowed, united}
 use Rattle.pj_xdenotes.specs.Steps.{in_document_order}
 use Rattle.pj_xdenotes.specs.Bindings.{with_item, for_in, quantified, let_in}
 use Rattle.pj_xdenotes.specs.Calls.{call, pmd_call, node_in}
@@ -26,8 +25,6 @@ use Rattle.pj_xeval.specs.declared.frame.Turn.TheVariants as turn
 use Rattle.pj_xeval.specs.declared.frame.Turns.{Turns}
 use Rattle.pj_xeval.specs.declared.frame.ForTurns.{ForTurns}
 use Rattle.pj_xeval.specs.declared.frame.QuantifiedTurns.{QuantifiedTurns}
-use Rattle.pj_xeval.specs.declared.frame.Binder.{Binder}
-use Rattle.pj_xeval.specs.declared.frame.Binding.{Binding}
 use Rattle.pj_xeval.specs.declared.frame.Binding.TheVariants as binding
 use Rattle.pj_xeval.specs.declared.frame.Frame.{Frame}
 use Rattle.pj_xeval.specs.declared.frame.Frame.TheVariants as frame

@@ -1,6 +1,5 @@
 -- What the code's steps promise. It serves private clauses.
 use Rattle.std.specs.Prelude.{◌≡◌, ℕ, IsTrue, length, List, map, reverse, Result, Ok, Err}
-use Rattle.pj_names.specs.declared.oracle.AskFault.{AskFault}
 use Rattle.pj_names.specs.declared.oracle.AskFault.TheVariants.{Failed, Memory}
 use Rattle.pj_xvalue.specs.declared.fault.XFault.{XFault}
 use Rattle.pj_xvalue.specs.declared.fault.XFault.TheVariants.{Code, Ask}

@@ -1,5 +1,5 @@
 -- The variables as the code holds them.
-use Rattle.std.specs.Prelude.{ℕ, List, [], ◌∷◌, ◌++◌, drop, map, reverse}
+use Rattle.std.specs.Prelude.{ℕ, List, ◌∷◌, ◌++◌, drop, map, reverse}
 use Rattle.pj_xvalue.specs.Items.{ItemValue, values_of}
 use Rattle.pj_xdenotes.specs.Context.{Variables}
 use Rattle.pj_xeval.specs.declared.scope.Binding.{Binding}

@@ -1,6 +1,5 @@
 use Rattle.std.proofs.Common.{◌∷◌, [], ◌∙◌, ℕ, List, Ok, length, map, sym, subst, ap}
 use Rattle.std.specs.Prelude.{if◌then◌else◌}
-use Rattle.pj_xvalue.specs.declared.expr.Expr.{Expr}
 use Rattle.pj_xvalue.specs.declared.expr.Quantifier.TheVariants as quantifier
 use Rattle.pj_xvalue.specs.Boolean.{effective_boolean}
 use Rattle.pj_xvalue.specs.Comparison.{general_comparison}

@@ -1,4 +1,4 @@
-use Rattle.std.proofs.Common.{◌≡◌, ℕ, List, refl, sym, ap}
+use Rattle.std.proofs.Common.{ℕ, List, refl, sym, ap}
 use Rattle.pj_xvalue.specs.declared.expr.Expr.{Expr}
 use Rattle.pj_xdenotes.specs.Bindings.{for_in}
 use Rattle.pj_xdenotes.specs.Parts.{bindings_of}

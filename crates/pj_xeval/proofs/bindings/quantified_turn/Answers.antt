@@ -1,5 +1,5 @@
 use Rattle.std.proofs.Common.{Bool, List, not, subst, ap, ◌∙◌}
-use Rattle.pj_xvalue.specs.Items.{ItemValue, values_of}
+use Rattle.pj_xvalue.specs.Items.{ItemValue}
 use Rattle.pj_xdenotes.specs.Means.{Means, give, one_boolean}
 use Rattle.pj_xeval.specs.Going.{GoesIf}
 use Rattle.pj_xeval.specs.Scopes.{variables_of}

@@ -1,6 +1,5 @@
 use Rattle.std.proofs.Common.{◌∙◌, ◌∷◌, [], List, map, ap}
 use Rattle.std.proofs.lemmas.List.{map-append}
-use Rattle.pj_xvalue.specs.declared.item.Item.{Item}
 use Rattle.pj_xvalue.specs.Items.{ItemValue, values_of}
 use Rattle.pj_xdenotes.specs.Calls.{pmd_call}
 use Rattle.pj_xdenotes.specs.Denotes.{denotes, here, with_argument}
