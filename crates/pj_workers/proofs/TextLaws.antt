@@ -22,7 +22,9 @@ use Rattle.pj_workers.specs.FileMeaning.{Bytes, Replies, file_meaning, head, mer
 use Rattle.pj_workers.specs.Laws.{AreAlike, RulesAreTexts}
 use Rattle.pj_workers.specs.Reasons.{plain_reason_of, xpath_reason}
 use Rattle.pj_workers.specs.RuleMeaning.{Reply, found_at, found_of, reason_after, result_of, rule_in_file, spot_at, value_of}
-use Rattle.pj_workers.specs.Rules.{Both, IsSpelled, IsSpelledBy, Rule, Source, is_active, names_of, patterns_of, suppression_of, variables_of}
+use Rattle.pj_rule_expressions.specs.Expressions.{Both, IsSpelledBy, names_of, variables_of}
+use Rattle.pj_rule_expressions.specs.Patterns.{suppression_of}
+use Rattle.pj_workers.specs.Rules.{IsSpelled, Rule, Source, is_active, patterns_of}
 
 abbrev OneExpression : Type 0
 OneExpression = (variables : List (List ℕ)) (text : List ℕ) (a b : Tree) → Spells variables text a → Spells variables text b → a ≡ b

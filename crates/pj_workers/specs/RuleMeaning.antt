@@ -12,6 +12,7 @@ use Rattle.pj_findings.specs.declared.spot.Spot.{Spot}
 use Rattle.pj_names.specs.Asking.{Asking, Return, bind}
 use Rattle.pj_parse.specs.JavaFile.{JavaFile}
 use Rattle.pj_reports.specs.declared.rows.Reason.{Reason}
+use Rattle.pj_rule_expressions.specs.Expressions.{variables_of}
 use Rattle.pj_tree.specs.declared.node.Node.{Node}
 use Rattle.pj_xdenotes.specs.Context.{Context, at}
 use Rattle.pj_xdenotes.specs.Denotes.{denotes}
@@ -23,7 +24,7 @@ use Rattle.pj_xvalue.specs.declared.fault.XCode.{XCode}
 use Rattle.pj_xvalue.specs.declared.pmd_function.PmdFunction.{PmdFunction}
 use Rattle.pj_workers.specs.FileFacts.{around_file, place_of}
 use Rattle.pj_workers.specs.Reasons.{plain_reason_of, xpath_reason}
-use Rattle.pj_workers.specs.Rules.{Rule, patterns_of, variables_of}
+use Rattle.pj_workers.specs.Rules.{Rule, patterns_of}
 
 -- what the functions of PMD reply
 abbrev pub Reply : Type 0

@@ -1,3 +1,4 @@
 pub mod TreeFolds
 pub mod DenotedTrees
 pub mod SeenTrees
+pub mod KnownPatterns

@@ -1,6 +1,6 @@
-//! XPath: laws of expressions of one tree.
+//! XPath: laws of expressions of one tree, and of known patterns.
 #![tactic(auto)]
 
 mod laws;
 
-pub use laws::trees_tell_expressions;
+pub use laws::{patterns_are_a_set, trees_tell_expressions};
