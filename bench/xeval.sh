@@ -29,10 +29,10 @@ print(' '.join(order))
 PYTHON
 )
 scratch_repository xeval_bench "$libraries" $needed
-for part in src/replies.rt proofs/Replies.antt; do
+for part in src/replies.rt specs/Untold.antt; do
     sed 's/tests_xeval/xeval_bench/g' "$here/crates/tests_xeval/$part" > "$bench/$part"
 done
-echo 'pub mod Replies' > "$bench/proofs/Lib.antt"
+echo 'pub mod Untold' > "$bench/specs/Lib.antt"
 cat > "$bench/src/main.rt" <<'PROGRAM'
 // Rows of time.
 #![tactic(auto)]
