@@ -55,11 +55,11 @@ fn found_of(n: u32) -> Found {
     Found {
         node: n,
         begin: Place {
-            line: n + 1,
+            line: n.saturating_add(1),
             column: 2,
         },
         end: Place {
-            line: n + 1,
+            line: n.saturating_add(1),
             column: 3,
         },
         reason: if n == 4 { Some(Reason::Regex) } else { None },
