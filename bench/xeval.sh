@@ -2,13 +2,13 @@
 # Time of the evaluation of expressions, against the number of nodes of a file.
 #
 # It makes a scratch repository of the libraries and of a small program, proves both (which takes minutes where nothing of them
-# is kept on this machine), and runs the program. The program parses one class with more and more times the same members, so
-# that its trees have about a quarter, a half and a whole million nodes, and evaluates some expressions at the document. It
-# prints a row for each: the expression, the nodes of the tree, the items that it gives, and nanoseconds of processor time for
-# each node of the tree. The last should stay the same, and grow no more than by the logarithm where nodes are sorted.
+# is kept on this machine), and runs the program. The program parses one class with 250, 500 and 1,000 times the same
+# members (a file has at most 200,000 tokens, so no much larger one has a tree), and evaluates some expressions at the document.
+# It prints a row for each: the expression, the nodes of the tree, the items that it gives, and nanoseconds of processor time
+# for each node of the tree. The last should stay the same, and grow no more than by the logarithm where nodes are sorted.
 set -euo pipefail
 . "$(dirname "$0")/scratch.sh"
-libraries='pj_attrs pj_base pj_lex pj_parse pj_symbols pj_tree pj_xdenotes pj_xeval pj_xfuncs pj_xparse pj_xvalue'
+libraries='pj_attrs pj_base pj_lex pj_names pj_parse pj_symbols pj_tree pj_xdenotes pj_xeval pj_xfuncs pj_xparse pj_xvalue'
 # each of these with what it stands on, lowest first
 needed=$(python3 - "$here/crates.txt" $libraries <<'PYTHON'
 import sys
@@ -33,6 +33,14 @@ for part in src/replies.rt specs/Untold.antt; do
     sed 's/tests_xeval/xeval_bench/g' "$here/crates/tests_xeval/$part" > "$bench/$part"
 done
 echo 'pub mod Untold' > "$bench/specs/Lib.antt"
+mkdir -p "$bench/proofs/items_of"
+cat > "$bench/proofs/items_of/Answers.antt" <<'ANTT'
+use Rattle.std.specs.Prelude.{length}
+use Rattle.xeval_bench.proofs.items_of.Goals as goal
+
+pub evaluate-given-requires-clause-variables : goal.evaluate-given-requires-clause-variables
+evaluate-given-requires-clause-variables g c = c.requires.variables (length c.args.scene.now.tree.now.nodes)
+ANTT
 cat > "$bench/src/main.rt" <<'PROGRAM'
 // Rows of time.
 #![tactic(auto)]
@@ -40,6 +48,8 @@ cat > "$bench/src/main.rt" <<'PROGRAM'
 ghost use Rattle.std.specs.Prelude.{◌≡◌, ℕ, Ok, length};
 ghost use Rattle.pj_parse.specs.Parses.{Parses, file_parsed};
 ghost use Rattle.pj_parse.specs.PoolText.{IsPoolOf};
+ghost use Rattle.pj_xvalue.specs.OfTree.{VariablesOfTree};
+ghost use Rattle.pj_xdenotes.specs.Context.{given_of};
 
 mod replies;
 
@@ -87,17 +97,24 @@ static EXPRESSIONS: [&str; 9] = [
     "//* except //Block",
 ];
 
+// What expressions are evaluated over.
+#[derive(Drop)]
+struct Scene<'t, A> {
+    tree: &'t SyntaxTree<'t>,
+    facts: &'t A,
+    variables: BoundVars<'t>,
+    patterns: Patterns,
+}
+
 // How many items the expression gives, or none where it gives a code.
-fn items_of<A: Attributes>(alloc: Global, expr: &Expr, tree: &SyntaxTree<'_>, facts: &A) -> Option<usize>
-    requires { A.nodes facts.now ≡ length tree.now.nodes }
+fn items_of<A: Attributes>(alloc: Global, expr: &Expr, scene: &Scene<'_, A>) -> Option<usize>
+    requires facts { A.nodes scene.now.facts.now ≡ length scene.now.tree.now.nodes }
+    requires variables { (n : ℕ) → VariablesOfTree n (given_of scene.now.variables) }
 {
-    let variables = BoundVars::new(alloc);
-    let Ok(patterns) = Patterns::of(alloc, expr, &variables) else {
-        return None;
-    };
-    let mut calls = Replies { nodes: tree.len() };
-    let focus = Focus { item: Item::Document, position: 1, size: 1, variables: &variables, patterns: &patterns };
-    match evaluate(alloc, expr, focus, tree, facts, &mut calls) {
+    let mut calls = Replies { nodes: scene.tree.len() };
+    let focus = Focus { item: Item::Document, position: 1, size: 1, variables: &scene.variables, patterns: &scene.patterns };
+    let given = evaluate(alloc, expr, focus, scene.tree, scene.facts, &mut calls);
+    match given {
         Ok(items) => Some(items.len()),
         Err(_) => None,
     }
@@ -111,8 +128,13 @@ fn row_of_expression<A: Attributes>(rt: &HostRuntime, text: &str, tree: &SyntaxT
     let Ok(expr) = parse_expression(rt.alloc(), text, &names) else {
         return println!(rt; "{text}: no expression");
     };
+    let variables = BoundVars::new(rt.alloc());
+    let Ok(patterns) = Patterns::of(rt.alloc(), &expr, &variables) else {
+        return println!(rt; "{text}: no patterns");
+    };
+    let scene = Scene { tree, facts, variables, patterns };
     let start = rt.process_cpu_time()?.as_nanos();
-    let found = items_of(rt.alloc(), &expr, tree, facts);
+    let found = items_of(rt.alloc(), &expr, &scene);
     let end = rt.process_cpu_time()?.as_nanos();
     let nodes = tree.len();
     let each = end.saturating_sub(start) / u128::from(nodes.max(1));
@@ -160,7 +182,7 @@ fn rows(rt: &HostRuntime, members: u32) -> io::Result<()> {
 }
 
 fn main(rt: HostRuntime) -> io::Result<()> {
-    for members in [1710u32, 3425, 6850] {
+    for members in [250u32, 500, 1000] {
         rows(&rt, members)?;
     }
     Ok(())
