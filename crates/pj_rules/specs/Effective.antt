@@ -1,5 +1,5 @@
 -- The rules of ruleset files, with references replaced by the rules that they name, and the first fault in the order of reading.
-use Rattle.std.specs.Prelude.{⊤, ◌≡◌, ℕ, Bool, true, false, List, [], ◌∷◌, ◌++◌, Option, Some, None, option_to_list, unwrap_or}
+use Rattle.std.specs.Prelude.{⊤, ◌≡◌, ℕ, Bool, true, false, List, [], ◌∷◌, ◌++◌, Option, Some, None, Result, Ok, Err, unwrap_or}
 use Rattle.std.specs.List.{flat_map}
 use Rattle.pj_outside.specs.Files.{Files}
 use Rattle.pj_rule_expressions.specs.Expressions.{IsSound}
@@ -20,12 +20,12 @@ use Rattle.pj_rule_texts.specs.declared.written.WrittenRuleset.{WrittenRuleset}
 use Rattle.pj_rule_files.specs.Files.{IsRead, IsUnreadable}
 use Rattle.pj_rule_files.specs.declared.fault.FileFault.{FileFault}
 use Rattle.pj_rule_files.specs.declared.fault.FileFault.TheVariants as file
-use Rattle.pj_rules.specs.declared.progress.Progress.{Progress}
-use Rattle.pj_rules.specs.LookUp.{look_up}
 use Rattle.pj_rule_lists.specs.Lists.{Taken, defined_in, is_among, named, not_an_xpath_rule, not_available, put, put_all, referred_in, without}
 use Rattle.pj_rule_lists.specs.declared.entry.Entry.TheVariants as entry
 use Rattle.pj_rule_lists.specs.declared.entry.Unusable.{Unusable}
 use Rattle.pj_rule_lists.specs.declared.entry.Origin.{Origin}
+use Rattle.pj_rules.specs.LookUp.{look_up}
+use Rattle.pj_rules.specs.declared.progress.Progress.{Progress}
 use Rattle.pj_rules.specs.declared.fault.RuleFault.{RuleFault}
 use Rattle.pj_rules.specs.declared.fault.RuleWhat.{RuleWhat}
 use Rattle.pj_rules.specs.declared.fault.RuleWhat.TheVariants as what
@@ -74,20 +74,20 @@ AreJudged true parts = AreTaken (flat_map path_pattern parts)
 
 -- The rule that a reference changes, or its first fault: in its texts, or else in its expressions.
 pub data Changes (rule : WrittenRule) (old : RuleTexts) : RuleTexts → Type 0 where
-  changed : {new : RuleTexts} → overridden old rule ≡ Result.Ok new → IsSound new → Changes rule old new
+  changed : {new : RuleTexts} → overridden old rule ≡ Ok new → IsSound new → Changes rule old new
 
 pub data CannotChange (rule : WrittenRule) (old : RuleTexts) : RuleWhat → Type 0 where
-  bad_texts : {fault : TextFault} {w : RuleWhat} → overridden old rule ≡ Result.Err fault → what_of_texts (new_name old rule) fault ≡ Some w → CannotChange rule old w
-  bad_expressions : {new : RuleTexts} {fault : ExpressionFault} {w : RuleWhat} → overridden old rule ≡ Result.Ok new → expressions.IsFault new fault →
+  bad_texts : {fault : TextFault} {w : RuleWhat} → overridden old rule ≡ Err fault → what_of_texts (new_name old rule) fault ≡ Some w → CannotChange rule old w
+  bad_expressions : {new : RuleTexts} {fault : ExpressionFault} {w : RuleWhat} → overridden old rule ≡ Ok new → expressions.IsFault new fault →
       what_of_expressions new.row.name fault ≡ Some w → CannotChange rule old w
 
 -- the same of a rule that is defined
 pub data Defines (rule_set name : Text) (rule : WrittenRule) : RuleTexts → Type 0 where
-  defines : {new : RuleTexts} → defined rule_set name rule ≡ Result.Ok new → IsSound new → Defines rule_set name rule new
+  defines : {new : RuleTexts} → defined rule_set name rule ≡ Ok new → IsSound new → Defines rule_set name rule new
 
 pub data CannotDefine (rule_set name : Text) (rule : WrittenRule) : RuleWhat → Type 0 where
-  bad_texts : {fault : TextFault} {w : RuleWhat} → defined rule_set name rule ≡ Result.Err fault → what_of_texts name fault ≡ Some w → CannotDefine rule_set name rule w
-  bad_expressions : {new : RuleTexts} {fault : ExpressionFault} {w : RuleWhat} → defined rule_set name rule ≡ Result.Ok new → expressions.IsFault new fault →
+  bad_texts : {fault : TextFault} {w : RuleWhat} → defined rule_set name rule ≡ Err fault → what_of_texts name fault ≡ Some w → CannotDefine rule_set name rule w
+  bad_expressions : {new : RuleTexts} {fault : ExpressionFault} {w : RuleWhat} → defined rule_set name rule ≡ Ok new → expressions.IsFault new fault →
       what_of_expressions new.row.name fault ≡ Some w → CannotDefine rule_set name rule w
 
 -- the name of a rule that is not available: the reference's own, or that in the file
@@ -154,7 +154,7 @@ module _ (files : Files) where
       cycle : {rule : WrittenRule} {reference file other : Text} → rule.reference ≡ Some reference → RefersTo reference file → look_up files path file ≡ Some other →
           is_among other open_ ≡ true → PartFault is_top open_ path rule_set progress (part.Rule rule) (record { path = path; what = what.RefCycle reference })
       within : {rule : WrittenRule} {reference file other : Text} {fault : RuleFault} → rule.reference ≡ Some reference → RefersTo reference file →
-          look_up files path file ≡ Some other → is_among other open_ ≡ false → FileFaults false (other ∷ open_) other fault →
+          look_up files path file ≡ Some other → is_among other open_ ≡ false → FileFaults false (open_ ++ other ∷ []) other fault →
           PartFault is_top open_ path rule_set progress (part.Rule rule) fault
       missing_rule : {rule : WrittenRule} {reference file name other : Text} {list : List Taken} → rule.reference ≡ Some reference →
           reference_of reference ≡ Some (OneRule file name) → look_up files path file ≡ Some other → HasRules other list → named name list ≡ None →

@@ -1,8 +1,24 @@
 //! Rulesets: the rules of the files that are named, with the rules that these refer to.
 #![tactic(auto)]
 
+mod counting;
 mod defining;
 mod fault;
+mod gathering;
+mod load;
+mod look_up;
+mod open_file;
+mod path_patterns;
 mod progress;
+mod read_files;
+mod reading;
+mod referral;
+mod rule;
+mod rule_set;
+mod taking;
+mod top;
 
 pub use fault::{RuleFault, RuleRefused, RuleWhat};
+pub use load::load;
+pub use rule::Rule;
+pub use rule_set::{RuleSet, Rules, is_active, regex_covers};

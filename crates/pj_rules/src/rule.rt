@@ -1,0 +1,119 @@
+//! Rules.
+ghost use Rattle.std.specs.Prelude.{◌≡◌, IfOk};
+
+use crate::path_patterns::{PathPatterns, matches_some, texts_of};
+use pj_base::{Names, NoMemory, Text};
+use pj_rule_expressions::{RuleExpressions, expressions_of};
+use pj_rule_rows::RuleRow;
+use pj_rule_texts::{Properties, RuleTexts};
+use pj_xpatterns::Patterns;
+use pj_xvalue::{BoundVars, Expr};
+use std::alloc::Global;
+use std::marker::Model;
+use std::sync::Arc;
+
+/// A rule, which contracts see as its texts with the number and the path patterns of its top ruleset.
+#[derive(Drop)]
+pub struct Rule {
+    /// The number of its top ruleset, counted from 0.
+    pub top: u32,
+    /// Its name, message and priority, and the name of the ruleset that defines it.
+    pub row: RuleRow,
+    /// The text of its query.
+    pub xpath: Text,
+    /// Its other properties.
+    pub properties: Properties,
+    /// The patterns of paths for which the rules of its top ruleset are not active.
+    pub exclude: Names,
+    /// The patterns of paths for which they are active nevertheless.
+    pub include: Names,
+    expressions: RuleExpressions,
+    patterns: Arc<PathPatterns, Global>,
+}
+
+impl Model for Rule {
+    ghost use Rattle.pj_rules.specs.Load.{EffectiveRule};
+    ghost use Rattle.pj_rules.specs.Rules.{IsKept};
+
+    ghost Value = { EffectiveRule };
+
+    ghost view = { λ rule. record { top = rule.top; row = rule.row; xpath = rule.xpath; properties = rule.properties; exclude = rule.exclude; include = rule.include } };
+
+    ghost invariant = { λ rule. ∥ IsKept (record { row = rule.row; xpath = rule.xpath; properties = rule.properties }) rule.exclude rule.include rule.expressions rule.patterns ∥₁ };
+}
+
+impl Rule {
+    /// The rule of these texts. That they are none of a rule is told where they are read, so nothing but memory can be wanting here.
+    pub(crate) fn of(
+        alloc: Global,
+        top: u32,
+        texts: RuleTexts,
+        patterns: &Arc<PathPatterns, Global>,
+    ) -> Result<Rule, NoMemory> {
+        let Ok(expressions) = expressions_of(alloc, &texts) else {
+            return Err(NoMemory);
+        };
+        let exclude = texts_of(alloc, patterns.exclude.as_slice())?;
+        let include = texts_of(alloc, patterns.include.as_slice())?;
+        let patterns = patterns.clone()?;
+        let RuleTexts {
+            row,
+            xpath,
+            properties,
+        } = texts;
+        Ok(Rule {
+            top,
+            row,
+            xpath,
+            properties,
+            exclude,
+            include,
+            expressions,
+            patterns,
+        })
+    }
+
+    /// The expression that the property `xpath` spells.
+    pub fn query(&self) -> &Expr {
+        &self.expressions.query.expr
+    }
+
+    /// The patterns that stand in the query.
+    pub fn query_patterns(&self) -> &Patterns {
+        &self.expressions.query.patterns
+    }
+
+    /// The expression that the property `violationSuppressXPath` spells; `None` exactly where the rule has no such property.
+    pub fn suppression(&self) -> Option<&Expr> {
+        match &self.expressions.suppression {
+            Some(suppression) => Some(&suppression.expr),
+            None => None,
+        }
+    }
+
+    /// The patterns that stand in it.
+    pub fn suppression_patterns(&self) -> Option<&Patterns> {
+        match &self.expressions.suppression {
+            Some(suppression) => Some(&suppression.patterns),
+            None => None,
+        }
+    }
+
+    /// The properties that are variables of both expressions, with their values.
+    pub fn variables(&self) -> &BoundVars<'static> {
+        &self.expressions.variables
+    }
+
+    /// Whether the rule has a `violationSuppressRegex` that matches its whole message.
+    pub(crate) fn covers(&self) -> bool {
+        self.expressions.is_covered
+    }
+
+    /// Whether the rule is active for a path.
+    pub(crate) fn is_active(&self, alloc: Global, path: &str) -> Result<bool, NoMemory> {
+        if !matches_some(alloc, self.patterns.exclude.as_slice(), path)? {
+            return Ok(true);
+        }
+        matches_some(alloc, self.patterns.include.as_slice(), path)
+    }
+}
