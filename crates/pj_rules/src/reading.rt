@@ -8,7 +8,7 @@ use crate::open_file::{OpenFile, Waiting, with_exclude, with_include};
 use crate::read_files::{OpenPaths, ReadFiles};
 use crate::referral::{Referral, referral_of};
 use crate::taking::{take, take_nothing};
-use pj_base::{Copied, Text};
+use pj_base::{Copied, ListOf, Text};
 use pj_outside::Tree;
 use pj_rule_texts::{Part, WrittenRule, WrittenRuleset};
 use std::alloc::Global;
@@ -17,7 +17,7 @@ use std::alloc::Global;
 #[derive(Drop)]
 pub struct Stack {
     /// The files in which references wait, a top ruleset first, and behind each file the one to which it refers.
-    pub below: Vec<Waiting>,
+    pub below: ListOf<Waiting>,
     /// The paths of all these files and the one that is being read.
     pub open_paths: OpenPaths,
     /// The file that is being read.
@@ -239,7 +239,7 @@ fn take_part<T: Tree>(
 fn go_back(
     alloc: Global,
     read: &mut ReadFiles,
-    below: Vec<Waiting>,
+    below: ListOf<Waiting>,
     open_paths: OpenPaths,
     waiting: Waiting,
     done: OpenFile,

@@ -34,7 +34,7 @@ fn stack_of(alloc: Global, path: &Text, written: WrittenRuleset) -> Result<Stack
         Some(PathPatterns::new(alloc)),
     );
     Ok(Stack {
-        below: Vec::new(alloc),
+        below: ListOf::new(alloc),
         open_paths,
         current,
     })

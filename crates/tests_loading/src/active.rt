@@ -1,5 +1,5 @@
 //! For which paths rules are active, which messages they cover, and what a rule keeps of its texts.
-use crate::fixtures::{files_of, loaded};
+use crate::fixtures::{files_of, loaded, words_of};
 use pj_base::{Numbers, Text};
 use pj_outside::MemTree;
 use pj_rules::{Rule, is_active, regex_covers};
@@ -162,8 +162,10 @@ fn kept(rt: HostRuntime) -> Result<(), Fail> {
         "r.xml <ruleset><rule name=\"N\"@><properties><property name=\"p\" type=\"Regex\" value=\"a+\"/><property name=\"q\" type=\"Boolean\" value=\"true\"/><property name=\"xpath\" value=\"//A[matches(@Name, $p)]\"/><property name=\"violationSuppressXPath\" value=\"matches(@Name, 'b')\"/></properties></rule><rule name=\"M\"@>#</rule></ruleset>";
     let files = files_of(alloc, text)?;
     let mut tree = MemTree::new(alloc, files, Numbers::new(alloc));
-    let Ok(set) = loaded(alloc, &mut tree, "r.xml", 5)? else {
-        assert!(&rt; false);
+    let loaded = loaded(alloc, &mut tree, "r.xml", 5)?;
+    let words = words_of(alloc, &loaded)?;
+    let Ok(set) = loaded else {
+        assert!(&rt; false, "{words}");
         return Ok(());
     };
     let flags = PatternFlags {

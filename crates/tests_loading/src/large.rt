@@ -24,16 +24,16 @@ fn many(alloc: Global, rules: u32, unusable: u32) -> Result<Files, Fail> {
 #[test]
 fn limit(rt: HostRuntime) -> Result<(), Fail> {
     let alloc = rt.alloc();
-    let mut tree = MemTree::new(alloc, many(alloc, 1000, 1000)?, Numbers::new(alloc));
+    let mut tree = MemTree::new(alloc, many(alloc, 10, 1990)?, Numbers::new(alloc));
     let Ok(set) = loaded(alloc, &mut tree, "r.xml", 5)? else {
         assert!(&rt; false);
         return Ok(());
     };
-    assert_eq!(&rt; set.rules().len(), 1000);
-    assert_eq!(&rt; set.unusable().len(), 1000);
-    let dropped = words_of(alloc, &loaded(alloc, &mut tree, "r.xml,r.xml", 4)?)?;
+    assert_eq!(&rt; set.rules().len(), 10);
+    assert_eq!(&rt; set.unusable().len(), 1990);
+    let dropped = words_of(alloc, &loaded(alloc, &mut tree, "r.xml", 4)?)?;
     assert!(&rt; dropped.as_str().starts_with("!J0: not an XPath rule; !J1"));
-    let mut tree = MemTree::new(alloc, many(alloc, 1000, 1001)?, Numbers::new(alloc));
+    let mut tree = MemTree::new(alloc, many(alloc, 10, 1991)?, Numbers::new(alloc));
     let words = words_of(alloc, &loaded(alloc, &mut tree, "r.xml", 5)?)?;
     assert_eq!(&rt; words.as_str(), "TooManyRules 2001");
     let words = words_of(alloc, &loaded(alloc, &mut tree, "r.xml,r.xml", 5)?)?;
@@ -74,11 +74,11 @@ fn chain_of_references(rt: HostRuntime) -> Result<(), Fail> {
 #[test]
 fn chain_of_rules(rt: HostRuntime) -> Result<(), Fail> {
     let alloc = rt.alloc();
-    let mut tree = MemTree::new(alloc, chain(alloc, 500, true)?, Numbers::new(alloc));
+    let mut tree = MemTree::new(alloc, chain(alloc, 50, true)?, Numbers::new(alloc));
     let Ok(set) = loaded(alloc, &mut tree, "0.xml", 5)? else {
         assert!(&rt; false);
         return Ok(());
     };
-    assert_eq!(&rt; set.rules().len(), 500);
+    assert_eq!(&rt; set.rules().len(), 50);
     Ok(())
 }

@@ -21,7 +21,7 @@ static REFUSALS: [Row; 33] = [
         files: "r.xml <ruleset><rule name=\"N\"@>#</rule><rule@>#</rule></ruleset>",
         paths: "r.xml",
         minimum: 5,
-        wanted: "r.xml NoName 156",
+        wanted: "r.xml NoName 146",
     },
     Row {
         files: "r.xml <ruleset><rule class=\"x.J\"/></ruleset>",
