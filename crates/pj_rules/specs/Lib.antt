@@ -3,6 +3,13 @@ pub mod Active
 pub mod Effective
 pub mod Load
 pub mod LookUp
--- private clauses alone cite these
-pub mod Refusals
+pub mod Outcome
 pub mod Rules
+-- private clauses alone cite these
+pub mod Finding
+pub mod Gathering
+pub mod Known
+pub mod Patterns
+pub mod Referring
+pub mod Refusals
+pub mod States

@@ -1,5 +1,9 @@
 //! Loading rulesets.
-ghost use Rattle.std.specs.Prelude.{◌≡◌, ◌≤◌, IfOk, IfErr, IfSome};
+ghost use Rattle.std.specs.Prelude.{◌≡◌, ◌≤◌, map, IfOk, IfErr, IfSome};
+ghost use Rattle.pj_rules.specs.Gathering.{IsTooMany};
+ghost use Rattle.pj_rules.specs.Load.{IsEffective, count_of, effective, greatest_count};
+ghost use Rattle.pj_rules.specs.Outcome.{CountsFaults, IsRefused};
+ghost use Rattle.pj_rules.specs.States.{top_rules};
 
 use crate::counting::count_of;
 use crate::fault::RuleRefused;
@@ -19,13 +23,18 @@ fn set_of(
     minimum: u8,
     marker: &Text,
     tops: ListOf<Top>,
-) -> Result<RuleSet, RuleRefused> {
+) -> Result<RuleSet, RuleRefused>
+    ensures set { IfOk result (λ set. set ≡ effective minimum marker.now (map top_rules tops)) }
+    ensures few { IfOk result (λ set. count_of set ≤ greatest_count) }
+    ensures many { IfErr result (IsTooMany (effective minimum marker.now (map top_rules tops))) }
+{
     let count = count_of(minimum, tops.as_slice())?;
     if count > GREATEST_COUNT {
         return Err(RuleRefused::TooManyRules(count));
     }
     let Gathered { rules, unusable } = gather(alloc, minimum, tops)?;
-    Ok(RuleSet::of(rules, unusable, marker.copied()?))
+    let marker = marker.copied()?;
+    Ok(RuleSet::of(rules, unusable, marker))
 }
 
 /// Loads the rulesets of the paths that are named: their rules of a priority number that is not above the minimum, with the rules that
@@ -39,7 +48,14 @@ pub fn load<T: Tree>(
     paths: &Names,
     minimum: u8,
     marker: &Text,
-) -> Result<RuleSet, RuleRefused> {
+) -> Result<RuleSet, RuleRefused>
+    ensures same_files { T.holds tree.new ≡ T.holds tree.old }
+    ensures counts_faults { CountsFaults (T.faults tree.old) (T.faults tree.new) result }
+    ensures rules { IfSome (T.holds tree.old) (λ files. IfOk result (IsEffective files paths.now minimum marker.now)) }
+    ensures few { IfOk result (λ rules. count_of rules ≤ greatest_count) }
+    ensures refused { IfSome (T.holds tree.old) (λ files. IfErr result (IsRefused files paths.now minimum marker.now)) }
+{
     let tops = read_tops(alloc, tree, paths)?;
-    set_of(alloc, minimum, marker, tops)
+    let set = set_of(alloc, minimum, marker, tops)?;
+    Ok(set)
 }

@@ -1,5 +1,12 @@
 //! Files that are being read.
-ghost use Rattle.std.specs.Prelude.{◌≡◌, IfOk};
+ghost use Rattle.std.specs.Prelude.{◌≡◌, None, IfOk, IfErr, OnOk, is_some};
+ghost use Rattle.pj_rule_expressions.specs.Patterns.{whole};
+ghost use Rattle.pj_rule_texts.specs.declared.written.Part.TheVariants as part;
+ghost use Rattle.pj_rules.specs.Effective.{nothing};
+ghost use Rattle.pj_rules.specs.Patterns.{IsPatternFault};
+ghost use Rattle.pj_rules.specs.Refusals.{IfOwn};
+ghost use Rattle.pj_rules.specs.States.{Gathers, left};
+ghost use Rattle.pj_xpatterns.specs.Meaning.{IsNoPattern};
 
 use crate::defining::refused;
 use crate::fault::{RuleRefused, RuleWhat};
@@ -43,7 +50,13 @@ impl OpenFile {
         path: Text,
         written: WrittenRuleset,
         patterns: Option<PathPatterns>,
-    ) -> OpenFile {
+    ) -> OpenFile
+        ensures path { result.path ≡ path }
+        ensures rule_set { result.rule_set ≡ written.rule_set }
+        ensures rest { left result ≡ written.parts }
+        ensures progress { result.progress ≡ nothing }
+        ensures patterns { result.patterns ≡ patterns }
+    {
         let WrittenRuleset { rule_set, parts } = written;
         OpenFile {
             path,
@@ -56,7 +69,11 @@ impl OpenFile {
 }
 
 /// A path pattern of a file, or its refusal.
-fn judged(alloc: Global, path: &Text, text: Text) -> Result<PathPattern, RuleRefused> {
+fn judged(alloc: Global, path: &Text, text: Text) -> Result<PathPattern, RuleRefused>
+    ensures value { IfOk result (λ pattern. pattern ≡ text) }
+    ensures taken { OnOk result (¬ IsNoPattern (whole text)) }
+    ensures refused { IfErr result (IfOwn (IsPatternFault path.now text)) }
+{
     let refused_text = text.copied()?;
     match PathPattern::of(alloc, text) {
         Ok(pattern) => Ok(pattern),
@@ -71,13 +88,21 @@ pub fn with_exclude(
     path: &Text,
     patterns: Option<PathPatterns>,
     text: Text,
-) -> Result<Option<PathPatterns>, RuleRefused> {
+) -> Result<Option<PathPatterns>, RuleRefused>
+    ensures value { IfOk result (Gathers patterns (part.ExcludePattern text)) }
+    ensures top { IfOk result (λ new. is_some new ≡ is_some patterns) }
+    ensures refused { IfErr result (IfOwn (λ fault. (is_some patterns ≡ true) × IsPatternFault path.now text fault)) }
+{
     match patterns {
         None => Ok(None),
-        Some(mut patterns) => {
+        Some(patterns) => {
+            let PathPatterns {
+                mut exclude,
+                include,
+            } = patterns;
             let pattern = judged(alloc, path, text)?;
-            patterns.exclude.push(pattern)?;
-            Ok(Some(patterns))
+            exclude.push(pattern)?;
+            Ok(Some(PathPatterns { exclude, include }))
         }
     }
 }
@@ -88,13 +113,21 @@ pub fn with_include(
     path: &Text,
     patterns: Option<PathPatterns>,
     text: Text,
-) -> Result<Option<PathPatterns>, RuleRefused> {
+) -> Result<Option<PathPatterns>, RuleRefused>
+    ensures value { IfOk result (Gathers patterns (part.IncludePattern text)) }
+    ensures top { IfOk result (λ new. is_some new ≡ is_some patterns) }
+    ensures refused { IfErr result (IfOwn (λ fault. (is_some patterns ≡ true) × IsPatternFault path.now text fault)) }
+{
     match patterns {
         None => Ok(None),
-        Some(mut patterns) => {
+        Some(patterns) => {
+            let PathPatterns {
+                exclude,
+                mut include,
+            } = patterns;
             let pattern = judged(alloc, path, text)?;
-            patterns.include.push(pattern)?;
-            Ok(Some(patterns))
+            include.push(pattern)?;
+            Ok(Some(PathPatterns { exclude, include }))
         }
     }
 }

@@ -1,5 +1,13 @@
 //! Rules.
 ghost use Rattle.std.specs.Prelude.{◌≡◌, IfOk};
+ghost use Rattle.std.specs.Arc.{arc_value};
+ghost use Rattle.std.specs.Option.{option_copied};
+ghost use Rattle.pj_rule_expressions.specs.Expressions.{AreOf, Both, IsParsed, names_of, variables_of};
+ghost use Rattle.pj_rule_expressions.specs.Patterns.{suppression_of};
+ghost use Rattle.pj_rule_texts.specs.Seen.{variables_seen};
+ghost use Rattle.pj_rules.specs.Active.{covers, is_active, texts_of};
+ghost use Rattle.pj_rules.specs.Load.{rule_of};
+ghost use Rattle.pj_rules.specs.Rules.{ArePatternsOf};
 
 use crate::path_patterns::{PathPatterns, matches_some, texts_of};
 use pj_base::{Names, NoMemory, Text};
@@ -32,6 +40,7 @@ pub struct Rule {
 }
 
 impl Model for Rule {
+    ghost use Rattle.std.specs.Arc.{arc_value};
     ghost use Rattle.pj_rules.specs.Load.{EffectiveRule};
     ghost use Rattle.pj_rules.specs.Rules.{IsKept};
 
@@ -39,7 +48,7 @@ impl Model for Rule {
 
     ghost view = { λ rule. record { top = rule.top; row = rule.row; xpath = rule.xpath; properties = rule.properties; exclude = rule.exclude; include = rule.include } };
 
-    ghost invariant = { λ rule. ∥ IsKept (record { row = rule.row; xpath = rule.xpath; properties = rule.properties }) rule.exclude rule.include rule.expressions rule.patterns ∥₁ };
+    ghost invariant = { λ rule. ∥ IsKept (record { row = rule.row; xpath = rule.xpath; properties = rule.properties }) rule.exclude rule.include rule.expressions (arc_value rule.patterns) ∥₁ };
 }
 
 impl Rule {
@@ -49,7 +58,9 @@ impl Rule {
         top: u32,
         texts: RuleTexts,
         patterns: &Arc<PathPatterns, Global>,
-    ) -> Result<Rule, NoMemory> {
+    ) -> Result<Rule, NoMemory>
+        ensures { IfOk result (λ rule. rule ≡ rule_of top (arc_value patterns.now).exclude (arc_value patterns.now).include texts) }
+    {
         let Ok(expressions) = expressions_of(alloc, &texts) else {
             return Err(NoMemory);
         };
@@ -73,18 +84,31 @@ impl Rule {
         })
     }
 
+    /// The expressions that the rule's texts spell, with their patterns and variables.
+    pub fn expressions(&self) -> &RuleExpressions
+        ensures { ∥ AreOf (texts_of self.now) result.now ∥₁ }
+    {
+        &self.expressions
+    }
+
     /// The expression that the property `xpath` spells.
-    pub fn query(&self) -> &Expr {
+    pub fn query(&self) -> &Expr
+        ensures { ∥ IsParsed (names_of (texts_of self.now)) self.now.xpath result.now ∥₁ }
+    {
         &self.expressions.query.expr
     }
 
     /// The patterns that stand in the query.
-    pub fn query_patterns(&self) -> &Patterns {
+    pub fn query_patterns(&self) -> &Patterns
+        ensures { ∥ ArePatternsOf (texts_of self.now) self.now.xpath result.now ∥₁ }
+    {
         &self.expressions.query.patterns
     }
 
     /// The expression that the property `violationSuppressXPath` spells; `None` exactly where the rule has no such property.
-    pub fn suppression(&self) -> Option<&Expr> {
+    pub fn suppression(&self) -> Option<&Expr>
+        ensures { ∥ Both (suppression_of (texts_of self.now)) (option_copied result) (IsParsed (names_of (texts_of self.now))) ∥₁ }
+    {
         match &self.expressions.suppression {
             Some(suppression) => Some(&suppression.expr),
             None => None,
@@ -92,7 +116,9 @@ impl Rule {
     }
 
     /// The patterns that stand in it.
-    pub fn suppression_patterns(&self) -> Option<&Patterns> {
+    pub fn suppression_patterns(&self) -> Option<&Patterns>
+        ensures { ∥ Both (suppression_of (texts_of self.now)) (option_copied result) (ArePatternsOf (texts_of self.now)) ∥₁ }
+    {
         match &self.expressions.suppression {
             Some(suppression) => Some(&suppression.patterns),
             None => None,
@@ -100,18 +126,25 @@ impl Rule {
     }
 
     /// The properties that are variables of both expressions, with their values.
-    pub fn variables(&self) -> &BoundVars<'static> {
+    pub fn variables(&self) -> &BoundVars<'static>
+        ensures { variables_seen result.now ≡ variables_of (texts_of self.now) }
+    {
         &self.expressions.variables
     }
 
     /// Whether the rule has a `violationSuppressRegex` that matches its whole message.
-    pub(crate) fn covers(&self) -> bool {
+    pub(crate) fn covers(&self) -> bool
+        ensures { result ≡ covers self.now }
+    {
         self.expressions.is_covered
     }
 
     /// Whether the rule is active for a path.
-    pub(crate) fn is_active(&self, alloc: Global, path: &str) -> Result<bool, NoMemory> {
-        if !matches_some(alloc, self.patterns.exclude.as_slice(), path)? {
+    pub(crate) fn is_active(&self, alloc: Global, path: &str) -> Result<bool, NoMemory>
+        ensures { IfOk result (λ active. active ≡ is_active self.now path.now) }
+    {
+        let is_excluded = matches_some(alloc, self.patterns.exclude.as_slice(), path)?;
+        if !is_excluded {
             return Ok(true);
         }
         matches_some(alloc, self.patterns.include.as_slice(), path)

@@ -1,5 +1,8 @@
 //! Taking rules of other files.
-ghost use Rattle.std.specs.Prelude.{◌≡◌, IfOk};
+ghost use Rattle.std.specs.Prelude.{◌≡◌, IfOk, IfErr, OnOk};
+ghost use Rattle.pj_rule_lists.specs.Lists.{not_available};
+ghost use Rattle.pj_rules.specs.Referring.{AddsNothing, AddsTaken, ChangesEntry, CannotChangeEntry, IsNothingFault, IsTakenFault, AddsOne, IsOneFault, name_behind};
+ghost use Rattle.pj_rules.specs.Refusals.{IfOwn};
 
 use crate::defining::{changed_rule, refused};
 use crate::fault::{RuleRefused, RuleWhat};
@@ -12,11 +15,9 @@ use pj_rule_texts::{WrittenRule, is_from_elsewhere};
 use std::alloc::Global;
 
 /// What stands for a reference to a file that is not available.
-pub fn not_available(
-    alloc: Global,
-    name: Option<Text>,
-    reference: Text,
-) -> Result<Entry, NoMemory> {
+pub fn not_available(alloc: Global, name: Option<Text>, reference: Text) -> Result<Entry, NoMemory>
+    ensures { IfOk result (λ entry. entry ≡ not_available name reference) }
+{
     Ok(Entry::Unusable(Unusable {
         name,
         error: ConfigError {
@@ -32,10 +33,19 @@ fn taken_entry(
     path: &Text,
     rule: WrittenRule,
     old: &Entry,
-) -> Result<Entry, RuleRefused> {
+) -> Result<Entry, RuleRefused>
+    ensures entry { IfOk result (ChangesEntry rule old.now) }
+    ensures fault { IfErr result (IfOwn (CannotChangeEntry path.now rule old.now)) }
+{
     match old {
-        Entry::Rule(texts) => Ok(Entry::Rule(changed_rule(alloc, path, texts, rule)?)),
-        Entry::Unusable(unusable) => Ok(Entry::Unusable(unusable.copied()?)),
+        Entry::Rule(texts) => {
+            let changed = changed_rule(alloc, path, texts, rule)?;
+            Ok(Entry::Rule(changed))
+        }
+        Entry::Unusable(unusable) => {
+            let copy = unusable.copied()?;
+            Ok(Entry::Unusable(copy))
+        }
     }
 }
 
@@ -44,17 +54,23 @@ fn take_one(
     alloc: Global,
     path: &Text,
     progress: &mut Progress,
-    rule: WrittenRule,
-    reference: Text,
-    name: &Text,
+    referral: Referral,
+    name: Text,
     list: &[(Origin, Entry)],
-) -> Result<(), RuleRefused> {
-    let Some(old) = named(name.as_str(), list) else {
-        return Err(refused(path, RuleWhat::MissingRef(reference)));
-    };
-    let entry = taken_entry(alloc, path, rule, &old.1)?;
-    progress.list.put(old.0.copied()?, entry)?;
-    Ok(())
+) -> Result<(), RuleRefused>
+    requires { referral.target.name ≡ Some name }
+    ensures adds { OnOk result (AddsTaken path.now progress.old referral list.now progress.new) }
+    ensures fault { IfErr result (IfOwn (IsTakenFault path.now progress.old referral list.now)) }
+{
+    match named(name.as_str(), list) {
+        None => Err(refused(path, RuleWhat::MissingRef(referral.reference))),
+        Some(old) => {
+            let origin = old.0.copied()?;
+            let entry = taken_entry(alloc, path, referral.rule, &old.1)?;
+            progress.list.put(origin, entry)?;
+            Ok(())
+        }
+    }
 }
 
 /// Takes what a reference takes from the list of the file to which it leads: all rules but those that are excluded, or the one of a name.
@@ -64,23 +80,24 @@ pub fn take(
     progress: &mut Progress,
     referral: Referral,
     list: &[(Origin, Entry)],
-) -> Result<(), RuleRefused> {
-    let Referral {
-        rule,
-        reference,
-        target,
-    } = referral;
-    match target.name {
-        Some(name) => take_one(alloc, path, progress, rule, reference, &name, list),
+) -> Result<(), RuleRefused>
+    ensures adds { OnOk result (AddsTaken path.now progress.old referral list.now progress.new) }
+    ensures fault { IfErr result (IfOwn (IsTakenFault path.now progress.old referral list.now)) }
+{
+    let name = Copied::copied(&referral.target.name)?;
+    match name {
+        Some(name) => take_one(alloc, path, progress, referral, name, list),
         None => {
-            put_without(rule.excludes.as_slice(), list, &mut progress.list)?;
+            put_without(referral.rule.excludes.as_slice(), list, &mut progress.list)?;
             Ok(())
         }
     }
 }
 
 /// The name of a rule that is not available: the reference's own, or that in the file. A whole file has none.
-fn or_name(own: Option<Text>, name: Option<Text>) -> Option<Text> {
+fn name_behind(own: Option<Text>, name: Option<Text>) -> Option<Text>
+    ensures { result ≡ name_behind own name }
+{
     match name {
         None => None,
         Some(name) => Some(own.unwrap_or(name)),
@@ -93,7 +110,10 @@ pub fn take_nothing(
     path: &Text,
     progress: &mut Progress,
     referral: Referral,
-) -> Result<(), RuleRefused> {
+) -> Result<(), RuleRefused>
+    ensures adds { OnOk result (AddsNothing path.now progress.old referral progress.new) }
+    ensures fault { IfErr result (IfOwn (IsNothingFault path.now progress.old referral)) }
+{
     let Referral {
         rule,
         reference,
@@ -108,7 +128,7 @@ pub fn take_nothing(
         path: path.copied()?,
         text: reference.copied()?,
     };
-    let entry = not_available(alloc, or_name(rule.name, name), reference)?;
+    let entry = not_available(alloc, name_behind(rule.name, name), reference)?;
     progress.list.put(origin, entry)?;
     Ok(())
 }
