@@ -1,6 +1,6 @@
 //! Files that are known: those that are read, and those that are being read.
-ghost use Rattle.std.specs.Prelude.{◌≡◌, ◌++◌, ◌∷◌, [], false, OnOk, IfOk};
-ghost use Rattle.std.specs.Option.{option_copied, option_to_list};
+ghost use Rattle.std.specs.Prelude.{◌≡◌, ◌++◌, ◌∷◌, [], false, OnOk, MatchOption};
+ghost use Rattle.std.specs.Option.{option_copied};
 ghost use Rattle.pj_rule_lists.specs.Lists.{is_among};
 ghost use Rattle.pj_rules.specs.Known.{list_at, put_list};
 
@@ -95,7 +95,7 @@ impl OpenPaths {
 
     /// Takes the last path.
     pub fn pop(&mut self) -> Option<Text>
-        ensures { self.old ≡ self.new ++ option_to_list result }
+        ensures { MatchOption result ((self.old ≡ []) × (self.new ≡ [])) (λ last. self.old ≡ self.new ++ last ∷ []) }
     {
         self.held.pop()
     }

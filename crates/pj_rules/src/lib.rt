@@ -6,7 +6,7 @@ mod defining;
 mod fault;
 mod gathering;
 mod known;
-mod load;
+mod loading;
 mod look_up;
 mod open_file;
 mod path_patterns;
@@ -19,6 +19,6 @@ mod taking;
 mod top;
 
 pub use fault::{RuleFault, RuleRefused, RuleWhat};
-pub use load::load;
+pub use loading::load;
 pub use rule::Rule;
 pub use rule_set::{RuleSet, Rules, is_active, regex_covers};

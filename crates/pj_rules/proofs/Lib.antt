@@ -1,0 +1,5 @@
+mod Told
+mod Lists
+mod KnownFiles
+mod Chains
+mod Parts
