@@ -1,10 +1,10 @@
 -- Lists of patterns: all of them are patterns, or one is none.
-use Rattle.std.proofs.Common.{⊤, ◌≡◌, ℕ, ◌+◌, ◌<◌, Bool, true, false, List, [], ◌∷◌, ◌++◌, length, take, drop, get_or, map, Option, Some, None, refl, sym, ap, ◌∙◌, subst, append_assoc, append-nil, arith}
+use Rattle.std.proofs.Common.{◌≡◌, ℕ, ◌+◌, ◌<◌, Bool, true, false, List, [], ◌∷◌, ◌++◌, length, take, drop, get_or, map, Option, Some, None, refl, sym, ap, ◌∙◌, subst, append_assoc, append-nil, arith}
 use Rattle.std.specs.List.{AllByRecursion, flat_map}
 use Rattle.std.proofs.lemmas.List.{at_drop_more, drop_all, map-append, take_more, take-append-drop}
 use Rattle.std.proofs.lemmas.List.Concat.{flat_map-append}
 use Rattle.pj_xpatterns.specs.Meaning.{IsNoPattern, Pattern}
-use Rattle.pj_xpatterns.specs.Refusing.{AreTaken, IfRefused}
+use Rattle.pj_xpatterns.specs.Refusing.{AreTaken, IfRefused, IsFirstRefused}
 use Rattle.pj_xpatterns.specs.declared.compiled.PatternFault.{PatternFault}
 use Rattle.pj_xpatterns.specs.declared.compiled.PatternFault.TheVariants.{Refused, Memory}
 use Rattle.pj_rule_expressions.specs.Faults.{HasNoPattern, IfNoPattern}
@@ -32,6 +32,9 @@ none-right xs ys h = record {
 
 pub none-one : (p : Pattern) → IsNoPattern p → HasNoPattern (p ∷ [])
 none-one p h = record { before = []; refused = p; behind = []; stands = refl; is_none = h }
+
+pub none-first : (xs : List Pattern) (text : List ℕ) → IsFirstRefused xs text → HasNoPattern xs
+none-first xs text h = record { before = h.before; refused = h.pattern; behind = h.behind; stands = h.stands; is_none = h.refused }
 
 -- a fact of a refusal that implies another
 pub weaken : (P Q : Type 0) → (P → Q) → (fault : PatternFault) → IfNoPattern fault P → IfNoPattern fault Q

@@ -45,7 +45,7 @@ IsSomeParseFault names (Some text) fault = IsParseFault names text fault
 -- The first fault of the rule's expressions: that of `xpath`, or where `xpath` has none that of `violationSuppressXPath`.
 pub data IsSyntaxFault (texts : RuleTexts) : XSyntax → Type 0 where
   of_query : {fault : XSyntax} → syntax.IsFault (names_of texts) (chars texts.xpath) fault → IsSyntaxFault texts fault
-  of_suppression : {query : Expr} {text : Text} {fault : XSyntax} → IsSpelledBy (names_of texts) texts.xpath query → suppression_of texts ≡ Some text →
+  of_suppression : (query : Expr) (text : Text) {fault : XSyntax} → IsSpelledBy (names_of texts) texts.xpath query → suppression_of texts ≡ Some text →
       syntax.IsFault (names_of texts) (chars text) fault → IsSyntaxFault texts fault
 
 -- The expressions are spelled, and one of the rule's patterns is no pattern.

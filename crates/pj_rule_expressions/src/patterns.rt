@@ -1,5 +1,5 @@
 //! The patterns of a rule beside those of its expressions.
-ghost use Rattle.std.specs.Prelude.{◌≡◌, IfOk, IfErr, OnOk};
+ghost use Rattle.std.specs.Prelude.{◌≡◌, [], ◌∷◌, if◌then◌else◌, IfOk, IfErr, OnOk};
 ghost use Rattle.std.specs.List.{flat_map};
 ghost use Rattle.std.specs.Option.{option_copied};
 ghost use Rattle.pj_rule_expressions.specs.Faults.{IfNoPattern, HasNoPattern};
@@ -70,10 +70,13 @@ fn judge_property(alloc: Global, property: &Property) -> Result<(), PatternFault
     ensures taken { OnOk result (AreTaken (pattern_of_property property.now)) }
     ensures refused { IfErr result (λ fault. IfNoPattern fault (HasNoPattern (pattern_of_property property.now))) }
 {
-    if is_pattern(property) {
-        let _ = CompiledPattern::of(alloc, property.value.as_str(), NO_FLAGS)?;
+    if !is_pattern(property) {
+        return Ok(());
     }
-    Ok(())
+    match CompiledPattern::of(alloc, property.value.as_str(), NO_FLAGS) {
+        Ok(_) => Ok(()),
+        Err(fault) => Err(fault),
+    }
 }
 
 /// Refuses properties one of which is to be a pattern and is none.
@@ -105,9 +108,9 @@ pub(crate) fn is_covered_by(
 {
     match pattern {
         None => Ok(false),
-        Some(pattern) => {
-            let compiled = whole(alloc, pattern.as_str())?;
-            Ok(compiled.is_found(alloc, text)?)
-        }
+        Some(pattern) => match whole(alloc, pattern.as_str()) {
+            Ok(compiled) => Ok(compiled.is_found(alloc, text)?),
+            Err(fault) => Err(fault),
+        },
     }
 }
