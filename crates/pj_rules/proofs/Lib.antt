@@ -1,5 +1,9 @@
 mod Told
 mod Lists
 mod KnownFiles
+mod Refusing
+mod Finding
 mod Chains
+mod Taking
 mod Parts
+mod Counting

@@ -1,11 +1,10 @@
 -- For private clauses: what looking a file up finds.
-use Rattle.std.specs.Prelude.{⊤, ◌≡◌, true, false, ◌++◌, [], ◌∷◌, Option, Some, None}
+use Rattle.std.specs.Prelude.{◌≡◌, Bool, true, false, List, ◌++◌, [], ◌∷◌, Some, None}
 use Rattle.pj_outside.specs.Files.{Files}
-use Rattle.pj_rule_files.specs.Files.{IsRead, IsUnreadable, is_there}
-use Rattle.pj_rule_files.specs.declared.fault.FileFault.{FileFault}
+use Rattle.pj_rule_files.specs.Files.{IsRead, is_there}
 use Rattle.pj_rule_lists.specs.Lists.{is_among}
 use Rattle.pj_rule_texts.specs.Values.{Text}
-use Rattle.pj_rules.specs.Effective.{FileFaults, what_of_file}
+use Rattle.pj_rules.specs.Effective.{FileFaults}
 use Rattle.pj_rules.specs.Known.{list_at}
 use Rattle.pj_rules.specs.LookUp.{look_up}
 use Rattle.pj_rules.specs.declared.fault.RuleFault.{RuleFault}
@@ -18,12 +17,9 @@ abbrev pub IsBefore : Known → Text → Type 0
 IsBefore known path = list_at known.read path ≡ None → is_among path known.open_paths ≡ true
 
 module _ (files : Files) where
-  -- the fault of a whole file
-  pub record IsFaultAt (path : Text) (fault : RuleFault) : Type 0 where
-    pub file_fault : FileFault
-    pub unreadable : IsUnreadable files path file_fault
-    pub place : fault.path ≡ path
-    pub what : fault.what ≡ what_of_file file_fault
+  -- the fault of a whole file, wherever it is read
+  abbrev pub IsFaultAt : Text → RuleFault → Type 0
+  IsFaultAt path fault = (is_top : Bool) (open_ : List Text) → FileFaults files is_top open_ path fault
 
   pub record IsNewFault (known : Known) (path : Text) (fault : RuleFault) : Type 0 where
     pub is_new : is_among path known.open_paths ≡ false
