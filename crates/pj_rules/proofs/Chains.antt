@@ -38,7 +38,7 @@ module _ (files : Files) where
       (subst (λ paths. FileFaults files true paths path fault) o (subst (λ t. FileFaults files t open_ path fault) t h))
   raise top below open_ path of_top fault (IsChain.behind further waiting before b o chain is_open leads fresh t) h =
       let inner : FileFaults files false (before ++ path ∷ []) path fault =
-          subst (λ paths. FileFaults files false paths path fault) o (subst (λ t. FileFaults files t open_ path fault) t h) in
+      subst (λ paths. FileFaults files false paths path fault) o (subst (λ t. FileFaults files t open_ path fault) t h) in
       raise top further before waiting.file.path (is_top waiting.file) fault chain
       (fault_of_file waiting.file (part.Rule waiting.referral.rule) (left waiting.file) before fault is_open
       (PartFault.within leads.by.is_reference (refers waiting.referral leads.by) leads.found fresh inner))

@@ -86,20 +86,20 @@ module _ (fs : Files) where
   pub found_new : (known : Known) (from file path : Text) (written : WrittenRuleset) → is_empty file ≡ false → IsFoundAt fs known file (New path written) →
       IsFound fs known from file (New path written)
   found_new known from file path written full h = (
-        as_written from file full (there_read fs file written h.1.0) ∙ ap Some (sym h.0),
-        subst (λ p. IsRead fs p written) (sym h.0) h.1.0,
-        subst (λ p. is_among p known.open_paths ≡ false) (sym h.0) h.1.1,
-      )
+    as_written from file full (there_read fs file written h.1.0) ∙ ap Some (sym h.0),
+    subst (λ p. IsRead fs p written) (sym h.0) h.1.0,
+    subst (λ p. is_among p known.open_paths ≡ false) (sym h.0) h.1.1,
+  )
 
   pub found_beside : (known : Known) (from file : Text) (r : Found) → is_empty file ≡ false → is_there fs file ≡ false → IsFoundAt fs known (beside from file) r →
       IsFound fs known from file r
   found_beside known from file Nowhere full gone h = nowhere from file full gone h
   found_beside known from file (Before path) full gone h = (beside_it from file full gone h.1.0 ∙ ap Some (sym h.0), subst (IsBefore known) (sym h.0) h.1.1)
   found_beside known from file (New path written) full gone h = (
-        beside_it from file full gone (there_read fs (beside from file) written h.1.0) ∙ ap Some (sym h.0),
-        subst (λ p. IsRead fs p written) (sym h.0) h.1.0,
-        subst (λ p. is_among p known.open_paths ≡ false) (sym h.0) h.1.1,
-      )
+    beside_it from file full gone (there_read fs (beside from file) written h.1.0) ∙ ap Some (sym h.0),
+    subst (λ p. IsRead fs p written) (sym h.0) h.1.0,
+    subst (λ p. is_among p known.open_paths ≡ false) (sym h.0) h.1.1,
+  )
 
   there_fault : (known : Known) (path : Text) (fault : RuleFault) → FileFaults fs false (known.open_paths ++ path ∷ []) path fault → is_there fs path ≡ true
   there_fault known path fault (FileFaults.unreadable (IsUnreadable.too_long held longer)) = ap is_some held

@@ -4,6 +4,6 @@ mod KnownFiles
 mod Refusing
 mod Finding
 mod Chains
-mod Taking
+mod TakeFacts
 mod Parts
-mod Counting
+mod CountFacts

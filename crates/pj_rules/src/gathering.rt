@@ -37,7 +37,8 @@ fn gather_one(
     ensures rules { OnOk result (gathered.new.rules ≡ gathered.old.rules ++ option_to_list (kept_rule minimum number (arc_value patterns.now).exclude (arc_value patterns.now).include taken)) }
     ensures unusable { OnOk result (gathered.new.unusable ≡ gathered.old.unusable ++ option_to_list (error_of taken)) }
 {
-    match taken.1 {
+    let (_, entry) = taken;
+    match entry {
         Entry::Unusable(unusable) => gathered.unusable.push(unusable.error),
         Entry::Rule(texts) => {
             if texts.row.priority > minimum {

@@ -16,6 +16,7 @@ use crate::fault::{RuleRefused, RuleWhat};
 use crate::known::{Known, ReadFiles};
 use crate::look_up::{Found, look_up};
 use crate::open_file::{OpenFile, Waiting, with_exclude, with_include};
+use crate::progress::Progress;
 use crate::referral::{Referral, referral_of};
 use crate::taking::{take, take_nothing};
 use pj_base::{Copied, ListOf, NoMemory, Text};
@@ -213,9 +214,17 @@ fn go_back(
     ensures fault { IfErr result (IfOwn (λ fault. (files : Files) (top : List ℕ) → IsDone files top known.old (below ++ waiting ∷ []) done → IsFaultOfTop files top fault)) }
 {
     let Waiting { file, referral } = waiting;
+    let OpenFile {
+        path,
+        rule_set: _,
+        rest: _,
+        progress,
+        patterns: _,
+    } = done;
+    let Progress { names: _, list } = progress;
     let mut file = file;
     let _ = known.open_paths.pop();
-    let list = done.progress.list.into_list(alloc)?;
+    let list = list.into_list(alloc)?;
     take(
         alloc,
         &file.path,
@@ -223,7 +232,7 @@ fn go_back(
         referral,
         list.as_slice(),
     )?;
-    known.read.put(done.path, list)?;
+    known.read.put(path, list)?;
     Ok(Stack {
         below,
         current: file,

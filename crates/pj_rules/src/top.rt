@@ -15,6 +15,7 @@ use crate::known::{Known, RuleList};
 use crate::look_up::written_at;
 use crate::open_file::OpenFile;
 use crate::path_patterns::PathPatterns;
+use crate::progress::Progress;
 use crate::reading::{Stack, read_to_end};
 use crate::taking::not_available;
 use pj_base::{Copied, ListOf, Names, NoMemory, Text};
@@ -58,8 +59,16 @@ fn begin(
 fn top_of(alloc: Global, file: OpenFile) -> Result<Top, NoMemory>
     ensures { IfOk result (λ top. (files : Files) (path : Text) → IsEnded files path file → IsTop files path (top_rules top)) }
 {
-    let list = file.progress.list.into_list(alloc)?;
-    match file.patterns {
+    let OpenFile {
+        path: _,
+        rule_set: _,
+        rest: _,
+        progress,
+        patterns,
+    } = file;
+    let Progress { names: _, list } = progress;
+    let list = list.into_list(alloc)?;
+    match patterns {
         Some(patterns) => Ok(Top { list, patterns }),
         None => Ok(Top {
             list,

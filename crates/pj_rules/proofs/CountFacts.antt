@@ -41,7 +41,7 @@ pub count_more : (m : ℕ) (tops : List Top) (i : ℕ) (top : Top) (count : ℕ)
 count_more m tops i top count lt is =
     let more = at_drop_more (λ (ts : List Top). counted m (map top_rules ts)) tops i top lt in
     let here : counted m (map top_rules (drop i tops)) ≡ count_by (is_kept m) top.list + counted m (map top_rules (drop (i + 1) tops)) =
-        more ∙ ap (λ (t : Top). counted m (map top_rules (t ∷ drop (i + 1) tops))) (sym is) in
+    more ∙ ap (λ (t : Top). counted m (map top_rules (t ∷ drop (i + 1) tops))) (sym is) in
     omega (arith, here)
 
 -- one member further
