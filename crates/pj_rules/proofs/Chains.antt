@@ -27,7 +27,7 @@ module _ (files : Files) where
   pub fault_of_file : (file : OpenFile) (p : Part) (rest : List Part) (open_ : List Text) (fault : RuleFault) → IsOpen files file (p ∷ rest) →
       PartFault files (is_top file) open_ file.path file.rule_set file.progress p fault → FileFaults files (is_top file) open_ file.path fault
   fault_of_file file p rest open_ fault is_open h =
-      FileFaults.in_part is_open.is_read is_open.stands is_open.added is_open.judged
+      FileFaults.in_part rest is_open.is_read is_open.stands is_open.added is_open.judged
       (subst (λ rule_set. PartFault files (is_top file) open_ file.path rule_set file.progress p fault) is_open.rule_set h)
 
   -- a fault of a file is one of the top ruleset that leads to it

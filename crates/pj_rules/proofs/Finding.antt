@@ -104,7 +104,7 @@ module _ (fs : Files) where
   there_fault : (known : Known) (path : Text) (fault : RuleFault) → FileFaults fs false (known.open_paths ++ path ∷ []) path fault → is_there fs path ≡ true
   there_fault known path fault (FileFaults.unreadable (IsUnreadable.too_long held longer)) = ap is_some held
   there_fault known path fault (FileFaults.unreadable (IsUnreadable.of_bytes held fits h)) = ap is_some held
-  there_fault known path fault (FileFaults.in_part read stands added judged h) = there_read fs path _ read
+  there_fault known path fault (FileFaults.in_part behind read stands added judged h) = there_read fs path _ read
 
   pub fault_written : (known : Known) (from file : Text) (fault : RuleFault) → is_empty file ≡ false → IsNewFault fs known file fault → IsFoundFault fs known from file fault
   fault_written known from file fault full h = record { other = file; found = as_written from file full (there_fault known file fault h.faults); faults = h }

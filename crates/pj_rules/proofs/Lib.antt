@@ -6,4 +6,5 @@ mod Finding
 mod Chains
 mod TakeFacts
 mod Parts
+mod Turns
 mod CountFacts

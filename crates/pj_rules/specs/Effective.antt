@@ -171,6 +171,6 @@ module _ (files : Files) where
     -- The first fault of a file that is there, where these files are open.
     pub data FileFaults : Bool → List Text → Text → RuleFault → Type 0 where
       unreadable : {is_top : Bool} {open_ : List Text} {path : Text} {fault : FileFault} → IsUnreadable files path fault → FileFaults is_top open_ path (record { path = path; what = what_of_file fault })
-      in_part : {is_top : Bool} {open_ : List Text} {path : Text} {written : WrittenRuleset} {before behind : List Part} {p : Part} {progress : Progress} {fault : RuleFault} → IsRead files path written →
+      in_part : {is_top : Bool} {open_ : List Text} {path : Text} {written : WrittenRuleset} {before : List Part} (behind : List Part) {p : Part} {progress : Progress} {fault : RuleFault} → IsRead files path written →
           written.parts ≡ before ++ p ∷ behind → AddAll path written.rule_set nothing before progress → AreJudged is_top before →
           PartFault is_top open_ path written.rule_set progress p fault → FileFaults is_top open_ path fault
