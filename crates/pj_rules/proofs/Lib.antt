@@ -8,3 +8,4 @@ mod TakeFacts
 mod Parts
 mod Turns
 mod CountFacts
+mod TopFacts
