@@ -70,7 +70,7 @@ fn paths(rt: HostRuntime) -> Result<(), Fail> {
         let mut text = String::new(alloc);
         text.push_str("r.xml <ruleset>")?;
         text.push_str(row.patterns)?;
-        text.push_str("<rule name=\"N\"@>#</rule></ruleset>")?;
+        text.push_str("<rule name=\"N\"~>#</rule></ruleset>")?;
         let files = files_of(alloc, text.as_str())?;
         let mut tree = MemTree::new(alloc, files, Numbers::new(alloc));
         let Ok(set) = loaded(alloc, &mut tree, "r.xml", 5)? else {
@@ -134,7 +134,7 @@ fn messages(rt: HostRuntime) -> Result<(), Fail> {
         let mut text = String::new(alloc);
         write!(
             text,
-            "r.xml <ruleset><rule name=\"N\" message=\"{message}\"@><properties><property name=\"xpath\" value=\"//A\"/><property name=\"violationSuppressRegex\" value=\"{pattern}\"/></properties></rule><rule name=\"M\"@>#</rule></ruleset>"
+            "r.xml <ruleset><rule name=\"N\" message=\"{message}\"~><properties><property name=\"xpath\" value=\"//A\"/><property name=\"violationSuppressRegex\" value=\"{pattern}\"/></properties></rule><rule name=\"M\"~>#</rule></ruleset>"
         )?;
         let files = files_of(alloc, text.as_str())?;
         let mut tree = MemTree::new(alloc, files, Numbers::new(alloc));
@@ -159,7 +159,7 @@ fn keeps(rt: &impl Abort, rule: &Rule, variables: usize, suppresses: bool) {
 fn kept(rt: HostRuntime) -> Result<(), Fail> {
     let alloc = rt.alloc();
     let text =
-        "r.xml <ruleset><rule name=\"N\"@><properties><property name=\"p\" type=\"Regex\" value=\"a+\"/><property name=\"q\" type=\"Boolean\" value=\"true\"/><property name=\"xpath\" value=\"//A[matches(@Name, $p)]\"/><property name=\"violationSuppressXPath\" value=\"matches(@Name, 'b')\"/></properties></rule><rule name=\"M\"@>#</rule></ruleset>";
+        "r.xml <ruleset><rule name=\"N\"~><properties><property name=\"p\" type=\"Regex\" value=\"a+\"/><property name=\"q\" type=\"Boolean\" value=\"true\"/><property name=\"xpath\" value=\"//A[matches(@Name, $p)]\"/><property name=\"violationSuppressXPath\" value=\"matches(@Name, 'b')\"/></properties></rule><rule name=\"M\"~>#</rule></ruleset>";
     let files = files_of(alloc, text)?;
     let mut tree = MemTree::new(alloc, files, Numbers::new(alloc));
     let loaded = loaded(alloc, &mut tree, "r.xml", 5)?;

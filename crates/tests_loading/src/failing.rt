@@ -6,7 +6,7 @@ use std::test::Fail;
 
 /// Files that a load reads in eight calls.
 const FILES: &str =
-    "dir/top.xml <ruleset><rule ref=\"a.xml\"/><rule ref=\"b.xml/B\"/><rule ref=\"category/c.xml\"/></ruleset>\ndir/a.xml <ruleset><rule ref=\"b.xml\"/></ruleset>\ndir/b.xml <ruleset name=\"b\"><rule name=\"B\"@>#</rule></ruleset>";
+    "dir/top.xml <ruleset><rule ref=\"a.xml\"/><rule ref=\"b.xml/B\"/><rule ref=\"category/c.xml\"/></ruleset>\ndir/a.xml <ruleset><rule ref=\"b.xml\"/></ruleset>\ndir/b.xml <ruleset name=\"b\"><rule name=\"B\"~>#</rule></ruleset>";
 
 #[test]
 fn each_call(rt: HostRuntime) -> Result<(), Fail> {

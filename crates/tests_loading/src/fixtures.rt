@@ -22,11 +22,11 @@ const CLASS: &str = " class=\"net.sourceforge.pmd.lang.rule.xpath.XPathRule\"";
 /// Properties with a query.
 const QUERY: &str = "<properties><property name=\"xpath\" value=\"//A\"/></properties>";
 
-/// The text with `@` for the class of XPath rules and `#` for properties with a query.
+/// The text with `~` for the class of XPath rules and `#` for properties with a query.
 fn expanded(alloc: Global, text: &str) -> Result<String, Fail> {
     let mut made = String::new(alloc);
     for c in text.chars() {
-        if c == '@' {
+        if c == '~' {
             made.push_str(CLASS)?;
         } else if c == '#' {
             made.push_str(QUERY)?;

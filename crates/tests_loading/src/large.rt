@@ -10,7 +10,7 @@ fn many(alloc: Global, rules: u32, unusable: u32) -> Result<Files, Fail> {
     let mut text = String::new(alloc);
     text.push_str("<ruleset>")?;
     for n in 0..rules {
-        write!(text, "<rule name=\"N{n}\"@>#</rule>")?;
+        write!(text, "<rule name=\"N{n}\"~>#</rule>")?;
     }
     for n in 0..unusable {
         write!(text, "<rule name=\"J{n}\"/>")?;
@@ -54,7 +54,7 @@ fn chain(alloc: Global, length: u32, defines: bool) -> Result<Files, Fail> {
             write!(text, "<rule ref=\"{next}.xml\"/>")?;
         }
         if defines || next == length {
-            write!(text, "<rule name=\"N{n}\"@>#</rule>")?;
+            write!(text, "<rule name=\"N{n}\"~>#</rule>")?;
         }
         text.push_str("</ruleset>")?;
         put_file(alloc, &mut files, path.as_str(), text.as_str())?;

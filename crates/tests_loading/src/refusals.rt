@@ -1,5 +1,5 @@
 //! Refusals, each with its place.
-use crate::fixtures::{Row, answers, files_of, loaded, put_file, words_of};
+use crate::fixtures::{Row, answers, files_of, loaded, words_of};
 use pj_base::{Bytes, Numbers, Text};
 use pj_outside::{Files, MemTree};
 use std::test::Fail;
@@ -18,7 +18,7 @@ static REFUSALS: [Row; 33] = [
         wanted: "r.xml Markup 10",
     },
     Row {
-        files: "r.xml <ruleset><rule name=\"N\"@>#</rule><rule@>#</rule></ruleset>",
+        files: "r.xml <ruleset><rule name=\"N\"~>#</rule><rule~>#</rule></ruleset>",
         paths: "r.xml",
         minimum: 5,
         wanted: "r.xml NoName 146",
@@ -30,55 +30,55 @@ static REFUSALS: [Row; 33] = [
         wanted: "r.xml NoName 9",
     },
     Row {
-        files: "r.xml <ruleset><rule name=\"N\"@/></ruleset>",
+        files: "r.xml <ruleset><rule name=\"N\"~/></ruleset>",
         paths: "r.xml",
         minimum: 5,
         wanted: "r.xml NoXPath N",
     },
     Row {
-        files: "r.xml <ruleset><rule name=\"N\"@><properties><property name=\"xpath\" value=\"//\"/></properties></rule></ruleset>",
+        files: "r.xml <ruleset><rule name=\"N\"~><properties><property name=\"xpath\" value=\"//\"/></properties></rule></ruleset>",
         paths: "r.xml",
         minimum: 5,
         wanted: "r.xml XPath N: what stands at offset 2 is not expected there",
     },
     Row {
-        files: "r.xml <ruleset><rule name=\"N\"@><properties><property name=\"xpath\"><value/></property></properties></rule></ruleset>",
+        files: "r.xml <ruleset><rule name=\"N\"~><properties><property name=\"xpath\"><value/></property></properties></rule></ruleset>",
         paths: "r.xml",
         minimum: 5,
         wanted: "r.xml XPath N: what stands at offset 0 is not expected there",
     },
     Row {
-        files: "r.xml <ruleset><rule name=\"N\"@><properties><property name=\"violationSuppressXPath\" value=\"$x\"/><property name=\"xpath\" value=\"//A\"/></properties></rule></ruleset>",
+        files: "r.xml <ruleset><rule name=\"N\"~><properties><property name=\"violationSuppressXPath\" value=\"$x\"/><property name=\"xpath\" value=\"//A\"/></properties></rule></ruleset>",
         paths: "r.xml",
         minimum: 5,
         wanted: "r.xml XPath N: no variable $x is bound",
     },
     Row {
-        files: "r.xml <ruleset><rule name=\"N\"@><priority>6</priority>#</rule></ruleset>",
+        files: "r.xml <ruleset><rule name=\"N\"~><priority>6</priority>#</rule></ruleset>",
         paths: "r.xml",
         minimum: 5,
         wanted: "r.xml BadPriority N",
     },
     Row {
-        files: "r.xml <ruleset><rule name=\"N\"@><priority/>#</rule></ruleset>",
+        files: "r.xml <ruleset><rule name=\"N\"~><priority/>#</rule></ruleset>",
         paths: "r.xml",
         minimum: 5,
         wanted: "r.xml BadPriority N",
     },
     Row {
-        files: "r.xml <ruleset><rule name=\"N\"@><properties><property name=\"n\" type=\"Integer\" value=\"x\"/></properties></rule></ruleset>",
+        files: "r.xml <ruleset><rule name=\"N\"~><properties><property name=\"n\" type=\"Integer\" value=\"x\"/></properties></rule></ruleset>",
         paths: "r.xml",
         minimum: 5,
         wanted: "r.xml BadProperty N",
     },
     Row {
-        files: "r.xml <ruleset><rule name=\"N\"@><properties><property name=\"xpath\"/></properties></rule></ruleset>",
+        files: "r.xml <ruleset><rule name=\"N\"~><properties><property name=\"xpath\"/></properties></rule></ruleset>",
         paths: "r.xml",
         minimum: 5,
         wanted: "r.xml BadProperty N",
     },
     Row {
-        files: "r.xml <ruleset><rule name=\"N\"@><properties><property name=\"n\" type=\"Integer\" value=\"x\"/></properties><priority>6</priority></rule></ruleset>",
+        files: "r.xml <ruleset><rule name=\"N\"~><properties><property name=\"n\" type=\"Integer\" value=\"x\"/></properties><priority>6</priority></rule></ruleset>",
         paths: "r.xml",
         minimum: 5,
         wanted: "r.xml BadProperty N",
@@ -108,13 +108,13 @@ static REFUSALS: [Row; 33] = [
         wanted: "r.xml MissingRef s.xml",
     },
     Row {
-        files: "r.xml <ruleset><rule ref=\"s.xml/N\"/></ruleset>\ns.xml <ruleset><rule name=\"M\"@>#</rule></ruleset>",
+        files: "r.xml <ruleset><rule ref=\"s.xml/N\"/></ruleset>\ns.xml <ruleset><rule name=\"M\"~>#</rule></ruleset>",
         paths: "r.xml",
         minimum: 5,
         wanted: "r.xml MissingRef s.xml/N",
     },
     Row {
-        files: "r.xml <ruleset><rule ref=\"s.xml/\"/></ruleset>\ns.xml <ruleset><rule name=\"M\"@>#</rule></ruleset>",
+        files: "r.xml <ruleset><rule ref=\"s.xml/\"/></ruleset>\ns.xml <ruleset><rule name=\"M\"~>#</rule></ruleset>",
         paths: "r.xml",
         minimum: 5,
         wanted: "r.xml MissingRef s.xml/",
@@ -132,7 +132,7 @@ static REFUSALS: [Row; 33] = [
         wanted: "b.xml RefCycle a.xml",
     },
     Row {
-        files: "a.xml <ruleset><rule ref=\"b.xml/N\"/></ruleset>\nb.xml <ruleset><rule ref=\"c.xml\"><exclude name=\"M\"/></rule></ruleset>\nc.xml <ruleset><rule name=\"M\"@>#</rule><rule ref=\"b.xml/N\"/></ruleset>",
+        files: "a.xml <ruleset><rule ref=\"b.xml/N\"/></ruleset>\nb.xml <ruleset><rule ref=\"c.xml\"><exclude name=\"M\"/></rule></ruleset>\nc.xml <ruleset><rule name=\"M\"~>#</rule><rule ref=\"b.xml/N\"/></ruleset>",
         paths: "a.xml",
         minimum: 5,
         wanted: "c.xml RefCycle b.xml/N",
@@ -144,7 +144,7 @@ static REFUSALS: [Row; 33] = [
         wanted: "a.xml RefCycle a.xml/N",
     },
     Row {
-        files: "r.xml <ruleset><rule name=\"N\"@>#</rule><rule name=\"N\" class=\"x.J\"/></ruleset>",
+        files: "r.xml <ruleset><rule name=\"N\"~>#</rule><rule name=\"N\" class=\"x.J\"/></ruleset>",
         paths: "r.xml",
         minimum: 5,
         wanted: "r.xml SameName N",
@@ -174,31 +174,31 @@ static REFUSALS: [Row; 33] = [
         wanted: "r.xml PatternRefused [",
     },
     Row {
-        files: "r.xml <ruleset><rule name=\"N\"@><properties><property name=\"p\" type=\"Regex\" value=\"(\"/><property name=\"xpath\" value=\"//A\"/></properties></rule></ruleset>",
+        files: "r.xml <ruleset><rule name=\"N\"~><properties><property name=\"p\" type=\"Regex\" value=\"(\"/><property name=\"xpath\" value=\"//A\"/></properties></rule></ruleset>",
         paths: "r.xml",
         minimum: 5,
         wanted: "r.xml PatternRefused N",
     },
     Row {
-        files: "r.xml <ruleset><rule name=\"N\"@><properties><property name=\"violationSuppressRegex\" value=\"(\"/><property name=\"xpath\" value=\"//A\"/></properties></rule></ruleset>",
+        files: "r.xml <ruleset><rule name=\"N\"~><properties><property name=\"violationSuppressRegex\" value=\"(\"/><property name=\"xpath\" value=\"//A\"/></properties></rule></ruleset>",
         paths: "r.xml",
         minimum: 5,
         wanted: "r.xml PatternRefused N",
     },
     Row {
-        files: "r.xml <ruleset><rule ref=\"s.xml/N\" name=\"M\"><priority>0</priority></rule></ruleset>\ns.xml <ruleset><rule name=\"N\"@>#</rule></ruleset>",
+        files: "r.xml <ruleset><rule ref=\"s.xml/N\" name=\"M\"><priority>0</priority></rule></ruleset>\ns.xml <ruleset><rule name=\"N\"~>#</rule></ruleset>",
         paths: "r.xml",
         minimum: 5,
         wanted: "r.xml BadPriority M",
     },
     Row {
-        files: "r.xml <ruleset><rule ref=\"s.xml/N\"><properties><property name=\"q\" type=\"String\" value=\"x\"/></properties></rule></ruleset>\ns.xml <ruleset><rule name=\"N\"@>#</rule></ruleset>",
+        files: "r.xml <ruleset><rule ref=\"s.xml/N\"><properties><property name=\"q\" type=\"String\" value=\"x\"/></properties></rule></ruleset>\ns.xml <ruleset><rule name=\"N\"~>#</rule></ruleset>",
         paths: "r.xml",
         minimum: 5,
         wanted: "r.xml BadProperty N",
     },
     Row {
-        files: "r.xml <ruleset><rule ref=\"s.xml\"><exclude name=\"N\"/></rule></ruleset>\ns.xml <ruleset><rule name=\"N\"@><priority>9</priority>#</rule></ruleset>",
+        files: "r.xml <ruleset><rule ref=\"s.xml\"><exclude name=\"N\"/></rule></ruleset>\ns.xml <ruleset><rule name=\"N\"~><priority>9</priority>#</rule></ruleset>",
         paths: "r.xml",
         minimum: 5,
         wanted: "s.xml BadPriority N",
@@ -225,20 +225,17 @@ fn bytes_that_are_no_text(rt: HostRuntime) -> Result<(), Fail> {
 #[test]
 fn too_long(rt: HostRuntime) -> Result<(), Fail> {
     let alloc = rt.alloc();
-    let mut text = String::new(alloc);
-    text.push_str("<ruleset/>")?;
-    while text.len() < 1_048_576 {
-        text.push(' ')?;
+    let mut bytes = Vec::new(alloc);
+    for _ in 0..16_385 {
+        bytes.extend_from_slice(
+            b"<ruleset></ruleset>                                             ",
+        )?;
     }
     let mut files = Files::new(alloc);
-    put_file(alloc, &mut files, "fits.xml", text.as_str())?;
-    text.push(' ')?;
-    put_file(alloc, &mut files, "long.xml", text.as_str())?;
+    files.push((Text::from_str(alloc, "long.xml")?, Bytes::from_vec(bytes)))?;
     let mut tree = MemTree::new(alloc, files, Numbers::new(alloc));
-    let fits = words_of(alloc, &loaded(alloc, &mut tree, "fits.xml", 5)?)?;
-    assert_eq!(&rt; fits.as_str(), "");
-    let long = words_of(alloc, &loaded(alloc, &mut tree, "fits.xml,long.xml", 5)?)?;
-    assert_eq!(&rt; long.as_str(), "long.xml TooLong");
+    let words = words_of(alloc, &loaded(alloc, &mut tree, "long.xml", 5)?)?;
+    assert_eq!(&rt; words.as_str(), "long.xml TooLong");
     Ok(())
 }
 
