@@ -1,20 +1,25 @@
 -- From what the parts of a rule say to what the rule is.
-use Rattle.std.proofs.Common.{◌≡◌, ℕ, List, [], ◌∷◌, ◌++◌, map, Option, Some, None, refl, sym, ap, ◌∙◌, subst}
+use Rattle.std.proofs.Common.{◌≡◌, ◌≢◌, ℕ, Bool, true, false, List, [], ◌∷◌, map, Option, Some, None, refl, sym, ap, ◌∙◌, subst}
 use Rattle.std.specs.Str.{chars}
+use Rattle.std.specs.List.{flat_map}
+use Rattle.std.proofs.lemmas.Bool.{false≢true}
+use Rattle.pj_rule_texts.specs.Values.{variable_of}
+use Rattle.pj_rule_texts.specs.declared.properties.Property.{Property}
 use Rattle.pj_rule_texts.specs.Seen.{variables_seen}
 use Rattle.pj_rule_texts.specs.declared.rule.RuleTexts.{RuleTexts}
-use Rattle.pj_rule_expressions.specs.Expressions.{AreOf, Both, HasPatterns, IsKept, IsParsed, IsSound, IsSpelled, IsSpelledBy, Spell, names_of, patterns_of, variables_of}
+use Rattle.pj_rule_expressions.specs.Expressions.{AreOf, Both, IsKept, IsParsed, IsSound, IsSpelled, IsSpelledBy, Spell, names_of, patterns_of, variables_of}
 use Rattle.pj_rule_expressions.specs.Faults.{HasNoPattern, IfNoPattern, IsFault, IsParseFault, IsSomeParseFault}
 use Rattle.pj_rule_expressions.specs.Patterns.{is_covered, suppression_of}
-use Rattle.pj_rule_expressions.specs.Refusals.{of_pattern}
+use Rattle.pj_rule_expressions.specs.Refusals.{of_pattern, of_syntax}
 use Rattle.pj_rule_expressions.specs.declared.expressions.RuleExpressions.{RuleExpressions}
 use Rattle.pj_rule_expressions.specs.declared.fault.ExpressionFault.{ExpressionFault}
 use Rattle.pj_rule_expressions.specs.declared.fault.ExpressionFault.TheVariants.{XPath, Pattern, Memory}
 use Rattle.pj_rule_expressions.specs.declared.spelled.Spelled.{Spelled}
 use Rattle.pj_rule_expressions.specs.Faults as faults
 use Rattle.pj_xparse.specs.Faults as syntax
+use Rattle.pj_xparse.specs.declared.fault.XSyntax.{XSyntax}
+use Rattle.pj_xparse.specs.declared.fault.XSyntax.TheVariants as refusal
 use Rattle.pj_xpatterns.specs.Refusing.{AreTaken}
-use Rattle.pj_xpatterns.specs.Written.{Variables}
 use Rattle.pj_xpatterns.specs.declared.compiled.PatternFault.{PatternFault}
 use Rattle.pj_xpatterns.specs.declared.compiled.PatternFault.TheVariants.{Refused}
 use Rattle.pj_xpatterns.specs.declared.compiled.PatternFault.TheVariants as pattern
@@ -25,6 +30,26 @@ use Rattle.pj_xvalue.specs.declared.item.Item.{Item}
 pub names-seen : (variables : List (List ℕ × List Item)) → map (λ v. v.0) (variables_seen variables) ≡ map (λ v. v.0) variables
 names-seen [] = refl
 names-seen (v ∷ vs) = ap (λ t. v.0 ∷ t) (names-seen vs)
+
+abbrev is_memory : XSyntax → Bool
+is_memory refusal.Memory = true
+is_memory _ = false
+
+-- the fault of a text, as that of a rule
+pub parse_fault : (names : List (List ℕ)) (text : List ℕ) (fault : XSyntax) → (fault ≢ refusal.Memory → syntax.IsFault names (chars text) fault) → IsParseFault names text (of_syntax fault)
+parse_fault names text (refusal.Token from) h = h (λ e. absurd (false≢true (ap is_memory e)))
+parse_fault names text (refusal.Expected from) h = h (λ e. absurd (false≢true (ap is_memory e)))
+parse_fault names text (refusal.UnknownFunction name from) h = h (λ e. absurd (false≢true (ap is_memory e)))
+parse_fault names text (refusal.UnknownVariable name) h = h (λ e. absurd (false≢true (ap is_memory e)))
+parse_fault names text (refusal.Outside from) h = h (λ e. absurd (false≢true (ap is_memory e)))
+parse_fault names text (refusal.Deep nesting) h = h (λ e. absurd (false≢true (ap is_memory e)))
+parse_fault names text refusal.Memory h = tt
+
+-- the names of the rule's variables
+pub names_same : (texts : RuleTexts) (names : List (List ℕ)) (variables slice : List (List ℕ × List Item)) (properties : List Property) → properties ≡ texts.properties →
+    variables_seen variables ≡ flat_map variable_of properties → slice ≡ variables → names ≡ map (λ v. v.0) slice → names ≡ names_of texts
+names_same texts names variables slice properties all seen same are = are ∙ ap (map (λ v. v.0)) same ∙ sym (names-seen variables)
+    ∙ ap (map (λ v. v.0)) (seen ∙ ap (flat_map variable_of) all)
 
 module _ (texts : RuleTexts) (names : List (List ℕ)) (same : names ≡ names_of texts) where
   -- both expressions are spelled

@@ -1,7 +1,8 @@
 -- Lists of patterns: all of them are patterns, or one is none.
-use Rattle.std.proofs.Common.{◌≡◌, ℕ, ◌+◌, ◌<◌, Bool, true, false, List, [], ◌∷◌, ◌++◌, length, take, drop, get_or, map, Option, Some, None, refl, sym, ap, ◌∙◌, subst, append_assoc, append-nil, arith}
-use Rattle.std.specs.List.{AllByRecursion, flat_map}
-use Rattle.std.proofs.lemmas.List.{at_drop_more, drop_all, map-append, take_more, take-append-drop}
+use Rattle.std.proofs.Common.{◌≡◌, ℕ, ◌+◌, ◌<◌, true, false, List, [], ◌∷◌, ◌++◌, length, take, drop, get_or, Some, Result, Ok, Err, IfErr, refl, sym, ap, ◌∙◌, subst, append_assoc, append-nil}
+use Rattle.std.specs.List.{flat_map}
+use Rattle.std.specs.Prelude.{IsErrAnd}
+use Rattle.std.proofs.lemmas.List.{at_drop_more, take_more, take-append-drop}
 use Rattle.std.proofs.lemmas.List.Concat.{flat_map-append}
 use Rattle.pj_xpatterns.specs.Meaning.{IsNoPattern, Pattern}
 use Rattle.pj_xpatterns.specs.Refusing.{AreTaken, IfRefused, IsFirstRefused}
@@ -18,14 +19,18 @@ taken-append (x ∷ xs) ys hx hy = (hx.0, taken-append xs ys hx.1 hy)
 
 pub none-left : (xs ys : List Pattern) → HasNoPattern xs → HasNoPattern (xs ++ ys)
 none-left xs ys h = record {
-  before = h.before; refused = h.refused; behind = h.behind ++ ys;
+  before = h.before;
+  refused = h.refused;
+  behind = h.behind ++ ys;
   stands = ap (λ t. t ++ ys) h.stands ∙ append_assoc h.before (h.refused ∷ h.behind) ys;
   is_none = h.is_none;
 }
 
 pub none-right : (xs ys : List Pattern) → HasNoPattern ys → HasNoPattern (xs ++ ys)
 none-right xs ys h = record {
-  before = xs ++ h.before; refused = h.refused; behind = h.behind;
+  before = xs ++ h.before;
+  refused = h.refused;
+  behind = h.behind;
   stands = ap (λ t. xs ++ t) h.stands ∙ sym (append_assoc xs h.before (h.refused ∷ h.behind));
   is_none = h.is_none;
 }
@@ -35,6 +40,11 @@ none-one p h = record { before = []; refused = p; behind = []; stands = refl; is
 
 pub none-first : (xs : List Pattern) (text : List ℕ) → IsFirstRefused xs text → HasNoPattern xs
 none-first xs text h = record { before = h.before; refused = h.pattern; behind = h.behind; stands = h.stands; is_none = h.refused }
+
+-- a fault that is handed on
+pub handed_on : {T F : Type 0} (result : Result T F) (fault : F) (P : F → Type 0) → IsErrAnd result (λ given. given ≡ fault) → P fault → IfErr result P
+handed_on (Ok value) fault P same h = absurd same
+handed_on (Err given) fault P same h = subst P (sym same) h
 
 -- a fact of a refusal that implies another
 pub weaken : (P Q : Type 0) → (P → Q) → (fault : PatternFault) → IfNoPattern fault P → IfNoPattern fault Q

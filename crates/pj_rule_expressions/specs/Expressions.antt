@@ -1,7 +1,6 @@
 -- The expressions of a rule, with its variables and patterns.
-use Rattle.std.specs.Prelude.{⊤, ◌≡◌, ℕ, List, [], ◌∷◌, ◌++◌, map, Option, Some, None}
+use Rattle.std.specs.Prelude.{⊤, ◌≡◌, List, [], ◌++◌, map, Option, Some, None}
 use Rattle.std.specs.List.{flat_map}
-use Rattle.std.specs.Option.{option_map}
 use Rattle.std.specs.Str.{chars}
 use Rattle.pj_rule_texts.specs.Seen.{variables_seen}
 use Rattle.pj_rule_texts.specs.Values.{Text, variable_of}

@@ -1,5 +1,5 @@
 -- The patterns of a rule beside those of its expressions, and what a rule's own regular expression covers.
-use Rattle.std.specs.Prelude.{ℕ, Bool, false, List, [], ◌∷◌, ◌++◌, Option, Some, None, codes, if◌then◌else◌}
+use Rattle.std.specs.Prelude.{Bool, false, List, [], ◌∷◌, ◌++◌, Option, Some, None, codes, if◌then◌else◌}
 use Rattle.std.specs.List.{flat_map}
 use Rattle.pj_rule_texts.specs.Values.{Text, is_same, needs_no_type, type_named}
 use Rattle.pj_rule_texts.specs.declared.properties.Property.{Property}

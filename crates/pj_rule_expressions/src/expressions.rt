@@ -17,7 +17,7 @@ use crate::patterns::{is_covered_by, judge_properties, value_of};
 use crate::spelled::Spelled;
 use pj_base::{Copied, Names, NoMemory, Text};
 use pj_rule_texts::{RuleTexts, variables_of};
-use pj_xparse::{XSyntax, parse};
+use pj_xparse::parse;
 use pj_xpatterns::{PatternFault, Patterns};
 use pj_xvalue::{BoundVars, Expr, Sequence};
 use std::alloc::Global;
@@ -52,11 +52,8 @@ fn parsed(alloc: Global, text: &str, names: &Names) -> Result<Expr, ExpressionFa
     ensures expression { IfOk result (IsExpression names.now) }
     ensures fault { IfErr result (IsParseFault names.now text.now) }
 {
-    match parse(alloc, text, names) {
-        Ok(expr) => Ok(expr),
-        Err(XSyntax::Memory) => Err(ExpressionFault::Memory),
-        Err(fault) => Err(ExpressionFault::XPath(fault)),
-    }
+    let expr = parse(alloc, text, names)?;
+    Ok(expr)
 }
 
 /// The expression that a text spells, where there is one.
@@ -114,7 +111,10 @@ fn kept(
     variables: BoundVars<'static>,
 ) -> Result<RuleExpressions, PatternFault>
     requires { variables_seen variables ≡ variables_of texts.now }
-    ensures value { IfOk result (λ kept. IsSpelled (variables_of texts.now) query kept.query × Both suppression kept.suppression (IsSpelled (variables_of texts.now)) × (variables_seen kept.variables ≡ variables_of texts.now) × (kept.is_covered ≡ is_covered texts.now)) }
+    ensures query_kept { IfOk result (λ kept. IsSpelled (variables_of texts.now) query kept.query) }
+    ensures suppression_kept { IfOk result (λ kept. Both suppression kept.suppression (IsSpelled (variables_of texts.now))) }
+    ensures variables_kept { IfOk result (λ kept. variables_seen kept.variables ≡ variables_of texts.now) }
+    ensures covers { IfOk result (λ kept. kept.is_covered ≡ is_covered texts.now) }
     ensures taken { OnOk result (AreTaken (patterns_of texts.now query suppression)) }
     ensures refused { IfErr result (λ fault. IfNoPattern fault (HasNoPattern (patterns_of texts.now query suppression))) }
 {
@@ -133,10 +133,7 @@ fn kept(
 
 /// The expressions that the rule's texts spell, with its variables and patterns, or why they spell none: the fault of `xpath`, or
 /// else of `violationSuppressXPath`, or else that a pattern is none.
-pub fn expressions_of(
-    alloc: Global,
-    texts: &RuleTexts,
-) -> Result<RuleExpressions, ExpressionFault>
+pub fn expressions_of(alloc: Global, texts: &RuleTexts) -> Result<RuleExpressions, ExpressionFault>
     ensures value { IfOk result (AreOf texts.now) }
     ensures sound { OnOk result (IsSound texts.now) }
     ensures fault { IfErr result (IsFault texts.now) }
@@ -146,5 +143,6 @@ pub fn expressions_of(
     let query = parsed(alloc, texts.xpath.as_str(), &names)?;
     let text = value_of(texts.properties.as_slice(), "violationSuppressXPath");
     let suppression = parsed_some(alloc, text, &names)?;
-    Ok(kept(alloc, texts, query, suppression, variables)?)
+    let kept = kept(alloc, texts, query, suppression, variables)?;
+    Ok(kept)
 }

@@ -80,10 +80,7 @@ fn judge_property(alloc: Global, property: &Property) -> Result<(), PatternFault
 }
 
 /// Refuses properties one of which is to be a pattern and is none.
-pub(crate) fn judge_properties(
-    alloc: Global,
-    properties: &[Property],
-) -> Result<(), PatternFault>
+pub(crate) fn judge_properties(alloc: Global, properties: &[Property]) -> Result<(), PatternFault>
     ensures taken { OnOk result (AreTaken (flat_map pattern_of_property properties.now)) }
     ensures refused { IfErr result (λ fault. IfNoPattern fault (HasNoPattern (flat_map pattern_of_property properties.now))) }
 {

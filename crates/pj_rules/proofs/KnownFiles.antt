@@ -58,3 +58,11 @@ module _ (files : Files) where
   pub there_less : (paths : List Text) (path : Text) → AreThere files (paths ++ path ∷ []) → AreThere files paths
   there_less [] path all = tt
   there_less (other ∷ paths) path all = (all.0, there_less paths path all.1)
+
+-- ---- a path that is put
+
+abbrev pub key_put : List Text → Text → List Text
+key_put paths path = cond (is_among path paths) paths (paths ++ path ∷ [])
+
+pub put_new : (paths : List Text) (path : Text) → is_among path paths ≡ false → key_put paths path ≡ paths ++ path ∷ []
+put_new paths path fresh = rw fresh refl

@@ -53,7 +53,13 @@ fn rule(alloc: Global, properties: &str) -> Result<Option<RuleTexts>, NoMemory> 
     let Some(written) = first_rule(alloc, text.as_str())? else {
         return Ok(None);
     };
-    Ok(defined(alloc, Text::new(alloc), Text::from_str(alloc, "N")?, written).ok())
+    Ok(defined(
+        alloc,
+        Text::new(alloc),
+        Text::from_str(alloc, "N")?,
+        written,
+    )
+    .ok())
 }
 
 /// What a rule with these properties spells.
@@ -105,10 +111,7 @@ static SOUND: [(&str, &str); 9] = [
 static REFUSED: [(&str, &str); 11] = [
     ("<property name='xpath' value=''/>", "Expected 0"),
     ("<property name='xpath' value='//'/>", "Expected 2"),
-    (
-        "<property name='xpath' value='$n'/>",
-        "UnknownVariable n",
-    ),
+    ("<property name='xpath' value='$n'/>", "UnknownVariable n"),
     (
         "<property name='xpath' value='$version'/><property name='version' value='2'/>",
         "UnknownVariable version",

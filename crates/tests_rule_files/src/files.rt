@@ -43,10 +43,7 @@ static REFUSED: [(&str, &str); 11] = [
     ("<ruleset/>x", "Markup 10"),
     ("<ruleset/><ruleset/>", "Markup 11"),
     ("<ruleset><rule></ruleset>", "Markup 21"),
-    (
-        "<ruleset><rule name='A' name='B'/></ruleset>",
-        "Markup 28",
-    ),
+    ("<ruleset><rule name='A' name='B'/></ruleset>", "Markup 28"),
     ("<ruleset>&nbsp;</ruleset>", "Markup 10"),
 ];
 

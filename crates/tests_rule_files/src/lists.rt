@@ -98,7 +98,12 @@ static TABLES: [(&[Row], &str); 6] = [
     (&[("a", "A", "A"), ("b", "A", "A")], "A1 A2 "),
     (&[("a", "A", "X"), ("a", "A", "Y")], "Y2 "),
     (
-        &[("a", "A", "A"), ("a", "A", ""), ("b", "A", ""), ("a", "A", "")],
+        &[
+            ("a", "A", "A"),
+            ("a", "A", ""),
+            ("b", "A", ""),
+            ("a", "A", ""),
+        ],
         "A1 (A) (A) ",
     ),
 ];
@@ -115,7 +120,12 @@ fn a_rule_stands_once_in_its_first_place(rt: HostRuntime) -> Result<(), Fail> {
 }
 
 /// Rules of which two have one name, and a reference.
-static RULES: [Row; 4] = [("a", "A", "X"), ("a", "B", ""), ("a", "C", "Y"), ("b", "D", "X")];
+static RULES: [Row; 4] = [
+    ("a", "A", "X"),
+    ("a", "B", ""),
+    ("a", "C", "Y"),
+    ("b", "D", "X"),
+];
 
 /// The number of the first rule of a name, 0 where there is none.
 fn number_of(name: &str, list: &[(Origin, Entry)]) -> u8 {
