@@ -1,5 +1,6 @@
 -- Looking files up.
-use Rattle.std.proofs.Common.{◌≡◌, ◌∙◌, ℕ, ◌==◌, Bool, true, false, cond, List, [], ◌∷◌, ◌++◌, length, Option, Some, None, Result, Ok, Err, IfOk, IfErr, is_some, refl, sym, ap, subst}
+use Rattle.std.proofs.Common.{◌≡◌, ◌∙◌, ℕ, ◌==◌, Bool, true, false, cond, List, [], ◌∷◌, ◌++◌, length, Option, Some, None, Result, Ok, Err, IfOk, IfErr, is_some, refl, sym, ap, subst, arith}
+use Rattle.std.proofs.lemmas.Bool.{eqb-true}
 use Rattle.std.specs.Borrow.{Bor}
 use Rattle.std.specs.Option.{option_copied}
 use Rattle.pj_outside.specs.Files.{Files}
@@ -26,8 +27,8 @@ use Rattle.pj_rules.proofs.Refusing.{fault_weaker}
 
 -- ---- reading a file
 
-pub refused_counts : {A B : Type 0} (path : Text) (refused : FileRefused) (old new : ℕ) → files.CountsFaults {A} old new (Err refused) →
-    CountsFaults {B} old new (Err (refused_file path refused))
+pub refused_counts : {A B : Type 0} (path : Text) (refused : FileRefused) (old new : ℕ) → files.CountsFaults {A = A} old new (Err refused) →
+    CountsFaults {A = B} old new (Err (refused_file path refused))
 refused_counts path (file_refused.Fault fault) old new h = h
 refused_counts path file_refused.Failed old new h = h
 refused_counts path file_refused.Memory old new h = h
@@ -53,7 +54,7 @@ module _ (fs : Files) where
   pub found_read : (known : Known) (path : Text) (found : Option (Bor (List Taken))) → option_copied found ≡ list_at known.read path → is_some found ≡ true → AreKnown fs known →
       IsFoundAt fs known path (Before path)
   found_read known path found e some known_files =
-      let both = some_list known path (option_copied found) (sym e) (is_some_copied found ∙ some) known_files in (refl, both)
+      let both = some_list known path (option_copied found) (sym e) (is_some_copied found ∙ some) known_files in (refl, both.0, both.1)
 
   pub found_open : (known : Known) (path : Text) → is_among path known.open_paths ≡ true → AreKnown fs known → IsFoundAt fs known path (Before path)
   found_open known path among known_files = (refl, there_among fs known.open_paths path known_files.there among, λ none. among)
@@ -65,7 +66,7 @@ module _ (fs : Files) where
 
   pub empty_nowhere : (known : Known) (from file : Text) → (length file == 0) ≡ true → IsFound fs known from file Nowhere
   empty_nowhere known from [] e = refl
-  empty_nowhere known from (c ∷ cs) e = absurd (cc)
+  empty_nowhere known from (c ∷ cs) e = let none : length (c ∷ cs) ≡ 0 = eqb-true (length (c ∷ cs)) 0 e in absurd (omega (arith, none))
 
   pub not_empty : (file : Text) → (length file == 0) ≡ false → is_empty file ≡ false
   not_empty [] e = absurd (cc)
@@ -81,24 +82,24 @@ module _ (fs : Files) where
   nowhere from file full gone gone_too = rw (full, gone, gone_too) refl
 
   pub found_before : (known : Known) (from file path : Text) → is_empty file ≡ false → IsFoundAt fs known file (Before path) → IsFound fs known from file (Before path)
-  found_before known from file path full h = (as_written from file full h.1.0 ∙ ap Some (sym h.0), subst (IsBefore known) (sym h.0) h.1.1)
+  found_before known from file path full h = (as_written from file full h.1 ∙ ap Some (sym h.0), subst (IsBefore known) (sym h.0) h.2)
 
   pub found_new : (known : Known) (from file path : Text) (written : WrittenRuleset) → is_empty file ≡ false → IsFoundAt fs known file (New path written) →
       IsFound fs known from file (New path written)
   found_new known from file path written full h = (
-    as_written from file full (there_read fs file written h.1.0) ∙ ap Some (sym h.0),
-    subst (λ p. IsRead fs p written) (sym h.0) h.1.0,
-    subst (λ p. is_among p known.open_paths ≡ false) (sym h.0) h.1.1,
+    as_written from file full (there_read fs file written h.1) ∙ ap Some (sym h.0),
+    subst (λ p. IsRead fs p written) (sym h.0) h.1,
+    subst (λ p. is_among p known.open_paths ≡ false) (sym h.0) h.2,
   )
 
   pub found_beside : (known : Known) (from file : Text) (r : Found) → is_empty file ≡ false → is_there fs file ≡ false → IsFoundAt fs known (beside from file) r →
       IsFound fs known from file r
   found_beside known from file Nowhere full gone h = nowhere from file full gone h
-  found_beside known from file (Before path) full gone h = (beside_it from file full gone h.1.0 ∙ ap Some (sym h.0), subst (IsBefore known) (sym h.0) h.1.1)
+  found_beside known from file (Before path) full gone h = (beside_it from file full gone h.1 ∙ ap Some (sym h.0), subst (IsBefore known) (sym h.0) h.2)
   found_beside known from file (New path written) full gone h = (
-    beside_it from file full gone (there_read fs (beside from file) written h.1.0) ∙ ap Some (sym h.0),
-    subst (λ p. IsRead fs p written) (sym h.0) h.1.0,
-    subst (λ p. is_among p known.open_paths ≡ false) (sym h.0) h.1.1,
+    beside_it from file full gone (there_read fs (beside from file) written h.1) ∙ ap Some (sym h.0),
+    subst (λ p. IsRead fs p written) (sym h.0) h.1,
+    subst (λ p. is_among p known.open_paths ≡ false) (sym h.0) h.2,
   )
 
   there_fault : (known : Known) (path : Text) (fault : RuleFault) → FileFaults fs false (known.open_paths ++ path ∷ []) path fault → is_there fs path ≡ true

@@ -25,31 +25,31 @@ module _ (files : Files) where
 
   pub list_found : (read : Read) (path : Text) (list : List Taken) → AreRead files read → list_at read path ≡ Some list → HasRules files path list
   list_found [] path list all e = absurd (cc)
-  list_found (file ∷ read) path list all e = at (is_same path file.0) refl e
+  list_found (file ∷ read) path list all e = at (λ e. list_found read path list all.1 e) (is_same path file.0) refl e
     where
-      at : (b : Bool) → is_same path file.0 ≡ b → cond b (Some file.1) (lookup (is_same path) read) ≡ Some list → HasRules files path list
-      at true same e =
+      at : (lookup (is_same path) read ≡ Some list → HasRules files path list) → (b : Bool) → is_same path file.0 ≡ b → cond b (Some file.1) (lookup (is_same path) read) ≡ Some list → HasRules files path list
+      at rest true same e =
           let lists : file.1 ≡ list = cc in
           subst (λ p. HasRules files p list) (sym (same_texts path file.0 same)) (subst (HasRules files file.0) lists all.0)
-      at false other e = list_found read path list all.1 e
+      at rest false other e = rest e
 
   pub read_put : (read : Read) (path : Text) (list : List Taken) → AreRead files read → HasRules files path list → AreRead files (put_list read path list)
   read_put [] path list all has = (has, tt)
-  read_put (file ∷ read) path list all has = at (is_same path file.0) refl
+  read_put (file ∷ read) path list all has = at (read_put read path list all.1 has) (is_same path file.0) refl
     where
-      at : (b : Bool) → is_same path file.0 ≡ b → AreRead files (cond b ((file.0, list) ∷ read) (file ∷ insert_entry is_same read path list))
-      at true same = (subst (λ p. HasRules files p list) (same_texts path file.0 same) has, all.1)
-      at false other = (all.0, read_put read path list all.1 has)
+      at : AreRead files (insert_entry is_same read path list) → (b : Bool) → is_same path file.0 ≡ b → AreRead files (cond b ((file.0, list) ∷ read) (file ∷ insert_entry is_same read path list))
+      at rest true same = (subst (λ p. HasRules files p list) (same_texts path file.0 same) has, all.1)
+      at rest false other = (all.0, rest)
 
   -- ---- files that are being read
 
   pub there_among : (paths : List Text) (path : Text) → AreThere files paths → is_among path paths ≡ true → is_there files path ≡ true
   there_among [] path all e = absurd (cc)
-  there_among (other ∷ paths) path all e = at (is_same path other) refl e
+  there_among (other ∷ paths) path all e = at (λ e. there_among paths path all.1 e) (is_same path other) refl e
     where
-      at : (b : Bool) → is_same path other ≡ b → (b || is_among path paths) ≡ true → is_there files path ≡ true
-      at true same e = ap (is_there files) (same_texts path other same) ∙ all.0
-      at false apart e = there_among paths path all.1 e
+      at : (is_among path paths ≡ true → is_there files path ≡ true) → (b : Bool) → is_same path other ≡ b → (b || is_among path paths) ≡ true → is_there files path ≡ true
+      at rest true same e = ap (is_there files) (same_texts path other same) ∙ all.0
+      at rest false apart e = rest e
 
   pub there_more : (paths : List Text) (path : Text) → AreThere files paths → is_there files path ≡ true → AreThere files (paths ++ path ∷ [])
   there_more [] path all there = (there, tt)

@@ -48,8 +48,8 @@ gathered_more None p None before h gathered = tt
 gathered_more None p (Some new) before h gathered = absurd h
 gathered_more (Some old) p None before h gathered = absurd h
 gathered_more (Some old) p (Some new) before h gathered = (
-  h.1.0 ∙ ap₂ (λ (a b : List Text). a ++ b) gathered.0 (sym (filtered_one exclude_of p)) ∙ sym (filter_map-append exclude_of before (p ∷ [])),
-  h.1.1 ∙ ap₂ (λ (a b : List Text). a ++ b) gathered.1 (sym (filtered_one include_of p)) ∙ sym (filter_map-append include_of before (p ∷ [])),
+  h.1 ∙ ap₂ (λ (a b : List Text). a ++ b) gathered.0 (sym (filtered_one exclude_of p)) ∙ sym (filter_map-append exclude_of before (p ∷ [])),
+  h.2 ∙ ap₂ (λ (a b : List Text). a ++ b) gathered.1 (sym (filtered_one include_of p)) ∙ sym (filter_map-append include_of before (p ∷ [])),
 )
 
 -- ---- rules

@@ -34,7 +34,7 @@ own_fault Failed P Q f h = absurd h
 own_fault Memory P Q f h = h
 
 -- a call that reads no file raises no count
-pub own_counts : {A : Type 0} (r : RuleRefused) (P : RuleFault → Type 0) (old new : ℕ) → new ≡ old → IfOwn P r → CountsFaults {A} old new (Err r)
+pub own_counts : {A : Type 0} (r : RuleRefused) (P : RuleFault → Type 0) (old new : ℕ) → new ≡ old → IfOwn P r → CountsFaults {A = A} old new (Err r)
 own_counts (Rule fault) P old new e h = e
 own_counts (TooManyRules count) P old new e h = e
 own_counts Failed P old new e h = absurd h

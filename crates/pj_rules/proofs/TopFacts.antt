@@ -25,8 +25,8 @@ module _ (files : Files) where
       let judged : AreJudged true e.whole.before = subst (λ b. AreJudged b e.whole.before) e.of_top e.whole.judged in
       let gathered : AreGathered (Some patterns) e.whole.before = subst (λ (o : Option PathPatterns). AreGathered o e.whole.before) t e.whole.gathered in
       let top : IsTop files file.path (record { list = file.progress.list; exclude = filter_map exclude_of e.whole.written.parts; include = filter_map include_of e.whole.written.parts }) =
-          IsTop.file e.whole.is_read (subst (λ ps. AddAll files file.path e.whole.written.rule_set nothing ps file.progress) (sym parts) e.whole.added)
-          (subst (AreJudged true) (sym parts) judged) in
+      IsTop.file e.whole.is_read (subst (λ ps. AddAll files file.path e.whole.written.rule_set nothing ps file.progress) (sym parts) e.whole.added)
+      (subst (AreJudged true) (sym parts) judged) in
       let made : List Taken → List Text → List Text → TopRules = λ ts xs is. record { list = ts; exclude = xs; include = is } in
       subst (λ p. IsTop files p (record { list = list; exclude = patterns.exclude; include = patterns.include })) e.path
       (subst (λ ts. IsTop files file.path (made ts patterns.exclude patterns.include)) (sym l)
