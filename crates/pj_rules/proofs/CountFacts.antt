@@ -17,12 +17,12 @@ counted_list : (m n : ℕ) (ex inc : List Text) (list : List Taken) → count_by
 counted_list m n ex inc [] = refl
 counted_list m n ex inc ((origin, entry.Unusable unusable) ∷ list) =
     let rest = counted_list m n ex inc list in omega (arith, rest)
-counted_list m n ex inc ((origin, entry.Rule texts) ∷ list) = at (nat_le texts.row.priority m) refl
+counted_list m n ex inc ((origin, entry.Rule texts) ∷ list) = at (counted_list m n ex inc list) (nat_le texts.row.priority m) refl
   where
-    at : (b : Bool) → nat_le texts.row.priority m ≡ b →
+    at : (count_by (is_kept m) list ≡ length (filter_map (kept_rule m n ex inc) list) + length (filter_map error_of list)) → (b : Bool) → nat_le texts.row.priority m ≡ b →
         count_by (is_kept m) ((origin, entry.Rule texts) ∷ list) ≡ length (filter_map (kept_rule m n ex inc) ((origin, entry.Rule texts) ∷ list)) + length (filter_map error_of ((origin, entry.Rule texts) ∷ list))
-    at true e = let rest = counted_list m n ex inc list in rw e (omega (arith, rest))
-    at false e = let rest = counted_list m n ex inc list in rw e rest
+    at rest true e = rw e (omega (arith, rest))
+    at rest false e = rw e rest
 
 pub counted_tops : (m n : ℕ) (tops : List TopRules) → counted m tops ≡ length (rules_from m n tops) + length (flat_map errors_of_top tops)
 counted_tops m n [] = refl
