@@ -27,11 +27,11 @@ use Rattle.pj_rules.proofs.Refusing.{fault_weaker}
 
 -- ---- reading a file
 
-pub refused_counts : {A B : Type 0} (path : Text) (refused : FileRefused) (old new : ℕ) → files.CountsFaults {A = A} old new (Err refused) →
+pub refused_counts : (A B : Type 0) (path : Text) (refused : FileRefused) (old new : ℕ) → files.CountsFaults {A = A} old new (Err refused) →
     CountsFaults {A = B} old new (Err (refused_file path refused))
-refused_counts path (file_refused.Fault fault) old new h = h
-refused_counts path file_refused.Failed old new h = h
-refused_counts path file_refused.Memory old new h = h
+refused_counts A B path (file_refused.Fault fault) old new h = h
+refused_counts A B path file_refused.Failed old new h = h
+refused_counts A B path file_refused.Memory old new h = h
 
 module _ (fs : Files) where
   pub refused_unreadable : (path : Text) (refused : FileRefused) → files.IfFault (IsUnreadable fs path) refused → IfFault (IsFaultAt fs path) (refused_file path refused)

@@ -34,8 +34,8 @@ own_fault Failed P Q f h = absurd h
 own_fault Memory P Q f h = h
 
 -- a call that reads no file raises no count
-pub own_counts : {A : Type 0} (r : RuleRefused) (P : RuleFault → Type 0) (old new : ℕ) → new ≡ old → IfOwn P r → CountsFaults {A = A} old new (Err r)
-own_counts (Rule fault) P old new e h = e
-own_counts (TooManyRules count) P old new e h = e
-own_counts Failed P old new e h = absurd h
-own_counts Memory P old new e h = e
+pub own_counts : (A : Type 0) (r : RuleRefused) (P : RuleFault → Type 0) (old new : ℕ) → new ≡ old → IfOwn P r → CountsFaults {A = A} old new (Err r)
+own_counts A (Rule fault) P old new e h = e
+own_counts A (TooManyRules count) P old new e h = e
+own_counts A Failed P old new e h = absurd h
+own_counts A Memory P old new e h = e

@@ -17,6 +17,6 @@ returns-in_ok-path-in-Nowhere-clause-fault g c = λ files told known.
     let is_beside = c.in_ok-path-in-Nowhere.ensures ∙ ap₂ beside c.as_str.ensures c.as_str-in-Nowhere.ensures in
     IfErr-weaker c.found_at-in-Nowhere.result (IfFault (IsNewFault files c.args.known.now c.in_ok-path-in-Nowhere.path)) (IfFault (IsFoundFault files c.args.known.now from file))
     (λ r h. fault_weaker r (IsNewFault files c.args.known.now c.in_ok-path-in-Nowhere.path) (IsFoundFault files c.args.known.now from file)
-    (λ fault new. fault_beside files c.args.known.now from file fault (not_empty file (sym c.is_empty.ensures ∙ c.if-is_empty.false)) gone
+    (λ fault new. fault_beside files c.args.known.now from file fault (not_empty files file (sym c.is_empty.ensures ∙ c.if-is_empty.false)) gone
     (subst (λ p. IsNewFault files c.args.known.now p fault) is_beside new)) h)
     (c.found_at-in-Nowhere.ensures.fault files (c.found_at.ensures.same_files ∙ told))
