@@ -2,6 +2,7 @@ pub mod Ancestry
 pub mod Inside
 pub mod Ordered
 pub mod Picking
+pub mod Searching
 pub mod Siblings
 pub mod Skips
 pub mod Unique

@@ -8,4 +8,4 @@ mod search;
 
 pub use law::ordered_is_a_filter;
 pub use nodes::{AxisNodes, axis};
-pub use order::{in_order, is_same_position};
+pub use order::{in_order, is_among};

@@ -45,6 +45,18 @@ pub fn is_same_position(item: &Item<'_>, other: &Item<'_>) -> bool
     order_position(item).cmp(&order_position(other)) == Ordering::Equal
 }
 
+/// Whether the node, attribute or document is among some that stand in document order, each once. The time is the logarithm
+/// of their number.
+pub fn is_among(nodes: &[Item<'_>], node: &Item<'_>) -> bool
+    requires { IsStrictlySortedBy document_order (values_of nodes.now) }
+    ensures { result ≡ has_item (values_of nodes.now) (value_of_item node.now) }
+{
+    let position = order_position(node);
+    nodes
+        .binary_search_by(|other| order_position(other).cmp(&position))
+        .is_ok()
+}
+
 /// The nodes, attributes and the document among the items in document order, each once (XPath 2.0, 2.4.1): the document,
 /// then each node, its attributes, and its children. It takes no memory.
 pub fn in_order(items: Sequence<'_>) -> Sequence<'_>

@@ -1,19 +1,14 @@
 -- Sets of nodes.
-use Rattle.std.proofs.Common.{◌≡◌, ℕ, ◌+◌, ◌<◌, ◌++◌, ◌&&◌, ◌||◌, Bool, true, false, cond, List, [], ◌∷◌, IsTrue, filter, take, length, get_or, refl, ap, ◌∙◌}
-use Rattle.std.specs.List.{list_any, AllByRecursion}
-use Rattle.std.specs.Ordering.{eq_by_cmp}
+use Rattle.std.proofs.Common.{◌≡◌, ℕ, ◌+◌, ◌<◌, ◌++◌, ◌&&◌, Bool, true, false, cond, List, [], ◌∷◌, IsTrue, filter, take, length, get_or, refl, ap, ◌∙◌}
+use Rattle.std.specs.List.{AllByRecursion}
 use Rattle.std.proofs.lemmas.List.Elements.{filter-append}
 use Rattle.pj_xvalue.specs.declared.expr.SetOperator.{SetOperator}
 use Rattle.pj_xvalue.specs.declared.item.Item.{Item}
 use Rattle.pj_xvalue.specs.Items.{ItemValue, are_nodes, value_of_item, values_of}
-use Rattle.pj_xaxes.specs.Order.{document_order, has_item, ordered}
+use Rattle.pj_xaxes.specs.Order.{has_item, ordered}
 use Rattle.pj_xaxes.proofs.Ordered.{has_item-ordered, places-ordered, places_from, IsNode}
 use Rattle.pj_xdenotes.specs.Sets.{stays, chosen}
 use Rattle.pj_xsteps.proofs.Values.{values_more}
-
-pub has_item-items : (x : ItemValue) (items : List Item) → has_item (values_of items) x ≡ list_any (λ other. eq_by_cmp document_order x (value_of_item other)) items
-has_item-items x [] = refl
-has_item-items x (y ∷ ys) = ap (λ b. eq_by_cmp document_order x (value_of_item y) || b) (has_item-items x ys)
 
 are_from : (xs : List ItemValue) → AllByRecursion IsNode xs → IsTrue (are_nodes xs)
 are_from [] h = refl

@@ -22,4 +22,4 @@ pub use nodes::NodeItems;
 pub use operands::{compared, operand, text_operand};
 pub use sequences::{copied_items, one, turned_back};
 pub use setting::Setting;
-pub use turns::{keep_item, keeps_at, united};
+pub use turns::{keeps_at, united};

@@ -1,7 +1,6 @@
 //! Sequences of nodes, and sets of them.
 ghost use Rattle.std.specs.Prelude.{◌≡◌, ◌++◌, [], ℕ, IfOk, filter};
-ghost use Rattle.std.specs.List.{list_any};
-ghost use Rattle.std.specs.Ordering.{eq_by_cmp};
+ghost use Rattle.std.specs.List.Sorted.{IsStrictlySortedBy};
 ghost use Rattle.pj_xvalue.specs.Items.{value_of_item, values_of};
 ghost use Rattle.pj_xvalue.specs.OfTree.{OfTree};
 ghost use Rattle.pj_xfuncs.specs.Arguments.{seen_as};
@@ -10,7 +9,7 @@ ghost use Rattle.pj_xdenotes.specs.Operands.{only_nodes};
 ghost use Rattle.pj_xdenotes.specs.Sets.{chosen, stays as stays_by};
 
 use pj_base::{Copied, NoMemory};
-use pj_xaxes::{in_order, is_same_position};
+use pj_xaxes::{in_order, is_among};
 use pj_xvalue::{Item, Sequence, SetOperator, XCode, are_nodes};
 use std::alloc::Global;
 use std::marker::Model;
@@ -69,13 +68,15 @@ impl<'t> NodeItems<'t> {
     /// The nodes in document order, each once. It takes no memory.
     pub fn in_order(self) -> Sequence<'t>
         ensures value { values_of result ≡ ordered (values_of self.entry) }
+        ensures ascending { IsStrictlySortedBy document_order (values_of result) }
         ensures of_tree { (n : ℕ) → OfTree n (values_of self.entry) → OfTree n (values_of result) }
     {
         let NodeItems { items } = self;
         in_order(items)
     }
 
-    /// The nodes that are, or are not, among the others, in document order, each once (XPath 2.0, 3.3.3).
+    /// The nodes that are, or are not, among the others, in document order, each once (XPath 2.0, 3.3.3). The
+    /// others are put in order, and each node is searched for among them.
     pub fn chosen(
         self,
         operator: SetOperator,
@@ -105,19 +106,6 @@ impl<'t> NodeItems<'t> {
     }
 }
 
-/// Whether the node is among the others.
-fn is_among(item: &Item<'_>, others: &[Item<'_>]) -> bool
-    ensures { result ≡ has_item (values_of others.now) (value_of_item item.now) }
-{
-    is_some_same(item, others)
-}
-
-fn is_some_same(item: &Item<'_>, others: &[Item<'_>]) -> bool
-    ensures { result ≡ list_any (λ other. eq_by_cmp document_order (value_of_item item.now) (value_of_item other)) others.now }
-{
-    others.iter().any(|other| is_same_position(item, other))
-}
-
 /// Whether a node stays that is, or is not, among the others.
 fn stays(operator: SetOperator, is_among: bool) -> bool
     ensures { result ≡ stays_by operator is_among }
@@ -128,18 +116,19 @@ fn stays(operator: SetOperator, is_among: bool) -> bool
     }
 }
 
-/// The items that are, or are not, among the others.
+/// The nodes that are, or are not, among the others, which stand in document order, each once.
 fn kept<'t>(
     alloc: Global,
     operator: SetOperator,
     items: &[Item<'t>],
     others: &[Item<'_>],
 ) -> Result<Sequence<'t>, NoMemory>
+    requires { IsStrictlySortedBy document_order (values_of others.now) }
     ensures { IfOk result (λ found. values_of found ≡ filter (λ item. stays_by operator (has_item (values_of others.now) item)) (values_of items.now)) }
 {
     let mut found = Sequence::new(alloc);
     for item in items {
-        let is_there = is_among(item, others);
+        let is_there = is_among(others, item);
         if stays(operator, is_there) {
             found.push(item.copied()?)?;
         }

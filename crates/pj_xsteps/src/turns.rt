@@ -1,11 +1,10 @@
 //! What turns of a context give: what a predicate keeps, and what the steps of a path come to.
-ghost use Rattle.std.specs.Prelude.{◌≡◌, ℕ, ◌++◌, IfOk, OnOk};
-ghost use Rattle.pj_xvalue.specs.Items.{value_of_item, values_of};
+ghost use Rattle.std.specs.Prelude.{◌≡◌, ℕ, IfOk};
+ghost use Rattle.pj_xvalue.specs.Items.{values_of};
 ghost use Rattle.pj_xvalue.specs.OfTree.{OfTree};
 ghost use Rattle.pj_xfuncs.specs.Arguments.{seen_as};
-ghost use Rattle.pj_xdenotes.specs.Turns.{keeps, kept, united as united_of};
+ghost use Rattle.pj_xdenotes.specs.Turns.{keeps, united as united_of};
 
-use pj_base::{Copied, NoMemory};
 use pj_xaxes::in_order;
 use pj_xvalue::{Item, Sequence, XCode, are_nodes, boolean_value, has_node};
 
@@ -21,16 +20,6 @@ pub fn keeps_at(position: i64, value: &Sequence<'_>) -> Result<bool, XCode>
         },
         _ => boolean_value(value),
     }
-}
-
-/// Puts the item at the end where it is to be kept.
-pub fn keep_item<'t>(items: &mut Sequence<'t>, keeps: bool, item: &Item<'t>) -> Result<(), NoMemory>
-    ensures { OnOk result (values_of items.new ≡ values_of items.old ++ kept keeps (value_of_item item.now)) }
-{
-    if keeps {
-        items.push(item.copied()?)?;
-    }
-    Ok(())
 }
 
 /// What the turns of a path's step give (XPath 2.0, 3.2): nodes in document order, each once, or other items as they come, and

@@ -1,0 +1,6 @@
+-- definitions
+pub mod Expressions
+pub mod Faults
+pub mod Patterns
+-- private clauses alone cite this
+pub mod Refusals
