@@ -14,6 +14,7 @@ use std::test::Fail;
 pub type PropertyCase = (&'static str, &'static str, &'static str);
 
 /// A rule: its name and its query, with the message `m`.
+#[derive(Drop)]
 pub struct RuleCase {
     pub name: &'static str,
     pub xpath: &'static str,
