@@ -1,0 +1,4 @@
+pub mod Candidates
+pub mod Written
+pub mod Headers
+pub mod TypeName
