@@ -1,5 +1,5 @@
 -- What a simple name of a type means at a place (JLS 6.3, 6.4.1, 6.5.5, 7.5): a type, and the classes that are asked.
-use Rattle.std.specs.Prelude.{ℕ, zero, suc, ◌+◌, ◌*◌, ◌&&◌, Bool, true, false, not, Option, None, Some, if◌then◌else◌, List, [], ◌∷◌, ◌++◌, length, map, codes, nat_eq, nat_le, unwrap_or}
+use Rattle.std.specs.Prelude.{ℕ, zero, suc, ◌+◌, ◌*◌, ◌&&◌, ◌||◌, Bool, true, false, not, Option, None, Some, if◌then◌else◌, List, [], ◌∷◌, ◌++◌, length, map, codes, nat_eq, nat_le, unwrap_or}
 use Rattle.std.specs.Option.{option_map, option_map_or, option_and_then}
 use Rattle.std.specs.Cmp.Lexicographic.{pointwise}
 use Rattle.pj_tree.specs.Tree.{Tree, kind_of, parent_of, children_of, ancestors_of}

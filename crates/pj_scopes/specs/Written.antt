@@ -67,13 +67,13 @@ module _ (t : Tree) where
   has_package zero n = false
   has_package (suc deep) n = option_map_or (has_package deep) (child_of t n k.ClassType) (has (codes ".") (words_of t n))
 
+-- a class by its name; a text that is no name of a class is not known
+abbrev pub as_type : Option Name → JavaType
+as_type None = Unknown
+as_type (Some name) = Class name NoMore
+
 -- Resolving, by the meaning of a simple name at a place, the member class of a class, and the classes of the file.
 module _ (t : Tree) (classes : List DeclaredClass) (simple : Node → List ℕ → Asking JavaType) (member : Name → List ℕ → Asking JavaType) where
-  -- a name that is no class name is not known
-  abbrev pub as_type : Option Name → JavaType
-  as_type None = Unknown
-  as_type (Some name) = Class name NoMore
-
   -- the member class of a type: of an unknown type and of a type variable none is known
   abbrev pub member_of : List ℕ → JavaType → Asking JavaType
   member_of name (Class outer arguments) = member outer name
