@@ -9,27 +9,9 @@
 set -euo pipefail
 . "$(dirname "$0")/scratch.sh"
 libraries='pj_attrs pj_lex pj_parse pj_symbols pj_tree pj_xvalue'
-# each of these with what it stands on, lowest first
-needed=$(python3 - "$here/crates.txt" $libraries <<'PYTHON'
-import sys
-uses = {}
-for line in open(sys.argv[1]):
-    name, _, rest = line.split('#')[0].partition(':')
-    if rest or name.strip():
-        uses[name.strip()] = rest.split()
-order = []
-def put(name):
-    if name in uses and name not in order:
-        for below in uses[name]:
-            put(below)
-        order.append(name)
-for name in sys.argv[2:]:
-    put(name)
-print(' '.join(order))
-PYTHON
-)
-scratch_repository attributes_bench "$libraries" $needed
-cat > "$bench/src/main.rt" <<'PROGRAM'
+scratch_repository attributes_bench "$libraries" $(with_lower_crates $libraries)
+{
+    cat <<'PROGRAM'
 // Rows of time.
 #![tactic(auto)]
 
@@ -47,23 +29,9 @@ use std::alloc::{AllocError, Global};
 use std::io;
 use std::time::CpuClock;
 
-const MEMBER: &str = "    /** A member. */ private static final int FIELD = 0x1F + (a) * \"text\".length(), other[] = { 1, 2L, 3.0f };
-    @Override public <T extends Comparable<T>> int method(final int first, String... rest) throws E {
-        for (int i = 0, n = ((first)); i < n; i++) { if (x.y.z == this.w) { call(i, (n)); } else { continue; } }
-        try (var r = open(); s) { switch (first) { case 1: break; default: throw new E() { int inner; }; } } catch (E | F e) { }
-        return first > 0 ? rest.length : list.stream().map(v -> v + 1).mapToInt(Integer::intValue).sum();
-    }
-";
-
-fn text_of(alloc: Global, members: u32) -> Result<String, AllocError> {
-    let mut text = String::from_str(alloc, "package a.b;\nclass A {\n")?;
-    for _ in 0..members {
-        text.push_str(MEMBER)?;
-    }
-    text.push_str("}\n")?;
-    Ok(text)
-}
-
+PROGRAM
+    text_of_members
+    cat <<'PROGRAM'
 // How many attributes have a value.
 fn all_attributes<A: Attributes>(facts: &A, nodes: u32) -> (u64, u64)
     requires { nodes ≡ A.nodes facts.now }
@@ -130,5 +98,6 @@ fn main(rt: HostRuntime) -> io::Result<()> {
     Ok(())
 }
 PROGRAM
+} > "$bench/src/main.rt"
 cd "$bench"
 rt run

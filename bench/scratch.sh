@@ -24,3 +24,49 @@ scratch_repository() {
     : > "$bench/specs/Lib.antt"
     : > "$bench/proofs/Lib.antt"
 }
+
+# with_lower_crates LIBRARY..
+# Prints the libraries with the crates that they stand on, lowest first.
+with_lower_crates() {
+    python3 - "$here/crates.txt" "$@" <<'PYTHON'
+import sys
+uses = {}
+for line in open(sys.argv[1]):
+    name, _, rest = line.split('#')[0].partition(':')
+    if rest or name.strip():
+        uses[name.strip()] = rest.split()
+order = []
+def put(name):
+    if name in uses and name not in order:
+        for below in uses[name]:
+            put(below)
+        order.append(name)
+for name in sys.argv[2:]:
+    put(name)
+print(' '.join(order))
+PYTHON
+}
+
+# text_of_members
+# Prints the part of a program that makes the text of a Java class of so many members.
+text_of_members() {
+    cat <<'PROGRAM'
+const MEMBER: &str = "    /** A member. */ private static final int FIELD = 0x1F + (a) * \"text\".length(), other[] = { 1, 2L, 3.0f };
+    @Override public <T extends Comparable<T>> int method(final int first, String... rest) throws E {
+        for (int i = 0, n = ((first)); i < n; i++) { if (x.y.z == this.w) { call(i, (n)); } else { continue; } }
+        try (var r = open(); s) { switch (first) { case 1: break; default: throw new E() { int inner; }; } } catch (E | F e) { }
+        return first > 0 ? rest.length : list.stream().map(v -> v + 1).mapToInt(Integer::intValue).sum();
+    }
+";
+
+fn text_of(alloc: Global, members: u32) -> Result<String, AllocError> {
+    let mut text = String::from_str(alloc, "package a.b;\nclass A {\n")?;
+    for _ in 0..members {
+        text.push_str(MEMBER)?;
+    }
+    text.push_str("}\n")?;
+    Ok(text)
+}
+PROGRAM
+    echo
+}
