@@ -44,7 +44,7 @@ same_trees one names None None (Some b) h k = absurd k
 same_trees one names None (Some a) b h k = absurd h
 same_trees one names (Some text) None b h k = absurd h
 same_trees one names (Some text) (Some a) None h k = absurd k
-same_trees one names (Some text) (Some a) (Some b) h k = one names (chars text) (tree_of a) (tree_of b) h k
+same_trees one names (Some text) (Some a) (Some b) h k = one names (chars text) (tree_of a) (tree_of b) h.spells k.spells
 
 -- ---- rules of one source, with expressions of the same trees
 
@@ -90,7 +90,7 @@ one_source : OneExpression → DenotesByTree → PatternsByTree → (replies : R
     → IsSpelled (rule_of s p c) → IsSpelled (rule_of s q d) → rule_meaning replies path bytes (rule_of s p c) ≡ rule_meaning replies path bytes (rule_of s q d)
 one_source one denotes_alike patterns_alike replies path bytes s p q c d h k =
     at_outcome denotes_alike patterns_alike replies path s p q c d (outcome_of bytes)
-    (one (names_of s.texts) (chars s.texts.xpath) (tree_of p) (tree_of q) h.query k.query)
+    (one (names_of s.texts) (chars s.texts.xpath) (tree_of p) (tree_of q) h.query.spells k.query.spells)
     (same_trees one (names_of s.texts) (suppression_of s.texts) c d h.suppression k.suppression)
 
 pub rules_same : OneExpression → DenotesByTree → PatternsByTree → RulesAreTexts
