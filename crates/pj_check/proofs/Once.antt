@@ -74,10 +74,10 @@ pub one_run : OneListing → OneSet → OneReading → ListsAreTexts → OneCold
 one_run one_listing one_set one_reading texts one_cold words held a b x y =
     let settings = same_settings words a.settings b.settings x.has_rules.has_sources.asked y.has_rules.has_sources.asked in
     let listing = one_listing held b.settings.dirs a.listing b.listing
-        (subst (λ (s : Settings). IsListing held s.dirs a.listing) settings x.has_rules.has_sources.listed) y.has_rules.has_sources.listed in
+    (subst (λ (s : Settings). IsListing held s.dirs a.listing) settings x.has_rules.has_sources.listed) y.has_rules.has_sources.listed in
     let rules = one_set held b.settings.rulesets b.settings.minimum b.settings.marker a.rules b.rules
-        (subst (λ (s : Settings). IsEffective held s.rulesets s.minimum s.marker a.rules) settings x.has_rules.loaded) y.has_rules.loaded in
+    (subst (λ (s : Settings). IsEffective held s.rulesets s.minimum s.marker a.rules) settings x.has_rules.loaded) y.has_rules.loaded in
     let sources = one_reading held b.listing.paths a.sources b.sources (subst (λ (l : Listing). AreRead held l.paths a.sources) listing x.read) y.read in
     let report = one_report texts one_cold b.sources b.rules a.report b.report
-        (subst (λ (set : EffectiveRules). IsColdOf b.sources set a.report) rules (subst (λ (files : Files). IsColdOf files a.rules a.report) sources x.reported)) y.reported in
+    (subst (λ (set : EffectiveRules). IsColdOf b.sources set a.report) rules (subst (λ (files : Files). IsColdOf files a.rules a.report) sources x.reported)) y.reported in
     made_of a b settings listing rules sources report
