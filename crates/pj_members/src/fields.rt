@@ -114,7 +114,7 @@ fn field_in_class<O: Oracle>(
 
 /// The field of a type on the list of a class. Each of these is a class.
 #[tactic(auto, using(pj_names::specs::AskingLaws::asking_steps))]
-fn field_in<O: Oracle>(
+pub fn field_in<O: Oracle>(
     alloc: Global,
     oracle: &mut O,
     class: &ClassName,

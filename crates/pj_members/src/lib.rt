@@ -6,5 +6,5 @@ mod fields;
 mod keys;
 mod methods;
 
-pub use fields::find_field;
+pub use fields::{field_in, find_field};
 pub use methods::methods_named;

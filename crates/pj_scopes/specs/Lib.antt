@@ -1,0 +1,14 @@
+pub mod Words
+pub mod Fits
+pub mod Candidates
+pub mod Written
+pub mod Headers
+pub mod Inherited
+pub mod Imports
+pub mod TypeName
+pub mod Spelling
+pub mod Flags
+pub mod FileAnswer
+pub mod VariableName
+pub mod Seen
+pub mod Searching
