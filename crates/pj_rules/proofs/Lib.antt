@@ -1,0 +1,11 @@
+mod Told
+mod Lists
+mod KnownFiles
+mod Refusing
+mod Finding
+mod Chains
+mod TakeFacts
+mod Parts
+mod Turns
+mod CountFacts
+mod TopFacts

@@ -1,0 +1,116 @@
+//! The report of a file by rules.
+use pj_analysis::{PathPatterns, RunRule, RunRules, analyse_file};
+use pj_base::{Bytes, Copied, Names, Text};
+use pj_grammar::java_17;
+use pj_reports::{PathRows, Report, text_of};
+use pj_rule_expressions::{expressions_of, whole};
+use pj_rule_rows::{ConfigErrors, RuleRow, RuleRowList};
+use pj_rule_texts::{Properties, Property, RuleTexts};
+use pj_workers::Work;
+use std::alloc::Global;
+use std::test::Fail;
+
+/// A property: its name, its type and its value.
+pub type PropertyCase = (&'static str, &'static str, &'static str);
+
+/// A rule: its name and its query, with the message `m`.
+#[derive(Drop)]
+pub struct RuleCase {
+    pub name: &'static str,
+    pub xpath: &'static str,
+    pub properties: &'static [PropertyCase],
+    pub exclude: &'static [&'static str],
+    pub include: &'static [&'static str],
+}
+
+fn properties_of(alloc: Global, cases: &[PropertyCase]) -> Result<Properties, Fail> {
+    let mut properties = Properties::new(alloc);
+    for (name, kind, value) in cases {
+        properties.push(Property {
+            name: Text::from_str(alloc, name)?,
+            kind: Text::from_str(alloc, kind)?,
+            value: Text::from_str(alloc, value)?,
+        })?;
+    }
+    Ok(properties)
+}
+
+fn patterns_of(alloc: Global, cases: &[&str]) -> Result<Option<PathPatterns>, Fail> {
+    let mut patterns = PathPatterns::new(alloc);
+    for case in cases {
+        let Ok(pattern) = whole(alloc, case) else {
+            return Ok(None);
+        };
+        patterns.push(pattern)?;
+    }
+    Ok(Some(patterns))
+}
+
+fn row_of(alloc: Global, name: &str) -> Result<RuleRow, Fail> {
+    Ok(RuleRow {
+        name: Text::from_str(alloc, name)?,
+        message: Text::from_str(alloc, "m")?,
+        priority: 3,
+        rule_set: Text::from_str(alloc, "own")?,
+    })
+}
+
+/// The rule of a case; none where its texts make no rule.
+fn rule_of(alloc: Global, case: &RuleCase) -> Result<Option<RunRule>, Fail> {
+    let texts = RuleTexts {
+        row: row_of(alloc, case.name)?,
+        xpath: Text::from_str(alloc, case.xpath)?,
+        properties: properties_of(alloc, case.properties)?,
+    };
+    let Some(exclude) = patterns_of(alloc, case.exclude)? else {
+        return Ok(None);
+    };
+    let Some(include) = patterns_of(alloc, case.include)? else {
+        return Ok(None);
+    };
+    match expressions_of(alloc, &texts) {
+        Ok(expressions) => Ok(Some(RunRule {
+            texts,
+            expressions,
+            exclude,
+            include,
+        })),
+        Err(_) => Ok(None),
+    }
+}
+
+/// The text of the report of a file by rules; `no rule` where one of the rules is none.
+pub fn report_of(
+    alloc: Global,
+    path: &str,
+    file: &str,
+    cases: &[RuleCase],
+) -> Result<String, Fail> {
+    let mut rules = RunRules::new(alloc);
+    let mut rows = RuleRowList::new(alloc);
+    for case in cases {
+        let Some(rule) = rule_of(alloc, case)? else {
+            return Ok(String::from_str(alloc, "no rule")?);
+        };
+        rows.push(rule.texts.row.copied()?)?;
+        rules.push(rule)?;
+    }
+    let grammar = java_17(alloc)?;
+    let path = Text::from_str(alloc, path)?;
+    let bytes = Bytes::from_vec(String::from_str(alloc, file)?.into_bytes());
+    let marker = Text::from_str(alloc, "NOPMD")?;
+    let mut work = Work::new(alloc);
+    let Ok(result) = analyse_file(alloc, &grammar, &path, &bytes, &rules, &marker, &mut work) else {
+        return Ok(String::from_str(alloc, "no result")?);
+    };
+    let mut files = PathRows::new(alloc);
+    files.push((path, result.rows))?;
+    let report = Report {
+        rules: rows,
+        files,
+        errors: ConfigErrors::new(alloc),
+    };
+    let text = text_of(alloc, &report)?;
+    let text = String::from_utf8(text.into_vec()).unwrap_or(String::new(alloc));
+    Ok(text)
+}
