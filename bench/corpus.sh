@@ -4,28 +4,25 @@
 #   bench/corpus.sh FOLDER      as the module java.base of Debian's package openjdk-17-source, unpacked
 #
 # It makes a scratch repository of the libraries and of a small program, proves them (which takes minutes where nothing of them
-# is kept on this machine), and runs the program: check_file_by with //CompilationUnit over each file of the folder that ends in
-# .java, module-info.java left out. This version takes no file that contains NOPMD or SuppressWarnings, so in copies of the files
-# these two words are replaced by others of their length. For each file without a tree it prints the reason, then the counts,
-# tokens (comments among them) and bytes of a second of processor time, and the peak of resident memory.
+# is kept on this machine), and runs the program: read_file and parse_file_by over each file of the folder that ends in .java,
+# module-info.java left out. For each file without a tree it prints the reason, then the counts, tokens (comments among them) and
+# bytes of a second of processor time, and the peak of resident memory.
 set -euo pipefail
 folder=$(cd "$1" && pwd)
 . "$(dirname "$0")/scratch.sh"
-scratch_repository corpus_bench 'anyhow pj_base pj_check pj_grammar pj_lex pj_outside pj_peg' \
-    pj_base pj_names pj_tree pj_peg pj_outside pj_lex pj_shape pj_grammar pj_literals pj_parse pj_check
+scratch_repository corpus_bench 'anyhow pj_grammar pj_lex pj_parse pj_peg' \
+    pj_base pj_tree pj_peg pj_lex pj_shape pj_grammar pj_literals pj_parse
 cat > "$bench/src/main.rt" <<'PROGRAM'
-// Checks of many files, each in memory.
+// The trees of many files.
 #![tactic(auto)]
 
-ghost use Rattle.std.specs.Prelude.{◌≡◌};
+ghost use Rattle.std.specs.Prelude.{◌≡◌, ◌≤◌, length};
 ghost use Rattle.pj_grammar.specs.Java17.{java_17_forms};
 ghost use Rattle.pj_peg.specs.Form.{forms_of};
 
-use pj_check::{FileOutcome, check_file_by, lack_of};
 use pj_grammar::java_17;
 use pj_lex::{Source, tokens};
-use pj_base::{Bytes, NoMemory, Numbers, Text, Words};
-use pj_outside::{Files, MemSink, MemTree};
+use pj_parse::{FileRefused, parse_file_by, read_file};
 use pj_peg::WellFormed;
 use std::alloc::Global;
 use std::time::CpuClock;
@@ -69,25 +66,26 @@ fn tokens_in(alloc: Global, bytes: &[u8]) -> u64 {
     }
 }
 
-fn words_for(alloc: Global, path: &str) -> Result<Words, NoMemory> {
-    let mut words = Words::new(alloc);
-    for word in ["check", path, "//CompilationUnit"] {
-        words.push(Text::from_str(alloc, word)?)?;
+// Why the bytes have no tree, or `None` where they have one.
+fn refusal_of(alloc: Global, grammar: &WellFormed, bytes: &[u8]) -> Option<FileRefused>
+    requires grammar { forms_of grammar.now ≡ java_17_forms }
+    requires short { length bytes.now ≤ 1048576 }
+{
+    let source = match read_file(alloc, bytes) {
+        Ok(source) => source,
+        Err(refused) => return Some(refused),
+    };
+    match parse_file_by(alloc, grammar, &source) {
+        Ok(_) => None,
+        Err(refused) => Some(refused),
     }
-    Ok(words)
 }
 
-fn tree_of(alloc: Global, path: &str, bytes: Vec<u8>) -> Result<MemTree, NoMemory> {
-    let mut files = Files::new(alloc);
-    files.push((Text::from_str(alloc, path)?, Bytes::from_vec(bytes)))?;
-    Ok(MemTree::new(alloc, files, Numbers::new(alloc)))
-}
-
-// Why there is no report.
-fn say_why(rt: &HostRuntime, path: &str, words: &Words, tree: &mut MemTree) -> anyhow::Result<()> {
-    match lack_of(rt.alloc(), words, tree) {
-        Ok(Some(lack)) => println!(rt; "{path}: {lack}")?,
-        Ok(None) | Err(_) => println!(rt; "{path}: out of memory")?,
+// Says why there is no tree.
+fn say_why(rt: &HostRuntime, path: &str, refused: &FileRefused) -> anyhow::Result<()> {
+    match refused {
+        FileRefused::Fault(fault) => println!(rt; "{path}: {fault}")?,
+        FileRefused::Memory => println!(rt; "{path}: out of memory")?,
     }
     Ok(())
 }
@@ -104,16 +102,16 @@ fn add_file(
     let bytes = fs::read(rt, path)?;
     let count = bytes.len() as u64;
     let tokens = tokens_in(alloc, &bytes);
-    let (Ok(words), Ok(mut tree)) = (words_for(alloc, path), tree_of(alloc, path, bytes)) else {
+    if bytes.len() > 1_048_576 {
+        println!(rt; "{path}: more than 1,048,576 bytes")?;
         return Ok(sums);
-    };
-    let mut sink = MemSink::new(alloc, Numbers::new(alloc));
+    }
     let start = now(rt)?;
-    let outcome = check_file_by(alloc, grammar, &words, &mut tree, &mut sink);
+    let refused = refusal_of(alloc, grammar, &bytes);
     let took = now(rt)?.saturating_sub(start);
-    let has_tree = outcome == FileOutcome::Violations;
-    if !has_tree {
-        say_why(rt, path, &words, &mut tree)?;
+    let has_tree = refused.is_none();
+    if let Some(refused) = &refused {
+        say_why(rt, path, refused)?;
     }
     Ok(Sums {
         files: sums.files.saturating_add(1),
@@ -176,21 +174,6 @@ fn main(rt: HostRuntime) -> anyhow::Result<()> {
     Ok(())
 }
 PROGRAM
-python3 - "$folder" "$scratch" <<'PY'
-import os, sys
-folder, scratch = sys.argv[1:3]
-paths = []
-for at, folders, names in sorted(os.walk(folder)):
-    for name in sorted(names):
-        if name.endswith(".java") and name != "module-info.java":
-            path = os.path.join(at, name)
-            copy = os.path.join(scratch, "sources", os.path.relpath(path, folder))
-            os.makedirs(os.path.dirname(copy), exist_ok=True)
-            data = open(path, "rb").read()
-            data = data.replace(b"NOPMD", b"nopmd").replace(b"SuppressWarnings", b"suppressWarnings")
-            open(copy, "wb").write(data)
-            paths.append(copy)
-open(os.path.join(scratch, "list"), "w").write("".join(p + "\n" for p in paths))
-PY
+find "$folder" -name '*.java' ! -name module-info.java | sort > "$scratch/list"
 cd "$bench"
-rt run -- "$scratch/list" | grep -E '^/| of .* files have a tree|tokens/s|grammar was made' | sed "s|^$scratch/sources/||"
+rt run -- "$scratch/list" | grep -E '^/| of .* files have a tree|tokens/s|grammar was made' | sed "s|^$folder/||"

@@ -4,16 +4,20 @@
 # It makes a scratch repository of the libraries and of a small program, proves both (which takes minutes where nothing of them
 # is kept on this machine), and runs the program. The program parses one class with 250, 500 and 1,000 times the same
 # members (a file has at most 200,000 tokens, so no much larger one has a tree), and evaluates some expressions at the document.
+# Then it builds trees of a quarter, a half and a whole million nodes, which no file has, and does the same there.
 # It prints a row for each: the expression, the nodes of the tree, the items that it gives, and nanoseconds of processor time
 # for each node of the tree. The last should stay the same, and grow no more than by the logarithm where nodes are sorted.
 set -euo pipefail
 . "$(dirname "$0")/scratch.sh"
+. "$(dirname "$0")/trees.sh"
 libraries='pj_attrs pj_base pj_lex pj_names pj_parse pj_symbols pj_tree pj_xdenotes pj_xeval pj_xfuncs pj_xparse pj_xvalue'
 scratch_repository xeval_bench "$libraries" $(with_lower_crates $libraries)
-for part in src/replies.rt specs/Untold.antt; do
+trees_of_chains
+for part in $(cd "$here/crates/tests_xeval" && find src/replies.rt src/facts.rt specs proofs/facts -type f ! -name Lib.antt); do
+    mkdir -p "$(dirname "$bench/$part")"
     sed 's/tests_xeval/xeval_bench/g' "$here/crates/tests_xeval/$part" > "$bench/$part"
 done
-echo 'pub mod Untold' > "$bench/specs/Lib.antt"
+cat "$here/crates/tests_xeval/specs/Lib.antt" >> "$bench/specs/Lib.antt"
 mkdir -p "$bench/proofs/items_of"
 cat > "$bench/proofs/items_of/Answers.antt" <<'ANTT'
 use Rattle.std.specs.Prelude.{length}
@@ -33,9 +37,13 @@ ghost use Rattle.pj_parse.specs.PoolText.{IsPoolOf};
 ghost use Rattle.pj_xvalue.specs.OfTree.{VariablesOfTree};
 ghost use Rattle.pj_xdenotes.specs.Context.{given_of};
 
+mod facts;
 mod replies;
+mod trees;
 
+use crate::facts::Facts as Table;
 use crate::replies::Replies;
+use crate::trees::tree;
 use pj_attrs::{Facts, tokens_are_in_order};
 use pj_base::Names;
 use pj_lex::Source;
@@ -61,6 +69,19 @@ static EXPRESSIONS: [&str; 9] = [
     "count(//*)",
     "/CompilationUnit/ClassDeclaration/ClassBody/MethodDeclaration/Block",
     "for $m in //MethodDeclaration return if ($m/@Final) then () else $m",
+    "//* intersect //Block",
+    "//* except //Block",
+];
+
+// Those of the trees that are built.
+static OF_CHAINS: [&str; 9] = [
+    "//Block",
+    "//VariableAccess[@Name = 'x']",
+    "//Block[ancestor::ClassDeclaration]",
+    "//ClassDeclaration[.//Block]",
+    "count(//*)",
+    "/CompilationUnit/ClassDeclaration/ClassDeclaration/Block/VariableAccess",
+    "for $c in //ClassDeclaration return if ($c/Block) then $c else ()",
     "//* intersect //Block",
     "//* except //Block",
 ];
@@ -149,9 +170,24 @@ fn rows(rt: &HostRuntime, members: u32) -> io::Result<()> {
     }
 }
 
+// The rows of so many chains of four nodes.
+fn rows_of_chains(rt: &HostRuntime, chains: u32) -> io::Result<()> {
+    let Ok(tree) = tree(rt.alloc(), chains, 4) else {
+        return println!(rt; "no tree");
+    };
+    let table = Table { nodes: tree.len() };
+    for text in OF_CHAINS {
+        row_of_expression(rt, text, &tree, &table)?;
+    }
+    Ok(())
+}
+
 fn main(rt: HostRuntime) -> io::Result<()> {
     for members in [250u32, 500, 1000] {
         rows(&rt, members)?;
+    }
+    for chains in [62_500u32, 125_000, 250_000] {
+        rows_of_chains(&rt, chains)?;
     }
     Ok(())
 }

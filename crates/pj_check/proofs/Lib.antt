@@ -1,6 +1,6 @@
-pub mod ColdLaws
-pub mod OutcomeLaws
-pub mod Texts
-pub mod TakenLaws
-pub mod LackLaws
-pub mod OneLaws
+mod Told
+mod Explaining
+mod Gathering
+mod Ending
+mod Excluding
+mod Once

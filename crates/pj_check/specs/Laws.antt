@@ -1,19 +1,16 @@
 -- What follows from the definitions.
 use Rattle.std.specs.Prelude.{◌≡◌, List}
 use Rattle.pj_outside.specs.Files.{Files, Bytes}
-use Rattle.pj_check.specs.Report.{Report}
-use Rattle.pj_check.specs.CheckFile.{HasReport, HasNoReport}
-use Rattle.pj_check.specs.Lack.{LacksFor}
-use Rattle.pj_check.specs.declared.lack.Lack.{Lack}
+use Rattle.pj_rules.specs.Laws.{SoundOrFault}
+use Rattle.pj_check.specs.Refused.{IsRefused}
+use Rattle.pj_check.specs.Run.{IsRun, Run}
+use Rattle.pj_check.specs.declared.outcome.Outcome.{Outcome}
 
--- The words and the files have one report at most.
-abbrev pub OneReport : Type 0
-OneReport = (words : List Bytes) (files : Files) (r s : Report) → HasReport words files r → HasReport words files s → r ≡ s
+-- Words and files that have a run have no cause of refusal, where no texts make a rule that can be used and have a fault. So a run over
+-- a tree that tells its files comes to its report, or the tree or the sink failed, or memory was wanting.
+abbrev pub RunIsNotRefused : Type 0
+RunIsNotRefused = SoundOrFault → (words : List Bytes) (held : Files) (run : Run) (outcome : Outcome) → IsRun words held run → IsRefused words held outcome → ⊥
 
--- The words and the files lack one thing at most.
-abbrev pub OneLack : Type 0
-OneLack = (words : List Bytes) (files : Files) (a b : Lack) → LacksFor words files a → LacksFor words files b → a ≡ b
-
--- They have no report where they lack something.
-abbrev pub LackingIsNotBuilt : Type 0
-LackingIsNotBuilt = (words : List Bytes) (files : Files) (lack : Lack) → LacksFor words files lack → HasNoReport words files
+-- Words and files have one run at most.
+abbrev pub OneRun : Type 0
+OneRun = (words : List Bytes) (held : Files) (a b : Run) → IsRun words held a → IsRun words held b → a ≡ b

@@ -1,13 +1,10 @@
-pub mod FileTree
-pub mod Package
-pub mod Query
-pub mod Report
-pub mod ReportText
+-- definitions, in the order in which they are read
 pub mod Cold
-pub mod CheckFile
+pub mod Run
+pub mod Refused
 pub mod Outcome
+pub mod Notes
+-- what the laws say
 pub mod Laws
-pub mod Lack
--- private clauses alone cite these
-pub mod Words
-pub mod Lines
+-- for private clauses
+pub mod Steps

@@ -1,134 +1,110 @@
-//! A check of one file.
-ghost use Rattle.std.specs.Prelude.{◌≡◌, ◌≢◌, ◌≤◌, length, IfSome, MatchOption, string_bytes};
-ghost use Rattle.pj_check.specs.CheckFile.{IsJob, IsNoJob};
-ghost use Rattle.pj_check.specs.Lines.{SaysOfLines, SaysOfBytes};
-ghost use Rattle.pj_grammar.specs.Java17.{java_17_forms};
-ghost use Rattle.pj_peg.specs.Form.{forms_of};
-ghost use Rattle.pj_check.specs.Outcome.{Says, CountsTreeFaults, CountsSinkFaults, KeepsSink};
+//! A run on one thread.
+ghost use Rattle.std.specs.Prelude.{◌≡◌, ⊤, IfOk, IfErr, IfSome, OnErr, OnOk};
+ghost use Rattle.pj_outside.specs.Faults.{Rises};
+ghost use Rattle.pj_outside.specs.Putting.{Gets, GetsPrefix};
+ghost use Rattle.pj_check.specs.Notes.{GetNote, note_of};
+ghost use Rattle.pj_check.specs.Outcome.{AsksFor, CountsSinkFaults, CountsTreeFaults, KeepsSink, Says, SaysOfWords};
+ghost use Rattle.pj_check.specs.Steps.{CountsFaults, Explains, IsMade, ended};
 
-use crate::lines::report_lines;
-use crate::outcome::FileOutcome;
-use crate::query::query_name;
+use crate::cold::cold_report;
+use crate::note::put_outcome;
+use crate::outcome::Outcome;
+use crate::refusal::{Refusal, ended};
+use crate::steps::{asked, listed, loaded, sources_of};
 use pj_base::Words;
-use pj_grammar::java_17;
-use pj_outside::{Reading, Refused, Sink, Tree};
-use pj_peg::WellFormed;
+use pj_outside::{ClassPath, Keeper, Sink, Tree};
+use pj_workers::Work;
+use pj_writing::{Verdict, Written, put_report, written_report};
 use std::alloc::Global;
 
-/// How many bytes a file may have.
-pub const MOST_BYTES: u64 = 1_048_576;
-
-/// The path and the name that the words ask for, or `None` where they are not `check`, a path and a query.
-pub fn read_job(words: &Words) -> Option<(&str, &[u8])>
-    ensures { MatchOption result (IsNoJob words.now) (λ job. IsJob words.now job.0.now job.1.now) }
-{
-    match words.as_slice() {
-        [command, path, query] => {
-            if command.as_str() != "check" {
-                return None;
-            }
-            match query_name(query.as_str()) {
-                None => None,
-                Some(name) => Some((path.as_str(), name)),
-            }
-        }
-        _ => None,
-    }
-}
-
-/// Puts the text of a report.
-fn put_report<S: Sink>(out: &mut S, lines: &str) -> FileOutcome
-    ensures says { SaysOfLines result lines.now (S.held out.old) (S.held out.new) }
-    ensures counts { CountsSinkFaults result (S.faults out.old) (S.faults out.new) }
-{
-    match out.put(lines.as_bytes()) {
-        Err(_) => FileOutcome::SinkFault,
-        Ok(()) => {
-            if lines.is_empty() {
-                FileOutcome::Clean
-            } else {
-                FileOutcome::Violations
-            }
-        }
-    }
-}
-
-/// The check of a file of these bytes.
-fn check_bytes<S: Sink>(
+/// The report that the words ask for, made whole in memory.
+fn made<T: Tree>(
     alloc: Global,
-    grammar: &WellFormed,
-    path: &str,
-    name: &[u8],
-    bytes: &[u8],
-    out: &mut S,
-) -> FileOutcome
-    requires bytes { length bytes.now ≤ 1048576 }
-    requires grammar { forms_of grammar.now ≡ java_17_forms }
-    ensures says { SaysOfBytes result path.now name.now bytes.now (S.held out.old) (S.held out.new) }
-    ensures counts { CountsSinkFaults result (S.faults out.old) (S.faults out.new) }
+    words: &Words,
+    tree: &mut T,
+    work: &mut Work,
+) -> Result<Written, Refusal>
+    ensures made { IfSome (T.holds tree.old) (λ held. IfOk result (IsMade words.now held work.old work.new)) }
+    ensures asked { OnOk result (AsksFor (λ settings. ⊤) words.now) }
+    ensures refused { IfErr result (Explains words.now (T.holds tree.old)) }
+    ensures same_files { T.holds tree.new ≡ T.holds tree.old }
+    ensures counts_faults { CountsFaults (T.faults tree.old) (T.faults tree.new) result }
+    ensures reused { work.new.reused ≡ work.old.reused }
 {
-    match report_lines(alloc, grammar, path, name, bytes) {
-        Err(_) => FileOutcome::Memory,
-        Ok(None) => FileOutcome::NotBuilt,
-        Ok(Some(lines)) => put_report(out, lines.as_str()),
+    let settings = asked(alloc, words)?;
+    let listing = listed(alloc, tree, &settings)?;
+    work.skipped = listing.skipped;
+    let rules = loaded(alloc, tree, &settings)?;
+    let sources = sources_of(alloc, tree, &listing)?;
+    let report = cold_report(alloc, &sources, &rules, work)?;
+    let written = written_report(alloc, settings.format, &report)?;
+    Ok(written)
+}
+
+/// Puts the report.
+fn put<S: Sink>(out: &mut S, report: &Written) -> Result<Verdict, Refusal>
+    ensures verdict { IfOk result (λ verdict. verdict ≡ report.now.verdict) }
+    ensures got { OnOk result (Gets (S.held out.old) (S.held out.new) report.now.text) }
+    ensures cut { OnErr result (GetsPrefix (S.held out.old) (S.held out.new) report.now.text) }
+    ensures refused { IfErr result (λ refusal. refusal ≡ Refusal.SinkFault) }
+    ensures faults { OnOk result (S.faults out.new ≡ S.faults out.old) }
+    ensures rises { OnErr result (Rises (S.faults out.old) (S.faults out.new)) }
+{
+    match put_report(out, report) {
+        Ok(verdict) => Ok(verdict),
+        Err(_) => Err(Refusal::SinkFault),
     }
 }
 
-/// Checks one file as `check_file` does, by a grammar that the caller keeps for many files.
-pub fn check_file_by<T: Tree, S: Sink>(
+/// A run without its note: what it comes to, or why it does not come to its report.
+fn run<T: Tree, S: Sink>(
     alloc: Global,
-    grammar: &WellFormed,
     words: &Words,
     tree: &mut T,
     out: &mut S,
-) -> FileOutcome
-    requires grammar { forms_of grammar.now ≡ java_17_forms }
-    ensures says { IfSome (T.holds tree.old) (λ files. Says result words.now files (S.held out.old) (S.held out.new)) }
-    ensures no_job { IsNoJob words.now → result ≡ FileOutcome.NotBuilt }
-    ensures steady { T.never_fails tree.old → result ≢ FileOutcome.TreeFault }
+    work: &mut Work,
+) -> Result<Verdict, Refusal>
+    ensures says { IfSome (T.holds tree.old) (λ held. Says (ended result) words.now held (S.held out.old) (S.held out.new) work.old work.new) }
+    ensures of_words { SaysOfWords (ended result) words.now }
+    ensures keeps_sink { KeepsSink (ended result) (S.held out.old) (S.held out.new) }
     ensures same_files { T.holds tree.new ≡ T.holds tree.old }
-    ensures tree_faults { CountsTreeFaults result (T.faults tree.old) (T.faults tree.new) }
-    ensures sink_faults { CountsSinkFaults result (S.faults out.old) (S.faults out.new) }
-    ensures keeps_sink { KeepsSink result (S.held out.old) (S.held out.new) }
+    ensures tree_faults { CountsTreeFaults (ended result) (T.faults tree.old) (T.faults tree.new) }
+    ensures sink_faults { CountsSinkFaults (ended result) (S.faults out.old) (S.faults out.new) }
+    ensures reused { work.new.reused ≡ work.old.reused }
 {
-    let Some((path, name)) = read_job(words) else {
-        return FileOutcome::NotBuilt;
-    };
-    match tree.read(path, MOST_BYTES) {
-        Err(Refused::Failed) => FileOutcome::TreeFault,
-        Err(Refused::Memory) => FileOutcome::Memory,
-        Ok(Reading::Absent) => FileOutcome::NotBuilt,
-        Ok(Reading::Longer) => FileOutcome::NotBuilt,
-        Ok(Reading::Whole(bytes)) => check_bytes(alloc, grammar, path, name, bytes.as_slice(), out),
-    }
+    let written = made(alloc, words, tree, work)?;
+    put(out, &written)
 }
 
-/// Checks one file, by the words `check`, a path and a query, and puts the text of its report: a line for each node
-/// that the query denotes.
+/// The cold run on one thread: analyses the sources that the words name by the rules of the rulesets that they name, and puts the
+/// report, as `pmd check -d SOURCES -R RULESETS -f FORMAT` does.
 ///
-/// The words and the query are tested first, then the file is read, then its tree is made, and then the report is put.
-/// `NotBuilt` comes exactly where the words are not these three, the query is not `//` and a name, or the file is absent,
-/// longer than 1,048,576 bytes, has no tree, or has a text, with its Unicode escapes translated, in which `NOPMD` or
-/// `SuppressWarnings` stands. But for `Clean`, `Violations` and `SinkFault` nothing is put.
-pub fn check_file<T: Tree, S: Sink>(
+/// The words are read, the sources listed and counted, the rulesets loaded, the sources read and analysed, and the report is made
+/// whole in memory before anything of it is put. The first refusal in this order is the outcome, and it leaves one line in the notes;
+/// a fault of the notes changes nothing else. No class is looked for and nothing is kept, so that the class path and the keeper are
+/// not called.
+pub fn check_alone<T: Tree, C: ClassPath, K: Keeper, S: Sink, N: Sink>(
     alloc: Global,
     words: &Words,
     tree: &mut T,
+    classes: &mut C,
+    keeper: &mut K,
     out: &mut S,
-) -> FileOutcome
-    ensures says { IfSome (T.holds tree.old) (λ files. Says result words.now files (S.held out.old) (S.held out.new)) }
-    ensures no_job { IsNoJob words.now → result ≡ FileOutcome.NotBuilt }
-    ensures steady { T.never_fails tree.old → result ≢ FileOutcome.TreeFault }
+    notes: &mut N,
+    work: &mut Work,
+) -> Outcome
+    ensures says { IfSome (T.holds tree.old) (λ held. Says result words.now held (S.held out.old) (S.held out.new) work.old work.new) }
+    ensures of_words { SaysOfWords result words.now }
+    ensures keeps_sink { KeepsSink result (S.held out.old) (S.held out.new) }
+    ensures notes { GetNote (note_of result) (N.held notes.old) (N.held notes.new) (N.faults notes.old) (N.faults notes.new) }
     ensures same_files { T.holds tree.new ≡ T.holds tree.old }
     ensures tree_faults { CountsTreeFaults result (T.faults tree.old) (T.faults tree.new) }
     ensures sink_faults { CountsSinkFaults result (S.faults out.old) (S.faults out.new) }
-    ensures keeps_sink { KeepsSink result (S.held out.old) (S.held out.new) }
+    ensures same_classes { classes.new ≡ classes.old }
+    ensures same_keeper { keeper.new ≡ keeper.old }
+    ensures reused { work.new.reused ≡ work.old.reused }
 {
-    let Some(_) = read_job(words) else {
-        return FileOutcome::NotBuilt;
-    };
-    match java_17(alloc) {
-        Ok(grammar) => check_file_by(alloc, &grammar, words, tree, out),
-        Err(_) => FileOutcome::Memory,
-    }
+    let outcome = ended(run(alloc, words, tree, out, work));
+    put_outcome(notes, &outcome);
+    outcome
 }

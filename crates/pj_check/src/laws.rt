@@ -1,19 +1,27 @@
 //! Laws of the definitions, each the contract of a function that does nothing.
-ghost use Rattle.pj_check.specs.Laws.{OneReport, OneLack, LackingIsNotBuilt};
+ghost use Rattle.pj_check.specs.Laws.{OneRun, RunIsNotRefused};
 
-use pj_parse::file_has_one_outcome;
+use pj_rules::{one_set, rules_or_fault};
+use pj_sources::{one_listing, one_reading};
+use pj_workers::laws::{one_cold_report, rules_are_their_texts};
 
-/// The words and the files have one report at most: an outcome that speaks of a report speaks of this one.
-pub fn one_report()
-    ensures { OneReport }
+/// Words and files that have a run are not refused, where no texts make a rule that can be used and have a fault.
+pub fn runs_are_not_refused()
+    ensures { RunIsNotRefused }
 {
-    file_has_one_outcome();
+    one_listing();
+    one_reading();
+    one_set();
+    rules_or_fault();
 }
 
-/// The words and the files lack one thing at most, and they have no report where they lack something.
-pub fn one_lack()
-    ensures one { OneLack }
-    ensures not_built { LackingIsNotBuilt }
+/// Words and files have one run at most: a run that comes to a report comes to this one.
+pub fn one_run()
+    ensures { OneRun }
 {
-    file_has_one_outcome();
+    one_listing();
+    one_set();
+    one_reading();
+    rules_are_their_texts();
+    one_cold_report();
 }

@@ -1,15 +1,15 @@
-//! The top call: a check of one file, from the words that come in to the bytes of the report that goes out.
+//! The top call: a run on one thread, from the words that come in to the bytes of the report that goes out.
 #![tactic(auto)]
 
 mod check;
-mod lack;
+mod cold;
 mod laws;
-mod lines;
+mod note;
 mod outcome;
-mod query;
-mod suppression;
+mod refusal;
+mod steps;
 
-pub use check::{check_file, check_file_by};
-pub use lack::{Lack, lack_of};
-pub use laws::{one_lack, one_report};
-pub use outcome::FileOutcome;
+pub use check::check_alone;
+pub use laws::{one_run, runs_are_not_refused};
+pub use note::put_outcome;
+pub use outcome::Outcome;

@@ -1,36 +1,50 @@
-//! How a check of a file ends.
-
+//! Outcomes.
 ghost use Rattle.std.specs.Prelude.{◌≡◌};
 ghost use Rattle.pj_check.specs.Outcome.{status_of};
 
-/// How a check of one file ends.
-#[derive(Clone, Copy, Debug, PartialEq, Eq)]
-pub enum FileOutcome {
-    /// The report was written, and has no finding.
+use pj_base::Text;
+use pj_rules::RuleFault;
+use pj_settings::UsageFault;
+use pj_sources::LimitKind;
+
+/// What a run comes to.
+#[derive(Debug, Drop)]
+pub enum Outcome {
+    /// The report was put whole. It has no finding and no error.
     Clean,
-    /// The report was written, and has findings.
+    /// The report was put whole. It has findings, and no error.
     Violations,
-    /// The words or the query are not of the form that this version takes, or the file is absent, longer than 1,048,576
-    /// bytes, has no syntax tree, or may suppress findings. Nothing was written.
-    NotBuilt,
-    /// The tree of sources failed. Nothing was written.
+    /// The report was put whole. It has an error of a file or a configuration error.
+    Errors,
+    /// The words ask for nothing.
+    Usage(UsageFault),
+    /// The rulesets have this fault.
+    Rules(RuleFault),
+    /// The tree failed.
     TreeFault,
-    /// The sink failed, and got a prefix of the report.
+    /// The class path failed.
+    ClassFault,
+    /// The sink failed. It got a prefix of the report.
     SinkFault,
-    /// Memory ran out, and nothing was written.
+    /// There is nothing at this path.
+    Missing(Text),
+    /// There is too much of this.
+    Limit(LimitKind),
+    /// Memory ran out.
     Memory,
 }
 
-impl FileOutcome {
+impl Outcome {
     /// The exit status of a program that ends so.
     pub fn status(&self) -> u8
         ensures { result ≡ status_of self.now }
     {
         match self {
-            FileOutcome::Clean => 0,
-            FileOutcome::Violations => 4,
-            FileOutcome::NotBuilt => 2,
-            FileOutcome::TreeFault | FileOutcome::SinkFault | FileOutcome::Memory => 1,
+            Outcome::Clean => 0,
+            Outcome::Violations => 4,
+            Outcome::Errors => 5,
+            Outcome::Usage(_) => 2,
+            _ => 1,
         }
     }
 }

@@ -1,4 +1,5 @@
 -- definitions
+pub mod Calls
 pub mod Expressions
 pub mod Faults
 pub mod Patterns

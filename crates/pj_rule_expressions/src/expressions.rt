@@ -1,17 +1,14 @@
 //! The expressions of a rule.
 ghost use Rattle.std.specs.Prelude.{◌≡◌, IfOk, IfErr, OnOk, map};
 ghost use Rattle.std.specs.Option.{option_copied};
-ghost use Rattle.std.specs.Str.{chars};
 ghost use Rattle.pj_rule_expressions.specs.Expressions.{AreOf, Both, HasPatterns, IsParsed, IsSound, IsSpelled, names_of, patterns_in_some, patterns_of, variables_of};
 ghost use Rattle.pj_rule_expressions.specs.Faults.{IfNoPattern, HasNoPattern, IsFault, IsParseFault, IsSomeParseFault};
 ghost use Rattle.pj_rule_expressions.specs.Patterns.{is_covered};
 ghost use Rattle.pj_rule_texts.specs.Seen.{variables_seen};
-ghost use Rattle.pj_xmeaning.specs.Trees.{tree_of};
-ghost use Rattle.pj_xparse.specs.Spells.{Spells};
 ghost use Rattle.pj_xpatterns.specs.Refusing.{AreTaken};
 ghost use Rattle.pj_xpatterns.specs.Written.{patterns_in};
-ghost use Rattle.pj_xvalue.specs.Expressions.{IsExpression};
 
+use crate::calls::judge_calls;
 use crate::fault::ExpressionFault;
 use crate::patterns::{is_covered_by, judge_properties, value_of};
 use crate::spelled::Spelled;
@@ -46,13 +43,13 @@ fn names_of(alloc: Global, variables: &[(Text, Sequence<'static>)]) -> Result<Na
     Ok(names)
 }
 
-/// The expression that a text spells.
+/// The expression that a text spells, where it calls no function of PMD. A fault of the expression goes before each call.
 fn parsed(alloc: Global, text: &str, names: &Names) -> Result<Expr, ExpressionFault>
-    ensures spells { IfOk result (λ expr. Spells names.now (chars text.now) (tree_of expr)) }
-    ensures expression { IfOk result (IsExpression names.now) }
+    ensures value { IfOk result (IsParsed names.now text.now) }
     ensures fault { IfErr result (IsParseFault names.now text.now) }
 {
     let expr = parse(alloc, text, names)?;
+    judge_calls(alloc, text)?;
     Ok(expr)
 }
 

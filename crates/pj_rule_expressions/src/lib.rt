@@ -1,6 +1,7 @@
 //! The expressions of rules: what the texts of a rule spell, with the rule's variables and patterns, or why they spell nothing.
 #![tactic(auto)]
 
+mod calls;
 mod expressions;
 mod fault;
 mod patterns;

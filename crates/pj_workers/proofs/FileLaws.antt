@@ -3,13 +3,12 @@ use Rattle.std.proofs.Common.{◌≡◌, ◌∙◌, false, cond, List, [], ◌�
 use Rattle.pj_findings.specs.Merged.{only_error}
 use Rattle.pj_findings.specs.declared.found.RuleResult.{RuleResult}
 use Rattle.pj_findings.specs.declared.found.RuleResult.TheVariants.{Findings}
-use Rattle.pj_names.specs.Asking.{Asking, Return, bind, each}
+use Rattle.pj_names.specs.Asking.{Return, bind, each}
 use Rattle.pj_parse.specs.FileOutcome.{outcome_of}
 use Rattle.pj_parse.specs.JavaFile.{JavaFile}
 use Rattle.pj_parse.specs.declared.file_fault.FileFault.{FileFault}
-use Rattle.pj_reports.specs.declared.rows.FileRows.{FileRows}
 use Rattle.pj_workers.specs.Faults.{fault_message}
-use Rattle.pj_workers.specs.FileMeaning.{Bytes, HasNone, Replies, file_meaning, head_of, merge, nothing, rule_at, rule_meaning}
+use Rattle.pj_workers.specs.FileMeaning.{Bytes, HasNone, Replies, file_at, file_meaning, merge, nothing, rule_at, rule_meaning}
 use Rattle.pj_workers.specs.RuleMeaning.{rule_in_file}
 use Rattle.pj_workers.specs.Rules.{Rule, is_active}
 
@@ -27,10 +26,9 @@ all_nothing replies path fault (rule ∷ rules) =
     let rest = all_nothing replies path fault rules in
     (Findings [] ∷ rest.0, ap (λ m. bind m (λ results. Return (Findings [] ∷ results))) rest.1)
 
--- the meaning by the outcome of the bytes
-abbrev by_outcome : Replies → Bytes → List Rule → Result JavaFile FileFault → Asking FileRows
-by_outcome replies path rules o = bind (each (rule_at replies path o) rules) (λ results. Return (merge (head_of o) results))
+-- the rules together
+pub one_error : (replies : Replies) (path : Bytes) (rules : List Rule) (fault : FileFault) → file_at replies path (Err fault) rules ≡ Return (only_error (fault_message fault))
+one_error replies path rules fault = ap (λ m. bind m (λ results. Return (merge (HasNone (fault_message fault)) results))) (all_nothing replies path fault rules).1
 
 pub no_tree : (replies : Replies) (path bytes : Bytes) (rules : List Rule) (fault : FileFault) → outcome_of bytes ≡ Err fault → file_meaning replies path bytes rules ≡ Return (only_error (fault_message fault))
-no_tree replies path bytes rules fault h =
-    ap (by_outcome replies path rules) h ∙ ap (λ m. bind m (λ results. Return (merge (HasNone (fault_message fault)) results))) (all_nothing replies path fault rules).1
+no_tree replies path bytes rules fault h = ap (λ outcome. file_at replies path outcome rules) h ∙ one_error replies path rules fault

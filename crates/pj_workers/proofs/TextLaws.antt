@@ -18,7 +18,7 @@ use Rattle.pj_xvalue.specs.Boolean.{effective_boolean}
 use Rattle.pj_xvalue.specs.Items.{ItemValue, Document, Element}
 use Rattle.pj_xvalue.specs.declared.expr.Expr.{Expr}
 use Rattle.pj_workers.specs.FileFacts.{around_file}
-use Rattle.pj_workers.specs.FileMeaning.{Bytes, Replies, file_meaning, head, merge, nothing, rule_at, rule_meaning}
+use Rattle.pj_workers.specs.FileMeaning.{Bytes, Replies, file_meaning, head_of, merge, nothing, rule_at, rule_meaning}
 use Rattle.pj_workers.specs.Laws.{AreAlike, RulesAreTexts}
 use Rattle.pj_workers.specs.Reasons.{plain_reason_of, xpath_reason}
 use Rattle.pj_workers.specs.RuleMeaning.{Reply, found_at, found_of, reason_after, result_of, rule_in_file, spot_at, value_of}
@@ -26,7 +26,7 @@ use Rattle.pj_rule_expressions.specs.Expressions.{Both, IsSpelledBy, names_of, v
 use Rattle.pj_rule_expressions.specs.Patterns.{suppression_of}
 use Rattle.pj_workers.specs.Rules.{IsSpelled, Rule, Source, is_active, patterns_of}
 
-abbrev OneExpression : Type 0
+abbrev pub OneExpression : Type 0
 OneExpression = (variables : List (List ℕ)) (text : List ℕ) (a b : Tree) → Spells variables text a → Spells variables text b → a ≡ b
 
 -- both are there with one tree, or none is
@@ -44,7 +44,7 @@ same_trees one names None None (Some b) h k = absurd k
 same_trees one names None (Some a) b h k = absurd h
 same_trees one names (Some text) None b h k = absurd h
 same_trees one names (Some text) (Some a) None h k = absurd k
-same_trees one names (Some text) (Some a) (Some b) h k = one names (chars text) (tree_of a) (tree_of b) h k
+same_trees one names (Some text) (Some a) (Some b) h k = one names (chars text) (tree_of a) (tree_of b) h.spells k.spells
 
 -- ---- rules of one source, with expressions of the same trees
 
@@ -79,24 +79,28 @@ module _ (denotes_alike : DenotesByTree) (patterns_alike : PatternsByTree) (repl
   rules_in_file query same =
       λ i. bind (value_same p q (at Document 1 1) query i >>= λ values. judged (denoted values) >>= λ ns. found_same same ns i) (λ came_to. Return (result_of left came_to))
 
-at_outcome : DenotesByTree → PatternsByTree → (replies : Replies) (path : Bytes) (s : Source) (p q : Expr) (c d : Option Expr) (o : Result JavaFile FileFault)
-    → tree_of p ≡ tree_of q → SameTrees c d → rule_at replies path o (rule_of s p c) ≡ rule_at replies path o (rule_of s q d)
-at_outcome denotes_alike patterns_alike replies path s p q c d (Err fault) query same = refl
-at_outcome denotes_alike patterns_alike replies path s p q c d (Ok file) query same =
-    ap (λ m. cond (is_active s path) m nothing) (rules_in_file denotes_alike patterns_alike (replies path file) file s p q c d query same)
-
 -- two spelled rules of one source
-one_source : OneExpression → DenotesByTree → PatternsByTree → (replies : Replies) (path bytes : Bytes) (s : Source) (p q : Expr) (c d : Option Expr)
-    → IsSpelled (rule_of s p c) → IsSpelled (rule_of s q d) → rule_meaning replies path bytes (rule_of s p c) ≡ rule_meaning replies path bytes (rule_of s q d)
-one_source one denotes_alike patterns_alike replies path bytes s p q c d h k =
-    at_outcome denotes_alike patterns_alike replies path s p q c d (outcome_of bytes)
-    (one (names_of s.texts) (chars s.texts.xpath) (tree_of p) (tree_of q) h.query k.query)
+one_source : OneExpression → DenotesByTree → PatternsByTree → (reply : Reply) (file : JavaFile) (s : Source) (p q : Expr) (c d : Option Expr)
+    → IsSpelled (rule_of s p c) → IsSpelled (rule_of s q d) → rule_in_file reply file (rule_of s p c) ≡ rule_in_file reply file (rule_of s q d)
+one_source one denotes_alike patterns_alike reply file s p q c d h k =
+    rules_in_file denotes_alike patterns_alike reply file s p q c d
+    (one (names_of s.texts) (chars s.texts.xpath) (tree_of p) (tree_of q) h.query.spells k.query.spells)
     (same_trees one (names_of s.texts) (suppression_of s.texts) c d h.suppression k.suppression)
 
+pub same_in_file : OneExpression → DenotesByTree → PatternsByTree → (reply : Reply) (file : JavaFile) (a b : Rule)
+    → a.source ≡ b.source → IsSpelled a → IsSpelled b → rule_in_file reply file a ≡ rule_in_file reply file b
+same_in_file one denotes_alike patterns_alike reply file a b same h k =
+    let P : Source → Type 0 = λ s. IsSpelled (rule_of s b.query b.suppression) → rule_in_file reply file a ≡ rule_in_file reply file (rule_of s b.query b.suppression) in
+    subst P same (λ spelled. one_source one denotes_alike patterns_alike reply file a.source a.query b.query a.suppression b.suppression h spelled) k
+
+at_outcome : OneExpression → DenotesByTree → PatternsByTree → (replies : Replies) (path : Bytes) (a b : Rule) (o : Result JavaFile FileFault)
+    → a.source ≡ b.source → IsSpelled a → IsSpelled b → rule_at replies path o a ≡ rule_at replies path o b
+at_outcome one denotes_alike patterns_alike replies path a b (Err fault) same h k = refl
+at_outcome one denotes_alike patterns_alike replies path a b (Ok file) same h k =
+    λ i. cond (is_active (same i) path) (same_in_file one denotes_alike patterns_alike (replies path file) file a b same h k i) nothing
+
 pub rules_same : OneExpression → DenotesByTree → PatternsByTree → RulesAreTexts
-rules_same one denotes_alike patterns_alike replies path bytes a b same h k =
-    let P : Source → Type 0 = λ s. IsSpelled (rule_of s b.query b.suppression) → rule_meaning replies path bytes a ≡ rule_meaning replies path bytes (rule_of s b.query b.suppression) in
-    subst P same (λ spelled. one_source one denotes_alike patterns_alike replies path bytes a.source a.query b.query a.suppression b.suppression h spelled) k
+rules_same one denotes_alike patterns_alike replies path bytes a b same h k = at_outcome one denotes_alike patterns_alike replies path a b (outcome_of bytes) same h k
 
 all_same : RulesAreTexts → (replies : Replies) (path bytes : Bytes) (xs ys : List Rule) → AreAlike xs ys → each (rule_meaning replies path bytes) xs ≡ each (rule_meaning replies path bytes) ys
 all_same one replies path bytes [] [] h = refl
@@ -106,4 +110,4 @@ all_same one replies path bytes (x ∷ xs) (y ∷ ys) h =
     λ i. bind (one replies path bytes x y h.0.0 h.0.1 h.0.2 i) (λ value. bind (all_same one replies path bytes xs ys h.1 i) (λ values. Return (value ∷ values)))
 
 pub lists_same : RulesAreTexts → (replies : Replies) (path bytes : Bytes) (xs ys : List Rule) → AreAlike xs ys → file_meaning replies path bytes xs ≡ file_meaning replies path bytes ys
-lists_same one replies path bytes xs ys h = ap (λ m. bind m (λ results. Return (merge (head bytes) results))) (all_same one replies path bytes xs ys h)
+lists_same one replies path bytes xs ys h = ap (λ m. bind m (λ results. Return (merge (head_of (outcome_of bytes)) results))) (all_same one replies path bytes xs ys h)

@@ -30,9 +30,6 @@ abbrev pub head_of : Result JavaFile FileFault → Head
 head_of (Ok file) = HasTree (package_name file.tree)
 head_of (Err fault) = HasNone (fault_message fault)
 
-abbrev pub head : Bytes → Head
-head bytes = head_of (outcome_of bytes)
-
 -- the rows of a file with this head, in which the rules came to this: where there is no tree, one error
 abbrev pub merge : Head → List RuleResult → FileRows
 merge (HasTree name) results = merged name results
@@ -51,6 +48,10 @@ module _ (replies : Replies) where
   abbrev pub rule_meaning : Bytes → Bytes → Rule → Asking RuleResult
   rule_meaning path bytes rule = rule_at path (outcome_of bytes) rule
 
-  -- what rules mean at it together
+  -- what rules mean together at a file with this outcome
+  abbrev pub file_at : Bytes → Result JavaFile FileFault → List Rule → Asking FileRows
+  file_at path outcome rules = bind (each (rule_at path outcome) rules) (λ results. Return (merge (head_of outcome) results))
+
+  -- what they mean together at a file of these bytes
   abbrev pub file_meaning : Bytes → Bytes → List Rule → Asking FileRows
-  file_meaning path bytes rules = bind (each (rule_meaning path bytes) rules) (λ results. Return (merge (head bytes) results))
+  file_meaning path bytes rules = file_at path (outcome_of bytes) rules

@@ -6,6 +6,9 @@ pub mod Reasons
 pub mod RuleMeaning
 pub mod Faults
 pub mod FileMeaning
+pub mod NoTypes
 pub mod Cold
 -- what the laws say
 pub mod Laws
+-- private clauses alone cite this
+pub mod Views

@@ -1,7 +1,10 @@
 //! Laws of the definitions, each the contract of a call that does nothing.
+ghost use Rattle.std.specs.Prelude.{List};
+ghost use Rattle.pj_workers.specs.Rules.{AreRulesOf, Rule};
 ghost use Rattle.pj_workers.specs.Laws.{InactiveIsNothing, ListsAreTexts, MarksAreOne, NoTreeIsOneError, OneCold, RuleAscends, RulesAreTexts, SpotsAreNodes};
 
 use pj_findings::laws::nodes_are_the_items;
+use pj_rule_sets::RuleSet;
 use pj_xparse::one_expression;
 use pj_xtrees::trees_tell_expressions;
 
@@ -42,3 +45,12 @@ pub fn rules_are_their_texts()
 pub fn marked_lines_are_those_of_tokens()
     ensures { MarksAreOne }
 {}
+
+/// The texts of the rules of a set spell expressions, so that the set has rules that mean something.
+pub fn sets_have_rules(rules: &RuleSet)
+    ensures { (meant : List Rule) × AreRulesOf rules.now meant }
+{
+    for rule in rules.rules().as_slice() {
+        let _ = rule.expressions();
+    }
+}

@@ -1,7 +1,19 @@
 //! XPath: laws of what expressions denote, each the contract of a call that does nothing.
 #![tactic(auto)]
 
-ghost use Rattle.pj_xlaws.specs.Laws.{FilteredByTrue, UnitedWithItself};
+ghost use Rattle.pj_xlaws.specs.Laws.{DenotesByAnswers, DenotesOne, FilteredByTrue, UnitedWithItself};
+
+/// An expression denotes one thing: in one context, with the same variables and over one source of answers for classes, it comes to
+/// one outcome at most.
+pub fn one_thing()
+    ensures { DenotesOne }
+{}
+
+/// What an expression comes to over one source of answers, the value and the classes that were asked, it comes to over every source
+/// that answers these classes alike.
+pub fn by_answers()
+    ensures { DenotesByAnswers }
+{}
 
 /// `E[true()]` denotes what `E` denotes (XPath 2.0, 3.3.2).
 pub fn filtered_by_true()

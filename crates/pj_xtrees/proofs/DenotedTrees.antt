@@ -25,21 +25,21 @@ use Rattle.pj_xvalue.specs.declared.expr.Quantifier.TheVariants as quantifier
 use Rattle.pj_xvalue.specs.declared.pmd_function.PmdFunction.{PmdFunction}
 use Rattle.pj_xtrees.proofs.TreeFolds.{fold_tree, fold_node, fold_by_tree, first, rest, bound, behind_all, bound_is, body_is, operands_are}
 
-abbrev nothing : Denotation
+abbrev pub nothing : Denotation
 nothing context variables = give []
 
-abbrev one : List Denotation → Denotation
+abbrev pub one : List Denotation → Denotation
 one ds = first nothing ds
 
-abbrev two : List Denotation → Denotation
+abbrev pub two : List Denotation → Denotation
 two ds = first nothing (rest ds)
 
-abbrev three : List Denotation → Denotation
+abbrev pub three : List Denotation → Denotation
 three ds = first nothing (rest (rest ds))
 
 module _ (around : Around) (reply : PmdFunction → Option Node → List (List ItemValue) → Means (List ItemValue)) where
   -- what a construct denotes, by what its parts denote
-  abbrev by : Construct → List Denotation → Denotation
+  abbrev pub by : Construct → List Denotation → Denotation
   by tree.Comma ds c v = chain (here c v) with_all ds []
   by (tree.For names) ds c v = for_in (bound names ds) (behind_all nothing names ds) c v
   by (tree.Let names) ds c v = let_in (bound names ds) (behind_all nothing names ds) c v
@@ -68,7 +68,7 @@ module _ (around : Around) (reply : PmdFunction → Option Node → List (List I
   by (tree.Call function) ds c v = arguments_of ds c v >>= λ values. judged (call around function c values)
   by (tree.PmdCall function) ds c v = arguments_of ds c v >>= λ values. pmd_call reply function c values
 
-  abbrev of_tree : Tree → Denotation
+  abbrev pub of_tree : Tree → Denotation
   of_tree = fold_tree by
 
   layers : (layer : Expr-F Tree) → step around reply (map-Expr Tree Denotation of_tree layer) ≡ of_tree (tree_step layer)
@@ -109,7 +109,7 @@ module _ (around : Around) (reply : PmdFunction → Option Node → List (List I
   layers (Expr-F.Call function arguments) = sym (fold_node by (tree.Call function) arguments.items)
   layers (Expr-F.PmdCall function arguments) = sym (fold_node by (tree.PmdCall function) arguments.items)
 
-  denotes_tree : (e : Expr) → denotes around reply e ≡ of_tree (tree_of e)
+  pub denotes_tree : (e : Expr) → denotes around reply e ≡ of_tree (tree_of e)
   unfolding denotes
   denotes_tree e = fold_by_tree (step around reply) by layers e
 

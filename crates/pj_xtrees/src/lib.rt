@@ -3,4 +3,4 @@
 
 mod laws;
 
-pub use laws::{patterns_are_a_set, trees_tell_expressions};
+pub use laws::{patterns_are_a_set, tree_facts_alone, trees_tell_expressions};

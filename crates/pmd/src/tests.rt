@@ -1,221 +1,15 @@
-//! Worked examples of the top call over a tree and a sink in memory, and the real tree and sink once each.
-ghost use Rattle.std.specs.Prelude.{◌≡◌, ◌≢◌, [], Some};
-ghost use Rattle.pj_check.specs.Outcome.{Says};
-
+//! The real tree and sink once each, and the top call over the real tree.
 use crate::real_sink::RealSink;
 use crate::real_tree::RealTree;
 use crate::run;
-use pj_base::{Bytes, Names, Numbers, Text, Words};
-use pj_check::{FileOutcome, lack_of};
-use pj_outside::{Files, MemSink, MemTree, Reading, Refused, Sink, Tree};
+use pj_base::{Names, Numbers, Text, Words};
+use pj_check::Outcome;
+use pj_outside::{Folders, MemClassPath, MemKeeper, MemSink, Pairs, Reading, Refused, Sink, Tree};
+use pj_workers::Work;
 use std::alloc::Global;
 use std::os::unix;
 use std::test::Fail;
 use std::{fs, process};
-
-/// A check over objects in memory: what its outcome says holds of the files and of the bytes of the sink.
-fn run_in_memory(
-    alloc: Global,
-    words: &Words,
-    tree: &mut MemTree,
-    sink: &mut MemSink,
-) -> FileOutcome
-    ensures says { Says result words.now tree.old.files (Some sink.old.bytes) (Some sink.new.bytes) }
-    ensures steady { tree.old.plan.fail ≡ [] → result ≢ FileOutcome.TreeFault }
-{
-    run(alloc, words, tree, sink)
-}
-
-fn words(alloc: Global, path: &str, query: &str) -> Result<Words, Fail> {
-    let mut words = Words::new(alloc);
-    words.push(Text::from_str(alloc, "check")?)?;
-    words.push(Text::from_str(alloc, path)?)?;
-    words.push(Text::from_str(alloc, query)?)?;
-    Ok(words)
-}
-
-fn numbers(alloc: Global, first_fails: bool) -> Result<Numbers, Fail> {
-    let mut numbers = Numbers::new(alloc);
-    if first_fails {
-        numbers.push(1)?;
-    }
-    Ok(numbers)
-}
-
-/// A check of `src/A.java`, its outcome, and the lines that the sink then holds.
-struct Example {
-    bytes: &'static str,
-    path: &'static str,
-    query: &'static str,
-    tree_fails: bool,
-    sink_fails: bool,
-    outcome: FileOutcome,
-    lines: &'static str,
-}
-
-/// Whether the check ends so.
-fn holds(alloc: Global, example: &Example) -> Result<bool, Fail> {
-    let mut files = Files::new(alloc);
-    let bytes = Bytes::from_vec(Vec::from_slice(alloc, example.bytes.as_bytes())?);
-    files.push((Text::from_str(alloc, "src/A.java")?, bytes))?;
-    let mut tree = MemTree::new(alloc, files, numbers(alloc, example.tree_fails)?);
-    let mut sink = MemSink::new(alloc, numbers(alloc, example.sink_fails)?);
-    let words = words(alloc, example.path, example.query)?;
-    let outcome = run_in_memory(alloc, &words, &mut tree, &mut sink);
-    let lines = sink.bytes().as_slice();
-    Ok(outcome == example.outcome && lines == example.lines.as_bytes())
-}
-
-const TWO_CLASSES: &str = "class A {}\nclass B { }\n";
-
-const SIXTY_PARENTHESES: &str =
-    "class A { int x = ((((((((((((((((((((((((((((((((((((((((((((((((((((((((((((1)))))))))))))))))))))))))))))))))))))))))))))))))))))))))))); }";
-
-static EXAMPLES: [Example; 15] = [
-    Example {
-        bytes: TWO_CLASSES,
-        path: "src/A.java",
-        query: "//ClassDeclaration",
-        tree_fails: false,
-        sink_fails: false,
-        outcome: FileOutcome::Violations,
-        lines: "src/A.java:1:\tquery:\tfound\nsrc/A.java:2:\tquery:\tfound\n",
-    },
-    Example {
-        bytes: TWO_CLASSES,
-        path: "src/A.java",
-        query: "//MethodDeclaration",
-        tree_fails: false,
-        sink_fails: false,
-        outcome: FileOutcome::Clean,
-        lines: "",
-    },
-    Example {
-        bytes: "",
-        path: "src/A.java",
-        query: "//CompilationUnit",
-        tree_fails: false,
-        sink_fails: false,
-        outcome: FileOutcome::Violations,
-        lines: "src/A.java:1:\tquery:\tfound\n",
-    },
-    Example {
-        bytes: "class a {}",
-        path: "src/A.java",
-        query: "//ClassBody",
-        tree_fails: false,
-        sink_fails: false,
-        outcome: FileOutcome::Violations,
-        lines: "src/A.java:1:\tquery:\tfound\n",
-    },
-    Example {
-        bytes: "class A { int f(int a) { return a+a+a; } }",
-        path: "src/A.java",
-        query: "//InfixExpression",
-        tree_fails: false,
-        sink_fails: false,
-        outcome: FileOutcome::Violations,
-        lines: "src/A.java:1:\tquery:\tfound\nsrc/A.java:1:\tquery:\tfound\n",
-    },
-    Example {
-        bytes: "class A { int # }",
-        path: "src/A.java",
-        query: "//ClassBody",
-        tree_fails: false,
-        sink_fails: false,
-        outcome: FileOutcome::NotBuilt,
-        lines: "",
-    },
-    Example {
-        bytes: SIXTY_PARENTHESES,
-        path: "src/A.java",
-        query: "//NumericLiteral",
-        tree_fails: false,
-        sink_fails: false,
-        outcome: FileOutcome::Violations,
-        lines: "src/A.java:1:\tquery:\tfound\n",
-    },
-    Example {
-        bytes: "class A {}\n// NOPMD",
-        path: "src/A.java",
-        query: "//ClassBody",
-        tree_fails: false,
-        sink_fails: false,
-        outcome: FileOutcome::NotBuilt,
-        lines: "",
-    },
-    Example {
-        bytes: "class A {\n String s\\u0041 = \"\\\\u0041\"; }",
-        path: "src/A.java",
-        query: "//VariableId",
-        tree_fails: false,
-        sink_fails: false,
-        outcome: FileOutcome::Violations,
-        lines: "src/A.java:2:\tquery:\tfound\n",
-    },
-    Example {
-        bytes: TWO_CLASSES,
-        path: "src/A.java",
-        query: "//ClassBody",
-        tree_fails: false,
-        sink_fails: true,
-        outcome: FileOutcome::SinkFault,
-        lines: "",
-    },
-    Example {
-        bytes: TWO_CLASSES,
-        path: "src/A.java",
-        query: "//ClassBody",
-        tree_fails: true,
-        sink_fails: false,
-        outcome: FileOutcome::TreeFault,
-        lines: "",
-    },
-    Example {
-        bytes: TWO_CLASSES,
-        path: "src/B.java",
-        query: "//ClassBody",
-        tree_fails: false,
-        sink_fails: false,
-        outcome: FileOutcome::NotBuilt,
-        lines: "",
-    },
-    Example {
-        bytes: TWO_CLASSES,
-        path: "src/A.java",
-        query: "/ClassBody",
-        tree_fails: true,
-        sink_fails: false,
-        outcome: FileOutcome::NotBuilt,
-        lines: "",
-    },
-    Example {
-        bytes: "\n class\nA\n{\n}class B{}",
-        path: "src/A.java",
-        query: "//ClassBody",
-        tree_fails: false,
-        sink_fails: false,
-        outcome: FileOutcome::Violations,
-        lines: "src/A.java:4:\tquery:\tfound\nsrc/A.java:5:\tquery:\tfound\n",
-    },
-    Example {
-        bytes: "\n \n",
-        path: "src/A.java",
-        query: "//CompilationUnit",
-        tree_fails: false,
-        sink_fails: false,
-        outcome: FileOutcome::Violations,
-        lines: "src/A.java:3:\tquery:\tfound\n",
-    },
-];
-
-#[test]
-fn a_check_ends_as_the_examples_say(rt: HostRuntime) -> Result<(), Fail> {
-    for (number, example) in EXAMPLES.iter().enumerate() {
-        assert!(rt; holds(rt.alloc(), example)?, "example {number}");
-    }
-    Ok(())
-}
 
 // What a reading is, in a word.
 fn word(reading: Result<Reading, Refused>) -> &'static str {
@@ -311,59 +105,43 @@ fn the_real_sink_writes_what_is_put(rt: HostRuntime) {
     assert_eq!(rt; sink.written().as_slice(), b"abc".as_slice());
 }
 
-/// What is said of a check of a path where `src/A.java` has these bytes, and nothing where it has a report.
-fn lacking(alloc: Global, bytes: &[u8], path: &str, query: &str) -> Result<String, Fail> {
-    let mut files = Files::new(alloc);
-    let bytes = Bytes::from_vec(Vec::from_slice(alloc, bytes)?);
-    files.push((Text::from_str(alloc, "src/A.java")?, bytes))?;
-    let mut tree = MemTree::new(alloc, files, Numbers::new(alloc));
-    let words = words(alloc, path, query)?;
-    match lack_of(alloc, &words, &mut tree)? {
-        Some(lack) => Ok(format!(in alloc; "{lack}")?),
-        None => Ok(String::new(alloc)),
+/// What a run of these words over the real tree comes to, and what it puts.
+fn run_really(rt: HostRuntime, line: &str, notes: &mut MemSink) -> Result<Outcome, Fail> {
+    let alloc = rt.alloc();
+    let mut words = Words::new(alloc);
+    for word in line.split_whitespace() {
+        words.push(Text::from_str(alloc, word)?)?;
     }
+    let mut tree = RealTree::new(rt);
+    let mut classes = MemClassPath::new(
+        alloc,
+        Folders::new(alloc),
+        Numbers::new(alloc),
+        Pairs::new(alloc),
+    );
+    let mut keeper = MemKeeper::new(alloc, Numbers::new(alloc));
+    let mut out = MemSink::new(alloc, Numbers::new(alloc));
+    let mut work = Work::new(alloc);
+    Ok(run(
+        alloc,
+        &words,
+        &mut tree,
+        &mut classes,
+        &mut keeper,
+        &mut out,
+        notes,
+        &mut work,
+    ))
 }
 
 #[test]
-fn the_first_thing_that_lacks_is_named(rt: HostRuntime) -> Result<(), Fail> {
-    let table: [(&[u8], &str, &str, &str); 8] = [
-        (b"class A { }", "src/A.java", "//A", ""),
-        (
-            b"#",
-            "src/B.java",
-            "/A",
-            "wanted are the words check FILE //NAME",
-        ),
-        (b"#", "src/B.java", "//A", "no such file"),
-        (
-            b"\\u NOPMD \xff",
-            "src/A.java",
-            "//A",
-            "not UTF-8 at byte 9",
-        ),
-        (
-            b"#\n '\\u00' NOPMD",
-            "src/A.java",
-            "//A",
-            "bad unicode escape at 2:3",
-        ),
-        (
-            b"class {\n # NOPMD",
-            "src/A.java",
-            "//A",
-            "lexical fault 1 at 2:2",
-        ),
-        (b"class { // NOPMD", "src/A.java", "//A", "syntax fault"),
-        (
-            b"class A { } // NOPMD",
-            "src/A.java",
-            "//A",
-            "the file speaks of NOPMD or SuppressWarnings",
-        ),
-    ];
-    for (bytes, path, query, wanted) in table {
-        let found = lacking(rt.alloc(), bytes, path, query)?;
-        assert_eq!(rt; found.as_str(), wanted, "of {path} and {query}");
-    }
+fn a_folder_that_is_not_there_is_missing(rt: HostRuntime) -> Result<(), Fail> {
+    let mut notes = MemSink::new(rt.alloc(), Numbers::new(rt.alloc()));
+    let outcome = run_really(rt, "check -d /tmp/pmd-no-such-folder -R r.xml", &mut notes)?;
+    assert!(rt; matches!(outcome, Outcome::Missing(_)));
+    assert_eq!(rt;
+        notes.bytes().as_slice(),
+        b"pmd: no such path: /tmp/pmd-no-such-folder\n".as_slice()
+    );
     Ok(())
 }

@@ -61,7 +61,7 @@ pub static ENDS: [(&str, &str); 28] = [
 ];
 
 /// A token that cannot follow, inside of the text.
-pub static PLACES_1: [(&str, &str); 29] = [
+pub static PLACES_1: [(&str, &str); 33] = [
     (")", "Expected(0)"),
     ("#", "Expected(0)"),
     ("{", "Expected(0)"),
@@ -87,6 +87,10 @@ pub static PLACES_1: [(&str, &str); 29] = [
     ("node(1)", "Expected(5)"),
     ("a:*", "Expected(1)"),
     ("*:a", "Expected(1)"),
+    ("Q{}a", "Expected(1)"),
+    ("count#1", "Expected(5)"),
+    ("namespace::a", "Expected(9)"),
+    ("child::text()", "Expected(11)"),
     ("$1", "Expected(1)"),
     ("$p(1)", "Expected(2)"),
     ("..5", "Expected(2)"),

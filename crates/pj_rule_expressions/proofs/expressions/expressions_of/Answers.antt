@@ -1,6 +1,6 @@
 use Rattle.std.proofs.Common.{◌≡◌, codes, ap, ◌∙◌, subst}
 use Rattle.std.specs.Option.{option_copied}
-use Rattle.pj_rule_expressions.specs.Expressions.{Both, IsParsed, IsSpelledBy, names_of}
+use Rattle.pj_rule_expressions.specs.Expressions.{Both, IsParsed, names_of}
 use Rattle.pj_rule_expressions.specs.Faults.{IsFault, IsParseFault, IsSomeParseFault}
 use Rattle.pj_rule_expressions.specs.Patterns.{suppression_of, value_of}
 use Rattle.pj_rule_expressions.specs.Refusals.{of_pattern}
@@ -25,10 +25,7 @@ returns-in_err-suppression-clause-fault c =
     let same : names ≡ names_of texts = names_same texts names c.in_ok-variables.variables c.as_slice-2.result.now c.as_slice.result.now
     c.as_slice.ensures c.in_ok-variables.ensures c.as_slice-2.ensures c.in_ok-names.ensures in
     let query = c.in_ok-query.query in
-    let q : IsParsed names texts.xpath query = record {
-      spells = subst (λ t. IsSpelledBy names t query) c.as_str.ensures c.in_ok-query.ensures.spells;
-      expression = c.in_ok-query.ensures.expression;
-    } in
+    let q : IsParsed names texts.xpath query = subst (λ t. IsParsed names t query) c.as_str.ensures c.in_ok-query.ensures.value in
     let text : option_copied c.value_of-text.result ≡ suppression_of texts = c.value_of-text.ensures ∙ ap (value_of (codes "violationSuppressXPath")) c.as_slice-3.ensures in
     let fault = c.in_err-suppression.field-0.0 in
     handed_on c.from_residual-in_err-suppression.result fault (IsFault texts) c.from_residual-in_err-suppression.ensures.1
@@ -41,10 +38,7 @@ returns-in_err-kept-clause-fault c =
     let same : names ≡ names_of texts = names_same texts names c.in_ok-variables.variables c.as_slice-2.result.now c.as_slice.result.now
     c.as_slice.ensures c.in_ok-variables.ensures c.as_slice-2.ensures c.in_ok-names.ensures in
     let query = c.in_ok-query.query in
-    let q : IsParsed names texts.xpath query = record {
-      spells = subst (λ t. IsSpelledBy names t query) c.as_str.ensures c.in_ok-query.ensures.spells;
-      expression = c.in_ok-query.ensures.expression;
-    } in
+    let q : IsParsed names texts.xpath query = subst (λ t. IsParsed names t query) c.as_str.ensures c.in_ok-query.ensures.value in
     let text : option_copied c.value_of-text.result ≡ suppression_of texts = c.value_of-text.ensures ∙ ap (value_of (codes "violationSuppressXPath")) c.as_slice-3.ensures in
     let suppression = c.in_ok-suppression.suppression in
     let s : Both (suppression_of texts) suppression (IsParsed names) = subst (λ t. Both t suppression (IsParsed names)) text c.in_ok-suppression.ensures.value in
@@ -59,10 +53,7 @@ returns-clause-value c =
     let same : names ≡ names_of texts = names_same texts names c.in_ok-variables.variables c.as_slice-2.result.now c.as_slice.result.now
     c.as_slice.ensures c.in_ok-variables.ensures c.as_slice-2.ensures c.in_ok-names.ensures in
     let query = c.in_ok-query.query in
-    let q : IsParsed names texts.xpath query = record {
-      spells = subst (λ t. IsSpelledBy names t query) c.as_str.ensures c.in_ok-query.ensures.spells;
-      expression = c.in_ok-query.ensures.expression;
-    } in
+    let q : IsParsed names texts.xpath query = subst (λ t. IsParsed names t query) c.as_str.ensures c.in_ok-query.ensures.value in
     let text : option_copied c.value_of-text.result ≡ suppression_of texts = c.value_of-text.ensures ∙ ap (value_of (codes "violationSuppressXPath")) c.as_slice-3.ensures in
     let suppression = c.in_ok-suppression.suppression in
     let s : Both (suppression_of texts) suppression (IsParsed names) = subst (λ t. Both t suppression (IsParsed names)) text c.in_ok-suppression.ensures.value in
@@ -76,10 +67,7 @@ returns-clause-sound c =
     let same : names ≡ names_of texts = names_same texts names c.in_ok-variables.variables c.as_slice-2.result.now c.as_slice.result.now
     c.as_slice.ensures c.in_ok-variables.ensures c.as_slice-2.ensures c.in_ok-names.ensures in
     let query = c.in_ok-query.query in
-    let q : IsParsed names texts.xpath query = record {
-      spells = subst (λ t. IsSpelledBy names t query) c.as_str.ensures c.in_ok-query.ensures.spells;
-      expression = c.in_ok-query.ensures.expression;
-    } in
+    let q : IsParsed names texts.xpath query = subst (λ t. IsParsed names t query) c.as_str.ensures c.in_ok-query.ensures.value in
     let text : option_copied c.value_of-text.result ≡ suppression_of texts = c.value_of-text.ensures ∙ ap (value_of (codes "violationSuppressXPath")) c.as_slice-3.ensures in
     let suppression = c.in_ok-suppression.suppression in
     let s : Both (suppression_of texts) suppression (IsParsed names) = subst (λ t. Both t suppression (IsParsed names)) text c.in_ok-suppression.ensures.value in
