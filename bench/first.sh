@@ -1,12 +1,19 @@
 #!/usr/bin/env bash
-# Time and peak memory of a check of one file against its size: classes with a comment in each, //ClassBody, at 1/4, 1/2 and 1 MiB.
+# Time and peak memory of a run over one file against its size: classes with a comment in each, a rule //ClassBody, at 1/4, 1/2 and 1 MiB.
 # Time and memory in proportion to the file show as ratios near 2.
 set -eu
 top=$(cd "$(dirname "$0")/.." && pwd)
 folder=$(mktemp -d)
 trap 'rm -rf "$folder"' EXIT
-"$top/pmd" check "$top/examples/first/Cart.java" //ClassBody >/dev/null || [ $? -eq 4 ]
+(cd "$top" && ./pmd check -d examples/shop -R examples/rules.xml >/dev/null) || [ $? -eq 4 ]
 program=$top/crates/pmd/out/pmd
+cat > "$folder/rules.xml" <<'XML'
+<ruleset name="bodies">
+  <rule name="Body" language="java" message="found" class="net.sourceforge.pmd.lang.rule.xpath.XPathRule">
+    <properties><property name="xpath" value="//ClassBody"/></properties>
+  </rule>
+</ruleset>
+XML
 
 # A file of this many bytes: classes on a line each, and spaces to fill it.
 make_file() {
@@ -29,7 +36,7 @@ program, path = sys.argv[1:3]
 best = None
 for _ in range(5):
     start = time.perf_counter()
-    done = subprocess.run([program, "check", path, "//ClassBody"], stdout=subprocess.PIPE)
+    done = subprocess.run([program, "check", "-d", os.path.basename(path), "-R", "rules.xml"], cwd=os.path.dirname(path), stdout=subprocess.PIPE)
     took = time.perf_counter() - start
     best = took if best is None else min(best, took)
     assert done.returncode == 4, done.returncode
