@@ -1,5 +1,5 @@
 -- From the steps of a run to what its outcome says.
-use Rattle.std.proofs.Common.{◌≡◌, ◌∙◌, ◌++◌, ℕ, List, map, Option, IfSome, Result, Ok, Err, OnOk, OnErr, IfOk, IfErr, ap, sym, subst, refl}
+use Rattle.std.proofs.Common.{◌≡◌, ◌≢◌, ◌∙◌, ◌++◌, ℕ, List, map, Option, IfSome, Result, Ok, Err, OnOk, OnErr, IfOk, IfErr, ap, sym, subst, refl}
 use Rattle.pj_outside.specs.Faults.{Rises}
 use Rattle.pj_outside.specs.Files.{Bytes, Files}
 use Rattle.pj_outside.specs.Putting.{Gets, GetsPrefix}
@@ -105,6 +105,15 @@ tree_counts_before A (Missing path) old new h = h
 tree_counts_before A (Limit kind) old new h = h
 tree_counts_before A Memory old new h = h
 
+pub no_fault_before : (r : Refusal) → r ≢ TreeFault → refused r ≢ outcome.TreeFault
+no_fault_before (Usage fault) n e = absurd (cc)
+no_fault_before (Rules fault) n e = absurd (cc)
+no_fault_before TreeFault n e = n refl
+no_fault_before SinkFault n e = absurd (cc)
+no_fault_before (Missing path) n e = absurd (cc)
+no_fault_before (Limit kind) n e = absurd (cc)
+no_fault_before Memory n e = absurd (cc)
+
 -- ---- the report is put
 
 -- what the end of a run says whose report was put, or was cut
@@ -150,6 +159,12 @@ put_counts (Ok verdict.Clean) old new fault same rises = same
 put_counts (Ok verdict.Violations) old new fault same rises = same
 put_counts (Ok verdict.Errors) old new fault same rises = same
 put_counts (Err r) old new fault same rises = subst (λ (e : Refusal). CountsSinkFaults (refused e) old new) (sym fault) rises
+
+pub put_steady : (r : Result Verdict Refusal) → IfErr r (λ e. e ≡ SinkFault) → ended r ≢ outcome.TreeFault
+put_steady (Ok verdict.Clean) fault e = absurd (cc)
+put_steady (Ok verdict.Violations) fault e = absurd (cc)
+put_steady (Ok verdict.Errors) fault e = absurd (cc)
+put_steady (Err r) fault e = let f : outcome.SinkFault ≡ outcome.TreeFault = subst (λ (x : Refusal). refused x ≡ outcome.TreeFault) fault e in absurd (cc)
 
 -- ---- an early end, as a function gives it on
 

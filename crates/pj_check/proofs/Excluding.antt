@@ -1,11 +1,8 @@
 -- Words and files that have a run have no cause of refusal.
 use Rattle.std.proofs.Common.{◌≡◌, ◌∙◌, ◌<◌, ◌≤◌, ℕ, List, length, Option, None, Some, Result, Ok, Err, ap, sym, subst, arith}
 use Rattle.pj_outside.specs.Files.{Bytes, Files}
-use Rattle.pj_rule_sets.specs.Rules.{EffectiveRules}
-use Rattle.pj_rules.specs.Laws.{OneSet}
+use Rattle.pj_rules.specs.Laws.{OneSet, RulesOrFault}
 use Rattle.pj_rules.specs.Load.{IsEffective, IsFirstFault, count_of}
-use Rattle.pj_rules.specs.declared.fault.RuleFault.{RuleFault}
-use Rattle.pj_rule_texts.specs.Values.{Text}
 use Rattle.pj_settings.specs.Job.{job}
 use Rattle.pj_settings.specs.declared.settings.Settings.{Settings}
 use Rattle.pj_settings.specs.declared.usage.UsageFault.{UsageFault}
@@ -23,20 +20,16 @@ use Rattle.pj_check.specs.declared.outcome.Outcome.{Outcome}
 pub same_settings : (words : List Bytes) (a b : Settings) → job words ≡ Ok a → job words ≡ Ok b → a ≡ b
 same_settings words a b x y = let e : (let r : Result Settings UsageFault = Ok a in r) ≡ Ok b = sym x ∙ y in cc
 
-not_too_many : (n m : ℕ) → n ≤ m → m < n → ⊥
+pub not_too_many : (n m : ℕ) → n ≤ m → m < n → ⊥
 not_too_many n m few many = omega arith
 
-none_missing : {A : Type 0} (o : Option A) (x : A) → o ≡ None → o ≡ Some x → ⊥
+pub none_missing : {A : Type 0} (o : Option A) (x : A) → o ≡ None → o ≡ Some x → ⊥
 none_missing o x none some = let e = sym none ∙ some in absurd (cc)
 
-no_usage : (r : Result Settings UsageFault) (settings : Settings) (fault : UsageFault) → r ≡ Ok settings → r ≡ Err fault → ⊥
+pub no_usage : (r : Result Settings UsageFault) (settings : Settings) (fault : UsageFault) → r ≡ Ok settings → r ≡ Err fault → ⊥
 no_usage r settings fault ok err = let e = sym ok ∙ err in absurd (cc)
 
--- files that have rules have no fault
-abbrev NoFault : Type 0
-NoFault = (files : Files) (paths : List Text) (minimum : ℕ) (marker : Text) (rules : EffectiveRules) (fault : RuleFault) → IsEffective files paths minimum marker rules → IsFirstFault files paths fault → ⊥
-
-module _ (one : OneListing) (unrefused : ReadIsNotRefused) (one_set : OneSet) (no_fault : NoFault) (words : List Bytes) (held : Files) (run : Run) (is : IsRun words held run) where
+module _ (one : OneListing) (unrefused : ReadIsNotRefused) (one_set : OneSet) (no_fault : RulesOrFault) (words : List Bytes) (held : Files) (run : Run) (is : IsRun words held run) where
   asked : job words ≡ Ok run.settings
   asked = is.has_rules.has_sources.asked
 

@@ -3,4 +3,5 @@ mod Explaining
 mod Gathering
 mod Ending
 mod Excluding
+mod OneRefusal
 mod Once

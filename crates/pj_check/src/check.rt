@@ -1,5 +1,5 @@
 //! A run on one thread.
-ghost use Rattle.std.specs.Prelude.{◌≡◌, ⊤, IfOk, IfErr, IfSome, OnErr, OnOk};
+ghost use Rattle.std.specs.Prelude.{◌≡◌, ◌≢◌, ⊤, Err, IfOk, IfErr, IfSome, OnErr, OnOk};
 ghost use Rattle.pj_outside.specs.Faults.{Rises};
 ghost use Rattle.pj_outside.specs.Putting.{Gets, GetsPrefix};
 ghost use Rattle.pj_check.specs.Notes.{GetNote, note_of};
@@ -29,6 +29,7 @@ fn made<T: Tree>(
     ensures refused { IfErr result (Explains words.now (T.holds tree.old)) }
     ensures same_files { T.holds tree.new ≡ T.holds tree.old }
     ensures counts_faults { CountsFaults (T.faults tree.old) (T.faults tree.new) result }
+    ensures steady { T.never_fails tree.old → result ≢ Err Refusal.TreeFault }
     ensures reused { work.new.reused ≡ work.old.reused }
 {
     let settings = asked(alloc, words)?;
@@ -69,6 +70,7 @@ fn run<T: Tree, S: Sink>(
     ensures keeps_sink { KeepsSink (ended result) (S.held out.old) (S.held out.new) }
     ensures same_files { T.holds tree.new ≡ T.holds tree.old }
     ensures tree_faults { CountsTreeFaults (ended result) (T.faults tree.old) (T.faults tree.new) }
+    ensures steady { T.never_fails tree.old → ended result ≢ Outcome.TreeFault }
     ensures sink_faults { CountsSinkFaults (ended result) (S.faults out.old) (S.faults out.new) }
     ensures reused { work.new.reused ≡ work.old.reused }
 {
@@ -99,6 +101,7 @@ pub fn check_alone<T: Tree, C: ClassPath, K: Keeper, S: Sink, N: Sink>(
     ensures notes { GetNote (note_of result) (N.held notes.old) (N.held notes.new) (N.faults notes.old) (N.faults notes.new) }
     ensures same_files { T.holds tree.new ≡ T.holds tree.old }
     ensures tree_faults { CountsTreeFaults result (T.faults tree.old) (T.faults tree.new) }
+    ensures steady { T.never_fails tree.old → result ≢ Outcome.TreeFault }
     ensures sink_faults { CountsSinkFaults result (S.faults out.old) (S.faults out.new) }
     ensures same_classes { classes.new ≡ classes.old }
     ensures same_keeper { keeper.new ≡ keeper.old }

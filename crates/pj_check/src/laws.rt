@@ -1,11 +1,11 @@
 //! Laws of the definitions, each the contract of a function that does nothing.
-ghost use Rattle.pj_check.specs.Laws.{OneRun, RunIsNotRefused};
+ghost use Rattle.pj_check.specs.Laws.{OneRefusal, OneRun, RunIsNotRefused};
 
-use pj_rules::{one_set, rules_or_fault};
+use pj_rules::{one_first_fault, one_set, rules_or_fault};
 use pj_sources::{one_listing, one_reading};
 use pj_workers::laws::{one_cold_report, rules_are_their_texts};
 
-/// Words and files that have a run are not refused, where no texts make a rule that can be used and have a fault.
+/// Words and files that have a run are not refused.
 pub fn runs_are_not_refused()
     ensures { RunIsNotRefused }
 {
@@ -13,6 +13,17 @@ pub fn runs_are_not_refused()
     one_reading();
     one_set();
     rules_or_fault();
+}
+
+/// Words and files are refused for one cause at most.
+pub fn one_refusal()
+    ensures { OneRefusal }
+{
+    one_listing();
+    one_reading();
+    one_set();
+    rules_or_fault();
+    one_first_fault();
 }
 
 /// Words and files have one run at most: a run that comes to a report comes to this one.

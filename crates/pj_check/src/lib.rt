@@ -10,6 +10,6 @@ mod refusal;
 mod steps;
 
 pub use check::check_alone;
-pub use laws::{one_run, runs_are_not_refused};
+pub use laws::{one_refusal, one_run, runs_are_not_refused};
 pub use note::put_outcome;
 pub use outcome::Outcome;

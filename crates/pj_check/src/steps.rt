@@ -37,6 +37,7 @@ fn list<T: Tree>(alloc: Global, tree: &mut T, settings: &Settings) -> Result<Lis
     ensures refused { (words : List Bytes) → job words ≡ Ok settings.now → IfErr result (Explains words (T.holds tree.old)) }
     ensures same_files { T.holds tree.new ≡ T.holds tree.old }
     ensures counts_faults { CountsFaults (T.faults tree.old) (T.faults tree.new) result }
+    ensures steady { T.never_fails tree.old → T.never_fails tree.new × (result ≢ Err Refusal.TreeFault) }
 {
     match list_sources(alloc, tree, &settings.dirs) {
         Ok(listing) => Ok(listing),
@@ -51,6 +52,7 @@ pub fn listed<T: Tree>(alloc: Global, tree: &mut T, settings: &Settings) -> Resu
     ensures refused { (words : List Bytes) → job words ≡ Ok settings.now → IfErr result (Explains words (T.holds tree.old)) }
     ensures same_files { T.holds tree.new ≡ T.holds tree.old }
     ensures counts_faults { CountsFaults (T.faults tree.old) (T.faults tree.new) result }
+    ensures steady { T.never_fails tree.old → T.never_fails tree.new × (result ≢ Err Refusal.TreeFault) }
 {
     let listing = list(alloc, tree, settings)?;
     match test_files(&listing.paths) {
@@ -65,6 +67,7 @@ pub fn loaded<T: Tree>(alloc: Global, tree: &mut T, settings: &Settings) -> Resu
     ensures refused { (words : List Bytes) (listing : AnyListing) → job words ≡ Ok settings.now → IfSome (T.holds tree.old) (λ held. HasSources words held settings.now listing) → IfErr result (Explains words (T.holds tree.old)) }
     ensures same_files { T.holds tree.new ≡ T.holds tree.old }
     ensures counts_faults { CountsFaults (T.faults tree.old) (T.faults tree.new) result }
+    ensures steady { T.never_fails tree.old → T.never_fails tree.new × (result ≢ Err Refusal.TreeFault) }
 {
     match load(
         alloc,
@@ -85,6 +88,7 @@ pub fn sources_of<T: Tree>(alloc: Global, tree: &mut T, listing: &Listing) -> Re
     ensures refused { (words : List Bytes) (settings : AnySettings) (rules : EffectiveRules) → AreSourcePaths listing.now.paths → job words ≡ Ok settings → IfSome (T.holds tree.old) (λ held. HasRules words held settings listing.now rules) → IfErr result (Explains words (T.holds tree.old)) }
     ensures same_files { T.holds tree.new ≡ T.holds tree.old }
     ensures counts_faults { CountsFaults (T.faults tree.old) (T.faults tree.new) result }
+    ensures steady { T.never_fails tree.old → T.never_fails tree.new × (result ≢ Err Refusal.TreeFault) }
 {
     match read_sources(alloc, tree, &listing.paths) {
         Ok(sources) => Ok(sources),

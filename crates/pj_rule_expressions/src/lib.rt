@@ -4,10 +4,12 @@
 mod calls;
 mod expressions;
 mod fault;
+mod laws;
 mod patterns;
 mod spelled;
 
 pub use expressions::{RuleExpressions, expressions_of};
 pub use fault::ExpressionFault;
+pub use laws::{one_fault, sound_or_fault};
 pub use patterns::whole;
 pub use spelled::Spelled;

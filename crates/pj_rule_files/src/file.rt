@@ -1,5 +1,5 @@
 //! Reading files.
-ghost use Rattle.std.specs.Prelude.{◌≡◌, ◌<◌, ◌≤◌, ◌^◌, None, Some, IfOk, IfErr, IfSome, length};
+ghost use Rattle.std.specs.Prelude.{◌≡◌, ◌≢◌, ◌<◌, ◌≤◌, ◌^◌, None, Some, Err, IfOk, IfErr, IfSome, length};
 ghost use Rattle.std.specs.Str.{chars};
 ghost use Rattle.pj_rule_files.specs.Files.{AreFault, AreRuleset, CountsFaults, GivesRead, IfFault, IfUnread, IsRootFault, IsRuleset, IsTextFault, IsUnreadable, greatest_size, refused_of};
 ghost use Rattle.pj_outside.specs.Files.{IsAtMost};
@@ -92,6 +92,7 @@ pub fn read_ruleset<T: Tree>(
 ) -> Result<Option<WrittenRuleset>, FileRefused>
     ensures same_files { T.holds tree.new ≡ T.holds tree.old }
     ensures counts_faults { CountsFaults (T.faults tree.old) (T.faults tree.new) result }
+    ensures steady { T.never_fails tree.old → T.never_fails tree.new × (result ≢ Err FileRefused.Failed) }
     ensures read { IfSome (T.holds tree.old) (λ files. IfOk result (GivesRead files path.now)) }
     ensures fault { IfSome (T.holds tree.old) (λ files. IfErr result (IfFault (IsUnreadable files path.now))) }
 {

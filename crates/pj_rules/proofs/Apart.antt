@@ -9,6 +9,7 @@ use Rattle.pj_markup.specs.Markup.{Doc}
 use Rattle.pj_outside.specs.Files.{Files, bytes_at}
 use Rattle.pj_rule_expressions.specs.Expressions.{IsSound}
 use Rattle.pj_rule_expressions.specs.Faults as expressions
+use Rattle.pj_rule_expressions.specs.Laws.{SoundOrFault}
 use Rattle.pj_rule_expressions.specs.declared.fault.ExpressionFault.{ExpressionFault}
 use Rattle.pj_rule_files.specs.Files.{AreFault, AreRuleset, IsRead, IsRuleset, IsTextFault, IsUnreadable, greatest_size, is_there}
 use Rattle.pj_rule_files.specs.declared.fault.FileFault.{FileFault}
@@ -24,21 +25,21 @@ use Rattle.pj_rule_texts.specs.declared.written.Part.{Part}
 use Rattle.pj_rule_texts.specs.declared.written.Part.TheVariants as part
 use Rattle.pj_rule_texts.specs.declared.written.WrittenRule.{WrittenRule}
 use Rattle.pj_rule_texts.specs.declared.written.WrittenRuleset.{WrittenRuleset}
-use Rattle.pj_rules.specs.Defining.{IsDefinedAs}
-use Rattle.pj_rules.specs.Effective.{AddAll, Adds, AreJudged, CannotChange, CannotDefine, Changes, Defines, FileFaults, HasRules, PartFault, RefersTo, nothing, path_pattern, what_of_expressions}
+use Rattle.pj_rule_parts.specs.Defining.{IsDefinedAs}
+use Rattle.pj_rule_parts.specs.Effective.{AddAll, Adds, AreJudged, CannotChange, CannotDefine, Changes, Defines, FileFaults, HasRules, PartFault, RefersTo, nothing, path_pattern, what_of_expressions}
 use Rattle.pj_rules.specs.Load.{AreTops, IsTop, IsTopFault, TopRules}
-use Rattle.pj_rules.specs.LookUp.{look_up}
-use Rattle.pj_rules.specs.Referring.{ChangesEntry}
-use Rattle.pj_rules.specs.declared.fault.RuleFault.{RuleFault}
-use Rattle.pj_rules.specs.declared.fault.RuleWhat.{RuleWhat}
-use Rattle.pj_rules.specs.declared.progress.Progress.{Progress}
-use Rattle.pj_rules.proofs.KnownFiles.{same_texts, there_read}
+use Rattle.pj_rule_parts.specs.LookUp.{look_up}
+use Rattle.pj_rule_parts.specs.Referring.{ChangesEntry}
+use Rattle.pj_rule_parts.specs.declared.fault.RuleFault.{RuleFault}
+use Rattle.pj_rule_parts.specs.declared.fault.RuleWhat.{RuleWhat}
+use Rattle.pj_rule_parts.specs.declared.progress.Progress.{Progress}
+use Rattle.pj_rule_parts.proofs.KnownFiles.{same_texts, there_read}
 use Rattle.pj_rules.proofs.OneSet.{true_false}
 use Rattle.pj_rules.proofs.OneList.{Gives, View, all_steps, file_of, file_steps, none_some, not_both, one_list, one_ok, one_read, one_some, part_steps, same_rule, same_up_to, view, view_same, view_steps}
 use Rattle.pj_xpatterns.specs.Meaning.{Pattern}
 use Rattle.pj_xpatterns.specs.Refusing.{AreTaken}
 
-ok_err : {A E : Type 0} (r : Result A E) (a : A) (e : E) → r ≡ Ok a → r ≡ Err e → ⊥
+pub ok_err : {A E : Type 0} (r : Result A E) (a : A) (e : E) → r ≡ Ok a → r ≡ Err e → ⊥
 ok_err {A} {E} r a e o f = let both : ◌≡◌ {A = Result A E} (Ok a) (Err e) = sym o ∙ f in absurd (cc)
 
 -- ---- files that are read are not unreadable
@@ -49,10 +50,10 @@ module _ (text : List ℕ) (rows : List Row) (doc : Doc greatest_depth text rows
   stops_nowhere front (c ∷ cs) split cannot =
       cannot greatest_depth (cs, rows, subst (λ t. Doc greatest_depth t rows) (split ∙ sym (append_assoc front (c ∷ []) cs)) doc)
 
-  not_stopped : (offset : ℕ) → StopsAt greatest_depth text offset → ⊥
+  pub not_stopped : (offset : ℕ) → StopsAt greatest_depth text offset → ⊥
   not_stopped offset h = stops_nowhere h.front h.behind h.split h.cannot
 
-  not_deep : (offset : ℕ) → IsTooDeepAt greatest_depth text offset → ⊥
+  pub not_deep : (offset : ℕ) → IsTooDeepAt greatest_depth text offset → ⊥
   not_deep offset h =
       h.not_so_deep (h.behind, rows, subst (λ t. Doc greatest_depth t rows) (h.split ∙ sym (append_assoc h.front (60 ∷ h.first ∷ []) h.behind)) doc)
 
@@ -66,20 +67,20 @@ taken_right : (xs ys : List Pattern) → AreTaken (xs ++ ys) → AreTaken ys
 taken_right [] ys h = h
 taken_right (x ∷ xs) ys h = taken_right xs ys h.1
 
-judged_at : (before behind : List Part) (p : Part) → AreTaken (flat_map path_pattern (before ++ p ∷ behind)) → AreTaken (path_pattern p)
+pub judged_at : (before behind : List Part) (p : Part) → AreTaken (flat_map path_pattern (before ++ p ∷ behind)) → AreTaken (path_pattern p)
 judged_at [] behind p h = taken_left (path_pattern p) (flat_map path_pattern behind) h
 judged_at (b ∷ before) behind p h = judged_at before behind p (taken_right (path_pattern b) (flat_map path_pattern (before ++ p ∷ behind)) h)
 
 -- ---- paths that are among others
 
-among_one : (path other : Text) → is_among path (other ∷ []) ≡ true → path ≡ other
+pub among_one : (path other : Text) → is_among path (other ∷ []) ≡ true → path ≡ other
 among_one path other h = at (is_same path other) refl h
   where
     at : (b : Bool) → is_same path other ≡ b → (b || false) ≡ true → path ≡ other
     at true e h = same_texts path other e
     at false e h = absurd (cc)
 
-among_more : (open_ : List Text) (path other : Text) (A : Type 0) → is_among path (open_ ++ other ∷ []) ≡ true → (is_among path open_ ≡ true → A) → (path ≡ other → A) → A
+pub among_more : (open_ : List Text) (path other : Text) (A : Type 0) → is_among path (open_ ++ other ∷ []) ≡ true → (is_among path open_ ≡ true → A) → (path ≡ other → A) → A
 among_more [] path other A h f g = g (among_one path other h)
 among_more (o ∷ open_) path other A h f g = at (λ k e. among_more open_ path other A k e g) (is_same path o) refl h f
   where
@@ -90,12 +91,16 @@ among_more (o ∷ open_) path other A h f g = at (λ k e. among_more open_ path 
 
 -- ---- what a reference means
 
-meant_file : (files : Files) (reference file : Text) → RefersTo files reference file → (to : Meant) → reference_of reference ≡ Some to → file_of to ≡ file
+pub meant_file : (files : Files) (reference file : Text) → RefersTo files reference file → (to : Meant) → reference_of reference ≡ Some to → file_of to ≡ file
 meant_file files reference file (RefersTo.whole_file is) to means = ap file_of (one_some (reference_of reference) to (WholeFile file) means is)
 meant_file files reference file (RefersTo.one_rule {name = name} is) to means = ap file_of (one_some (reference_of reference) to (OneRule file name) means is)
 
 module _ (files : Files) (one_reading : (text : List ℕ) (rows others : List Row) → IsMarkup text rows → IsMarkup text others → rows ≡ others)
-    (sound_apart : (texts : RuleTexts) (fault : ExpressionFault) (name : Text) (w : RuleWhat) → IsSound texts → expressions.IsFault texts fault → what_of_expressions name fault ≡ Some w → ⊥) where
+    (sound_or_fault : SoundOrFault) where
+  -- a rule that can be used has no fault of which something is to be said
+  sound_apart : (texts : RuleTexts) (fault : ExpressionFault) (name : Text) (w : RuleWhat) → IsSound texts → expressions.IsFault texts fault → what_of_expressions name fault ≡ Some w → ⊥
+  sound_apart texts fault name w sound is_fault = none_some (what_of_expressions name fault) w (ap (what_of_expressions name) (sound_or_fault texts fault sound is_fault))
+
   no_text_fault : (text : List ℕ) (written : WrittenRuleset) (fault : FileFault) → IsRuleset text written → IsTextFault text fault → ⊥
   no_text_fault text written fault h (IsTextFault.no_markup {offset = offset} stops) = not_stopped text h.rows h.is_markup offset stops
   no_text_fault text written fault h (IsTextFault.too_deep {offset = offset} deep) = not_deep text h.rows h.is_markup offset deep.1
@@ -107,7 +112,7 @@ module _ (files : Files) (one_reading : (text : List ℕ) (rows others : List Ro
   no_fault bytes written fault h (AreFault.not_utf8 not_text) = not_text h.utf8
   no_fault bytes written fault h (AreFault.of_text utf8 f) = no_text_fault (chars bytes) written fault h.text f
 
-  not_unreadable : (path : Text) (written : WrittenRuleset) (fault : FileFault) → IsRead files path written → IsUnreadable files path fault → ⊥
+  pub not_unreadable : (path : Text) (written : WrittenRuleset) (fault : FileFault) → IsRead files path written → IsUnreadable files path fault → ⊥
   not_unreadable path written fault h (IsUnreadable.too_long {bytes = bytes} held longer) =
       let fits : length bytes ≤ greatest_size = subst (λ (b : List ℕ). length b ≤ greatest_size) (one_some (bytes_at files path) h.bytes bytes h.held held) h.fits in
       absurd (omega (arith, fits, longer))
@@ -176,7 +181,7 @@ module _ (files : Files) (one_reading : (text : List ℕ) (rows others : List Ro
         Reference.leads_nowhere to (subst (λ x. reference_of x ≡ Some to) t means) found elsewhere
 
   -- each file that is open takes more steps than this
-  abbrev Deep : List Text → ℕ → Type 0
+  abbrev pub Deep : List Text → ℕ → Type 0
   Deep open_ n = (path : Text) (list : List Taken) (h : HasRules files path list) → is_among path open_ ≡ true → n ≤ file_steps files h
 
   module _ (open_ : List Text) (path rule_set : Text) (old : Progress) (rule : WrittenRule) (reference : Text) (new : Progress) (steps : ℕ) where
@@ -227,18 +232,18 @@ module _ (files : Files) (one_reading : (text : List ℕ) (rows others : List Ro
 
   -- ---- the parts up to one of them
 
-  record Reached (path rule_set : Text) (old : Progress) (before : List Part) (p : Part) (steps : ℕ) : Type 0 where
-    front : List Part
-    is_front : front ≡ before
-    middle : Progress
-    taken : AddAll files path rule_set old front middle
-    next : Progress
-    here : Part
-    is_here : here ≡ p
-    step : Adds files path rule_set middle here next
-    few : part_steps files step ≤ steps
+  pub record Reached (path rule_set : Text) (old : Progress) (before : List Part) (p : Part) (steps : ℕ) : Type 0 where
+    pub front : List Part
+    pub is_front : front ≡ before
+    pub middle : Progress
+    pub taken : AddAll files path rule_set old front middle
+    pub next : Progress
+    pub here : Part
+    pub is_here : here ≡ p
+    pub step : Adds files path rule_set middle here next
+    pub few : part_steps files step ≤ steps
 
-  reach : {path rule_set : Text} {old : Progress} {parts : List Part} {new : Progress} (h : AddAll files path rule_set old parts new) (before behind : List Part) (p : Part) →
+  pub reach : {path rule_set : Text} {old : Progress} {parts : List Part} {new : Progress} (h : AddAll files path rule_set old parts new) (before behind : List Part) (p : Part) →
       parts ≡ before ++ p ∷ behind → Reached path rule_set old before p (all_steps files h)
   reach AddAll.none [] behind p e = absurd (cc)
   reach AddAll.none (b ∷ before) behind p e = absurd (cc)
@@ -265,7 +270,7 @@ module _ (files : Files) (one_reading : (text : List ℕ) (rows others : List Ro
   -- ---- a file that has rules has no fault
 
   mutual
-    apart_part : {is_top : Bool} {open_ : List Text} {path rule_set : Text} {progress : Progress} {p : Part} {fault : RuleFault} → PartFault files is_top open_ path rule_set progress p fault →
+    pub apart_part : {is_top : Bool} {open_ : List Text} {path rule_set : Text} {progress : Progress} {p : Part} {fault : RuleFault} → PartFault files is_top open_ path rule_set progress p fault →
         (path_too rule_set_too : Text) (old : Progress) (q : Part) (new : Progress) → path_too ≡ path → rule_set_too ≡ rule_set → old ≡ progress → q ≡ p →
         (step : Adds files path_too rule_set_too old q new) → (is_top ≡ true → AreTaken (path_pattern p)) → Deep open_ (suc (view_steps files (view files step))) → ⊥
     apart_part (PartFault.exclude_pattern is none) path_too rule_set_too old q new pe se oe e step judged deep = (judged is).0 none
@@ -305,7 +310,7 @@ module _ (files : Files) (one_reading : (text : List ℕ) (rows others : List Ro
         (subst (λ (x : Taken). ChangesEntry rule x.1 kept) (one_some (named name list) t (origin, entry.Rule before) in_list in_list_too) changes) cannot)
         (refers_by path_too rule_set_too old q new rule e reference refers (view files step))
 
-    apart_file : {is_top : Bool} {open_ : List Text} {path : Text} {fault : RuleFault} → FileFaults files is_top open_ path fault →
+    pub apart_file : {is_top : Bool} {open_ : List Text} {path : Text} {fault : RuleFault} → FileFaults files is_top open_ path fault →
         (path_too : Text) (written : WrittenRuleset) (new : Progress) → path_too ≡ path → (read : IsRead files path_too written) →
         (adds : AddAll files path_too written.rule_set nothing written.parts new) → AreJudged is_top written.parts → Deep open_ (suc (all_steps files adds)) → ⊥
     apart_file (FileFaults.unreadable {path = path} {fault = fault} unreadable) path_too written new e read adds judged deep =
@@ -322,7 +327,7 @@ module _ (files : Files) (one_reading : (text : List ℕ) (rows others : List Ro
 
   -- ---- top rulesets
 
-  there_of_fault : (is_top : Bool) (open_ : List Text) (path : Text) (fault : RuleFault) → FileFaults files is_top open_ path fault → is_there files path ≡ true
+  pub there_of_fault : (is_top : Bool) (open_ : List Text) (path : Text) (fault : RuleFault) → FileFaults files is_top open_ path fault → is_there files path ≡ true
   there_of_fault is_top open_ path fault (FileFaults.unreadable (IsUnreadable.too_long held longer)) = ap is_some held
   there_of_fault is_top open_ path fault (FileFaults.unreadable (IsUnreadable.of_bytes held fits h)) = ap is_some held
   there_of_fault is_top open_ path fault (FileFaults.in_part {written = written} behind read stands added judged h) = there_read files path written read

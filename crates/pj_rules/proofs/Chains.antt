@@ -1,27 +1,19 @@
 -- Files that are being read, one behind the other.
-use Rattle.std.proofs.Common.{◌≡◌, Bool, true, false, List, [], ◌∷◌, ◌++◌, Option, Some, None, sym, subst}
+use Rattle.std.proofs.Common.{◌≡◌, Bool, true, false, List, [], ◌∷◌, ◌++◌, sym, subst}
 use Rattle.pj_outside.specs.Files.{Files}
-use Rattle.pj_rule_texts.specs.References.{reference_of}
 use Rattle.pj_rule_texts.specs.Values.{Text}
 use Rattle.pj_rule_texts.specs.declared.written.Part.{Part}
 use Rattle.pj_rule_texts.specs.declared.written.Part.TheVariants as part
-use Rattle.pj_rules.specs.Effective.{FileFaults, PartFault, RefersTo}
-use Rattle.pj_rules.specs.Referring.{Leads, LeadsBy, meant}
+use Rattle.pj_rule_parts.specs.Effective.{FileFaults, PartFault}
+use Rattle.pj_rule_parts.specs.Referring.{Leads}
 use Rattle.pj_rules.specs.States.{IsChain, IsFaultOfTop, IsOpen, is_top, left}
-use Rattle.pj_rules.specs.declared.fault.RuleFault.{RuleFault}
+use Rattle.pj_rule_parts.specs.declared.fault.RuleFault.{RuleFault}
 use Rattle.pj_rules.specs.declared.open_file.OpenFile.{OpenFile}
 use Rattle.pj_rules.specs.declared.open_file.Waiting.{Waiting}
-use Rattle.pj_rules.specs.declared.referral.Referral.{Referral}
+use Rattle.pj_rule_parts.proofs.TakeFacts.{refers}
 use Rattle.pj_rules.proofs.Lists.{nothing_snoc, snoc_same}
 
 module _ (files : Files) where
-  refers_meant : (reference file : Text) (name : Option Text) → reference_of reference ≡ Some (meant file name) → RefersTo files reference file
-  refers_meant reference file None e = RefersTo.whole_file e
-  refers_meant reference file (Some name) e = RefersTo.one_rule e
-
-  pub refers : (referral : Referral) → LeadsBy referral → RefersTo files referral.reference referral.target.file
-  refers referral by = refers_meant referral.reference referral.target.file referral.target.name by.leads
-
   -- a fault of the part that comes next is one of the file
   pub fault_of_file : (file : OpenFile) (p : Part) (rest : List Part) (open_ : List Text) (fault : RuleFault) → IsOpen files file (p ∷ rest) →
       PartFault files (is_top file) open_ file.path file.rule_set file.progress p fault → FileFaults files (is_top file) open_ file.path fault
@@ -40,7 +32,7 @@ module _ (files : Files) where
       subst (λ paths. FileFaults files false paths path fault) o (subst (λ t. FileFaults files t open_ path fault) t h) in
       raise top further before waiting.file.path (is_top waiting.file) fault chain
       (fault_of_file waiting.file (part.Rule waiting.referral.rule) (left waiting.file) before fault is_open
-      (PartFault.within leads.by.is_reference (refers waiting.referral leads.by) leads.found fresh inner))
+      (PartFault.within leads.by.is_reference (refers files waiting.referral leads.by) leads.found fresh inner))
 
   -- a file below which none waits is the top ruleset
   pub alone : (top : Text) (open_ : List Text) (path : Text) (of_top : Bool) → IsChain files top [] open_ path of_top → (path ≡ top) × (of_top ≡ true)

@@ -1,12 +1,6 @@
-mod Told
 mod Lists
 mod Rests
-mod KnownFiles
-mod Refusing
-mod Finding
-mod Definitions
 mod Chains
-mod TakeFacts
 mod Parts
 mod Turns
 mod PartFacts
@@ -16,3 +10,5 @@ mod OneList
 mod OneSet
 mod Loads
 mod Apart
+mod OneUnreadable
+mod OneFault

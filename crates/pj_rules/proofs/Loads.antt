@@ -1,17 +1,18 @@
 -- What a load says where a call below it refuses.
-use Rattle.std.proofs.Common.{◌≡◌, ℕ, List, map, Option, Result, Ok, Err, IfOk, IfErr, IfSome, refl, sym, subst}
+use Rattle.std.proofs.Common.{◌≡◌, ◌≢◌, ℕ, List, map, Option, Result, Ok, Err, IfOk, IfErr, IfSome, refl, sym, subst}
 use Rattle.std.specs.Prelude.{IsErrAnd}
 use Rattle.pj_outside.specs.Files.{Files}
 use Rattle.pj_rule_sets.specs.Rules.{EffectiveRules}
 use Rattle.pj_rule_texts.specs.Values.{Text}
 use Rattle.pj_rules.specs.Gathering.{IsTooMany}
 use Rattle.pj_rules.specs.Load.{AreTops, IsEffective, IsFirstFault, TopRules, effective}
-use Rattle.pj_rules.specs.Outcome.{CountsFaults, IsRefused}
-use Rattle.pj_rules.specs.Refusals.{IfFault}
-use Rattle.pj_rules.specs.declared.fault.RuleRefused.{RuleRefused}
-use Rattle.pj_rules.specs.declared.fault.RuleRefused.TheVariants.{Rule, TooManyRules, Failed, Memory}
-use Rattle.pj_rules.proofs.Definitions.{handed_on}
-use Rattle.pj_rules.proofs.Told.{all_told}
+use Rattle.pj_rule_parts.specs.Counts.{CountsFaults}
+use Rattle.pj_rules.specs.Outcome.{IsRefused}
+use Rattle.pj_rule_parts.specs.Refusals.{IfFault}
+use Rattle.pj_rule_parts.specs.declared.fault.RuleRefused.{RuleRefused}
+use Rattle.pj_rule_parts.specs.declared.fault.RuleRefused.TheVariants.{Rule, TooManyRules, Failed, Memory}
+use Rattle.pj_rule_parts.proofs.Definitions.{handed_on}
+use Rattle.pj_rule_parts.proofs.Told.{all_told}
 
 -- ---- counts of faults
 
@@ -61,3 +62,12 @@ module _ (files : Files) (paths : List Text) (minimum : ℕ) (marker : Text) whe
       record { rules = effective minimum marker tops; effective_rules = record { tops = tops; are_tops = are; is = refl }; counted = h.0; too_many = h.1 }
   refused_many tops Failed are h = absurd h
   refused_many tops Memory are h = tt
+
+-- ---- a tree that never fails
+
+-- that there are too many rules is no failure of the tree
+pub many_steady : (rules : EffectiveRules) (r : RuleRefused) → IsTooMany rules r → r ≢ Failed
+many_steady rules (Rule fault) h e = absurd h
+many_steady rules (TooManyRules count) h e = absurd (cc)
+many_steady rules Failed h e = absurd h
+many_steady rules Memory h e = absurd (cc)

@@ -18,11 +18,11 @@ use Rattle.pj_rule_texts.specs.declared.written.Part.{Part}
 use Rattle.pj_rule_texts.specs.declared.written.Part.TheVariants as part
 use Rattle.pj_rule_texts.specs.declared.written.WrittenRule.{WrittenRule}
 use Rattle.pj_rule_texts.specs.declared.written.WrittenRuleset.{WrittenRuleset}
-use Rattle.pj_rules.specs.Defining.{IsDefinedAs}
-use Rattle.pj_rules.specs.Effective.{AddAll, Adds, Changes, Defines, HasRules, or_name, with_list, with_rule, with_taken}
-use Rattle.pj_rules.specs.LookUp.{look_up}
-use Rattle.pj_rules.specs.Referring.{ChangesEntry}
-use Rattle.pj_rules.specs.declared.progress.Progress.{Progress}
+use Rattle.pj_rule_parts.specs.Defining.{IsDefinedAs}
+use Rattle.pj_rule_parts.specs.Effective.{AddAll, Adds, Changes, Defines, HasRules, or_name, with_list, with_rule, with_taken}
+use Rattle.pj_rule_parts.specs.LookUp.{look_up}
+use Rattle.pj_rule_parts.specs.Referring.{ChangesEntry}
+use Rattle.pj_rule_parts.specs.declared.progress.Progress.{Progress}
 
 -- ---- a part, by what decides it
 

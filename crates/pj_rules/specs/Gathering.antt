@@ -7,8 +7,8 @@ use Rattle.pj_rule_texts.specs.Values.{Text}
 use Rattle.pj_rule_sets.specs.Rules.{EffectiveRules}
 use Rattle.pj_rules.specs.Load.{TopRules, count_of, effective, greatest_count}
 use Rattle.pj_rules.specs.States.{top_rules}
-use Rattle.pj_rules.specs.declared.fault.RuleRefused.{RuleRefused}
-use Rattle.pj_rules.specs.declared.fault.RuleRefused.TheVariants.{Rule, TooManyRules, Failed, Memory}
+use Rattle.pj_rule_parts.specs.declared.fault.RuleRefused.{RuleRefused}
+use Rattle.pj_rule_parts.specs.declared.fault.RuleRefused.TheVariants.{Rule, TooManyRules, Failed, Memory}
 use Rattle.pj_rules.specs.declared.top.Top.{Top}
 
 abbrev pub is_kept : ℕ → Taken → Bool

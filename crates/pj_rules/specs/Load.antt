@@ -12,11 +12,11 @@ use Rattle.pj_rule_texts.specs.Values.{Text}
 use Rattle.pj_rule_texts.specs.declared.written.Part.{Part}
 use Rattle.pj_rule_texts.specs.declared.written.Part.TheVariants as part
 use Rattle.pj_rule_texts.specs.declared.written.WrittenRuleset.{WrittenRuleset}
-use Rattle.pj_rules.specs.Effective.{AddAll, AreJudged, FileFaults, nothing}
+use Rattle.pj_rule_parts.specs.Effective.{AddAll, AreJudged, FileFaults, nothing}
 use Rattle.pj_rule_sets.specs.Rules.{EffectiveRule, EffectiveRules, rule_of}
-use Rattle.pj_rules.specs.declared.fault.RuleFault.{RuleFault}
-use Rattle.pj_rules.specs.declared.fault.RuleWhat.TheVariants.{MissingRef}
-use Rattle.pj_rules.specs.declared.progress.Progress.{Progress}
+use Rattle.pj_rule_parts.specs.declared.fault.RuleFault.{RuleFault}
+use Rattle.pj_rule_parts.specs.declared.fault.RuleWhat.TheVariants.{MissingRef}
+use Rattle.pj_rule_parts.specs.declared.progress.Progress.{Progress}
 
 -- a top ruleset: its list, and its path patterns
 pub record TopRules : Type 0 where

@@ -1,16 +1,17 @@
 //! Loading rulesets.
-ghost use Rattle.std.specs.Prelude.{◌≡◌, ◌≤◌, map, IfOk, IfErr, IfSome};
+ghost use Rattle.std.specs.Prelude.{◌≡◌, ◌≢◌, ◌≤◌, map, Err, IfOk, IfErr, IfSome};
 ghost use Rattle.pj_rules.specs.Gathering.{IsTooMany};
 ghost use Rattle.pj_rules.specs.Load.{IsEffective, count_of, effective, greatest_count};
-ghost use Rattle.pj_rules.specs.Outcome.{CountsFaults, IsRefused};
+ghost use Rattle.pj_rule_parts.specs.Counts.{CountsFaults};
+ghost use Rattle.pj_rules.specs.Outcome.{IsRefused};
 ghost use Rattle.pj_rules.specs.States.{top_rules};
 
 use crate::counting::count_of;
-use crate::fault::RuleRefused;
 use crate::gathering::{Gathered, gather};
 use crate::top::{Top, read_tops};
 use pj_base::{Copied, ListOf, Names, Text};
 use pj_outside::Tree;
+use pj_rule_parts::RuleRefused;
 use pj_rule_sets::RuleSet;
 use std::alloc::Global;
 
@@ -51,6 +52,7 @@ pub fn load<T: Tree>(
 ) -> Result<RuleSet, RuleRefused>
     ensures same_files { T.holds tree.new ≡ T.holds tree.old }
     ensures counts_faults { CountsFaults (T.faults tree.old) (T.faults tree.new) result }
+    ensures steady { T.never_fails tree.old → T.never_fails tree.new × (result ≢ Err RuleRefused.Failed) }
     ensures rules { IfSome (T.holds tree.old) (λ files. IfOk result (IsEffective files paths.now minimum marker.now)) }
     ensures few { IfOk result (λ rules. count_of rules ≤ greatest_count) }
     ensures refused { IfSome (T.holds tree.old) (λ files. IfErr result (IsRefused files paths.now minimum marker.now)) }

@@ -1,26 +1,23 @@
 //! Reading a ruleset with all that its references read.
-ghost use Rattle.std.specs.Prelude.{◌≡◌, ◌++◌, ◌∷◌, [], Some, ℕ, List, IfOk, IfErr, OnOk};
+ghost use Rattle.std.specs.Prelude.{◌≡◌, ◌≢◌, ◌++◌, ◌∷◌, [], Some, ℕ, List, Err, IfOk, IfErr, OnOk};
 ghost use Rattle.pj_outside.specs.Files.{Files};
 ghost use Rattle.pj_rule_texts.specs.declared.written.Part.{Part};
 ghost use Rattle.pj_rule_texts.specs.declared.written.Part.TheVariants as part;
-ghost use Rattle.pj_rules.specs.Finding.{IsBefore};
-ghost use Rattle.pj_rules.specs.Known.{AreKnown, AreRead};
-ghost use Rattle.pj_rules.specs.Outcome.{CountsFaults};
-ghost use Rattle.pj_rules.specs.Refusals.{IfFault, IfOwn};
-ghost use Rattle.pj_rules.specs.Referring.{Leads};
+ghost use Rattle.pj_rule_parts.specs.Finding.{IsBefore};
+ghost use Rattle.pj_rule_parts.specs.Known.{AreKnown, AreRead};
+ghost use Rattle.pj_rule_parts.specs.Counts.{CountsFaults};
+ghost use Rattle.pj_rule_parts.specs.Refusals.{IfFault, IfOwn};
+ghost use Rattle.pj_rule_parts.specs.Referring.{Leads};
 ghost use Rattle.pj_rules.specs.States.{GoesOn, IsDone, IsEnded, IsFaultOf, IsFaultOfTop, IsStack, IsTaking, Opens, Takes, TakesOrOpens};
-ghost use Rattle.pj_rules.specs.declared.known.Known.{Known};
+ghost use Rattle.pj_rule_parts.specs.declared.known.Known.{Known};
 
-use crate::defining::{define, refused};
-use crate::fault::{RuleRefused, RuleWhat};
-use crate::known::{Known, ReadFiles};
-use crate::look_up::{Found, look_up};
 use crate::open_file::{OpenFile, Waiting, with_exclude, with_include};
-use crate::progress::Progress;
-use crate::referral::{Referral, referral_of};
-use crate::taking::{take, take_nothing};
 use pj_base::{Copied, ListOf, NoMemory, Text};
 use pj_outside::Tree;
+use pj_rule_parts::{
+    Found, Known, Progress, ReadFiles, Referral, RuleRefused, RuleWhat, define, look_up,
+    referral_of, refused, take, take_nothing,
+};
 use pj_rule_texts::{Part, WrittenRule, WrittenRuleset};
 use std::alloc::Global;
 
@@ -88,6 +85,7 @@ fn refer<T: Tree>(
     requires { rule.reference ≡ Some reference }
     ensures same_files { T.holds tree.new ≡ T.holds tree.old }
     ensures counts_faults { CountsFaults (T.faults tree.old) (T.faults tree.new) result }
+    ensures steady { T.never_fails tree.old → T.never_fails tree.new × (result ≢ Err RuleRefused.Failed) }
     ensures taken { (files : Files) → T.holds tree.old ≡ Some files → AreKnown files known.now → IfOk result (TakesOrOpens files known.now file.old (part.Rule rule) file.new) }
     ensures fault { (files : Files) → T.holds tree.old ≡ Some files → AreKnown files known.now → IfErr result (IfFault (IsFaultOf files known.now file.old (part.Rule rule))) }
 {
@@ -119,6 +117,7 @@ fn take_rule<T: Tree>(
 ) -> Result<Option<Opening>, RuleRefused>
     ensures same_files { T.holds tree.new ≡ T.holds tree.old }
     ensures counts_faults { CountsFaults (T.faults tree.old) (T.faults tree.new) result }
+    ensures steady { T.never_fails tree.old → T.never_fails tree.new × (result ≢ Err RuleRefused.Failed) }
     ensures taken { (files : Files) → T.holds tree.old ≡ Some files → AreKnown files known.now → IfOk result (TakesOrOpens files known.now file.old (part.Rule rule) file.new) }
     ensures fault { (files : Files) → T.holds tree.old ≡ Some files → AreKnown files known.now → IfErr result (IfFault (IsFaultOf files known.now file.old (part.Rule rule))) }
 {
@@ -162,6 +161,7 @@ fn take_part<T: Tree>(
 ) -> Result<Option<Opening>, RuleRefused>
     ensures same_files { T.holds tree.new ≡ T.holds tree.old }
     ensures counts_faults { CountsFaults (T.faults tree.old) (T.faults tree.new) result }
+    ensures steady { T.never_fails tree.old → T.never_fails tree.new × (result ≢ Err RuleRefused.Failed) }
     ensures taken { (files : Files) → T.holds tree.old ≡ Some files → AreKnown files known.now → IfOk result (TakesOrOpens files known.now file.old part file.new) }
     ensures fault { (files : Files) → T.holds tree.old ≡ Some files → AreKnown files known.now → IfErr result (IfFault (IsFaultOf files known.now file.old part)) }
 {
@@ -270,6 +270,7 @@ fn go_on<T: Tree>(
 ) -> Result<Next, RuleRefused>
     ensures same_files { T.holds tree.new ≡ T.holds tree.old }
     ensures counts_faults { CountsFaults (T.faults tree.old) (T.faults tree.new) result }
+    ensures steady { T.never_fails tree.old → T.never_fails tree.new × (result ≢ Err RuleRefused.Failed) }
     ensures next { (files : Files) (top : List ℕ) → T.holds tree.old ≡ Some files → IsTaking files top known.old below file part → IfOk result (GoesOn files top known.new) }
     ensures fault { (files : Files) (top : List ℕ) → T.holds tree.old ≡ Some files → IsTaking files top known.old below file part → IfErr result (IfFault (IsFaultOfTop files top)) }
 {
@@ -295,6 +296,7 @@ fn turn<T: Tree>(
 ) -> Result<Next, RuleRefused>
     ensures same_files { T.holds tree.new ≡ T.holds tree.old }
     ensures counts_faults { CountsFaults (T.faults tree.old) (T.faults tree.new) result }
+    ensures steady { T.never_fails tree.old → T.never_fails tree.new × (result ≢ Err RuleRefused.Failed) }
     ensures next { (files : Files) (top : List ℕ) → T.holds tree.old ≡ Some files → IsStack files top known.old stack → IfOk result (GoesOn files top known.new) }
     ensures fault { (files : Files) (top : List ℕ) → T.holds tree.old ≡ Some files → IsStack files top known.old stack → IfErr result (IfFault (IsFaultOfTop files top)) }
 {
@@ -315,6 +317,7 @@ pub fn read_to_end<T: Tree>(
 ) -> Result<OpenFile, RuleRefused>
     ensures same_files { T.holds tree.new ≡ T.holds tree.old }
     ensures counts_faults { CountsFaults (T.faults tree.old) (T.faults tree.new) result }
+    ensures steady { T.never_fails tree.old → T.never_fails tree.new × (result ≢ Err RuleRefused.Failed) }
     ensures ended { (files : Files) (top : List ℕ) → T.holds tree.old ≡ Some files → IsStack files top known.old stack → IfOk result (λ file. AreRead files known.new.read × IsEnded files top file) }
     ensures fault { (files : Files) (top : List ℕ) → T.holds tree.old ≡ Some files → IsStack files top known.old stack → IfErr result (IfFault (IsFaultOfTop files top)) }
 {

@@ -1,25 +1,22 @@
 //! Top rulesets.
-ghost use Rattle.std.specs.Prelude.{◌≡◌, Some, map, false, IfOk, IfErr};
+ghost use Rattle.std.specs.Prelude.{◌≡◌, ◌≢◌, Some, map, false, Err, IfOk, IfErr};
 ghost use Rattle.pj_outside.specs.Files.{Files};
 ghost use Rattle.pj_rule_files.specs.Files.{IsRead, is_there};
 ghost use Rattle.pj_rule_texts.specs.Values.{Text};
-ghost use Rattle.pj_rules.specs.Known.{AreRead};
+ghost use Rattle.pj_rule_parts.specs.Known.{AreRead};
 ghost use Rattle.pj_rules.specs.Load.{AreTops, IsFirstFault, IsTop, IsTopFault};
-ghost use Rattle.pj_rules.specs.Outcome.{CountsFaults};
-ghost use Rattle.pj_rules.specs.Refusals.{IfFault, IfOwn};
+ghost use Rattle.pj_rule_parts.specs.Counts.{CountsFaults};
+ghost use Rattle.pj_rule_parts.specs.Refusals.{IfFault, IfOwn};
 ghost use Rattle.pj_rules.specs.States.{IsEnded, IsStack, top_rules};
 
-use crate::defining::refused;
-use crate::fault::{RuleRefused, RuleWhat};
-use crate::known::{Known, RuleList};
-use crate::look_up::written_at;
 use crate::open_file::OpenFile;
-use crate::progress::Progress;
 use crate::reading::{Stack, read_to_end};
-use crate::taking::not_available;
 use pj_base::{Copied, ListOf, Names, NoMemory, Text};
 use pj_outside::Tree;
 use pj_rule_lists::Origin;
+use pj_rule_parts::{
+    Known, Progress, RuleList, RuleRefused, RuleWhat, not_available, refused, written_at,
+};
 use pj_rule_sets::PathPatterns;
 use pj_rule_texts::{WrittenRuleset, is_from_elsewhere};
 use std::alloc::Global;
@@ -110,6 +107,7 @@ fn read_written<T: Tree>(
 ) -> Result<Top, RuleRefused>
     ensures same_files { T.holds tree.new ≡ T.holds tree.old }
     ensures counts_faults { CountsFaults (T.faults tree.old) (T.faults tree.new) result }
+    ensures steady { T.never_fails tree.old → T.never_fails tree.new × (result ≢ Err RuleRefused.Failed) }
     ensures top { (files : Files) → T.holds tree.old ≡ Some files → AreRead files known.old.read → IsRead files path.now written → IfOk result (λ top. AreRead files known.new.read × IsTop files path.now (top_rules top)) }
     ensures fault { (files : Files) → T.holds tree.old ≡ Some files → AreRead files known.old.read → IsRead files path.now written → IfErr result (IfFault (IsTopFault files path.now)) }
 {
@@ -128,6 +126,7 @@ fn read_top<T: Tree>(
 ) -> Result<Top, RuleRefused>
     ensures same_files { T.holds tree.new ≡ T.holds tree.old }
     ensures counts_faults { CountsFaults (T.faults tree.old) (T.faults tree.new) result }
+    ensures steady { T.never_fails tree.old → T.never_fails tree.new × (result ≢ Err RuleRefused.Failed) }
     ensures top { (files : Files) → T.holds tree.old ≡ Some files → AreRead files known.old.read → IfOk result (λ top. AreRead files known.new.read × IsTop files path.now (top_rules top)) }
     ensures fault { (files : Files) → T.holds tree.old ≡ Some files → AreRead files known.old.read → IfErr result (IfFault (IsTopFault files path.now)) }
 {
@@ -145,6 +144,7 @@ pub fn read_tops<T: Tree>(
 ) -> Result<ListOf<Top>, RuleRefused>
     ensures same_files { T.holds tree.new ≡ T.holds tree.old }
     ensures counts_faults { CountsFaults (T.faults tree.old) (T.faults tree.new) result }
+    ensures steady { T.never_fails tree.old → T.never_fails tree.new × (result ≢ Err RuleRefused.Failed) }
     ensures tops { (files : Files) → T.holds tree.old ≡ Some files → IfOk result (λ tops. AreTops files paths.now (map top_rules tops)) }
     ensures fault { (files : Files) → T.holds tree.old ≡ Some files → IfErr result (IfFault (IsFirstFault files paths.now)) }
 {

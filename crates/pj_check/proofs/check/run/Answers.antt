@@ -1,11 +1,11 @@
-use Rattle.std.proofs.Common.{IfSome}
+use Rattle.std.proofs.Common.{◌≢◌, Err, IfSome, ap}
 use Rattle.std.proofs.lemmas.Result.{err_from_is_err_and}
 use Rattle.pj_check.specs.Outcome.{CountsSinkFaults, CountsTreeFaults, KeepsSink, Says, SaysOfWords}
 use Rattle.pj_check.specs.declared.outcome.Outcome.{Outcome}
 use Rattle.pj_check.specs.declared.outcome.Outcome.TheVariants.{TreeFault}
 use Rattle.pj_check.specs.declared.refusal.Refusal.{Refusal}
 use Rattle.pj_writing.specs.declared.written.Written.{Written}
-use Rattle.pj_check.proofs.Ending.{all_say_before, counts_before, ends_before, keeps_before, put_counts, put_keeps, put_says, put_tree, put_words, tree_counts_before, words_before}
+use Rattle.pj_check.proofs.Ending.{all_say_before, counts_before, ends_before, keeps_before, no_fault_before, put_counts, put_keeps, put_says, put_steady, put_tree, put_words, tree_counts_before, words_before}
 use Rattle.pj_check.proofs.check.run.Goals as goal
 
 -- ---- the report is not made
@@ -42,6 +42,13 @@ returns-in_err-written-clause-tree_faults g c =
     ends_before (λ (o : Outcome). CountsTreeFaults o old new) c.from_residual.result exit.0 refusal exit.1 exit.2
     (tree_counts_before Written refusal old new c.in_err-written.ensures.counts_faults)
 
+pub returns-in_err-written-clause-steady : goal.returns-in_err-written-clause-steady
+returns-in_err-written-clause-steady g c = λ never.
+    let refusal = c.in_err-written.field-0.0 in
+    let exit = err_from_is_err_and c.from_residual.result c.from_residual.ensures.1 in
+    ends_before (λ (o : Outcome). o ≢ TreeFault) c.from_residual.result exit.0 refusal exit.1 exit.2
+    (no_fault_before refusal (λ is. c.in_err-written.ensures.steady never (ap (λ (r : Refusal). Err r) is)))
+
 pub returns-in_err-written-clause-sink_faults : goal.returns-in_err-written-clause-sink_faults
 returns-in_err-written-clause-sink_faults g c =
     let faults = g.S.Sink.faults c.args.out.now in
@@ -66,6 +73,9 @@ returns-clause-keeps_sink g c = put_keeps c.put.result (g.S.Sink.held c.args.out
 pub returns-clause-tree_faults : goal.returns-clause-tree_faults
 returns-clause-tree_faults g c =
     put_tree c.put.result (g.T.Tree.faults c.args.tree.now) (g.T.Tree.faults c.made.new.tree) c.put.ensures.refused c.in_ok-written.ensures.counts_faults
+
+pub returns-clause-steady : goal.returns-clause-steady
+returns-clause-steady g c = λ never. put_steady c.put.result c.put.ensures.refused
 
 pub returns-clause-sink_faults : goal.returns-clause-sink_faults
 returns-clause-sink_faults g c =

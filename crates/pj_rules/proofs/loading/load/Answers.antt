@@ -4,9 +4,10 @@ use Rattle.pj_rules.specs.Load.{IsEffective, effective}
 use Rattle.pj_rules.specs.Outcome.{IsRefused}
 use Rattle.pj_rules.specs.States.{top_rules}
 use Rattle.pj_rules.specs.declared.top.Top.{Top}
-use Rattle.pj_rules.proofs.Definitions.{handed_on}
-use Rattle.pj_rules.proofs.Loads.{counts_below, counts_many, no_rules, refused_below, refused_many}
-use Rattle.pj_rules.proofs.Told.{all_told}
+use Rattle.pj_rule_parts.proofs.Definitions.{handed_on}
+use Rattle.pj_rules.proofs.Loads.{counts_below, counts_many, many_steady, no_rules, refused_below, refused_many}
+use Rattle.pj_rule_parts.proofs.Told.{all_told}
+use Rattle.pj_rule_parts.proofs.Refusing.{stays_steady}
 use Rattle.pj_rules.proofs.loading.load.Goals as goal
 
 pub returns-in_err-tops-clause-counts_faults : goal.returns-in_err-tops-clause-counts_faults
@@ -47,3 +48,8 @@ returns-clause-rules g c =
 
 pub returns-clause-refused : goal.returns-clause-refused
 returns-clause-refused g c = all_told (g.T.Tree.holds c.args.tree.now) (λ files. ⊤) (λ files told. tt)
+
+pub returns-in_err-set-clause-steady : goal.returns-in_err-set-clause-steady
+returns-in_err-set-clause-steady g c = λ never.
+    let refused = c.in_err-set.field-0.0 in
+    ((c.in_ok-tops.ensures.steady never).0, stays_steady c.from_residual-in_err-set.result refused c.from_residual-in_err-set.ensures.1 (many_steady (effective c.args.minimum c.args.marker.now (map top_rules c.in_ok-tops.tops)) refused c.in_err-set.ensures.many))

@@ -1,8 +1,8 @@
 use Rattle.std.proofs.Common.{◌∙◌}
-use Rattle.pj_rules.specs.Refusals.{IfFault}
+use Rattle.pj_rule_parts.specs.Refusals.{IfFault}
 use Rattle.pj_rules.specs.States.{GoesOn, IsFaultOfTop}
 use Rattle.pj_rules.specs.declared.reading.Next.TheVariants.{Goes, Ends}
-use Rattle.pj_rules.proofs.Refusing.{leaves}
+use Rattle.pj_rule_parts.proofs.Refusing.{leaves}
 use Rattle.pj_rules.proofs.reading.read_to_end.Goals as goal
 
 pub returns-in_err-next-clause-fault : goal.returns-in_err-next-clause-fault
@@ -22,6 +22,7 @@ loop-preserved g c =
     record {
       same_files = c.in_ok-next.ensures.same_files ∙ kept.same_files;
       same_faults = c.in_ok-next.ensures.counts_faults ∙ kept.same_faults;
+      steady = λ s. (c.in_ok-next.ensures.steady (kept.steady s)).0;
       stands = λ files top told stack.
           let goes : GoesOn files top c.turn.new.known (Goes c.in-Goes.next) =
           rw (c.in-Goes.is) at (c.in_ok-next.ensures.next files top (kept.same_files ∙ told) (kept.stands files top told stack)) in

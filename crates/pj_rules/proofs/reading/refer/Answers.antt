@@ -1,15 +1,15 @@
 use Rattle.std.proofs.Common.{refl}
 use Rattle.pj_outside.specs.Files.{Files}
 use Rattle.pj_rule_texts.specs.declared.written.Part.TheVariants as part
-use Rattle.pj_rules.specs.Finding.{IsBefore, IsFound, IsFoundFault}
-use Rattle.pj_rules.specs.Known.{AreRead}
-use Rattle.pj_rules.specs.Referring.{IsNoForm, IsNothingFault, Leads}
-use Rattle.pj_rules.specs.Refusals.{IfFault}
+use Rattle.pj_rule_parts.specs.Finding.{IsBefore, IsFound, IsFoundFault}
+use Rattle.pj_rule_parts.specs.Known.{AreRead}
+use Rattle.pj_rule_parts.specs.Referring.{IsNoForm, IsNothingFault, Leads}
+use Rattle.pj_rule_parts.specs.Refusals.{IfFault}
 use Rattle.pj_rules.specs.States.{IsFaultOf}
-use Rattle.pj_rules.specs.declared.fault.RuleFault.{RuleFault}
-use Rattle.pj_rules.specs.declared.look_up.Found.TheVariants.{Nowhere, Before, New}
+use Rattle.pj_rule_parts.specs.declared.fault.RuleFault.{RuleFault}
+use Rattle.pj_rule_parts.specs.declared.looking_up.Found.TheVariants.{Nowhere, Before, New}
 use Rattle.pj_rules.proofs.PartFacts.{before_fault, found_fault, leads_there, no_form_fault, nothing_fault, opens, takes_nothing, took_rule}
-use Rattle.pj_rules.proofs.Refusing.{fault_weaker, leaves, own_fault}
+use Rattle.pj_rule_parts.proofs.Refusing.{fault_weaker, leaves, own_fault, own_steady, stays_steady}
 use Rattle.pj_rules.proofs.reading.refer.Goals as goal
 
 pub returns-in_err-referral-clause-fault : goal.returns-in_err-referral-clause-fault
@@ -89,3 +89,26 @@ returns-in-New-clause-taken g c = λ files told known_files.
     let referral = c.in_ok-referral.referral in
     let found : IsFound files known file.path referral.target.file (New c.in-New.path c.in-New.written) = rw (c.in-New.is) at (c.in_ok-look_up.ensures.found files told known_files) in
     (refl, opens files known file c.args.rule referral c.in_ok-referral.ensures.value c.in-New.path c.in-New.written found.0 found.1 found.2)
+
+-- ---- a tree that never fails
+
+pub returns-in_err-referral-clause-steady : goal.returns-in_err-referral-clause-steady
+returns-in_err-referral-clause-steady g c = λ never.
+    let refused = c.in_err-referral.field-0.0 in
+    (never, stays_steady c.from_residual.result refused c.from_residual.ensures.1 (own_steady refused _ c.in_err-referral.ensures.fault))
+
+pub returns-in_err-take_nothing-in-Nowhere-clause-steady : goal.returns-in_err-take_nothing-in-Nowhere-clause-steady
+returns-in_err-take_nothing-in-Nowhere-clause-steady g c = λ never.
+    let refused = c.in_err-take_nothing-in-Nowhere.field-0.0 in (
+      (c.in_ok-look_up.ensures.steady never).0,
+      stays_steady c.from_residual-in_err-take_nothing-in-Nowhere.result refused c.from_residual-in_err-take_nothing-in-Nowhere.ensures.1
+          (own_steady refused _ c.in_err-take_nothing-in-Nowhere.ensures.fault),
+    )
+
+pub returns-in_err-take_known-in-Before-clause-steady : goal.returns-in_err-take_known-in-Before-clause-steady
+returns-in_err-take_known-in-Before-clause-steady g c = λ never.
+    let refused = c.in_err-take_known-in-Before.field-0.0 in (
+      (c.in_ok-look_up.ensures.steady never).0,
+      stays_steady c.from_residual-in_err-take_known-in-Before.result refused c.from_residual-in_err-take_known-in-Before.ensures.1
+          (own_steady refused _ c.in_err-take_known-in-Before.ensures.fault),
+    )

@@ -1,12 +1,12 @@
 use Rattle.std.proofs.Common.{List, ℕ, Bool, refl}
 use Rattle.pj_outside.specs.Files.{Files}
 use Rattle.pj_rule_texts.specs.declared.written.Part.TheVariants as part
-use Rattle.pj_rules.specs.Effective.{PartFault}
-use Rattle.pj_rules.specs.Refusals.{IfFault}
+use Rattle.pj_rule_parts.specs.Effective.{PartFault}
+use Rattle.pj_rule_parts.specs.Refusals.{IfFault}
 use Rattle.pj_rules.specs.States.{IsFaultOf, is_top}
-use Rattle.pj_rules.specs.declared.fault.RuleFault.{RuleFault}
+use Rattle.pj_rule_parts.specs.declared.fault.RuleFault.{RuleFault}
 use Rattle.pj_rules.proofs.PartFacts.{takes_rule}
-use Rattle.pj_rules.proofs.Refusing.{leaves, own_fault}
+use Rattle.pj_rule_parts.proofs.Refusing.{leaves, own_fault, own_steady, stays_steady}
 use Rattle.pj_rules.proofs.reading.take_rule.Goals as goal
 
 pub returns-in_err-define-in-None-clause-fault : goal.returns-in_err-define-in-None-clause-fault
@@ -23,3 +23,8 @@ returns-in_err-define-in-None-clause-fault g c = λ files told known_files.
 pub returns-in_ok-define-in-None-clause-taken : goal.returns-in_ok-define-in-None-clause-taken
 returns-in_ok-define-in-None-clause-taken g c = λ files told known_files.
     takes_rule files c.args.file.now _ c.args.rule refl refl refl refl (c.in_ok-define-in-None.ensures.adds files)
+
+pub returns-in_err-define-in-None-clause-steady : goal.returns-in_err-define-in-None-clause-steady
+returns-in_err-define-in-None-clause-steady g c = λ never.
+    let refused = c.in_err-define-in-None.field-0.0 in
+    (never, stays_steady c.from_residual-in_err-define-in-None.result refused c.from_residual-in_err-define-in-None.ensures.1 (own_steady refused _ c.in_err-define-in-None.ensures.fault))

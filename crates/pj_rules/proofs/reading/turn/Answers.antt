@@ -1,11 +1,11 @@
 use Rattle.std.proofs.Common.{List, ℕ, refl}
 use Rattle.std.proofs.lemmas.Result.{IfErr-weaker, IfOk-weaker}
 use Rattle.pj_outside.specs.Files.{Files}
-use Rattle.pj_rules.specs.Refusals.{IfFault, IfOwn}
+use Rattle.pj_rule_parts.specs.Refusals.{IfFault, IfOwn}
 use Rattle.pj_rules.specs.States.{GoesOn, IsDone, IsFaultOfTop}
-use Rattle.pj_rules.specs.declared.fault.RuleFault.{RuleFault}
+use Rattle.pj_rule_parts.specs.declared.fault.RuleFault.{RuleFault}
 use Rattle.pj_rules.specs.declared.reading.Next.{Next}
-use Rattle.pj_rules.proofs.Refusing.{own_fault, own_result}
+use Rattle.pj_rule_parts.proofs.Refusing.{own_fault, own_result, own_result_steady}
 use Rattle.pj_rules.proofs.Turns.{ends_next, takes_next}
 use Rattle.pj_rules.proofs.reading.turn.Goals as goal
 
@@ -39,3 +39,6 @@ returns-in-None-clause-fault g c = λ files top told stack.
     IfErr-weaker c.end_file.result (IfOwn own) (IfFault (IsFaultOfTop files top))
     (λ refused h. own_fault refused own (IsFaultOfTop files top)
     (λ fault f. f files top (ends_next files top known c.args.stack.below old file refl refl refl refl c.in-None.ensures.0 stack)) h) c.end_file.ensures.fault
+
+pub returns-in-None-clause-steady : goal.returns-in-None-clause-steady
+returns-in-None-clause-steady g c = λ never. (never, own_result_steady c.end_file.result _ c.end_file.ensures.fault)

@@ -2,13 +2,13 @@ use Rattle.std.proofs.Common.{◌≡◌, ◌∙◌, true, false, Some, None, [],
 use Rattle.std.proofs.lemmas.Result.{IfErr-weaker, IfOk-weaker}
 use Rattle.pj_outside.specs.Files.{Files}
 use Rattle.pj_rule_files.specs.Files.{GivesRead, is_there}
-use Rattle.pj_rules.specs.Finding.{IsFaultAt}
+use Rattle.pj_rule_parts.specs.Finding.{IsFaultAt}
 use Rattle.pj_rules.specs.Load.{IsTop, IsTopFault}
-use Rattle.pj_rules.specs.Refusals.{IfFault, IfOwn}
+use Rattle.pj_rule_parts.specs.Refusals.{IfFault, IfOwn}
 use Rattle.pj_rules.specs.States.{top_rules}
-use Rattle.pj_rules.specs.declared.fault.RuleFault.{RuleFault}
+use Rattle.pj_rule_parts.specs.declared.fault.RuleFault.{RuleFault}
 use Rattle.pj_rules.specs.declared.top.Top.{Top}
-use Rattle.pj_rules.proofs.Refusing.{fault_weaker, leaves, own_fault, own_result}
+use Rattle.pj_rule_parts.proofs.Refusing.{fault_weaker, leaves, own_fault, own_result, own_result_steady}
 use Rattle.pj_rules.proofs.top.read_top.Goals as goal
 
 pub returns-in_err-written-clause-fault : goal.returns-in_err-written-clause-fault
@@ -44,3 +44,6 @@ returns-in-None-clause-fault g c = λ files told are_read.
     let own : RuleFault → Type 0 = λ fault. (files : Files) → is_there files path ≡ false → IsTopFault files path fault in
     IfErr-weaker c.absent_top.result (IfOwn own) (IfFault (IsTopFault files path)) (λ refused h. own_fault refused own (IsTopFault files path) (λ fault f. f files gone) h)
     c.absent_top.ensures.fault
+
+pub returns-in-None-clause-steady : goal.returns-in-None-clause-steady
+returns-in-None-clause-steady g c = λ never. ((c.in_ok-written.ensures.steady never).0, own_result_steady c.absent_top.result _ c.absent_top.ensures.fault)

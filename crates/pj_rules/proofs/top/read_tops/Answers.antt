@@ -1,13 +1,13 @@
 use Rattle.std.proofs.Common.{◌∙◌, ◌≤◌, List, [], length, map, refl, sym, ap, subst, arith}
 use Rattle.std.proofs.lemmas.List.{take_all}
 use Rattle.pj_rule_texts.specs.Values.{Text}
-use Rattle.pj_rules.specs.Known.{AreRead, Read}
+use Rattle.pj_rule_parts.specs.Known.{AreRead, Read}
 use Rattle.pj_rules.specs.Load.{AreTops, IsFirstFault, IsTopFault}
-use Rattle.pj_rules.specs.Refusals.{IfFault}
+use Rattle.pj_rule_parts.specs.Refusals.{IfFault}
 use Rattle.pj_rules.specs.States.{top_rules}
-use Rattle.pj_rules.specs.declared.known.Known.{Known}
+use Rattle.pj_rule_parts.specs.declared.known.Known.{Known}
 use Rattle.pj_rules.specs.declared.top.Top.{Top}
-use Rattle.pj_rules.proofs.Refusing.{fault_weaker, leaves}
+use Rattle.pj_rule_parts.proofs.Refusing.{fault_weaker, leaves}
 use Rattle.pj_rules.proofs.TopFacts.{first_fault, next_top}
 use Rattle.pj_rules.proofs.top.read_tops.Goals as goal
 
@@ -31,6 +31,7 @@ loop-path-preserved g c =
     record {
       same_files = c.in_ok-top.ensures.same_files ∙ kept.same_files;
       same_faults = c.in_ok-top.ensures.counts_faults ∙ kept.same_faults;
+      steady = λ s. (c.in_ok-top.ensures.steady (kept.steady s)).0;
       read = λ files told. (c.in_ok-top.ensures.top files (kept.same_files ∙ told) (kept.read files told)).0;
       tops = λ files told.
           next_top files paths c.loop-path.path-index path c.loop-path-test.true c.path-item.is c.loop-path.tops (kept.tops files told) c.in_ok-top.top _ c.in_ok-push.ensures.ok
@@ -41,6 +42,7 @@ pub loop-path-init : goal.loop-path-init
 loop-path-init g c = record {
   same_files = refl;
   same_faults = refl;
+  steady = λ s. s;
   read = λ files told. subst (λ (read : Read). AreRead files read) (sym (ap (λ (known : Known). known.read) c.new-known.ensures)) tt;
   tops = λ files told. subst (λ (tops : List Top). AreTops files [] (map top_rules tops)) (sym c.new-tops.ensures) AreTops.none;
 }
