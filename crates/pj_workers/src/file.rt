@@ -26,6 +26,7 @@ use pj_attrs::{Facts, tokens_are_in_order};
 use pj_base::{Bytes, Copied, Names, NoMemory, Text};
 use pj_findings::{FoundList, RuleResult, RuleResults, error_rows, file_rows};
 use pj_lex::{Source, Token};
+use pj_names::AskFault;
 use pj_parse::{FileFault, FileRefused, Parsed, file_has_one_outcome, parse_file_by, read_file};
 use pj_peg::WellFormed;
 use pj_reports::FileRows;
@@ -51,8 +52,9 @@ fn active_result<'t>(
     trees_tell_expressions();
     match rule_result(file, rule, calls) {
         Ok(result) => Ok(result),
-        // Nothing is asked, so no class was refused.
-        Err(_) => Err(NoMemory),
+        Err(AskFault::Memory) => Err(NoMemory),
+        // Nothing is asked, so no class is refused.
+        Err(AskFault::Failed) => unreachable!(),
     }
 }
 
