@@ -1,26 +1,31 @@
 //! The program: `pmd check -d SOURCES -R RULESETS` over the real file system.
 #![tactic(auto)]
 
-ghost use Rattle.std.specs.Prelude.{◌≡◌, IfSome};
+ghost use Rattle.std.specs.Prelude.{◌≡◌, ◌≢◌, IfSome};
 ghost use Rattle.pj_check.specs.Notes.{GetNote, note_of};
 ghost use Rattle.pj_check.specs.Outcome.{CountsSinkFaults, CountsTreeFaults, KeepsSink, Says, SaysOfWords};
 
+mod real_class_path;
+mod real_file;
+mod real_keeper;
 mod real_sink;
 mod real_tree;
 #[cfg(test)]
 mod tests;
 
-use pj_base::{Numbers, Text, Words};
+use pj_base::{Text, Words};
 use pj_check::{Outcome, check_alone, put_outcome};
-use pj_outside::{ClassPath, Folders, Keeper, MemClassPath, MemKeeper, Pairs, Sink, Tree};
+use pj_outside::{ClassPath, Keeper, Sink, Tree};
 use pj_settings::UsageFault;
 use pj_workers::Work;
+use real_class_path::RealClassPath;
+use real_keeper::RealKeeper;
 use real_sink::RealSink;
 use real_tree::RealTree;
 use std::alloc::Global;
 use std::env::Env;
 use std::process::ExitCode;
-use std::{env, io};
+use std::{env, io, process};
 
 /// The top call: the cold run on one thread.
 fn run<T: Tree, C: ClassPath, K: Keeper, S: Sink, N: Sink>(
@@ -39,6 +44,7 @@ fn run<T: Tree, C: ClassPath, K: Keeper, S: Sink, N: Sink>(
     ensures notes { GetNote (note_of result) (N.held notes.old) (N.held notes.new) (N.faults notes.old) (N.faults notes.new) }
     ensures same_files { T.holds tree.new ≡ T.holds tree.old }
     ensures tree_faults { CountsTreeFaults result (T.faults tree.old) (T.faults tree.new) }
+    ensures steady { T.never_fails tree.old → result ≢ Outcome.TreeFault }
     ensures sink_faults { CountsSinkFaults result (S.faults out.old) (S.faults out.new) }
     ensures same_classes { classes.new ≡ classes.old }
     ensures same_keeper { keeper.new ≡ keeper.old }
@@ -71,16 +77,11 @@ fn main(rt: HostRuntime) -> ExitCode {
             return ExitCode::from(outcome.status());
         }
     };
-    let mut tree = RealTree::new(rt);
-    // The cold run looks for no class and keeps nothing: these are not called.
     let alloc = rt.alloc();
-    let mut classes = MemClassPath::new(
-        alloc,
-        Folders::new(alloc),
-        Numbers::new(alloc),
-        Pairs::new(alloc),
-    );
-    let mut keeper = MemKeeper::new(alloc, Numbers::new(alloc));
+    let mut tree = RealTree::new(rt);
+    // The cold run looks for no class and keeps nothing: these two are not called.
+    let mut classes = RealClassPath::new(rt);
+    let mut keeper = RealKeeper::new(rt, process::id(rt.process()));
     let mut out = RealSink::new(io::writer(&rt));
     let mut work = Work::new(alloc);
     let outcome = run(

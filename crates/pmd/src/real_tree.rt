@@ -1,17 +1,12 @@
 //! A tree over the files of the system.
-ghost use Rattle.std.specs.Prelude.{◌≡◌, ◌≤◌, length, None, IfOk, IfSome};
+ghost use Rattle.std.specs.Prelude.{None, IfOk};
 ghost use Rattle.pj_outside.specs.Files.{HasPath};
-ghost use Rattle.pj_outside.specs.Faults.{Rises};
 
-use pj_base::{Bytes, Names, Text};
+use crate::real_file::{fault, if_there, is_memory, read_at};
+use pj_base::{Names, Text};
 use pj_outside::{Reading, Refused, Tree};
-use std::alloc::Global;
-use std::io::Read;
 use std::rt::Files;
 use std::{fs, io};
-
-/// How many bytes are read at once.
-const PIECE: usize = 65_536;
 
 /// A tree over the files of the system, with paths as the working folder sees them. It tells nothing of its files.
 #[derive(Drop)]
@@ -24,44 +19,6 @@ impl<R: Files + AllocGlobal + Clone + Drop> RealTree<R> {
     /// A tree that has not failed yet.
     pub fn new(rt: R) -> RealTree<R> {
         RealTree { rt, faults: 0 }
-    }
-
-    fn fault(&mut self) -> Refused
-        ensures rises { Rises self.old.faults self.new.faults }
-        ensures failed { result ≡ Refused.Failed }
-    {
-        self.faults = self.faults.saturating_add(1);
-        Refused::Failed
-    }
-}
-
-/// The bytes of an opened file, or `None` where they are more than `most`.
-fn read_whole<F: Read>(alloc: Global, file: &mut F, most: u64) -> io::Result<Option<Vec<u8>>>
-    ensures { IfOk result (λ found. IfSome found (λ bytes. length bytes.items ≤ most)) }
-{
-    let mut bytes = Vec::new(alloc);
-    let mut piece = vec![in alloc; 0u8; PIECE]?;
-    'pieces: for _ in 0..u64::MAX {
-        let count = file.read(piece.as_mut_slice())?;
-        if count == 0 {
-            return Ok(Some(bytes));
-        }
-        bytes.extend_from_slice(&piece[..count])?;
-        if bytes.len() as u64 > most {
-            return Ok(None);
-        }
-    }
-    Ok(None)
-}
-
-/// What a call found, or `None` where what it was to look at is not there.
-fn if_there<T: Drop>(found: io::Result<T>) -> io::Result<Option<T>> {
-    match found {
-        Ok(found) => Ok(Some(found)),
-        Err(error) => match error.kind() {
-            io::ErrorKind::NotFound => Ok(None),
-            _ => Err(error),
-        },
     }
 }
 
@@ -126,7 +83,11 @@ fn list_at<R: Files + AllocGlobal + Clone + Drop>(rt: &R, at: &str) -> io::Resul
     let mut paths = Names::new(alloc);
     let mut folders = Vec::new(alloc);
     let first = String::from_str(alloc, at)?;
-    if fs::metadata(rt, at)?.is_dir() {
+    let found = match if_there(fs::metadata(rt, at))? {
+        Some(found) => found,
+        None => return Ok(None),
+    };
+    if found.is_dir() {
         folders.push(first)?;
     } else if paths.push(Text::from_string(first)).is_err() {
         return Err(io::Error::from(io::ErrorKind::OutOfMemory));
@@ -150,32 +111,16 @@ impl<R: Files + AllocGlobal + Clone + Drop> Tree for RealTree<R> {
     fn list(&mut self, at: &str) -> Result<Option<Names>, Refused> {
         match list_at(&self.rt, at) {
             Ok(paths) => Ok(paths),
-            Err(error) => match error.kind() {
-                io::ErrorKind::NotFound => Ok(None),
-                io::ErrorKind::OutOfMemory => Err(Refused::Memory),
-                _ => Err(self.fault()),
-            },
+            Err(error) if is_memory(&error) => Err(Refused::Memory),
+            Err(_) => Err(fault(&mut self.faults)),
         }
     }
 
     fn read(&mut self, path: &str, most: u64) -> Result<Reading, Refused> {
-        let mut file = match fs::open(&self.rt, path) {
-            Ok(file) => file,
-            Err(error) => {
-                return match error.kind() {
-                    io::ErrorKind::NotFound => Ok(Reading::Absent),
-                    io::ErrorKind::OutOfMemory => Err(Refused::Memory),
-                    _ => Err(self.fault()),
-                };
-            }
-        };
-        match read_whole(self.rt.alloc(), &mut file, most) {
-            Ok(Some(bytes)) => Ok(Reading::Whole(Bytes::from_vec(bytes))),
-            Ok(None) => Ok(Reading::Longer),
-            Err(error) => match error.kind() {
-                io::ErrorKind::OutOfMemory => Err(Refused::Memory),
-                _ => Err(self.fault()),
-            },
+        match read_at(&self.rt, path, most) {
+            Ok(reading) => Ok(reading),
+            Err(error) if is_memory(&error) => Err(Refused::Memory),
+            Err(_) => Err(fault(&mut self.faults)),
         }
     }
 }

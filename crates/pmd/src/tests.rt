@@ -1,10 +1,16 @@
-//! The real tree and sink once each, and the top call over the real tree.
+//! Each object over the real system once, and the top call over the real tree.
+use crate::real_class_path::RealClassPath;
+use crate::real_keeper::RealKeeper;
 use crate::real_sink::RealSink;
 use crate::real_tree::RealTree;
 use crate::run;
 use pj_base::{Names, Numbers, Text, Words};
 use pj_check::Outcome;
-use pj_outside::{Folders, MemClassPath, MemKeeper, MemSink, Pairs, Reading, Refused, Sink, Tree};
+use pj_names::ClassName;
+use pj_outside::{
+    ClassDoor, ClassPath, Failed, Folders, Keeper, MemClassPath, MemKeeper, MemSink, Pairs,
+    Reading, Refused, Sink, Tree,
+};
 use pj_workers::Work;
 use std::alloc::Global;
 use std::os::unix;
@@ -94,6 +100,72 @@ fn the_real_tree_lists_a_folder(rt: HostRuntime) -> Result<(), Fail> {
         _ => assert!(rt; false),
     }
     assert!(rt; matches!(none, Ok(None)));
+    Ok(())
+}
+
+/// Finds in two folders, of which one is not there, with at most three bytes.
+static FINDS: [(&str, &str); 4] = [
+    ("a.b.C", "whole"),
+    ("a.b.Long", "longer"),
+    ("a.b.D", "absent"),
+    ("a.b.Folder", "failed"),
+];
+
+fn make_classes(rt: &HostRuntime, top: &str) -> Result<(), Fail> {
+    let alloc = rt.alloc();
+    fs::create_dir_all(rt, format!(in alloc; "{top}/a/b/Folder.class")?.as_str())?;
+    fs::write(rt, format!(in alloc; "{top}/a/b/C.class")?.as_str(), "abc")?;
+    fs::write(
+        rt,
+        format!(in alloc; "{top}/a/b/Long.class")?.as_str(),
+        "abcd",
+    )?;
+    Ok(())
+}
+
+#[test]
+fn the_real_class_path_finds_class_files(rt: HostRuntime) -> Result<(), Fail> {
+    let alloc = rt.alloc();
+    let id = process::id(rt.process());
+    let top = format!(in alloc; "/tmp/pmd-test-classes-{id}")?;
+    make_classes(&rt, top.as_str())?;
+    let mut folders = Names::new(alloc);
+    folders.push(Text::from_str(alloc, "/tmp/pmd-no-such-folder")?)?;
+    folders.push(Text::from_str(alloc, top.as_str())?)?;
+    let mut classes = RealClassPath::new(rt);
+    let mut words = Vec::new(alloc);
+    if let Ok(mut door) = classes.open(&folders) {
+        for (name, _) in FINDS {
+            if let Ok(Some(name)) = ClassName::of(alloc, name) {
+                words.push(word(door.find(&name, 3)))?;
+            }
+        }
+        classes.shut(door);
+    }
+    fs::remove_dir_all(&rt, top.as_str())?;
+    assert_eq!(rt; words.len(), FINDS.len());
+    for (found, (_, wanted)) in words.iter().zip(FINDS) {
+        assert_eq!(rt; *found, wanted);
+    }
+    Ok(())
+}
+
+#[test]
+fn the_real_keeper_keeps_what_it_is_given(rt: HostRuntime) -> Result<(), Fail> {
+    let alloc = rt.alloc();
+    let id = process::id(rt.process());
+    let name = format!(in alloc; "/tmp/pmd-test-keeper-{id}")?;
+    let mut keeper = RealKeeper::new(rt, id);
+    assert_eq!(rt; word(keeper.load(name.as_str(), 3)), "absent");
+    assert_eq!(rt; keeper.replace(name.as_str(), b"abcd"), Ok(()));
+    assert_eq!(rt; word(keeper.load(name.as_str(), 3)), "longer");
+    assert_eq!(rt; keeper.replace(name.as_str(), b"abc"), Ok(()));
+    assert_eq!(rt; word(keeper.load(name.as_str(), 3)), "whole");
+    fs::remove_file(&rt, name.as_str())?;
+    assert_eq!(rt;
+        keeper.replace("/tmp/pmd-no-such-folder/name", b"a"),
+        Err(Failed)
+    );
     Ok(())
 }
 
