@@ -1,0 +1,38 @@
+-- What a turn along the candidates of a name comes to.
+use Rattle.std.proofs.Common.{◌≡◌, ℕ, ◌<◌, ◌-◌, suc, List, [], ◌∷◌, Option, None, Some, ap, arith, subst, sym, ◌∙◌}
+use Rattle.std.specs.Option.{option_map_or}
+use Rattle.pj_names.specs.ClassName.{Name}
+use Rattle.pj_names.specs.Asking.{Asking, bind, first_hit, or_else}
+use Rattle.pj_names.specs.AskingLaws.{ComesTo}
+use Rattle.pj_names.specs.Told.{Told}
+use Rattle.pj_symbols.specs.declared.class.Class.{Class as DeclaredClass}
+use Rattle.pj_written.specs.Names.{next_candidate}
+use Rattle.pj_imports.specs.Candidates.{candidates_from, found_class}
+
+-- what is left to look at, where so many candidates may still come
+abbrev pub rest_from : List DeclaredClass → ℕ → List ℕ → Asking (Option Name)
+rest_from classes left text = first_hit (found_class classes) (candidates_from left text)
+
+-- the candidates behind one
+abbrev pub behind : ℕ → Option (List ℕ) → List (List ℕ)
+behind left next = option_map_or (candidates_from left) next []
+
+one_more : (left : ℕ) (text : List ℕ) → 0 < left → candidates_from left text ≡ text ∷ behind (left - 1) (next_candidate text)
+one_more left text some = let more : left ≡ suc (left - 1) = omega (arith, some) in ap (λ n. candidates_from n text) more
+
+pub candidate-turn : {K : Type 0} {m : Asking (Option Name)} {t u : Told K} (classes : List DeclaredClass) (left : ℕ) (text : List ℕ) → 0 < left →
+    ComesTo m t (rest_from classes left text) u →
+    ComesTo m t (bind (found_class classes text) (λ hit. or_else hit (first_hit (found_class classes) (behind (left - 1) (next_candidate text))))) u
+candidate-turn {m = m} {t = t} {u = u} classes left text some so_far =
+    subst (λ (texts : List (List ℕ)). ComesTo m t (first_hit (found_class classes) texts) u) (one_more left text some) so_far
+
+-- the next candidate, where there is one
+pub candidate-next : {K : Type 0} {m : Asking (Option Name)} {t u : Told K} (classes : List DeclaredClass) (left fewer : ℕ) (next : Option (List ℕ)) (text : List ℕ) →
+    next ≡ Some text → left ≡ fewer → ComesTo m t (first_hit (found_class classes) (behind left next)) u → ComesTo m t (rest_from classes fewer text) u
+candidate-next {m = m} {t = t} {u = u} classes left fewer next text is same so_far =
+    subst (λ (n : ℕ). ComesTo m t (rest_from classes n text) u) same (subst (λ (o : Option (List ℕ)). ComesTo m t (first_hit (found_class classes) (behind left o)) u) is so_far)
+
+pub candidate-none : {K : Type 0} {m : Asking (Option Name)} {t u : Told K} (classes : List DeclaredClass) (left : ℕ) (next : Option (List ℕ)) →
+    next ≡ None → ComesTo m t (first_hit (found_class classes) (behind left next)) u → ComesTo m t (first_hit (found_class classes) []) u
+candidate-none {m = m} {t = t} {u = u} classes left next is so_far =
+    subst (λ (o : Option (List ℕ)). ComesTo m t (first_hit (found_class classes) (behind left o)) u) is so_far
