@@ -1,0 +1,6 @@
+mod Told
+mod Explaining
+mod Gathering
+mod Ending
+mod Excluding
+mod Once

@@ -1,0 +1,7 @@
+-- definitions
+pub mod Calls
+pub mod Expressions
+pub mod Faults
+pub mod Patterns
+-- private clauses alone cite this
+pub mod Refusals

@@ -1,0 +1,19 @@
+//! Laws of the definitions. The functions do nothing, and their contracts are the laws.
+ghost use Rattle.pj_rules.specs.Laws.{OneList, OneSet, RulesOrFault};
+
+use pj_markup::one_reading;
+
+/// A file has one list of rules at most, and the files that are named have one set of rules at most.
+pub fn one_set()
+    ensures list { OneList }
+    ensures set { OneSet }
+{
+    one_reading();
+}
+
+/// Where no rule's texts can be used and are at fault, the files that are named do not have both a set of rules and a first fault.
+pub fn rules_or_fault()
+    ensures { RulesOrFault }
+{
+    one_reading();
+}
