@@ -1,0 +1,19 @@
+//! What rules mean at a file, and at all files together, and the analysis of a file.
+//!
+//! `specs/FileMeaning.antt` says what rules mean at a file: the head of the file with the meaning of each rule, merged.
+#![tactic(auto)]
+
+mod analysis;
+mod fault;
+mod file;
+pub mod laws;
+mod no_types;
+mod result;
+mod view;
+mod work;
+
+pub use fault::fault_message;
+pub use file::analyse_file;
+pub use no_types::NoTypes;
+pub use result::FileResult;
+pub use work::Work;
