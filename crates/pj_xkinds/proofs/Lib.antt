@@ -1,0 +1,13 @@
+pub mod Faultless
+pub mod Fit
+pub mod FitCalls
+pub mod FitBinders
+pub mod FitReads
+pub mod Derives
+pub mod Read
+pub mod Gentle
+pub mod SpelledTokens
+pub mod SpelledReads
+pub mod TextTokens
+pub mod Meanings
+pub mod DeepReads
