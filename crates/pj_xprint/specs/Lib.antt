@@ -1,0 +1,4 @@
+-- the printed form
+pub mod Printed
+-- what abbreviations stand for
+pub mod Abbreviations
