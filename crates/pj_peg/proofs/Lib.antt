@@ -1,0 +1,27 @@
+pub mod Lists
+pub mod Unique
+pub mod Reaching
+pub mod Exists
+pub mod Nodes
+pub mod Forms
+pub mod Roots
+pub mod Cells
+pub mod Preorder
+pub mod Emitting
+pub mod Nullable
+pub mod FactsLemmas
+pub mod Sets
+pub mod Turns
+pub mod Marking
+pub mod Begun
+pub mod Placing
+pub mod Checking
+pub mod Going
+pub mod Filling
+pub mod Ordering
+pub mod Beginning
+mod Growing
+pub mod Collecting
+pub mod Placed
+pub mod Decided
+pub mod Started

@@ -1,0 +1,17 @@
+use Rattle.std.proofs.Common.{◌+◌, ◌-◌, ◌<◌, ◌≤◌, length}
+use Rattle.pj_peg.specs.Program.{form_at, forms_in}
+use Rattle.pj_peg.proofs.Collecting.{IsCollecting}
+use Rattle.pj_peg.proofs.runner.+add_calls.Given as goal
+
+abbrev pub invariant-loop-rule : goal.invariant-loop-rule
+invariant-loop-rule l = record {
+  there : l.node < length l.program.nodes.items;
+  down : l.node ≤ l.fn.root;
+  collecting : IsCollecting l.program l.kinds (form_at (forms_in l.program.nodes.items) l.fn.root) l.fn.from l.fn.calls.items (form_at (forms_in l.program.nodes.items) l.node) l.place l.calls.items;
+}
+
+abbrev pub decreases-loop-rule : goal.decreases-loop-rule
+decreases-loop-rule l = l.node + (length l.kinds - l.place)
+
+abbrev pub decreases-add_calls : goal.decreases-add_calls
+decreases-add_calls l = l.root

@@ -1,0 +1,3 @@
+pub mod Judging
+pub mod Lists
+pub mod OneAnswer

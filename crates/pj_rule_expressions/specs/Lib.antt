@@ -1,0 +1,9 @@
+-- definitions
+pub mod Calls
+pub mod Expressions
+pub mod Faults
+pub mod Patterns
+-- laws
+pub mod Laws
+-- private clauses alone cite this
+pub mod Refusals

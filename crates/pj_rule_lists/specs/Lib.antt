@@ -1,0 +1,4 @@
+-- definitions
+pub mod Lists
+-- a private clause alone cites this
+pub mod Taking
