@@ -4,8 +4,8 @@
 # It makes a scratch repository of the library and of a small program, proves both (which takes minutes where nothing of them
 # is kept on this machine), and runs the program. The program prints a row for each size: rules, token kinds, milliseconds of
 # processor time, and the peak of resident memory so far; sizes rise within a series, so the peak is that of the row. Time and
-# memory should rise in proportion to rules times kinds: the table takes four bytes for each place and each rule or
-# repetition. The third series is the test of grammars, over chains of rules that can take nothing, where it is quadratic.
+# memory should rise in proportion to rules times kinds: the table takes four bytes for each place and each rule or repetition
+# that the token there does not rule out, and here none is. The third series is the test of grammars, over chains of rules that can take nothing, where it is quadratic.
 set -euo pipefail
 . "$(dirname "$0")/scratch.sh"
 scratch_repository peg_bench 'pj_peg' pj_base pj_peg

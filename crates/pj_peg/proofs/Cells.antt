@@ -1,10 +1,13 @@
 -- The cells of a table of rows.
-use Rattle.std.proofs.Common.{◌≡◌, ℕ, ◌+◌, ◌<◌, List, [], ◌∷◌, ◌++◌, length, map, Vec, Global, Option, Some, None, refl, sym, ◌∙◌, subst, ap, ⊎_elim, arith, get_or, IsSome, is_some}
+use Rattle.std.proofs.Common.{◌≡◌, ℕ, ◌+◌, ◌<◌, ◌≤◌, List, [], ◌∷◌, ◌++◌, length, map, Vec, Global, Option, Some, None, refl, sym, ◌∙◌, subst, ap, ⊎_elim, arith, get_or, IsSome, is_some}
 use Rattle.std.specs.Prelude.{slice_get, slice_set}
 use Rattle.std.specs.Option.{option_map, option_and_then}
 use Rattle.std.specs.Vec.{with_item}
 use Rattle.std.proofs.lemmas.Option.{slice_get_within, slice_get-map, get_or_from_slice_get}
 use Rattle.std.proofs.lemmas.Bool.{cases_eq}
+use Rattle.std.proofs.lemmas.List.{length_push}
+use Rattle.pj_peg.specs.declared.slots.KindSlots.{KindSlots}
+use Rattle.pj_peg.specs.Slots.{row_number}
 use Rattle.pj_peg.specs.Table.{cell_at}
 use Rattle.pj_peg.proofs.Lists.{some_same, found, get_push_cases, set_here, set_other}
 
@@ -66,27 +69,32 @@ module _ (rows : List Row) (i r : ℕ) (v : Option ℕ) (d : Row) (is_row : d �
       (slice_get-map cells_of after j ∙ ap (option_map cells_of) (set_other rows i j (with_item d r v) other) ∙ sym (slice_get-map cells_of rows j)))
       (cases_eq j i)
 
--- rows of that many cells, which all fail
-pub record AreRows (rows : List Row) (n columns : ℕ) : Type 0 where
+-- the first rows of a text, of which each has nothing in its slots
+pub record AreUnknown (kinds : List ℕ) (slots : List KindSlots) (rows : List Row) (n : ℕ) : Type 0 where
   pub count : length rows ≡ n
-  pub fails : (i c : ℕ) (row : Row) → slice_get rows i ≡ Some row → c < columns → slice_get row.items c ≡ Some None
+  pub unknown : (i s : ℕ) (here : KindSlots) (row : Row) → slice_get rows i ≡ Some row → slice_get slots (row_number kinds i) ≡ Some here → s < here.width → slice_get row.items s ≡ Some None
 
-pub rows_more : (rows rows' : List Row) (row : Row) (n columns : ℕ) → AreRows rows n columns → rows' ≡ rows ++ row ∷ [] →
-    ((c : ℕ) → c < columns → slice_get row.items c ≡ Some None) → AreRows rows' (n + 1) columns
-rows_more rows rows' row n columns are is none = record {
-  count = ap length is ∙ length_push rows ∙ ap (λ m. m + 1) are.count;
-  fails = λ i c x at lt. ⊎_elim
-      (λ (h : slice_get rows i ≡ Some x). are.fails i c x h lt)
-      (λ (h : (i ≡ length rows) × (row ≡ x)). ap (λ (y : Row). slice_get y.items c) (sym h.1) ∙ none c lt)
-      (get_push_cases rows row i x (ap (λ l. slice_get l i) (sym is) ∙ at));
+pub unknown_none : (kinds : List ℕ) (slots : List KindSlots) (rows : List Row) → rows ≡ [] → AreUnknown kinds slots rows 0
+unknown_none kinds slots rows is = record {
+  count = ap length is;
+  unknown = λ i s here row at _ _. absurd (let z = sym (ap (λ l. slice_get l i) is) ∙ at in cc);
 }
-  where
-    length_push : (xs : List Row) → length (xs ++ row ∷ []) ≡ length xs + 1
-    length_push [] = refl
-    length_push (x ∷ xs) = let h = length_push xs in omega arith
 
-pub rows_cells : (rows : List Row) (n columns i c : ℕ) → AreRows rows n columns → i < n → c < columns → cell_at (map cells_of rows) i c ≡ Some None
-rows_cells rows n columns i c are lt within =
+pub unknown_more : (kinds : List ℕ) (slots : List KindSlots) (rows rows' : List Row) (row : Row) (n : ℕ) (here : KindSlots) → AreUnknown kinds slots rows n → rows' ≡ rows ++ row ∷ [] →
+    slice_get slots (row_number kinds n) ≡ Some here → ((s : ℕ) → s < here.width → slice_get row.items s ≡ Some None) → AreUnknown kinds slots rows' (n + 1)
+unknown_more kinds slots rows rows' row n here are is at none = record {
+  count = ap length is ∙ length_push rows row ∙ ap (λ m. m + 1) are.count;
+  unknown = λ i s there x found_row found_slots lt. ⊎_elim
+      (λ (h : slice_get rows i ≡ Some x). are.unknown i s there x h found_slots lt)
+      (λ (h : (i ≡ length rows) × (row ≡ x)).
+      let same : there ≡ here = some_same (sym (ap (λ m. slice_get slots (row_number kinds m)) (h.0 ∙ are.count)) ∙ found_slots) at in
+      ap (λ (y : Row). slice_get y.items s) (sym h.1) ∙ none s (subst (λ (y : KindSlots). s < y.width) same lt))
+      (get_push_cases rows row i x (sym (ap (λ l. slice_get l i) is) ∙ found_row));
+}
+
+pub unknown_cells : (kinds : List ℕ) (slots : List KindSlots) (rows : List Row) (n : ℕ) → AreUnknown kinds slots rows n → (i s : ℕ) (here : KindSlots) → i < n → slice_get slots (row_number kinds i) ≡ Some here → s < here.width →
+    cell_at (map cells_of rows) i s ≡ Some None
+unknown_cells kinds slots rows n are i s here lt at within =
     let count = are.count in
     let (row, is) = found rows i (omega arith) in
-    cell_row rows i c row is ∙ are.fails i c row is within
+    cell_row rows i s row is ∙ are.unknown i s here row is at within

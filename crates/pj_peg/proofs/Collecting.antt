@@ -1,18 +1,19 @@
 -- The calls by which a form goes, part by part.
-use Rattle.std.proofs.Common.{◌≡◌, ℕ, ◌<◌, ◌≤◌, ◌⊎◌, List, [], ◌∷◌, ◌++◌, length, Option, Some, None, refl, sym, ◌∙◌, subst, ap, inl, inr, arith, append_assoc, get_or}
+use Rattle.std.proofs.Common.{◌≡◌, ℕ, ◌<◌, ◌≤◌, ◌⊎◌, List, [], ◌∷◌, ◌++◌, length, Option, Some, None, refl, sym, ◌∙◌, subst, ap, inl, inr, append_assoc, get_or}
+use Rattle.std.specs.Prelude.{take}
+use Rattle.std.proofs.Math.Seq.{take-append_seam}
 use Rattle.pj_peg.specs.declared.program.Node.{Node}
 use Rattle.pj_peg.specs.declared.program.Node.TheVariants.{Token, Any, Nothing, Never, And, Not}
 use Rattle.pj_peg.specs.declared.program.Program.{Program}
-use Rattle.pj_peg.specs.declared.fill.Call.{Call}
+use Rattle.pj_peg.specs.declared.calls.Call.{Call}
 use Rattle.pj_peg.specs.Form.{Form, token, any, rule, nothing, seq, never, choice, star, maybe, ahead, not_ahead}
 use Rattle.pj_peg.specs.Derivation.{Forest, no_tree, tree, append}
-use Rattle.pj_peg.specs.Derives.{Outcome, To, Derives, token_is, any_is, nothing_to, seq_to, choice_first, choice_other, star_more, star_end, maybe_some, ahead_is, not_ahead_is}
+use Rattle.pj_peg.specs.Derives.{Outcome, To, Fails, Derives, token_is, any_is, nothing_to, seq_to, seq_first, seq_second, choice_first, choice_other, star_more, star_end, maybe_some, maybe_none, ahead_is, not_ahead_is}
 use Rattle.pj_peg.specs.Program.{IsProgram, rules_of, forms_in, form_at, node_form}
-use Rattle.pj_peg.specs.Ends.{Ends, AreCalls, Makes, Collects, AreTold, IsSafe, IsReady}
+use Rattle.pj_peg.specs.Ends.{Ends, AreCalls, Makes, Collects, IsSafe}
 use Rattle.pj_peg.proofs.Lists.{append_nil}
 use Rattle.pj_peg.proofs.Nodes.{node_at}
-use Rattle.pj_peg.proofs.Unique.{unique, to_place}
-use Rattle.pj_peg.proofs.Going.{ends_within, moved, told_on, at_index}
+use Rattle.pj_peg.proofs.Going.{ends_within, at_index, seq_rest_safe, choice_rest_safe}
 
 pub append_no_tree : (d : Forest) → append d no_tree ≡ d
 append_no_tree no_tree = refl
@@ -28,29 +29,6 @@ module _ (rules : List Form) (kinds : List ℕ) where
 
   abbrev E : Form → ℕ → Option ℕ → Type 0
   E = Ends rules kinds
-
-  pub never_both : {f : Form} {i j : ℕ} → E f i (Some j) → E f i None → ⊥
-  never_both (d, x) y = let z = unique rules kinds x y in cc
-
-  pub same_end : {f : Form} {i j k : ℕ} → E f i (Some j) → E f i (Some k) → j ≡ k
-  same_end (d, x) (e, y) = to_place (unique rules kinds x y)
-
-  seq_parts : (a b : Form) (i k : ℕ) → E (seq a b) i (Some k) → (m : ℕ) × E a i (Some m) × E b m (Some k)
-  seq_parts a b i k (d, seq_to {j} {d = x} {e = y} p q) = (j, (x, p), (y, q))
-
-  pub seq_first_goes : (a b : Form) (i k : ℕ) → E (seq a b) i (Some k) → (m : ℕ) × E a i (Some m)
-  seq_first_goes a b i k e = let (m, x, y) = seq_parts a b i k e in (m, x)
-
-  pub seq_rest_goes : (a b : Form) (i k m : ℕ) → E (seq a b) i (Some k) → E a i (Some m) → (n : ℕ) × E b m (Some n)
-  seq_rest_goes a b i k m e h = let (n, x, y) = seq_parts a b i k e in (k, subst (λ o. E b o (Some k)) (same_end x h) y)
-
-  pub choice_other_goes : (a b : Form) (i k : ℕ) → E (choice a b) i (Some k) → E a i None → (n : ℕ) × E b i (Some n)
-  choice_other_goes a b i k (d, choice_first x) h = absurd (never_both (d, x) h)
-  choice_other_goes a b i k (d, choice_other x y) h = (k, (d, y))
-
-  pub star_rest_goes : (a : Form) (i k m : ℕ) → E (star a) i (Some k) → E a i (Some m) → (n : ℕ) × E (star a) m (Some n)
-  star_rest_goes a i k m (d, star_more {j} {d = x} {e = y} p q) h = (k, subst (λ o. E (star a) o (Some k)) (same_end (x, p) h) (y, q))
-  star_rest_goes a i k m (d, star_end x) h = absurd (never_both h x)
 
   pub calls-append : (cs ks : List Call) (d e : Forest) → AreCalls rules kinds cs d → AreCalls rules kinds ks e → AreCalls rules kinds (cs ++ ks) (append d e)
   calls-append [] ks d e h k = subst (λ l. AreCalls rules kinds ks (append l e)) (sym h) k
@@ -99,21 +77,29 @@ module _ (p : Program) (kinds : List ℕ) where
   pub record IsCollecting (f : Form) (i : ℕ) (old : List Call) (g : Form) (j : ℕ) (now : List Call) : Type 0 where
     pub within : j ≤ length kinds
     pub safe : IsSafe p g
-    pub end : ℕ
-    pub goes : Ends (rules_of p) kinds g j (Some end)
     pub so_far : List Call
     pub now_is : now ≡ old ++ so_far
     pub onto : (k : ℕ) (cs : List Call) → Makes (rules_of p) kinds g j k cs → Makes (rules_of p) kinds f i k (so_far ++ cs)
+    pub fails : Derives (rules_of p) kinds g j Fails → Derives (rules_of p) kinds f i Fails
 
-  pub collecting_starts : (f : Form) (i : ℕ) (old : List Call) → i ≤ length kinds → IsSafe p f → (j : ℕ) × Ends (rules_of p) kinds f i (Some j) → IsCollecting f i old f i old
-  collecting_starts f i old within safe (j, x) = record {
+  -- what was collected, under another name of the end
+  pub collected : (f : Form) (i : ℕ) (old new : List Call) (o q : Option ℕ) → o ≡ q → Collects (rules_of p) kinds f i old new o → Collects (rules_of p) kinds f i old new q
+  collected f i old new o q same c = subst (Collects (rules_of p) kinds f i old new) same c
+
+  pub collects_within : (f : Form) (i j : ℕ) (old new : List Call) → i ≤ length kinds → Collects (rules_of p) kinds f i old new (Some j) → (i ≤ j) × (j ≤ length kinds)
+  collects_within f i j old new within (cs, is, makes) = ends_within p kinds f i j within (makes.0, makes.1)
+
+  pub collects_ends : (f : Form) (i j : ℕ) (old new : List Call) → Collects (rules_of p) kinds f i old new (Some j) → Ends (rules_of p) kinds f i (Some j)
+  collects_ends f i j old new (cs, is, makes) = (makes.0, makes.1)
+
+  pub collecting_starts : (f : Form) (i : ℕ) (old : List Call) → i ≤ length kinds → IsSafe p f → IsCollecting f i old f i old
+  collecting_starts f i old within safe = record {
     within = within;
     safe = safe;
-    end = j;
-    goes = x;
     so_far = [];
     now_is = append_nil old;
     onto = λ k cs h. h;
+    fails = λ h. h;
   }
 
   pub collecting_form : {f : Form} {i : ℕ} {old : List Call} {g h : Form} {j : ℕ} {now : List Call} → g ≡ h → IsCollecting f i old g j now → IsCollecting f i old h j now
@@ -122,121 +108,100 @@ module _ (p : Program) (kinds : List ℕ) where
   regroup : (old now new xs cs : List Call) → now ≡ old ++ xs → new ≡ now ++ cs → new ≡ old ++ (xs ++ cs)
   regroup old now new xs cs h q = q ∙ ap (λ l. l ++ cs) h ∙ append_assoc old xs cs
 
+  -- the calls of a part that failed were taken away
+  cut_back : (now mid new cs : List Call) (count : ℕ) → mid ≡ now ++ cs → count ≡ length now → new ≡ take count mid → new ≡ now
+  cut_back now mid new cs count is len cut = cut ∙ ap (λ n. take n mid) len ∙ ap (take (length now)) is ∙ take-append_seam now cs
+
   -- the last calls
-  pub collecting_done : (f : Form) (i : ℕ) (old : List Call) (g : Form) (j : ℕ) (now new cs : List Call) → IsCollecting f i old g j now → new ≡ now ++ cs →
-      (k : ℕ) × Makes (rules_of p) kinds g j k cs → Collects (rules_of p) kinds f i old new
-  collecting_done f i old g j now new cs c is (k, makes) = (c.so_far ++ cs, regroup old now new c.so_far cs c.now_is is, (k, c.onto k cs makes))
+  collecting_done : (f : Form) (i : ℕ) (old : List Call) (g : Form) (j : ℕ) (now new cs : List Call) (k : ℕ) → IsCollecting f i old g j now → new ≡ now ++ cs →
+      Makes (rules_of p) kinds g j k cs → Collects (rules_of p) kinds f i old new (Some k)
+  collecting_done f i old g j now new cs k c is makes = (c.so_far ++ cs, regroup old now new c.so_far cs c.now_is is, c.onto k cs makes)
 
-  pub plain_done : (f : Form) (i : ℕ) (old : List Call) (g : Form) (j : ℕ) (now : List Call) → IsCollecting f i old g j now →
-      ((k : ℕ) (d : Forest) → Derives (rules_of p) kinds g j (To k d) → d ≡ no_tree) → Collects (rules_of p) kinds f i old now
-  plain_done f i old g j now c empty =
-      let (d, x) = c.goes in
-      collecting_done f i old g j now now [] c (append_nil now) (c.end, (d, x, empty c.end d x))
+  collecting_fails : (f : Form) (i : ℕ) (old : List Call) (g : Form) (j : ℕ) (now new cs : List Call) → IsCollecting f i old g j now → new ≡ now ++ cs →
+      Derives (rules_of p) kinds g j Fails → Collects (rules_of p) kinds f i old new None
+  collecting_fails f i old g j now new cs c is fails = (c.so_far ++ cs, regroup old now new c.so_far cs c.now_is is, c.fails fails)
 
-  pub empty_done : (f : Form) (i : ℕ) (old : List Call) (g : Form) (j : ℕ) (now : List Call) → IsCollecting f i old g j now →
-      Derives (rules_of p) kinds g j (To j no_tree) → Collects (rules_of p) kinds f i old now
-  empty_done f i old g j now c x = collecting_done f i old g j now now [] c (append_nil now) (j, (no_tree, x, refl))
+  pub nothing_collected : (f : Form) (i : ℕ) (old : List Call) → Derives (rules_of p) kinds f i Fails → Collects (rules_of p) kinds f i old old None
+  nothing_collected f i old fails = ([], append_nil old, fails)
+
+  pub plain_done : (f : Form) (i : ℕ) (old : List Call) (g : Form) (j : ℕ) (now : List Call) (o : Option ℕ) → IsCollecting f i old g j now →
+      ((k : ℕ) (d : Forest) → Derives (rules_of p) kinds g j (To k d) → d ≡ no_tree) → Ends (rules_of p) kinds g j o → Collects (rules_of p) kinds f i old now o
+  plain_done f i old g j now (Some k) c empty (d, x) = collecting_done f i old g j now now [] k c (append_nil now) (d, x, empty k d x)
+  plain_done f i old g j now None c empty x = collecting_fails f i old g j now now [] c (append_nil now) x
 
   pub rule_done : (f : Form) (i : ℕ) (old : List Call) (r j k : ℕ) (now new : List Call) → IsCollecting f i old (rule r) j now → Ends (rules_of p) kinds (rule r) j (Some k) →
-      new ≡ now ++ (record { rule = r; from = j; to = k }) ∷ [] → Collects (rules_of p) kinds f i old new
+      new ≡ now ++ (record { rule = r; from = j; to = k }) ∷ [] → Collects (rules_of p) kinds f i old new (Some k)
   rule_done f i old r j k now new c (d, x) is =
-      collecting_done f i old (rule r) j now new _ c is (k, (d, x, (d, no_tree, c.within, x, refl, sym (append_no_tree d))))
+      collecting_done f i old (rule r) j now new _ k c is (d, x, (d, no_tree, c.within, x, refl, sym (append_no_tree d)))
 
-  pub seq_part_safe : (a b : Form) → IsSafe p (seq a b) → IsSafe p a
-  seq_part_safe a b s = record { known = λ r h. s.known r (inl h); repeats = λ q h. s.repeats q (inl h) }
+  pub form_fails : (f : Form) (i : ℕ) (old : List Call) (g : Form) (j : ℕ) (now : List Call) → IsCollecting f i old g j now → Ends (rules_of p) kinds g j None → Collects (rules_of p) kinds f i old now None
+  form_fails f i old g j now c x = collecting_fails f i old g j now now [] c (append_nil now) x
 
-  seq_rest_safe : (a b : Form) → IsSafe p (seq a b) → IsSafe p b
-  seq_rest_safe a b s = record { known = λ r h. s.known r (inr h); repeats = λ q h. s.repeats q (inr h) }
-
-  pub choice_part_safe : (a b : Form) → IsSafe p (choice a b) → IsSafe p a
-  choice_part_safe a b s = record { known = λ r h. s.known r (inl h); repeats = λ q h. s.repeats q (inl h) }
-
-  choice_rest_safe : (a b : Form) → IsSafe p (choice a b) → IsSafe p b
-  choice_rest_safe a b s = record { known = λ r h. s.known r (inr h); repeats = λ q h. s.repeats q (inr h) }
-
-  pub star_part_safe : (a : Form) → IsSafe p (star a) → IsSafe p a
-  star_part_safe a s = record { known = s.known; repeats = λ q h. s.repeats q (inr h) }
-
-  pub maybe_part_safe : (a : Form) → IsSafe p (maybe a) → IsSafe p a
-  maybe_part_safe a s = record { known = s.known; repeats = s.repeats }
-
-  -- what a part collected ends where the part ends
-  makes_to : (a : Form) (j k m : ℕ) (cs : List Call) → Ends (rules_of p) kinds a j (Some k) → Makes (rules_of p) kinds a j m cs → Makes (rules_of p) kinds a j k cs
-  makes_to a j k m cs e (d, x, h) = subst (λ n. Makes (rules_of p) kinds a j n cs) (same_end (rules_of p) kinds (d, x) e) (d, x, h)
-
-  pub seq_collects : (f : Form) (i : ℕ) (old : List Call) (a b : Form) (j k : ℕ) (now new : List Call) (table : List (List (Option ℕ))) → IsCollecting f i old (seq a b) j now →
-      Collects (rules_of p) kinds a j now new → Ends (rules_of p) kinds a j (Some k) → IsCollecting f i old b k new
-  seq_collects f i old a b j k now new table c (cs, is, (m, makes)) e =
-      let (n, rest) = seq_rest_goes (rules_of p) kinds a b j c.end k c.goes e in
-      record {
-        within = (ends_within p kinds table a j k c.within e).1;
-        safe = seq_rest_safe a b c.safe;
-        end = n;
-        goes = rest;
-        so_far = c.so_far ++ cs;
-        now_is = regroup old now new c.so_far cs c.now_is is;
-        onto = λ o ks y. subst (Makes (rules_of p) kinds f i o) (sym (append_assoc c.so_far cs ks))
-            (c.onto o (cs ++ ks) (seq_makes (rules_of p) kinds a b j k o cs ks (makes_to a j k m cs e makes) y));
-      }
-
-  pub choice_collects_other : (f : Form) (i : ℕ) (old : List Call) (a b : Form) (j : ℕ) (now : List Call) → IsCollecting f i old (choice a b) j now →
-      Ends (rules_of p) kinds a j None → IsCollecting f i old b j now
-  choice_collects_other f i old a b j now c e =
-      let (n, rest) = choice_other_goes (rules_of p) kinds a b j c.end c.goes e in
-      record {
-        within = c.within;
-        safe = choice_rest_safe a b c.safe;
-        end = n;
-        goes = rest;
-        so_far = c.so_far;
-        now_is = c.now_is;
-        onto = λ o ks y. c.onto o ks (y.0, choice_other e y.1, y.2);
-      }
-
-  pub choice_collects_first : (f : Form) (i : ℕ) (old : List Call) (a b : Form) (j k : ℕ) (now : List Call) → IsCollecting f i old (choice a b) j now →
-      Ends (rules_of p) kinds a j (Some k) → IsCollecting f i old a j now
-  choice_collects_first f i old a b j k now c e = record {
-    within = c.within;
-    safe = choice_part_safe a b c.safe;
-    end = k;
-    goes = e;
-    so_far = c.so_far;
-    now_is = c.now_is;
-    onto = λ o ks y. c.onto o ks (y.0, choice_first y.1, y.2);
+  pub seq_collects : (f : Form) (i : ℕ) (old : List Call) (a b : Form) (j k : ℕ) (now new : List Call) → IsCollecting f i old (seq a b) j now →
+      Collects (rules_of p) kinds a j now new (Some k) → IsCollecting f i old b k new
+  seq_collects f i old a b j k now new c (cs, is, makes) = record {
+    within = (ends_within p kinds a j k c.within (makes.0, makes.1)).1;
+    safe = seq_rest_safe p kinds a b c.safe;
+    so_far = c.so_far ++ cs;
+    now_is = regroup old now new c.so_far cs c.now_is is;
+    onto = λ o ks y. subst (Makes (rules_of p) kinds f i o) (sym (append_assoc c.so_far cs ks))
+        (c.onto o (cs ++ ks) (seq_makes (rules_of p) kinds a b j k o cs ks makes y));
+    fails = λ y. c.fails (seq_second makes.1 y);
   }
 
-  pub star_collects : (f : Form) (i : ℕ) (old : List Call) (a : Form) (j k : ℕ) (now new : List Call) (table : List (List (Option ℕ))) → IsCollecting f i old (star a) j now →
-      Ends (rules_of p) kinds a j (Some k) → Collects (rules_of p) kinds a j now new → IsCollecting f i old (star a) k new
-  star_collects f i old a j k now new table c e (cs, is, (m, makes)) =
-      let (n, rest) = star_rest_goes (rules_of p) kinds a j c.end k c.goes e in
-      record {
-        within = (ends_within p kinds table a j k c.within e).1;
-        safe = c.safe;
-        end = n;
-        goes = rest;
-        so_far = c.so_far ++ cs;
-        now_is = regroup old now new c.so_far cs c.now_is is;
-        onto = λ o ks y. subst (Makes (rules_of p) kinds f i o) (sym (append_assoc c.so_far cs ks))
-            (c.onto o (cs ++ ks) (star_makes (rules_of p) kinds a j k o cs ks (makes_to a j k m cs e makes) y));
-      }
+  pub seq_fails : (f : Form) (i : ℕ) (old : List Call) (a b : Form) (j : ℕ) (now new : List Call) → IsCollecting f i old (seq a b) j now →
+      Collects (rules_of p) kinds a j now new None → Collects (rules_of p) kinds f i old new None
+  seq_fails f i old a b j now new c (cs, is, x) = collecting_fails f i old (seq a b) j now new cs c is (seq_first x)
 
-  pub maybe_collects : (f : Form) (i : ℕ) (old : List Call) (a : Form) (j k : ℕ) (now : List Call) → IsCollecting f i old (maybe a) j now →
-      Ends (rules_of p) kinds a j (Some k) → IsCollecting f i old a j now
-  maybe_collects f i old a j k now c e = record {
+  pub choice_collects : (f : Form) (i : ℕ) (old : List Call) (a b : Form) (j count : ℕ) (now mid new : List Call) → IsCollecting f i old (choice a b) j now →
+      Collects (rules_of p) kinds a j now mid None → count ≡ length now → new ≡ take count mid → IsCollecting f i old b j new
+  choice_collects f i old a b j count now mid new c (cs, is, x) len cut = record {
     within = c.within;
-    safe = maybe_part_safe a c.safe;
-    end = k;
-    goes = e;
+    safe = choice_rest_safe p kinds a b c.safe;
     so_far = c.so_far;
-    now_is = c.now_is;
-    onto = λ o ks y. c.onto o ks (y.0, maybe_some y.1, y.2);
+    now_is = cut_back now mid new cs count is len cut ∙ c.now_is;
+    onto = λ o ks y. c.onto o ks (y.0, choice_other x y.1, y.2);
+    fails = λ y. c.fails (choice_other x y);
   }
+
+  pub choice_done : (f : Form) (i : ℕ) (old : List Call) (a b : Form) (j k : ℕ) (now new : List Call) → IsCollecting f i old (choice a b) j now →
+      Collects (rules_of p) kinds a j now new (Some k) → Collects (rules_of p) kinds f i old new (Some k)
+  choice_done f i old a b j k now new c (cs, is, (d, x, h)) = collecting_done f i old (choice a b) j now new cs k c is (d, choice_first x, h)
+
+  pub star_collects : (f : Form) (i : ℕ) (old : List Call) (a : Form) (j k : ℕ) (now new : List Call) → IsCollecting f i old (star a) j now →
+      Collects (rules_of p) kinds a j now new (Some k) → IsCollecting f i old (star a) k new
+  star_collects f i old a j k now new c (cs, is, makes) = record {
+    within = (ends_within p kinds a j k c.within (makes.0, makes.1)).1;
+    safe = c.safe;
+    so_far = c.so_far ++ cs;
+    now_is = regroup old now new c.so_far cs c.now_is is;
+    onto = λ o ks y. subst (Makes (rules_of p) kinds f i o) (sym (append_assoc c.so_far cs ks))
+        (c.onto o (cs ++ ks) (star_makes (rules_of p) kinds a j k o cs ks makes y));
+    fails = λ y. elim y [ ];
+  }
+
+  pub star_done : (f : Form) (i : ℕ) (old : List Call) (a : Form) (j count : ℕ) (now mid new : List Call) → IsCollecting f i old (star a) j now →
+      Collects (rules_of p) kinds a j now mid None → count ≡ length now → new ≡ take count mid → Collects (rules_of p) kinds f i old new (Some j)
+  star_done f i old a j count now mid new c (cs, is, x) len cut =
+      collecting_done f i old (star a) j now new [] j c (cut_back now mid new cs count is len cut ∙ append_nil now) (no_tree, star_end x, refl)
+
+  pub maybe_done : (f : Form) (i : ℕ) (old : List Call) (a : Form) (j count : ℕ) (now mid new : List Call) → IsCollecting f i old (maybe a) j now →
+      Collects (rules_of p) kinds a j now mid None → count ≡ length now → new ≡ take count mid → Collects (rules_of p) kinds f i old new (Some j)
+  maybe_done f i old a j count now mid new c (cs, is, x) len cut =
+      collecting_done f i old (maybe a) j now new [] j c (cut_back now mid new cs count is len cut ∙ append_nil now) (no_tree, maybe_none x, refl)
+
+  pub maybe_some_done : (f : Form) (i : ℕ) (old : List Call) (a : Form) (j k : ℕ) (now new : List Call) → IsCollecting f i old (maybe a) j now →
+      Collects (rules_of p) kinds a j now new (Some k) → Collects (rules_of p) kinds f i old new (Some k)
+  maybe_some_done f i old a j k now new c (cs, is, (d, x, h)) = collecting_done f i old (maybe a) j now new cs k c is (d, maybe_some x, h)
 
 pub collecting_node : (p : Program) (kinds : List ℕ) (f : Form) (i : ℕ) (old : List Call) (k j : ℕ) (now : List Call) (r n : Node) → IsProgram p → k < length p.nodes.items → r ≡ get_or p.nodes.items k r → r ≡ n →
     IsCollecting p kinds f i old (form_at (forms_in p.nodes.items) k) j now → IsCollecting p kinds f i old (node_form (forms_in p.nodes.items) n) j now
 collecting_node p kinds f i old k j now r n is_p lt is same c =
     collecting_form p kinds (node_at p.nodes.items p.stars.items k n is_p.nodes_are (at_index p.nodes.items k r n lt is same)) c
 
--- a safe form is ready wherever all is told
-pub ready_at : (p : Program) (kinds : List ℕ) (table : List (List (Option ℕ))) (f : Form) (j : ℕ) → AreTold p kinds table 0 → j ≤ length kinds → IsSafe p f → IsReady p kinds table f j
-ready_at p kinds table f j told within safe = moved p kinds table f j within (told_on p kinds table 0 j (omega arith) told) safe
+-- where a node ends, by what it stands for
+pub node_ends : (p : Program) (kinds : List ℕ) (k j : ℕ) (r n : Node) (o q : Option ℕ) → IsProgram p → k < length p.nodes.items → r ≡ get_or p.nodes.items k r → r ≡ n → o ≡ q →
+    Ends (rules_of p) kinds (form_at (forms_in p.nodes.items) k) j o → Ends (rules_of p) kinds (node_form (forms_in p.nodes.items) n) j q
+node_ends p kinds k j r n o q is_p lt is same to ends =
+    subst (λ f. Ends (rules_of p) kinds f j q) (node_at p.nodes.items p.stars.items k n is_p.nodes_are (at_index p.nodes.items k r n lt is same))
+    (subst (Ends (rules_of p) kinds (form_at (forms_in p.nodes.items) k) j) to ends)

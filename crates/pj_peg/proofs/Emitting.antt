@@ -1,14 +1,14 @@
 -- The steps that tasks emit.
-use Rattle.std.proofs.Common.{◌≡◌, ℕ, zero, suc, ◌+◌, ◌<◌, ◌≤◌, List, [], ◌∷◌, ◌++◌, length, Some, refl, sym, ◌∙◌, ap, subst, arith, append_assoc, length-append, get_or}
+use Rattle.std.proofs.Common.{◌≡◌, ℕ, zero, suc, ◌+◌, ◌<◌, ◌≤◌, List, [], ◌∷◌, ◌++◌, length, Option, Some, None, refl, sym, ◌∙◌, ap, subst, arith, append_assoc, length-append, get_or}
 use Rattle.std.specs.Prelude.{reverse, slice_get, slice_set}
 use Rattle.std.proofs.lemmas.List.{reverse-append}
 use Rattle.pj_peg.specs.declared.derivation.Step.{Step}
-use Rattle.pj_peg.specs.declared.fill.Call.{Call}
+use Rattle.pj_peg.specs.declared.calls.Call.{Call}
 use Rattle.pj_peg.specs.declared.runner.Task.{Task}
 use Rattle.pj_peg.specs.declared.runner.Task.TheVariants.{Open, Close}
 use Rattle.pj_peg.specs.Form.{Form, rule}
 use Rattle.pj_peg.specs.Derivation.{Forest, no_tree, tree, append, count, steps_from, steps_of}
-use Rattle.pj_peg.specs.Derives.{Derives, To, rule_to}
+use Rattle.pj_peg.specs.Derives.{Derives, To, rule_to, rule_fails}
 use Rattle.pj_peg.specs.Ends.{AreCalls, Collects}
 use Rattle.pj_peg.specs.Emit.{opens, opened, Opens, set_next}
 use Rattle.pj_peg.proofs.Lists.{append_nil}
@@ -41,11 +41,11 @@ module _ (rules : List Form) (kinds : List ℕ) where
   -- a call is opened
   pub opening : (c : Call) (f : Form) (steps steps' : List Step) (stack stack1 stack' : List Task) (calls0 calls : List Call) (n : ℕ) →
       slice_get rules c.rule ≡ Some f → (d : Forest) × Derives rules kinds (rule c.rule) c.from (To c.to d) →
-      steps' ≡ steps ++ opened c ∷ [] → stack1 ≡ stack ++ Close n ∷ [] → n ≡ length steps → calls0 ≡ [] → Collects rules kinds f c.from calls0 calls →
+      steps' ≡ steps ++ opened c ∷ [] → stack1 ≡ stack ++ Close n ∷ [] → n ≡ length steps → calls0 ≡ [] → (end : Option ℕ) → Collects rules kinds f c.from calls0 calls end →
       reverse stack' ≡ opens calls ++ reverse stack1 → Opens rules kinds c steps stack steps' stack'
-  opening c f steps steps' stack stack1 stack' calls0 calls n is (d, x) emitted closes len none (cs, made, (j, (inner, y, below))) todo =
+  opening c f steps steps' stack stack1 stack' calls0 calls n is (d, x) emitted closes len none (Some k) (cs, made, (inner, y, below)) todo =
       let whole = rule_to f is y in
-      let to : j ≡ c.to = to_place (unique rules kinds whole x) in
+      let to : k ≡ c.to = to_place (unique rules kinds whole x) in
       record {
         emitted = emitted;
         below = cs;
@@ -58,6 +58,8 @@ module _ (rules : List Form) (kinds : List ℕ) where
         inner_is = below;
         derives = subst (λ k. Derives rules kinds (rule c.rule) c.from (To k (tree c.rule c.from k inner no_tree))) to whole;
       }
+  opening c f steps steps' stack stack1 stack' calls0 calls n is (d, x) emitted closes len none None (cs, made, y) todo =
+      absurd (let z = unique rules kinds x (rule_fails f is y) in cc)
 
   -- the rest of the work makes these steps in the end
   abbrev pub Finishes : List Task → List Step → List Step → Type 0

@@ -17,9 +17,12 @@ pub mod Begun
 pub mod Placing
 pub mod Checking
 pub mod Going
-pub mod Filling
-pub mod Ordering
 pub mod Beginning
+pub mod Safe
+pub mod Columns
+pub mod Known
+pub mod Depth
+pub mod Searching
 mod Growing
 pub mod Collecting
 pub mod Placed

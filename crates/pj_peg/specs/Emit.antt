@@ -1,7 +1,7 @@
 -- Tasks of which the rest of a derivation's steps comes.
 use Rattle.std.specs.Prelude.{◌≡◌, ℕ, zero, suc, List, [], ◌∷◌, ◌++◌, length, reverse}
 use Rattle.pj_peg.specs.declared.derivation.Step.{Step}
-use Rattle.pj_peg.specs.declared.fill.Call.{Call}
+use Rattle.pj_peg.specs.declared.calls.Call.{Call}
 use Rattle.pj_peg.specs.declared.runner.Task.{Task}
 use Rattle.pj_peg.specs.declared.runner.Task.TheVariants.{Open, Close}
 use Rattle.pj_peg.specs.Form.{Form, rule}

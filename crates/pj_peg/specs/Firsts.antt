@@ -52,6 +52,10 @@ going_of b = if b.nullable then all_kinds else b.firsts
 abbrev pub IsRuledOut : List Form → List ℕ → Form → ℕ → Type 0
 IsRuledOut rules kinds f i = (j : ℕ) (d : Forest) → Derives rules kinds f i (To j d) → ⊥
 
+-- the form takes nothing at all where a token of the kind stands
+abbrev pub IsAlwaysRuledOut : List Form → ℕ → Form → Type 0
+IsAlwaysRuledOut rules kind f = (kinds : List ℕ) (i : ℕ) → slice_get kinds i ≡ Some kind → IsRuledOut rules kinds f i
+
 -- Each node takes nothing at all where a token of a kind stands that is not in its set, whatever the other tokens are.
 pub record AreGoing (p : Program) (sets : List ℕ) : Type 0 where
   pub count : length sets ≡ length p.nodes.items

@@ -9,7 +9,7 @@ pub mod Codes
 pub mod Graph
 pub mod Made
 pub mod Ends
-pub mod Filled
 pub mod Firsts
-pub mod Orders
+pub mod Slots
+pub mod Plan
 pub mod Emit

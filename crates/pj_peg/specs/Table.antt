@@ -1,8 +1,8 @@
--- The table of where each column ends at each place.
+-- Ends as numbers, and tables of cells.
 use Rattle.std.specs.Prelude.{ℕ, zero, suc, ◌+◌, List, Option, Some, None, slice_get}
 use Rattle.std.specs.Option.{option_and_then}
 
--- an end in a cell: 0 where the column fails, else one more than the place
+-- The end of a code: a failure of 0, else the place that is one less. A cell has its number so, too.
 abbrev pub end_of_code : ℕ → Option ℕ
 end_of_code zero = None
 end_of_code (suc e) = Some e
@@ -11,6 +11,6 @@ abbrev pub code_of_end : Option ℕ → ℕ
 code_of_end None = 0
 code_of_end (Some e) = e + 1
 
--- what the table has for a place and a column, if it has it
+-- the cell of a place and a slot, if it is there
 abbrev pub cell_at : List (List (Option ℕ)) → ℕ → ℕ → Option (Option ℕ)
-cell_at table place column = option_and_then (λ row. slice_get row column) (slice_get table place)
+cell_at table place slot = option_and_then (λ row. slice_get row slot) (slice_get table place)

@@ -1,3 +1,4 @@
+//! What is to be known of the nodes of a grammar: which can take nothing, and whether their rules are there.
 ghost use Rattle.std.specs.Prelude.{◌≡◌, ℕ, ◌&&◌, ◌||◌, ◌<◌, Bool, List, length, map, not, true, false, Some, slice_get, IfOk};
 ghost use Rattle.std.specs.Bool.{OnTrue, OnFalse};
 ghost use Rattle.pj_peg.specs.Form.{Form};
@@ -8,8 +9,8 @@ use crate::program::{Node, Program};
 use pj_base::NoMemory;
 use std::alloc::Global;
 
-// What is to be known of a node: whether it can take nothing, whether it names only rules that are there, and whether no
-// repetition in it is of a node that can take nothing.
+/// What is to be known of a node: whether it can take nothing, whether it names only rules that are there, and whether no
+/// repetition in it is of a node that can take nothing.
 #[derive(Clone, Copy)]
 pub struct Facts {
     pub nullable: bool,
@@ -17,14 +18,14 @@ pub struct Facts {
     pub repeats: bool,
 }
 
-// Whether the number is in the set.
+/// Whether the number is in the set.
 pub fn has(set: &[bool], number: u16) -> bool
     ensures { result ≡ is_set set.now number }
 {
     (number as usize) < set.len() && set[number as usize]
 }
 
-// The facts of a node whose parts have these facts.
+/// The facts of a node whose parts have these facts.
 fn facts_of_node(node: Node, facts: &[Facts], empty: &[bool]) -> Facts
     requires { (stars : List ℕ) × PartsBelow stars (length facts.now) node }
     ensures { (forms : List Form) → facts.now ≡ map (facts_by (is_set empty.now) (length empty.now)) forms →
@@ -88,7 +89,7 @@ impl Facts {
     }
 }
 
-// The facts of each node, where these rules can take nothing.
+/// The facts of each node, where these rules can take nothing.
 pub fn facts_of(alloc: Global, program: &Program, empty: &[bool]) -> Result<Vec<Facts>, NoMemory>
     requires { IsProgram program.now }
     ensures { IfOk result (λ facts. facts.items ≡ map (facts_by (is_set empty.now) (length empty.now)) (forms_in program.now.nodes.items)) }
@@ -101,7 +102,7 @@ pub fn facts_of(alloc: Global, program: &Program, empty: &[bool]) -> Result<Vec<
     Ok(facts)
 }
 
-// Of each fact whether the node can take nothing.
+/// Of each fact whether the node can take nothing.
 fn nullable_bits(alloc: Global, facts: &[Facts]) -> Result<Vec<bool>, NoMemory>
     ensures { IfOk result (λ bits. bits.items ≡ map (λ (f : Facts). f.nullable) facts.now) }
 {
@@ -112,7 +113,7 @@ fn nullable_bits(alloc: Global, facts: &[Facts]) -> Result<Vec<bool>, NoMemory>
     Ok(bits)
 }
 
-// Adds to the set the rules whose node has its bit set, and says whether there was one.
+/// Adds to the set the rules whose node has its bit set, and says whether there was one.
 pub fn add_rules(roots: &[usize], bits: &[bool], set: &mut Vec<bool>) -> bool
     requires roots { (r k : ℕ) → slice_get roots.now r ≡ Some k → k < length bits.now }
     requires count { length set.old.items ≡ length roots.now }
@@ -136,7 +137,7 @@ pub fn add_rules(roots: &[usize], bits: &[bool], set: &mut Vec<bool>) -> bool
     added
 }
 
-// The rules that can take nothing: none at first, and in each turn those that can by the ones found so far.
+/// The rules that can take nothing: none at first, and in each turn those that can by the ones found so far.
 pub fn nullable_rules(alloc: Global, program: &Program) -> Result<Vec<bool>, NoMemory>
     requires { IsProgram program.now }
     ensures { IfOk result (λ empty. AreNullableRules (rules_of program.now) empty.items) }

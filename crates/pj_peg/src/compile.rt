@@ -1,3 +1,4 @@
+//! From a grammar's items to the nodes of its program.
 ghost use Rattle.std.specs.Prelude.{◌≡◌, [], ◌∷◌, ◌++◌, length, map, IfOk, OnOk};
 ghost use Rattle.pj_peg.specs.Form.{form_of, forms_of, seq_all, choice_all};
 ghost use Rattle.pj_peg.specs.Program.{AreNodes, AddsForm, IsProgram, rules_of};
@@ -7,7 +8,7 @@ use crate::program::{Node, Program};
 use pj_base::NoMemory;
 use std::alloc::Global;
 
-// Adds a node, and says its index.
+/// Adds a node, and says its index.
 fn add(nodes: &mut Vec<Node>, node: Node) -> Result<usize, NoMemory>
     ensures index { IfOk result (λ index. index ≡ length nodes.old.items) }
     ensures nodes { OnOk result (nodes.new.items ≡ nodes.old.items ++ node ∷ []) }
@@ -17,7 +18,7 @@ fn add(nodes: &mut Vec<Node>, node: Node) -> Result<usize, NoMemory>
     Ok(index)
 }
 
-// Adds the nodes of an item, and says the index of the one that stands for it.
+/// Adds the nodes of an item, and says the index of the one that stands for it.
 #[cycle(add_items)]
 fn add_item(item: &Item, nodes: &mut Vec<Node>, stars: &mut Vec<usize>) -> Result<usize, NoMemory>
     requires { AreNodes nodes.old.items stars.old.items }
@@ -50,7 +51,7 @@ fn add_item(item: &Item, nodes: &mut Vec<Node>, stars: &mut Vec<usize>) -> Resul
     }
 }
 
-// Adds the nodes of a sequence, the last part first.
+/// Adds the nodes of a sequence, the last part first.
 #[cycle(add_items)]
 fn add_sequence(
     parts: &[Item],
@@ -70,7 +71,7 @@ fn add_sequence(
     Ok(rest)
 }
 
-// Adds the nodes of a choice, the last alternative first.
+/// Adds the nodes of a choice, the last alternative first.
 #[cycle(add_items)]
 fn add_choice(
     parts: &[Item],
@@ -90,7 +91,7 @@ fn add_choice(
     Ok(others)
 }
 
-// The program of a grammar's rules.
+/// The program of a grammar's rules.
 pub fn compile(alloc: Global, rules: &[Item]) -> Result<Program, NoMemory>
     ensures program { IfOk result IsProgram }
     ensures rules { IfOk result (λ program. rules_of program ≡ forms_of rules.now) }

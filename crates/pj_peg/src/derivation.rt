@@ -1,3 +1,4 @@
+//! Derivations, as their steps in preorder.
 ghost use Rattle.std.specs.Prelude.{◌≡◌, ◌^◌, ◌<◌, ◌≤◌, Some, length, slice_get};
 ghost use Rattle.pj_peg.specs.Derivation.{Forest, steps_of};
 
@@ -32,7 +33,7 @@ impl Model for Derivation {
 }
 
 impl Derivation {
-    // A derivation's steps.
+    /// A derivation's steps.
     pub(crate) fn of(steps: Vec<Step>) -> Derivation
         requires small { length steps.items < 2 ^ 32 }
         requires spelled { (t : Forest) × (steps.items ≡ steps_of t) }

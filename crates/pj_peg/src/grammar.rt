@@ -1,3 +1,4 @@
+//! Grammars, and those that are well-formed.
 ghost use Rattle.std.specs.Prelude.{◌≡◌, ℕ, ◌^◌, ◌<◌, ◌≤◌, length, IfOk, IfErr, OnOk};
 ghost use Rattle.pj_peg.specs.Form.{forms_of};
 ghost use Rattle.pj_peg.specs.WellFormed.{IsWellFormed, IsFirstFault};
@@ -9,8 +10,9 @@ use crate::analysis::{Facts, facts_of, nullable_rules};
 use crate::compile::compile;
 use crate::firsts::goings;
 use crate::graph::{Placing, calls, fault_of, place_rules};
-use crate::orders::{orders_by_kind, stars_by_kind};
+use crate::plan::Plan;
 use crate::program::Program;
+use crate::slots::slots_by_kind;
 use crate::{Item, Items};
 use pj_base::NoMemory;
 use std::alloc::Global;
@@ -68,11 +70,7 @@ impl Model for Grammar {
 #[derive(Drop)]
 pub struct WellFormed {
     rules: Items,
-    pub(crate) program: Program,
-    pub(crate) order: Vec<u16>,
-    pub(crate) orders: Vec<Vec<u16>>,
-    pub(crate) stars: Vec<Vec<usize>>,
-    pub(crate) goings: Vec<u128>,
+    pub(crate) plan: Plan,
 }
 
 impl Model for WellFormed {
@@ -89,10 +87,10 @@ impl Model for WellFormed {
 
     ghost view = { λ g. g.rules.items };
 
-    ghost invariant = { λ g. IsMade (forms_of g.rules.items) g.program g.order.items g.orders.items g.stars.items g.goings.items };
+    ghost invariant = { λ g. IsMade (forms_of g.rules.items) g.plan };
 }
 
-// What was found out of a grammar's rules.
+/// What was found out of a grammar's rules.
 #[derive(Drop)]
 struct Analysis {
     program: Program,
@@ -102,7 +100,7 @@ struct Analysis {
     goings: Vec<u128>,
 }
 
-// Finds out what is to be known of the rules.
+/// Finds out what is to be known of the rules.
 fn analyse(alloc: Global, rules: &[Item]) -> Result<Analysis, NoMemory>
     requires { length rules.now ≤ 2 ^ 16 }
     ensures analysis { IfOk result (λ a. IsAnalysis (forms_of rules.now) a.program a.facts.items a.calls.items) }
@@ -125,7 +123,7 @@ fn analyse(alloc: Global, rules: &[Item]) -> Result<Analysis, NoMemory>
     })
 }
 
-// The fault of the first rule that has one.
+/// The fault of the first rule that has one.
 fn first_fault(alloc: Global, rules: &[Item], analysis: &Analysis) -> Result<(), GrammarFault>
     requires few { length rules.now ≤ 2 ^ 16 }
     requires analysis { IsAnalysis (forms_of rules.now) analysis.now.program analysis.now.facts.items analysis.now.calls.items }
@@ -178,14 +176,12 @@ impl WellFormed {
         self.rules.len() as u32
     }
 
-    // The grammar of rules that are known to be well-formed.
+    /// The grammar of rules that are known to be well-formed.
     fn made(alloc: Global, rules: Items, analysis: Analysis) -> Result<WellFormed, NoMemory>
         requires some { 0 < length rules.items }
         requires most { length rules.items ≤ 2 ^ 16 }
         requires well_formed { IsWellFormed (forms_of rules.items) }
         requires analysis { IsAnalysis (forms_of rules.items) analysis.program analysis.facts.items analysis.calls.items }
-        requires placing { IsPlacing analysis.calls.items analysis.placing.order.items analysis.placing.placed.items }
-        requires closed { IsClosed analysis.calls.items analysis.placing.placed.items }
         requires goings { AreGoing analysis.program analysis.goings.items }
         ensures { IfOk result (λ grammar. grammar ≡ rules.items) }
     {
@@ -193,20 +189,16 @@ impl WellFormed {
             program,
             facts: _,
             calls: _,
-            placing,
+            placing: _,
             goings,
         } = analysis;
-        let Placing { order, placed: _ } = placing;
-        let orders = orders_by_kind(alloc, &program, &goings, &order)?;
-        let stars = stars_by_kind(alloc, &program, &goings)?;
-        Ok(WellFormed {
-            rules,
+        let slots = slots_by_kind(alloc, &program, &goings)?;
+        let plan = Plan {
             program,
-            order,
-            orders,
-            stars,
             goings,
-        })
+            slots,
+        };
+        Ok(WellFormed { rules, plan })
     }
 
     /// The grammar of rules that are known to be well-formed, of which there are from 1 to 65,536. For a table of rules that is

@@ -1,3 +1,4 @@
+//! Which rules a rule can call where it begins, and an order in which each rule stands behind those that it calls.
 ghost use Rattle.std.specs.Prelude.{◌≡◌, ℕ, ◌+◌, ◌^◌, ◌<◌, ◌≤◌, ◌++◌, ◌↔◌, Bool, List, length, map, true, IsTrue, OnOk, IfOk, Vec};
 ghost use Rattle.std.specs.Bool.{OnTrue, OnFalse};
 ghost use Rattle.std.specs.Global.{Global as Heap};
@@ -11,7 +12,7 @@ use crate::program::{Node, Program};
 use pj_base::NoMemory;
 use std::alloc::Global;
 
-// Adds the rules that a node can call where it begins, by the facts of the nodes.
+/// Adds the rules that a node can call where it begins, by the facts of the nodes.
 fn add_begun(
     nodes: &[Node],
     facts: &[Facts],
@@ -51,7 +52,7 @@ fn add_begun(
     }
 }
 
-// For each rule, those that it can call where it begins.
+/// For each rule, those that it can call where it begins.
 pub fn calls(alloc: Global, program: &Program, facts: &[Facts]) -> Result<Vec<Vec<u16>>, NoMemory>
     requires program { IsProgram program.now }
     requires facts { length facts.now ≡ length program.now.nodes.items }
@@ -67,7 +68,7 @@ pub fn calls(alloc: Global, program: &Program, facts: &[Facts]) -> Result<Vec<Ve
     Ok(graph)
 }
 
-// Marks the rules as seen, and puts those that are new on the list of what is to do.
+/// Marks the rules as seen, and puts those that are new on the list of what is to do.
 fn mark(calls: &[u16], seen: &mut Vec<bool>, todo: &mut Vec<u16>) -> Result<(), NoMemory>
     ensures { OnOk result (Marks calls.now seen.old.items todo.old.items seen.new.items todo.new.items) }
 {
@@ -84,7 +85,7 @@ fn mark(calls: &[u16], seen: &mut Vec<bool>, todo: &mut Vec<u16>) -> Result<(), 
     Ok(())
 }
 
-// Whether the rule comes to itself.
+/// Whether the rule comes to itself.
 fn comes_to_itself(alloc: Global, graph: &[Vec<u16>], rule: u16) -> Result<bool, NoMemory>
     requires { rule < length graph.now }
     ensures { IfOk result (λ comes. IsTrue comes ↔ Comes graph.now rule rule) }
@@ -99,14 +100,14 @@ fn comes_to_itself(alloc: Global, graph: &[Vec<u16>], rule: u16) -> Result<bool,
     Ok(seen[rule as usize])
 }
 
-// Rules in an order in which each stands after those that it calls.
+/// Rules in an order in which each stands after those that it calls.
 #[derive(Drop)]
 pub struct Placing {
     pub order: Vec<u16>,
     pub placed: Vec<bool>,
 }
 
-// Whether the rules of the list are all placed.
+/// Whether the rules of the list are all placed.
 fn are_placed(calls: &[u16], placed: &[bool]) -> bool
     ensures { IsTrue result ↔ ((s : ℕ) → IsIn calls.now s → is_set placed.now s ≡ true) }
 {
@@ -118,7 +119,7 @@ fn are_placed(calls: &[u16], placed: &[bool]) -> bool
     true
 }
 
-// Places the rules whose calls are placed, the last rule first, and says whether there was one.
+/// Places the rules whose calls are placed, the last rule first, and says whether there was one.
 fn place_further(
     graph: &[Vec<u16>],
     order: &mut Vec<u16>,
@@ -148,7 +149,7 @@ fn place_further(
     Ok(added)
 }
 
-// Places all rules that do not come to one that comes to itself.
+/// Places all rules that do not come to one that comes to itself.
 pub fn place_rules(alloc: Global, graph: &[Vec<u16>]) -> Result<Placing, NoMemory>
     requires { length graph.now ≤ 2 ^ 16 }
     ensures placing { IfOk result (λ p. IsPlacing graph.now p.order.items p.placed.items) }
@@ -161,7 +162,7 @@ pub fn place_rules(alloc: Global, graph: &[Vec<u16>]) -> Result<Placing, NoMemor
     Ok(Placing { order, placed })
 }
 
-// Whether the rule comes to itself. None that is placed does.
+/// Whether the rule comes to itself. None that is placed does.
 fn is_left_recursive(
     alloc: Global,
     graph: &[Vec<u16>],
@@ -179,7 +180,7 @@ fn is_left_recursive(
     Ok(comes)
 }
 
-// The first fault of a rule, by the facts of its item.
+/// The first fault of a rule, by the facts of its item.
 pub fn fault_of(
     alloc: Global,
     fact: Facts,

@@ -1,3 +1,5 @@
+//! Parsing expressions.
+
 /// A list of items: the rules of a grammar by their numbers, the parts of a sequence, or the alternatives of a choice.
 pub type Items = Vec<Item>;
 

@@ -6,29 +6,32 @@
 //! rule has exactly one outcome at each place, which is the contract of `one_outcome`. The other files of `specs/` serve the
 //! contracts inside the crate.
 //!
-//! `run` keeps a table of where each rule and each repetition ends at each place, and fills it in from the last place to the
-//! first. At each place it looks only at those that can begin with the token there or take nothing: the others fail there, as
-//! the table has it from the start. So each item is looked at once at each place at most, and nesting in the text costs no
-//! stack; no clause says this, it is measured.
+//! `run` keeps a table of where rules and repetitions end at places. It asks for the end of the first rule and, from there on, only
+//! for what is needed; an answer that was found is not looked for again. A rule or a repetition that the token at a place rules
+//! out is not in the table there, and not looked at. The search calls itself down to a bounded depth; beyond that, what it was
+//! looking for waits on a stack of its own, so nesting in the text costs no stack. No clause says how long it takes, nor that
+//! the loops over this stack come to their end before their counters do: that is measured.
 #![tactic(auto)]
 
 mod analysis;
+mod ask;
+mod calls;
 mod compile;
 mod derivation;
 mod evaluate;
-mod fill;
 mod firsts;
 mod grammar;
 mod graph;
 mod item;
-mod law;
-mod orders;
+mod laws;
+mod plan;
 mod program;
 mod runner;
+mod slots;
 mod table;
 
 pub use derivation::{Derivation, Step};
 pub use grammar::{Grammar, GrammarFault, WellFormed};
 pub use item::{Item, Items};
-pub use law::one_outcome;
+pub use laws::one_outcome;
 pub use runner::run;

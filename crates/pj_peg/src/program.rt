@@ -1,5 +1,4 @@
-// A grammar's items as a flat list of nodes.
-
+//! A grammar's items as a flat list of nodes.
 // A node names its parts by their indices, which are below its own.
 #[derive(Clone, Copy)]
 pub enum Node {
@@ -19,7 +18,7 @@ pub enum Node {
     Not(usize),
 }
 
-// The nodes, the node of each rule, and the part of each repetition.
+/// The nodes, the node of each rule, and the part of each repetition.
 #[derive(Drop)]
 pub struct Program {
     pub nodes: Vec<Node>,

@@ -1,13 +1,17 @@
-ghost use Rattle.std.specs.Prelude.{◌≡◌, ℕ, ◌+◌, ◌-◌, ◌^◌, ◌<◌, List, IfOk, IfSome, IsSome, Option, Some, None, unwrap_or};
+//! The table of the answers of a search, and the small cells of such tables.
+ghost use Rattle.std.specs.Prelude.{◌≡◌, ℕ, ◌+◌, ◌^◌, ◌<◌, ◌≤◌, length, IfOk, IfSome, IsSome, Option, Some, None, slice_get};
+ghost use Rattle.pj_peg.specs.declared.slots.KindSlots.{KindSlots as AnyKindSlots};
 ghost use Rattle.pj_peg.specs.Table.{cell_at};
+ghost use Rattle.pj_peg.specs.Slots.{row_number};
 
+use crate::slots::{KindSlots, row_number};
 use pj_base::NoMemory;
 use std::alloc::Global;
 use std::marker::Model;
 
-// Where a column ends from a place on, or that it fails there, in four bytes.
+/// A number, or none, in four bytes.
 #[derive(Clone, Copy)]
-struct Cell {
+pub struct Cell {
     code: u32,
 }
 
@@ -26,17 +30,19 @@ impl Model for Cell {
 }
 
 impl Cell {
-    fn new(end: Option<u32>) -> Cell
-        requires { IfSome end (λ e. e + 1 < 2 ^ 32) }
-        ensures { result ≡ end }
+    /// A cell of this number, or of none.
+    pub fn new(number: Option<u32>) -> Cell
+        requires { IfSome number (λ e. e + 1 < 2 ^ 32) }
+        ensures { result ≡ number }
     {
-        match end {
+        match number {
             None => Cell { code: 0 },
-            Some(place) => Cell { code: place + 1 },
+            Some(number) => Cell { code: number + 1 },
         }
     }
 
-    fn end(self) -> Option<u32>
+    /// The number of the cell.
+    pub fn number(self) -> Option<u32>
         ensures { result ≡ self }
     {
         if self.code == 0 {
@@ -47,7 +53,8 @@ impl Cell {
     }
 }
 
-// Where each column ends from each place on: a row for each place, and a cell for each column.
+/// A row for each place of a text, and in it a cell for each slot of the kind of token that stands there. A cell has the code
+/// of an end, or nothing as long as the end is not known.
 #[derive(Drop)]
 pub struct Table {
     rows: Vec<Vec<Cell>>,
@@ -63,47 +70,48 @@ impl Model for Table {
 }
 
 impl Table {
-    // A table in which each column fails at each place.
-    pub fn new(alloc: Global, places: usize, columns: usize) -> Result<Table, NoMemory>
-        ensures { IfOk result (λ table. (i c : ℕ) → i < places → c < columns → cell_at table i c ≡ Some None) }
+    /// A table that knows nothing yet.
+    pub fn new(alloc: Global, kinds: &[u16], slots: &[KindSlots]) -> Result<Table, NoMemory>
+        requires small { length kinds.now ≤ 200000 }
+        requires slots { 128 < length slots.now }
+        ensures { IfOk result (λ table. (i s : ℕ) (row : AnyKindSlots) → i ≤ length kinds.now → slice_get slots.now (row_number kinds.now i) ≡ Some row → s < row.width →
+            cell_at table i s ≡ Some None) }
     {
-        let mut rows = Vec::new(alloc);
-        for _ in 0..places {
-            let mut row = Vec::new(alloc);
-            row.resize(columns, Cell::new(None))?;
+        let mut rows = Vec::with_capacity(alloc, kinds.len() + 1)?;
+        for place in 0..kinds.len() + 1 {
+            let width = slots[row_number(kinds, place)].width;
+            let row = unknown(alloc, width)?;
             rows.push(row)?;
         }
         Ok(Table { rows })
     }
 
-    // What the cell has.
-    pub fn end(&self, place: u32, column: usize) -> Option<u32>
-        requires { IsSome (cell_at self.now place column) }
-        ensures { cell_at self.now place column ≡ Some result }
+    /// What the cell has.
+    pub fn code(&self, place: u32, slot: u32) -> Option<u32>
+        requires { IsSome (cell_at self.now place slot) }
+        ensures { cell_at self.now place slot ≡ Some result }
     {
         let row = &self.rows[place as usize];
-        row[column].end()
+        row[slot as usize].number()
     }
 
-    // What the cell has, or the place itself where the column fails.
-    pub fn end_or_place(&self, place: u32, column: usize) -> u32
-        requires { IsSome (cell_at self.now place column) }
-        ensures { (o : Option ℕ) → cell_at self.now place column ≡ Some o → result ≡ unwrap_or o place }
-    {
-        match self.end(place, column) {
-            None => place,
-            Some(end) => end,
-        }
-    }
-
-    // Sets the cell, and no other.
-    pub fn set(&mut self, place: u32, column: usize, end: Option<u32>)
-        requires cell { IsSome (cell_at self.old place column) }
-        requires fits { IfSome end (λ e. e + 1 < 2 ^ 32) }
-        ensures here { cell_at self.new place column ≡ Some end }
-        ensures others { (i c : ℕ) → (i ≡ place → c ≡ column → ⊥) → cell_at self.new i c ≡ cell_at self.old i c }
+    /// Sets the cell, and no other.
+    pub fn set(&mut self, place: u32, slot: u32, code: u32)
+        requires cell { IsSome (cell_at self.old place slot) }
+        requires fits { code + 1 < 2 ^ 32 }
+        ensures here { cell_at self.new place slot ≡ Some (Some code) }
+        ensures others { (i c : ℕ) → (i ≡ place → c ≡ slot → ⊥) → cell_at self.new i c ≡ cell_at self.old i c }
     {
         let row = &mut self.rows[place as usize];
-        row[column] = Cell::new(end);
+        row[slot as usize] = Cell::new(Some(code));
     }
+}
+
+/// A row of cells that have nothing.
+fn unknown(alloc: Global, width: u32) -> Result<Vec<Cell>, NoMemory>
+    ensures { IfOk result (λ row. (s : ℕ) → s < width → slice_get row.items s ≡ Some None) }
+{
+    let mut row = Vec::new(alloc);
+    row.resize(width as usize, Cell::new(None))?;
+    Ok(row)
 }
