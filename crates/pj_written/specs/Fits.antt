@@ -3,8 +3,9 @@
 -- The readers of signatures take at most 255 signs `[` and `<` that are open at one place, and at most 255 arguments in one list. A
 -- written type is spelled as a signature in what a class of the file answers, so the same bounds hold of it; they are told by the syntax,
 -- before anything is asked. What counts are the brackets and the lists that stand in the type that results: of `A<X>.B<Y>` the
--- last list, and nothing of what stands behind `? super`.
-use Rattle.std.specs.Prelude.{ℕ, zero, suc, ◌+◌, ◌&&◌, Bool, true, false, Option, None, Some, if◌then◌else◌, List, [], ◌∷◌, length, codes, nat_le, ◌≡◌, refl}
+-- last list, and nothing of what stands behind `? super`. A list that has an argument counts whatever that is, since `?` stands for
+-- `java.lang.Object` there; `<>` has none.
+use Rattle.std.specs.Prelude.{ℕ, zero, suc, ◌+◌, ◌==◌, ◌&&◌, ◌||◌, Bool, true, false, Option, None, Some, if◌then◌else◌, List, [], ◌∷◌, length, codes, nat_le, ◌≡◌, refl}
 use Rattle.std.specs.List.{list_all}
 use Rattle.std.specs.Option.{option_map_or}
 use Rattle.pj_tree.specs.Tree.{Tree, children_of}
@@ -34,9 +35,11 @@ abbrev pub bare : Tree → Node → Node
 bare t n = without_brackets t (without_brackets t n)
 
 module _ (t : Tree) where
-  -- The list of type arguments of a class type: whether they are few, and each fits within the list, by how one argument fits.
-  abbrev pub listed_fit : (Node → Bool) → List Node → Bool
-  listed_fit argument_fits arguments = nat_le (length arguments) most_signs && list_all argument_fits arguments
+  -- The list of type arguments of a class type, with so many signs open inside it: where it has arguments, whether these signs are few, the arguments
+  -- are few, and each fits within the list, by how one argument fits.
+  abbrev pub listed_fit : ℕ → (Node → Bool) → List Node → Bool
+  listed_fit signs argument_fits arguments =
+      (length arguments == 0 || nat_le signs most_signs) && (nat_le (length arguments) most_signs && list_all argument_fits arguments)
 
   -- Whether what a type argument stands for fits, by how a type fits: `? extends X` is X, and every other wildcard fits.
   abbrev pub argument_by : (Node → Bool) → Node → Bool
@@ -49,7 +52,7 @@ module _ (t : Tree) where
   fits_within zero around n = false
   fits_within (suc deep) around n =
       nat_le (around + brackets t n) most_signs
-      && listed_fit (argument_by (fits_within deep (around + brackets t n + 1))) (below_child t (bare t n) k.TypeArguments)
+      && listed_fit (around + brackets t n + 1) (argument_by (fits_within deep (around + brackets t n + 1))) (below_child t (bare t n) k.TypeArguments)
 
   -- More lists in one another than signs may be open do not fit, so this depth is no bound of its own.
   abbrev pub fits : ℕ → Node → Bool

@@ -68,15 +68,17 @@ fn fits_within(tree: &SyntaxTree<'_>, deep: u32, around: u32, n: Node) -> bool
     }
 }
 
-/// Whether the arguments of a list are few, and each fits.
+/// Whether a list with so many signs open inside it fits: it has no arguments, or the signs and the arguments are few, and each fits.
 #[cycle(fitting)]
 #[tactic(auto, using(crate::specs::Fits::most_signs_is))]
 fn listed_fit(tree: &SyntaxTree<'_>, deep: u32, around: u32, list: Node) -> bool
     requires inside { list.0 < length tree.now.nodes }
     requires few { around ≤ 2000000 }
-    ensures { result ≡ listed_fit tree.now (argument_by tree.now (fits_within tree.now deep around)) (children_of tree.now list) }
+    ensures { result ≡ listed_fit tree.now around (argument_by tree.now (fits_within tree.now deep around)) (children_of tree.now list) }
 {
-    child_count(tree, list) <= MOST_SIGNS && arguments_fit(tree, deep, around, list)
+    let count = child_count(tree, list);
+    (count == 0 || around <= MOST_SIGNS)
+        && (count <= MOST_SIGNS && arguments_fit(tree, deep, around, list))
 }
 
 /// Whether each argument of a list fits.

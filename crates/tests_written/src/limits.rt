@@ -98,6 +98,43 @@ fn lists_of_wildcards(rt: HostRuntime) -> Result<(), Fail> {
     )
 }
 
+/// The sign of a list counts whatever its arguments are.
+#[test]
+fn lists_around_any_class(rt: HostRuntime) -> Result<(), Fail> {
+    fits_up_to(
+        &rt,
+        rt.alloc(),
+        Kind::ClassType,
+        ("", "B<", "?", ">"),
+        255,
+        "",
+    )
+}
+
+#[test]
+fn lists_around_a_class_above(rt: HostRuntime) -> Result<(), Fail> {
+    fits_up_to(
+        &rt,
+        rt.alloc(),
+        Kind::ClassType,
+        ("", "B<", "? super C", ">"),
+        255,
+        "",
+    )
+}
+
+#[test]
+fn brackets_of_lists_of_any_class(rt: HostRuntime) -> Result<(), Fail> {
+    fits_up_to(
+        &rt,
+        rt.alloc(),
+        Kind::ArrayType,
+        ("B<?>", "[]", "", ""),
+        254,
+        "",
+    )
+}
+
 #[test]
 fn arguments(rt: HostRuntime) -> Result<(), Fail> {
     fits_up_to(
