@@ -5,5 +5,6 @@ pub mod Faults
 pub mod Patterns
 -- laws
 pub mod Laws
--- private clauses alone cite this
+-- private clauses alone cite these
 pub mod Refusals
+pub mod Usable

@@ -7,9 +7,11 @@ mod fault;
 mod laws;
 mod patterns;
 mod spelled;
+mod usable;
 
 pub use expressions::{RuleExpressions, expressions_of};
 pub use fault::ExpressionFault;
 pub use laws::{one_fault, sound_or_fault};
 pub use patterns::whole;
 pub use spelled::Spelled;
+pub use usable::UsableRule;

@@ -1,12 +1,13 @@
 -- Rules that files define, and rules that references change.
-use Rattle.std.proofs.Common.{◌≡◌, ◌∙◌, Bool, true, false, List, [], ◌∷◌, ◌++◌, Some, None, Result, Ok, Err, IfErr, not, refl, sym, ap, ap₂, subst}
+use Rattle.std.proofs.Common.{◌≡◌, ◌∙◌, Bool, true, false, List, [], ◌∷◌, ◌++◌, Some, None, Result, Ok, Err, IfOk, IfErr, OnOk, not, refl, sym, ap, ap₂, subst}
 use Rattle.std.specs.Prelude.{IsErrAnd}
 use Rattle.pj_outside.specs.Files.{Files}
+use Rattle.pj_rule_expressions.specs.Expressions.{IsSound}
 use Rattle.pj_rule_expressions.specs.Faults as expressions
 use Rattle.pj_rule_expressions.specs.declared.fault.ExpressionFault.{ExpressionFault}
-use Rattle.pj_rule_lists.specs.Lists.{Taken, defined_in, is_among, put, put_all}
-use Rattle.pj_rule_lists.specs.declared.entry.Entry.{Entry}
-use Rattle.pj_rule_lists.specs.declared.entry.Entry.TheVariants as entry
+use Rattle.pj_rule_parts.specs.Lists.{Taken, defined_in, is_among, put, put_all}
+use Rattle.pj_rule_parts.specs.declared.entry.Entry.{Entry}
+use Rattle.pj_rule_parts.specs.declared.entry.Entry.TheVariants as entry
 use Rattle.pj_rule_texts.specs.Rules.{Answers, defined, new_name, overridden}
 use Rattle.pj_rule_texts.specs.Values.{Text}
 use Rattle.pj_rule_texts.specs.declared.fault.TextFault.{TextFault}
@@ -38,6 +39,16 @@ as_some path w r = own_at path (λ v. v ≡ w) (λ v. Some w ≡ Some v) r (λ v
 pub handed_on : {T F : Type 0} (result : Result T F) (fault : F) (P : F → Type 0) → IsErrAnd result (λ given. given ≡ fault) → P fault → IfErr result P
 handed_on (Ok value) fault P same h = absurd same
 handed_on (Err given) fault P same h = subst P (sym same) h
+
+-- ---- a rule that is made of texts, or refused
+
+pub is_made : (P : RuleTexts → Type 0) (texts : RuleTexts) (r : Result RuleTexts RuleRefused) → (IsSound texts → P texts) → IfOk r (λ rule. rule ≡ texts) → OnOk r (IsSound texts) → IfOk r P
+is_made P texts (Ok rule) f same sound = subst P (sym same) (f sound)
+is_made P texts (Err refused) f same sound = same
+
+pub is_refused : (P Q : RuleRefused → Type 0) (r : Result RuleTexts RuleRefused) → ((refused : RuleRefused) → P refused → Q refused) → IfErr r P → IfErr r Q
+is_refused P Q (Ok rule) f h = h
+is_refused P Q (Err refused) f h = f refused h
 
 -- ---- texts that make no rule
 
@@ -121,7 +132,7 @@ module _ (path rule_set : Text) (old : Progress) (rule : WrittenRule) (is_define
 
     added : (files : Files) (kept : Entry) → is_among name old.names ≡ false → IsDefinedAs rule_set name rule kept →
         Adds files path rule_set old (part.Rule rule) (record { names = old.names ++ name ∷ []; list = put old.list (defined_in path name, kept) })
-    added files (entry.Rule texts) fresh (IsDefinedAs.an_xpath_rule is defines) = Adds.definition is_defined is_named fresh is defines
+    added files (entry.Rule texts) fresh (IsDefinedAs.an_xpath_rule is made) = Adds.definition is_defined is_named fresh is made
     added files (entry.Unusable unusable) fresh (IsDefinedAs.another_rule is_not) = Adds.unusable is_defined is_named fresh is_not
 
     pub adds : (files : Files) (kept : Entry) (new : Progress) → is_among name old.names ≡ false → IsDefinedAs rule_set name rule kept → new.names ≡ old.names ++ name ∷ [] →

@@ -8,7 +8,7 @@ use Rattle.pj_rule_files.specs.Files as files
 use Rattle.pj_rule_files.specs.Files.{GivesRead, IsRead, IsUnreadable, is_there}
 use Rattle.pj_rule_files.specs.declared.fault.FileRefused.{FileRefused}
 use Rattle.pj_rule_files.specs.declared.fault.FileRefused.TheVariants as file_refused
-use Rattle.pj_rule_lists.specs.Lists.{Taken, is_among}
+use Rattle.pj_rule_parts.specs.Lists.{Taken, is_among}
 use Rattle.pj_rule_texts.specs.References.{beside}
 use Rattle.pj_rule_texts.specs.Values.{Text, is_empty}
 use Rattle.pj_rule_texts.specs.declared.written.WrittenRuleset.{WrittenRuleset}

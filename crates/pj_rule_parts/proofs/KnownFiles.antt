@@ -5,7 +5,7 @@ use Rattle.std.specs.Map.{lookup}
 use Rattle.indexmap.specs.IndexMap.{insert_entry}
 use Rattle.pj_outside.specs.Files.{Files, bytes_at}
 use Rattle.pj_rule_files.specs.Files.{IsRead, is_there}
-use Rattle.pj_rule_lists.specs.Lists.{Taken, is_among}
+use Rattle.pj_rule_parts.specs.Lists.{Taken, is_among}
 use Rattle.pj_rule_texts.specs.Values.{Text, is_same}
 use Rattle.pj_rule_texts.specs.declared.written.WrittenRuleset.{WrittenRuleset}
 use Rattle.pj_rule_parts.specs.Effective.{HasRules}

@@ -1,3 +1,4 @@
+pub mod Listing
 pub mod Told
 pub mod KnownFiles
 pub mod Refusing

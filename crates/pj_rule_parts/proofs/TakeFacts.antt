@@ -1,10 +1,10 @@
 -- What references take.
 use Rattle.std.proofs.Common.{◌≡◌, ◌∙◌, Bool, true, false, List, Option, Some, None, refl, sym, ap, subst}
 use Rattle.pj_outside.specs.Files.{Files}
-use Rattle.pj_rule_lists.specs.Lists.{Taken, is_among, named, not_available, referred_in, without}
-use Rattle.pj_rule_lists.specs.declared.entry.Entry.{Entry}
-use Rattle.pj_rule_lists.specs.declared.entry.Entry.TheVariants as entry
-use Rattle.pj_rule_lists.specs.declared.entry.Origin.{Origin}
+use Rattle.pj_rule_parts.specs.Lists.{Taken, is_among, named, not_available, referred_in, without}
+use Rattle.pj_rule_parts.specs.declared.entry.Entry.{Entry}
+use Rattle.pj_rule_parts.specs.declared.entry.Entry.TheVariants as entry
+use Rattle.pj_rule_parts.specs.declared.entry.Origin.{Origin}
 use Rattle.pj_rule_texts.specs.References.{Meant, WholeFile, OneRule, is_from_elsewhere, reference_of}
 use Rattle.pj_rule_texts.specs.Values.{Text}
 use Rattle.pj_rule_texts.specs.declared.written.Part.TheVariants as part

@@ -20,10 +20,10 @@ use Rattle.pj_rule_texts.specs.declared.written.WrittenRuleset.{WrittenRuleset}
 use Rattle.pj_rule_files.specs.Files.{IsRead, IsUnreadable}
 use Rattle.pj_rule_files.specs.declared.fault.FileFault.{FileFault}
 use Rattle.pj_rule_files.specs.declared.fault.FileFault.TheVariants as of_file
-use Rattle.pj_rule_lists.specs.Lists.{Taken, defined_in, is_among, named, not_an_xpath_rule, not_available, put, put_all, referred_in, without}
-use Rattle.pj_rule_lists.specs.declared.entry.Entry.TheVariants as entry
-use Rattle.pj_rule_lists.specs.declared.entry.Unusable.{Unusable}
-use Rattle.pj_rule_lists.specs.declared.entry.Origin.{Origin}
+use Rattle.pj_rule_parts.specs.Lists.{Taken, defined_in, is_among, named, not_an_xpath_rule, not_available, put, put_all, referred_in, without}
+use Rattle.pj_rule_parts.specs.declared.entry.Entry.TheVariants as entry
+use Rattle.pj_rule_parts.specs.declared.entry.Unusable.{Unusable}
+use Rattle.pj_rule_parts.specs.declared.entry.Origin.{Origin}
 use Rattle.pj_rule_parts.specs.LookUp.{look_up}
 use Rattle.pj_rule_parts.specs.declared.progress.Progress.{Progress}
 use Rattle.pj_rule_parts.specs.declared.fault.RuleFault.{RuleFault}

@@ -2,7 +2,7 @@
 use Rattle.std.specs.Prelude.{◌≡◌, Bool, true, false, List, ◌++◌, [], ◌∷◌, Some, None}
 use Rattle.pj_outside.specs.Files.{Files}
 use Rattle.pj_rule_files.specs.Files.{IsRead, is_there}
-use Rattle.pj_rule_lists.specs.Lists.{is_among}
+use Rattle.pj_rule_parts.specs.Lists.{is_among}
 use Rattle.pj_rule_texts.specs.Values.{Text}
 use Rattle.pj_rule_parts.specs.Effective.{FileFaults}
 use Rattle.pj_rule_parts.specs.Known.{list_at}

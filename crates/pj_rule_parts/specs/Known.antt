@@ -4,7 +4,7 @@ use Rattle.std.specs.Map.{lookup}
 use Rattle.indexmap.specs.IndexMap.{insert_entry}
 use Rattle.pj_outside.specs.Files.{Files}
 use Rattle.pj_rule_files.specs.Files.{is_there}
-use Rattle.pj_rule_lists.specs.Lists.{Taken}
+use Rattle.pj_rule_parts.specs.Lists.{Taken}
 use Rattle.pj_rule_texts.specs.Values.{Text, is_same}
 use Rattle.pj_rule_parts.specs.Effective.{HasRules}
 use Rattle.pj_rule_parts.specs.declared.known.Known.{Known}

@@ -1,4 +1,5 @@
 -- definitions
+pub mod Lists
 pub mod Effective
 pub mod LookUp
 pub mod Known
@@ -8,3 +9,4 @@ pub mod Refusals
 pub mod Counts
 -- private clauses alone cite these
 pub mod Defining
+pub mod Taking

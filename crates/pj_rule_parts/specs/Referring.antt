@@ -1,9 +1,9 @@
 -- What references take, or why they take nothing.
 use Rattle.std.specs.Prelude.{⊤, ◌≡◌, Bool, List, Option, Some, None, unwrap_or}
 use Rattle.pj_outside.specs.Files.{Files}
-use Rattle.pj_rule_lists.specs.Lists.{Taken}
-use Rattle.pj_rule_lists.specs.declared.entry.Entry.{Entry}
-use Rattle.pj_rule_lists.specs.declared.entry.Entry.TheVariants as entry
+use Rattle.pj_rule_parts.specs.Lists.{Taken}
+use Rattle.pj_rule_parts.specs.declared.entry.Entry.{Entry}
+use Rattle.pj_rule_parts.specs.declared.entry.Entry.TheVariants as entry
 use Rattle.pj_rule_texts.specs.References.{Meant, WholeFile, OneRule, reference_of}
 use Rattle.pj_rule_texts.specs.Values.{Text}
 use Rattle.pj_rule_texts.specs.declared.written.Part.TheVariants as part

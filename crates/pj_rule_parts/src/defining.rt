@@ -2,18 +2,18 @@
 ghost use Rattle.std.specs.Prelude.{◌≡◌, None, Some, IfOk, IfErr, OnOk, ℕ, List, Bool};
 ghost use Rattle.pj_outside.specs.Files.{Files};
 ghost use Rattle.pj_rule_expressions.specs.Expressions.{IsSound};
-ghost use Rattle.pj_rule_lists.specs.Lists.{not_an_xpath_rule};
+ghost use Rattle.pj_rule_parts.specs.Lists.{not_an_xpath_rule};
 ghost use Rattle.pj_rule_texts.specs.Rules.{new_name};
 ghost use Rattle.pj_rule_parts.specs.Defining.{HasNoEntry, IsDefinedAs, IsDefinitionFault};
 ghost use Rattle.pj_rule_parts.specs.Effective.{Adds, CannotChange, CannotDefine, Changes, Defines, PartFault, what_of_expressions, what_of_texts};
 ghost use Rattle.pj_rule_parts.specs.Refusals.{IfOwn, IsUnsound};
 ghost use Rattle.pj_rule_texts.specs.declared.written.Part.TheVariants as part;
 
+use crate::entry::{Entry, Origin, Unusable};
 use crate::fault::{RuleFault, RuleRefused, RuleWhat};
 use crate::progress::Progress;
 use pj_base::{Copied, NoMemory, Text};
-use pj_rule_expressions::{ExpressionFault, expressions_of};
-use pj_rule_lists::{Entry, Origin, Unusable};
+use pj_rule_expressions::{ExpressionFault, UsableRule};
 use pj_rule_rows::ConfigError;
 use pj_rule_texts::{RuleTexts, TextFault, WrittenRule, defined, is_xpath_rule, overridden};
 use std::alloc::Global;
@@ -51,14 +51,34 @@ fn refused_expressions(path: &Text, name: Text, fault: ExpressionFault) -> RuleR
     }
 }
 
-/// Refuses texts that make no rule that can be used.
-fn sound(alloc: Global, path: &Text, texts: &RuleTexts) -> Result<(), RuleRefused>
-    ensures sound { OnOk result (IsSound texts.now) }
-    ensures fault { IfErr result (IfOwn (λ refusal. (refusal.path ≡ path.now) × IsUnsound texts.now refusal.what)) }
+/// The rule of these texts, or its refusal where they make no rule that can be used.
+fn usable(alloc: Global, path: &Text, texts: RuleTexts) -> Result<UsableRule, RuleRefused>
+    ensures value { IfOk result (λ rule. rule ≡ texts) }
+    ensures sound { OnOk result (IsSound texts) }
+    ensures fault { IfErr result (IfOwn (λ refusal. (refusal.path ≡ path.now) × IsUnsound texts refusal.what)) }
 {
-    match expressions_of(alloc, texts) {
-        Ok(_) => Ok(()),
-        Err(fault) => Err(refused_expressions(path, texts.row.name.copied()?, fault)),
+    let name = texts.row.name.copied()?;
+    match UsableRule::of(alloc, texts) {
+        Ok(rule) => Ok(rule),
+        Err(fault) => Err(refused_expressions(path, name, fault)),
+    }
+}
+
+/// The rule of these texts in the place of another, or its refusal where they make no rule that can be used.
+fn usable_after(
+    alloc: Global,
+    path: &Text,
+    old: &UsableRule,
+    texts: RuleTexts,
+) -> Result<UsableRule, RuleRefused>
+    ensures value { IfOk result (λ rule. rule ≡ texts) }
+    ensures sound { OnOk result (IsSound texts) }
+    ensures fault { IfErr result (IfOwn (λ refusal. (refusal.path ≡ path.now) × IsUnsound texts refusal.what)) }
+{
+    let name = texts.row.name.copied()?;
+    match old.changed(alloc, texts) {
+        Ok(rule) => Ok(rule),
+        Err(fault) => Err(refused_expressions(path, name, fault)),
     }
 }
 
@@ -69,15 +89,12 @@ fn defined_rule(
     rule_set: &Text,
     name: &Text,
     rule: WrittenRule,
-) -> Result<RuleTexts, RuleRefused>
+) -> Result<UsableRule, RuleRefused>
     ensures rule { IfOk result (Defines rule_set.now name.now rule) }
     ensures fault { IfErr result (IfOwn (λ refusal. (refusal.path ≡ path.now) × CannotDefine rule_set.now name.now rule refusal.what)) }
 {
     match defined(alloc, rule_set.copied()?, name.copied()?, rule) {
-        Ok(texts) => {
-            sound(alloc, path, &texts)?;
-            Ok(texts)
-        }
+        Ok(texts) => usable(alloc, path, texts),
         Err(fault) => Err(refused_texts(path, name.copied()?, fault)),
     }
 }
@@ -96,18 +113,16 @@ fn new_name(texts: &RuleTexts, rule: &WrittenRule) -> Result<Text, NoMemory>
 pub fn changed_rule(
     alloc: Global,
     path: &Text,
-    texts: &RuleTexts,
+    old: &UsableRule,
     rule: WrittenRule,
-) -> Result<RuleTexts, RuleRefused>
-    ensures rule { IfOk result (Changes rule texts.now) }
-    ensures fault { IfErr result (IfOwn (λ refusal. (refusal.path ≡ path.now) × CannotChange rule texts.now refusal.what)) }
+) -> Result<UsableRule, RuleRefused>
+    ensures rule { IfOk result (Changes rule old.now) }
+    ensures fault { IfErr result (IfOwn (λ refusal. (refusal.path ≡ path.now) × CannotChange rule old.now refusal.what)) }
 {
+    let texts = old.texts();
     let name = new_name(texts, &rule)?;
     match overridden(alloc, texts, rule) {
-        Ok(changed) => {
-            sound(alloc, path, &changed)?;
-            Ok(changed)
-        }
+        Ok(changed) => usable_after(alloc, path, old, changed),
         Err(fault) => Err(refused_texts(path, name, fault)),
     }
 }
@@ -137,8 +152,8 @@ fn defined_entry(
     ensures fault { IfErr result (IfOwn (λ refusal. (refusal.path ≡ path.now) × HasNoEntry rule_set.now name.now rule refusal.what)) }
 {
     if is_xpath_rule(&rule) {
-        let texts = defined_rule(alloc, path, rule_set, name, rule)?;
-        Ok(Entry::Rule(texts))
+        let rule = defined_rule(alloc, path, rule_set, name, rule)?;
+        Ok(Entry::Rule(rule))
     } else {
         let entry = not_an_xpath_rule(alloc, name)?;
         Ok(entry)

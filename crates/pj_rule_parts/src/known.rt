@@ -1,12 +1,12 @@
 //! Files that are known: those that are read, and those that are being read.
 ghost use Rattle.std.specs.Prelude.{◌≡◌, ◌++◌, ◌∷◌, [], false, OnOk, MatchOption};
 ghost use Rattle.std.specs.Option.{option_copied};
-ghost use Rattle.pj_rule_lists.specs.Lists.{is_among};
+ghost use Rattle.pj_rule_parts.specs.Lists.{is_among};
 ghost use Rattle.pj_rule_parts.specs.Known.{list_at, put_list};
 
+use crate::entry::{Entry, Origin};
 use indexmap::{IndexMap, IndexSet};
 use pj_base::{Copied, ListOf, NoMemory, Text};
-use pj_rule_lists::{Entry, Origin};
 use std::alloc::Global;
 use std::marker::Model;
 
@@ -21,7 +21,7 @@ pub struct ReadFiles {
 
 impl Model for ReadFiles {
     ghost use Rattle.std.specs.Prelude.{List, ℕ};
-    ghost use Rattle.pj_rule_lists.specs.Lists.{Taken};
+    ghost use Rattle.pj_rule_parts.specs.Lists.{Taken};
 
     ghost Value = { List (List ℕ × List Taken) };
 

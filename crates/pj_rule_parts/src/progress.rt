@@ -2,7 +2,7 @@
 ghost use Rattle.std.specs.Prelude.{◌≡◌};
 ghost use Rattle.pj_rule_parts.specs.Effective.{nothing};
 
-use pj_rule_lists::{NameSet, RuleTable};
+use crate::table::{NameSet, RuleTable};
 use std::alloc::Global;
 
 /// What is read of a file so far.

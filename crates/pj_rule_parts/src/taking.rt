@@ -1,15 +1,16 @@
 //! Taking rules of other files.
 ghost use Rattle.std.specs.Prelude.{◌≡◌, IfOk, IfErr, OnOk};
-ghost use Rattle.pj_rule_lists.specs.Lists.{not_available};
+ghost use Rattle.pj_rule_parts.specs.Lists.{not_available};
 ghost use Rattle.pj_rule_parts.specs.Referring.{AddsNothing, AddsTaken, CannotChangeEntry, ChangesEntry, IsNothingFault, IsTakenFault, name_behind};
 ghost use Rattle.pj_rule_parts.specs.Refusals.{IfOwn};
 
 use crate::defining::{changed_rule, refused};
+use crate::entry::{Entry, Origin, Unusable};
 use crate::fault::{RuleRefused, RuleWhat};
+use crate::list::{named, put_without};
 use crate::progress::Progress;
 use crate::referral::{Referral, Target};
 use pj_base::{Copied, NoMemory, Text};
-use pj_rule_lists::{Entry, Origin, Unusable, named, put_without};
 use pj_rule_rows::ConfigError;
 use pj_rule_texts::{WrittenRule, is_from_elsewhere};
 use std::alloc::Global;
@@ -38,8 +39,8 @@ fn taken_entry(
     ensures fault { IfErr result (IfOwn (CannotChangeEntry path.now rule old.now)) }
 {
     match old {
-        Entry::Rule(texts) => {
-            let changed = changed_rule(alloc, path, texts, rule)?;
+        Entry::Rule(old) => {
+            let changed = changed_rule(alloc, path, old, rule)?;
             Ok(Entry::Rule(changed))
         }
         Entry::Unusable(unusable) => {

@@ -1,5 +1,5 @@
 -- From what is kept of a rule, what its calls tell of its suppression.
-use Rattle.std.proofs.Common.{Option, Some, None}
+use Rattle.std.proofs.Common.{◌≡◌, Option, Some, None, sym, subst}
 use Rattle.std.specs.Option.{option_map}
 use Rattle.pj_rule_expressions.specs.Expressions.{AreOf, Both, IsParsed, names_of}
 use Rattle.pj_rule_expressions.specs.Patterns.{suppression_of}
@@ -7,6 +7,10 @@ use Rattle.pj_rule_expressions.specs.declared.expressions.RuleExpressions.{RuleE
 use Rattle.pj_rule_expressions.specs.declared.spelled.Spelled.{Spelled}
 use Rattle.pj_rule_texts.specs.declared.rule.RuleTexts.{RuleTexts}
 use Rattle.pj_rule_sets.specs.Kept.{ArePatternsOf}
+
+-- what is behind an `Arc` is what is kept
+pub kept_there : {texts : RuleTexts} {kept there : RuleExpressions} → there ≡ kept → AreOf texts kept → AreOf texts there
+kept_there {texts} same are = subst (AreOf texts) (sym same) are
 
 -- what is told of the expression, and of its patterns, where this is kept of a rule with these texts
 abbrev pub IsExprTold : RuleTexts → Option Spelled → Type 0

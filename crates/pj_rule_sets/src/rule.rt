@@ -1,9 +1,8 @@
 //! Rules.
-ghost use Rattle.std.specs.Prelude.{◌≡◌, IfOk, IfErr, OnOk};
+ghost use Rattle.std.specs.Prelude.{◌≡◌, IfOk, OnOk};
 ghost use Rattle.std.specs.Arc.{arc_value};
 ghost use Rattle.std.specs.Option.{option_copied};
 ghost use Rattle.pj_rule_expressions.specs.Expressions.{AreOf, Both, IsParsed, IsSound, names_of, variables_of};
-ghost use Rattle.pj_rule_expressions.specs.Faults.{IsFault};
 ghost use Rattle.pj_rule_expressions.specs.Patterns.{suppression_of};
 ghost use Rattle.pj_rule_texts.specs.Seen.{variables_seen};
 ghost use Rattle.pj_rule_sets.specs.Active.{covers, is_active};
@@ -12,7 +11,7 @@ ghost use Rattle.pj_rule_sets.specs.Kept.{ArePatternsOf};
 
 use crate::path_patterns::{PathPatterns, texts_of};
 use pj_base::{Names, NoMemory, Text};
-use pj_rule_expressions::{ExpressionFault, RuleExpressions, expressions_of};
+use pj_rule_expressions::{RuleExpressions, UsableRule};
 use pj_rule_rows::RuleRow;
 use pj_rule_texts::{Properties, RuleTexts};
 use pj_xpatterns::Patterns;
@@ -36,7 +35,7 @@ pub struct Rule {
     pub exclude: Names,
     /// The patterns of paths for which they are active nevertheless.
     pub include: Names,
-    expressions: RuleExpressions,
+    expressions: Arc<RuleExpressions, Global>,
     patterns: Arc<PathPatterns, Global>,
 }
 
@@ -49,40 +48,24 @@ impl Model for Rule {
 
     ghost view = { λ rule. record { top = rule.top; row = rule.row; xpath = rule.xpath; properties = rule.properties; exclude = rule.exclude; include = rule.include } };
 
-    ghost invariant = { λ rule. IsKept (record { row = rule.row; xpath = rule.xpath; properties = rule.properties }) rule.exclude rule.include rule.expressions (arc_value rule.patterns) };
+    ghost invariant = { λ rule. IsKept (record { row = rule.row; xpath = rule.xpath; properties = rule.properties }) rule.exclude rule.include (arc_value rule.expressions) (arc_value rule.patterns) };
 }
 
 impl Rule {
-    /// The rule of these texts in a top ruleset, or the first fault of the texts' expressions.
+    /// The rule in a top ruleset. Nothing is compiled: it has the expressions that were made with the rule.
     pub fn of(
         alloc: Global,
         top: u32,
-        texts: RuleTexts,
-        patterns: &Arc<PathPatterns, Global>,
-    ) -> Result<Rule, ExpressionFault>
-        ensures value { IfOk result (λ rule. rule ≡ rule_of top (arc_value patterns.now).exclude (arc_value patterns.now).include texts) }
-        ensures sound { OnOk result (IsSound texts) }
-        ensures fault { IfErr result (IsFault texts) }
-    {
-        let expressions = expressions_of(alloc, &texts)?;
-        let rule = Rule::with(alloc, top, texts, expressions, patterns)?;
-        Ok(rule)
-    }
-
-    /// The rule of these texts, with the expressions that they spell.
-    fn with(
-        alloc: Global,
-        top: u32,
-        texts: RuleTexts,
-        expressions: RuleExpressions,
+        rule: UsableRule,
         patterns: &Arc<PathPatterns, Global>,
     ) -> Result<Rule, NoMemory>
-        requires { AreOf texts expressions }
-        ensures { IfOk result (λ rule. rule ≡ rule_of top (arc_value patterns.now).exclude (arc_value patterns.now).include texts) }
+        ensures value { IfOk result (λ made. made ≡ rule_of top (arc_value patterns.now).exclude (arc_value patterns.now).include rule) }
+        ensures sound { OnOk result (IsSound rule) }
     {
         let exclude = texts_of(alloc, patterns.exclude.as_slice())?;
         let include = texts_of(alloc, patterns.include.as_slice())?;
         let patterns = patterns.clone()?;
+        let (texts, expressions) = rule.into_parts();
         let RuleTexts {
             row,
             xpath,

@@ -13,9 +13,9 @@ use Rattle.pj_rule_expressions.specs.Laws.{SoundOrFault}
 use Rattle.pj_rule_expressions.specs.declared.fault.ExpressionFault.{ExpressionFault}
 use Rattle.pj_rule_files.specs.Files.{AreFault, AreRuleset, IsRead, IsRuleset, IsTextFault, IsUnreadable, greatest_size, is_there}
 use Rattle.pj_rule_files.specs.declared.fault.FileFault.{FileFault}
-use Rattle.pj_rule_lists.specs.Lists.{Taken, is_among, named}
-use Rattle.pj_rule_lists.specs.declared.entry.Entry.{Entry}
-use Rattle.pj_rule_lists.specs.declared.entry.Entry.TheVariants as entry
+use Rattle.pj_rule_parts.specs.Lists.{Taken, is_among, named}
+use Rattle.pj_rule_parts.specs.declared.entry.Entry.{Entry}
+use Rattle.pj_rule_parts.specs.declared.entry.Entry.TheVariants as entry
 use Rattle.pj_rule_texts.specs.References.{Meant, WholeFile, OneRule, is_from_elsewhere, reference_of}
 use Rattle.pj_rule_texts.specs.Rules.{defined, is_xpath_rule, overridden}
 use Rattle.pj_rule_texts.specs.Values.{Text, is_same}

@@ -9,10 +9,10 @@ use Rattle.pj_rule_expressions.specs.Faults as expressions
 use Rattle.pj_rule_expressions.specs.declared.fault.ExpressionFault.{ExpressionFault}
 use Rattle.pj_rule_expressions.specs.declared.fault.ExpressionFault.TheVariants as unsound
 use Rattle.pj_rule_files.specs.Files.{IsRead, is_there}
-use Rattle.pj_rule_lists.specs.Lists.{Taken, is_among, named}
-use Rattle.pj_rule_lists.specs.declared.entry.Entry.{Entry}
-use Rattle.pj_rule_lists.specs.declared.entry.Entry.TheVariants as entry
-use Rattle.pj_rule_lists.specs.declared.entry.Origin.{Origin}
+use Rattle.pj_rule_parts.specs.Lists.{Taken, is_among, named}
+use Rattle.pj_rule_parts.specs.declared.entry.Entry.{Entry}
+use Rattle.pj_rule_parts.specs.declared.entry.Entry.TheVariants as entry
+use Rattle.pj_rule_parts.specs.declared.entry.Origin.{Origin}
 use Rattle.pj_rule_texts.specs.References.{Meant, WholeFile, OneRule, reference_of}
 use Rattle.pj_rule_texts.specs.Rules.{defined, new_name, overridden}
 use Rattle.pj_rule_texts.specs.Values.{Text}

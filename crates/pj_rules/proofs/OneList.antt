@@ -6,9 +6,9 @@ use Rattle.pj_markup.specs.declared.element.Row.{Row}
 use Rattle.pj_markup.specs.Faults.{IsMarkup}
 use Rattle.pj_outside.specs.Files.{Files, bytes_at}
 use Rattle.pj_rule_files.specs.Files.{IsRead, IsRuleset}
-use Rattle.pj_rule_lists.specs.Lists.{Taken, defined_in, is_among, named, not_available, referred_in, without}
-use Rattle.pj_rule_lists.specs.declared.entry.Entry.{Entry}
-use Rattle.pj_rule_lists.specs.declared.entry.Entry.TheVariants as entry
+use Rattle.pj_rule_parts.specs.Lists.{Taken, defined_in, is_among, named, not_available, referred_in, without}
+use Rattle.pj_rule_parts.specs.declared.entry.Entry.{Entry}
+use Rattle.pj_rule_parts.specs.declared.entry.Entry.TheVariants as entry
 use Rattle.pj_rule_texts.specs.References.{Meant, WholeFile, OneRule, is_from_elsewhere, reference_of}
 use Rattle.pj_rule_texts.specs.Rules.{defined, overridden}
 use Rattle.pj_rule_texts.specs.Values.{Text}

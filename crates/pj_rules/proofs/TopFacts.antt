@@ -4,8 +4,8 @@ use Rattle.std.specs.List.{filter_map}
 use Rattle.std.proofs.lemmas.List.{drop_more, take_more, take-append-drop, map-append}
 use Rattle.pj_outside.specs.Files.{Files}
 use Rattle.pj_rule_files.specs.Files.{is_there}
-use Rattle.pj_rule_lists.specs.Lists.{Taken, not_available, referred_in}
-use Rattle.pj_rule_lists.specs.declared.entry.Entry.{Entry}
+use Rattle.pj_rule_parts.specs.Lists.{Taken, not_available, referred_in}
+use Rattle.pj_rule_parts.specs.declared.entry.Entry.{Entry}
 use Rattle.pj_rule_texts.specs.References.{is_from_elsewhere}
 use Rattle.pj_rule_texts.specs.Values.{Text}
 use Rattle.pj_rule_parts.specs.Effective.{AddAll, AreJudged, nothing}

@@ -1,7 +1,7 @@
 -- Laws of the definitions.
 use Rattle.std.specs.Prelude.{◌≡◌, ℕ, List}
 use Rattle.pj_outside.specs.Files.{Files}
-use Rattle.pj_rule_lists.specs.Lists.{Taken}
+use Rattle.pj_rule_parts.specs.Lists.{Taken}
 use Rattle.pj_rule_sets.specs.Rules.{EffectiveRules}
 use Rattle.pj_rule_texts.specs.Values.{Text}
 use Rattle.pj_rule_parts.specs.Effective.{HasRules}

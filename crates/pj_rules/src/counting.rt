@@ -5,14 +5,14 @@ ghost use Rattle.pj_rules.specs.States.{top_rules};
 
 use crate::top::Top;
 use pj_base::NoMemory;
-use pj_rule_lists::{Entry, Origin};
+use pj_rule_parts::{Entry, Origin};
 
 /// Whether a member of a list counts: a rule of a priority number that is not above the minimum, or what cannot be used.
 fn is_kept(minimum: u8, taken: &(Origin, Entry)) -> bool
     ensures { result ≡ is_kept minimum taken.now }
 {
     match &taken.1 {
-        Entry::Rule(texts) => texts.row.priority <= minimum,
+        Entry::Rule(rule) => rule.texts().row.priority <= minimum,
         Entry::Unusable(_) => true,
     }
 }

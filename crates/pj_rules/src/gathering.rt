@@ -8,7 +8,7 @@ ghost use Rattle.pj_rules.specs.States.{top_rules};
 
 use crate::top::Top;
 use pj_base::{ListOf, NoMemory};
-use pj_rule_lists::{Entry, Origin};
+use pj_rule_parts::{Entry, Origin};
 use pj_rule_rows::ConfigErrors;
 use pj_rule_sets::{PathPatterns, Rule, Rules};
 use std::alloc::Global;
@@ -38,14 +38,11 @@ fn gather_one(
     let (_, entry) = taken;
     match entry {
         Entry::Unusable(unusable) => gathered.unusable.push(unusable.error),
-        Entry::Rule(texts) => {
-            if texts.row.priority > minimum {
+        Entry::Rule(rule) => {
+            if rule.texts().row.priority > minimum {
                 return Ok(());
             }
-            // The texts of an entry that is a rule were judged where they were read, so nothing but memory can be wanting here.
-            let Ok(rule) = Rule::of(alloc, number, texts, patterns) else {
-                return Err(NoMemory);
-            };
+            let rule = Rule::of(alloc, number, rule, patterns)?;
             gathered.rules.push(rule)
         }
     }

@@ -225,10 +225,11 @@ fn go_back(
     let mut file = file;
     let _ = known.open_paths.pop();
     let list = list.into_list(alloc)?;
+    let current = &mut file;
     take(
         alloc,
-        &file.path,
-        &mut file.progress,
+        &current.path,
+        &mut current.progress,
         referral,
         list.as_slice(),
     )?;

@@ -13,9 +13,8 @@ use crate::open_file::OpenFile;
 use crate::reading::{Stack, read_to_end};
 use pj_base::{Copied, ListOf, Names, NoMemory, Text};
 use pj_outside::Tree;
-use pj_rule_lists::Origin;
 use pj_rule_parts::{
-    Known, Progress, RuleList, RuleRefused, RuleWhat, not_available, refused, written_at,
+    Known, Origin, Progress, RuleList, RuleRefused, RuleWhat, not_available, refused, written_at,
 };
 use pj_rule_sets::PathPatterns;
 use pj_rule_texts::{WrittenRuleset, is_from_elsewhere};

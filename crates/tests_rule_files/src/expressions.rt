@@ -1,7 +1,7 @@
 //! The expressions of rules that stand in a file, and why there are none.
 use crate::rulesets::first_rule;
 use pj_base::{NoMemory, Text};
-use pj_rule_expressions::{ExpressionFault, RuleExpressions, expressions_of};
+use pj_rule_expressions::{ExpressionFault, RuleExpressions, UsableRule, expressions_of};
 use pj_rule_texts::{RuleTexts, defined};
 use pj_xparse::XSyntax;
 use std::alloc::Global;
@@ -39,14 +39,29 @@ fn shown_syntax(alloc: Global, fault: XSyntax) -> Result<String, NoMemory> {
     }
 }
 
+fn shown_fault(alloc: Global, fault: ExpressionFault) -> Result<String, NoMemory> {
+    match fault {
+        ExpressionFault::XPath(fault) => shown_syntax(alloc, fault),
+        ExpressionFault::Pattern => Ok(String::from_str(alloc, "Pattern")?),
+        ExpressionFault::Memory => Err(NoMemory),
+    }
+}
+
 /// What the texts of a rule spell.
 fn spelled(alloc: Global, texts: &RuleTexts) -> Result<String, NoMemory> {
     match expressions_of(alloc, texts) {
         Ok(expressions) => shown(alloc, &expressions),
-        Err(ExpressionFault::XPath(fault)) => shown_syntax(alloc, fault),
-        Err(ExpressionFault::Pattern) => Ok(String::from_str(alloc, "Pattern")?),
-        Err(ExpressionFault::Memory) => Err(NoMemory),
+        Err(fault) => shown_fault(alloc, fault),
     }
+}
+
+/// The number of a rule, which is its priority, and what it has that can be used.
+fn shown_rule(alloc: Global, rule: UsableRule) -> Result<String, NoMemory> {
+    let (texts, expressions) = rule.into_parts();
+    let number = texts.row.priority;
+    let kept = shown(alloc, &expressions)?;
+    let kept = kept.as_str();
+    Ok(format!(in alloc; "{number} {kept}")?)
 }
 
 /// The texts of a rule with these properties.
@@ -73,6 +88,55 @@ fn read(alloc: Global, properties: &str) -> Result<String, NoMemory> {
         None => Ok(String::from_str(alloc, "no rule")?),
     }
 }
+
+/// What a rule with the first properties spells that has the second ones in their place.
+fn changed(alloc: Global, before: &str, behind: &str) -> Result<String, NoMemory> {
+    let (Some(before), Some(behind)) = (rule(alloc, before)?, rule(alloc, behind)?) else {
+        return Ok(String::from_str(alloc, "no rule")?);
+    };
+    let old = match UsableRule::of(alloc, before) {
+        Ok(old) => old,
+        Err(fault) => return shown_fault(alloc, fault),
+    };
+    match old.changed(alloc, behind) {
+        Ok(new) => shown_rule(alloc, new),
+        Err(fault) => shown_fault(alloc, fault),
+    }
+}
+
+/// The properties of a rule, those that take their place, and what the changed rule spells.
+static CHANGED: [(&str, &str, &str); 6] = [
+    (
+        "<property name='xpath' value='$n'/><property name='n' type='Integer' value='1'/>",
+        "<property name='xpath' value='$n'/><property name='n' type='Integer' value='1'/>",
+        "5 query $n",
+    ),
+    (
+        "<property name='xpath' value='$n'/><property name='n' type='Integer' value='1'/>",
+        "<property name='xpath' value='$m'/><property name='m' type='Integer' value='1'/>",
+        "5 query $m",
+    ),
+    (
+        "<property name='xpath' value='.'/><property name='violationSuppressRegex' value='one'/>",
+        "<property name='xpath' value='.'/><property name='violationSuppressRegex' value='one two'/>",
+        "5 query, covered",
+    ),
+    (
+        "<property name='p' type='Regex' value='a+'/><property name='xpath' value='matches(@A, $p)'/>",
+        "<property name='p' type='Regex' value='a('/><property name='xpath' value='matches(@A, $p)'/>",
+        "Pattern",
+    ),
+    (
+        "<property name='xpath' value='.'/>",
+        "<property name='xpath' value='1 +'/>",
+        "Expected 3",
+    ),
+    (
+        "<property name='xpath' value='.'/>",
+        "<property name='xpath' value='.'/><property name='violationSuppressXPath' value='.'/>",
+        "5 query, suppression",
+    ),
+];
 
 /// Rules that can be used.
 static SOUND: [(&str, &str); 9] = [
@@ -264,4 +328,13 @@ fn names_of_functions_are_not_calls(rt: HostRuntime) -> Result<(), Fail> {
 #[test]
 fn calls_of_pmd_are_refused(rt: HostRuntime) -> Result<(), Fail> {
     check(&rt, rt.alloc(), &CALLS)
+}
+
+#[test]
+fn changed_rules_spell_their_own_texts(rt: HostRuntime) -> Result<(), Fail> {
+    for (before, behind, wanted) in &CHANGED {
+        let found = changed(rt.alloc(), before, behind)?;
+        assert_eq!(rt; found.as_str(), *wanted, "of {before} and {behind}");
+    }
+    Ok(())
 }

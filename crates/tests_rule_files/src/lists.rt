@@ -1,6 +1,7 @@
 //! Lists of rules, each rule once.
 use pj_base::{ListOf, Names, NoMemory, Text};
-use pj_rule_lists::{Entry, NameSet, Origin, RuleTable, Unusable, named, put_without};
+use pj_rule_expressions::UsableRule;
+use pj_rule_parts::{Entry, NameSet, Origin, RuleTable, Unusable, named, put_without};
 use pj_rule_rows::{ConfigError, RuleRow};
 use pj_rule_texts::{Properties, RuleTexts};
 use std::alloc::Global;
@@ -19,18 +20,23 @@ fn origin(alloc: Global, row: &Row) -> Result<Origin, NoMemory> {
     })
 }
 
-fn rule(alloc: Global, name: &str, priority: u8) -> Result<RuleTexts, NoMemory> {
+fn rule(alloc: Global, name: &str, priority: u8) -> Result<UsableRule, NoMemory> {
     let row = RuleRow {
         name: Text::from_str(alloc, name)?,
         message: Text::new(alloc),
         priority,
         rule_set: Text::new(alloc),
     };
-    Ok(RuleTexts {
+    let texts = RuleTexts {
         row,
-        xpath: Text::new(alloc),
+        xpath: Text::from_str(alloc, ".")?,
         properties: Properties::new(alloc),
-    })
+    };
+    // The query is one, so nothing but memory can be wanting.
+    match UsableRule::of(alloc, texts) {
+        Ok(rule) => Ok(rule),
+        Err(_) => Err(NoMemory),
+    }
 }
 
 fn reference(alloc: Global, text: &str) -> Result<Unusable, NoMemory> {
@@ -67,8 +73,9 @@ fn list(alloc: Global, rows: &[Row]) -> Result<ListOf<(Origin, Entry)>, NoMemory
 /// Shows a rule as its name and number, and a reference as its text.
 fn push_entry(line: &mut String, entry: &Entry) -> Result<(), NoMemory> {
     match entry {
-        Entry::Rule(texts) => {
-            let (name, number) = (texts.row.name.as_str(), texts.row.priority);
+        Entry::Rule(rule) => {
+            let row = &rule.texts().row;
+            let (name, number) = (row.name.as_str(), row.priority);
             write!(line, "{name}{number} ")?;
         }
         Entry::Unusable(unusable) => {
@@ -130,7 +137,7 @@ static RULES: [Row; 4] = [
 /// The number of the first rule of a name, 0 where there is none.
 fn number_of(name: &str, list: &[(Origin, Entry)]) -> u8 {
     match named(name, list) {
-        Some((_, Entry::Rule(texts))) => texts.row.priority,
+        Some((_, Entry::Rule(rule))) => rule.texts().row.priority,
         _ => 0,
     }
 }

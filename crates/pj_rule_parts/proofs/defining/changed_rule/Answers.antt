@@ -1,20 +1,31 @@
+use Rattle.std.proofs.Common.{◌≡◌, ◌∙◌, Err, Ok, ap, sym, subst}
+use Rattle.pj_rule_texts.specs.Rules.{Answers, new_name, overridden}
+use Rattle.pj_rule_texts.specs.declared.rule.RuleTexts.{RuleTexts}
 use Rattle.pj_rule_parts.specs.Effective.{CannotChange, Changes}
-use Rattle.pj_rule_parts.specs.Refusals.{IfOwn}
-use Rattle.pj_rule_parts.proofs.Definitions.{At, changed_unsound, handed_on, not_changed}
+use Rattle.pj_rule_parts.specs.Refusals.{IfOwn, IsUnsound}
+use Rattle.pj_rule_parts.proofs.Definitions.{At, changed_unsound, is_made, is_refused, not_changed}
 use Rattle.pj_rule_parts.proofs.defining.changed_rule.Goals as goal
 
-pub returns-in_err-sound-in-Ok-clause-fault : goal.returns-in_err-sound-in-Ok-clause-fault
-returns-in_err-sound-in-Ok-clause-fault c =
+pub returns-in-Ok-clause-rule : goal.returns-in-Ok-clause-rule
+returns-in-Ok-clause-rule c =
+    let rule = c.args.rule in
+    let is : overridden c.args.old.now rule ≡ Ok c.in-Ok.changed = subst (λ old. overridden old rule ≡ Ok c.in-Ok.changed) c.texts-texts.ensures.value c.in-Ok.ensures in
+    is_made (Changes rule c.args.old.now) c.in-Ok.changed c.usable_after.result (Changes.changed is) c.usable_after.ensures.value c.usable_after.ensures.sound
+
+pub returns-in-Ok-clause-fault : goal.returns-in-Ok-clause-fault
+returns-in-Ok-clause-fault c =
     let path = c.args.path.now in
     let rule = c.args.rule in
-    let old = c.args.texts.now in
-    let r = c.in_err-sound-in-Ok.field-0.0 in
-    handed_on c.from_residual-in_err-sound-in-Ok.result r (IfOwn (At path (CannotChange rule old))) c.from_residual-in_err-sound-in-Ok.ensures.1
-    (changed_unsound path rule old c.in-Ok.changed r c.in-Ok.ensures c.in_err-sound-in-Ok.ensures.fault)
-
-pub returns-in_ok-sound-in-Ok-clause-rule : goal.returns-in_ok-sound-in-Ok-clause-rule
-returns-in_ok-sound-in-Ok-clause-rule c = Changes.changed c.in-Ok.ensures c.in_ok-sound-in-Ok.ensures.sound
+    let old = c.args.old.now in
+    let changed = c.in-Ok.changed in
+    let is : overridden old rule ≡ Ok changed = subst (λ texts. overridden texts rule ≡ Ok changed) c.texts-texts.ensures.value c.in-Ok.ensures in
+    is_refused (IfOwn (At path (IsUnsound changed))) (IfOwn (At path (CannotChange rule old))) c.usable_after.result
+    (λ r h. changed_unsound path rule old changed r is h) c.usable_after.ensures.fault
 
 pub returns-in-Err-clause-fault : goal.returns-in-Err-clause-fault
 returns-in-Err-clause-fault c =
-    not_changed c.args.path.now c.args.rule c.args.texts.now c.in_ok-name.name c.in-Err.fault c.refused_texts.result c.in_ok-name.ensures c.in-Err.ensures c.refused_texts.ensures
+    let rule = c.args.rule in
+    let fault = c.in-Err.fault in
+    not_changed c.args.path.now rule c.args.old.now c.in_ok-name.name fault c.refused_texts.result
+    (c.in_ok-name.ensures ∙ ap (λ texts. new_name texts rule) c.texts-texts.ensures.value)
+    (subst (λ texts. Answers (overridden texts rule) (Err fault)) c.texts-texts.ensures.value c.in-Err.ensures) c.refused_texts.ensures

@@ -1,5 +1,5 @@
 use Rattle.std.proofs.Common.{◌≡◌, ◌∙◌, ◌++◌, ◌∷◌, [], true, false, ap, subst}
-use Rattle.pj_rule_lists.specs.Lists.{defined_in, is_among, put}
+use Rattle.pj_rule_parts.specs.Lists.{defined_in, is_among, put}
 use Rattle.pj_rule_parts.specs.Defining.{IsDefinitionFault}
 use Rattle.pj_rule_parts.specs.Refusals.{IfOwn}
 use Rattle.pj_rule_parts.proofs.Definitions.{adds, handed_on, no_entry, not_there, same_name, there}

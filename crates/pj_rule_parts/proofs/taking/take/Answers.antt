@@ -1,5 +1,5 @@
 use Rattle.std.proofs.Common.{◌∙◌, ap, sym, refl}
-use Rattle.pj_rule_lists.specs.Lists.{put_all, without}
+use Rattle.pj_rule_parts.specs.Lists.{put_all, without}
 use Rattle.pj_rule_parts.proofs.Definitions.{adds_list}
 use Rattle.pj_rule_parts.proofs.TakeFacts.{takes_whole}
 use Rattle.pj_rule_parts.proofs.taking.take.Goals as goal

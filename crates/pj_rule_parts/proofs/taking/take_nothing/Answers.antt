@@ -1,5 +1,5 @@
 use Rattle.std.proofs.Common.{◌≡◌, ◌∙◌, true, false, ap, ap₂, sym, refl, subst}
-use Rattle.pj_rule_lists.specs.Lists.{not_available, put, referred_in}
+use Rattle.pj_rule_parts.specs.Lists.{not_available, put, referred_in}
 use Rattle.pj_rule_texts.specs.References.{is_from_elsewhere}
 use Rattle.pj_rule_parts.specs.Referring.{IsNothingFault, name_behind}
 use Rattle.pj_rule_parts.specs.declared.fault.RuleWhat.TheVariants.{MissingRef}

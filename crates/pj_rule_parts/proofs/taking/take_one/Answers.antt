@@ -1,6 +1,6 @@
 use Rattle.std.proofs.Common.{◌≡◌, ◌∙◌, None, Some, ap, sym, refl, subst}
 use Rattle.std.specs.Option.{option_copied}
-use Rattle.pj_rule_lists.specs.Lists.{named, put}
+use Rattle.pj_rule_parts.specs.Lists.{named, put}
 use Rattle.pj_rule_parts.specs.Referring.{CannotChangeEntry, IsTakenFault}
 use Rattle.pj_rule_parts.specs.Refusals.{IfOwn}
 use Rattle.pj_rule_parts.specs.declared.fault.RuleWhat.TheVariants.{MissingRef}

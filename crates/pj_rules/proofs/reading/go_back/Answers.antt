@@ -1,6 +1,6 @@
 use Rattle.std.proofs.Common.{List, [], ◌∷◌, ◌++◌, ℕ, refl, subst}
 use Rattle.pj_outside.specs.Files.{Files}
-use Rattle.pj_rule_lists.specs.Lists.{Taken}
+use Rattle.pj_rule_parts.specs.Lists.{Taken}
 use Rattle.pj_rule_parts.specs.Referring.{AddsTaken, IsTakenFault}
 use Rattle.pj_rule_parts.specs.Refusals.{IfOwn}
 use Rattle.pj_rules.specs.States.{IsDone, IsFaultOfTop}

@@ -1,7 +1,7 @@
 use Rattle.std.proofs.Common.{◌≡◌, List, refl, sym, subst}
 use Rattle.std.proofs.lemmas.Result.{IfErr-weaker, on_ok_weaker}
 use Rattle.pj_outside.specs.Files.{Files}
-use Rattle.pj_rule_lists.specs.Lists.{Taken}
+use Rattle.pj_rule_parts.specs.Lists.{Taken}
 use Rattle.pj_rule_texts.specs.declared.written.Part.TheVariants as part
 use Rattle.pj_rule_parts.specs.Finding.{IsBefore}
 use Rattle.pj_rule_parts.specs.Known.{AreRead}

@@ -1,6 +1,6 @@
 use Rattle.std.proofs.Common.{sym, ap, ◌∙◌, ◌+◌, drop}
-use Rattle.pj_rule_lists.proofs.Listing.{one_more, to_come}
-use Rattle.pj_rule_lists.proofs.list.put_without.Goals as goal
+use Rattle.pj_rule_parts.proofs.Listing.{one_more, to_come}
+use Rattle.pj_rule_parts.proofs.list.put_without.Goals as goal
 
 pub loop-taken-preserved : goal.loop-taken-preserved
 loop-taken-preserved c =

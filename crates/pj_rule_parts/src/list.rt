@@ -1,8 +1,8 @@
 //! The lists of rules that files make.
 ghost use Rattle.std.specs.Prelude.{◌≡◌, OnOk};
 ghost use Rattle.std.specs.Option.{option_copied};
-ghost use Rattle.pj_rule_lists.specs.Lists.{is_among, is_called, is_excluded, name_of, named, put_all, without};
-ghost use Rattle.pj_rule_lists.specs.Taking.{put_unless};
+ghost use Rattle.pj_rule_parts.specs.Lists.{is_among, is_called, is_excluded, name_of, named, put_all, without};
+ghost use Rattle.pj_rule_parts.specs.Taking.{put_unless};
 
 use crate::entry::{Entry, Origin};
 use crate::table::RuleTable;
@@ -13,7 +13,7 @@ fn name_of(entry: &Entry) -> Option<&Text>
     ensures { option_copied result ≡ name_of entry.now }
 {
     match entry {
-        Entry::Rule(texts) => Some(&texts.row.name),
+        Entry::Rule(rule) => Some(&rule.texts().row.name),
         Entry::Unusable(unusable) => match &unusable.name {
             Some(name) => Some(name),
             None => None,

@@ -1,8 +1,8 @@
 use Rattle.std.proofs.Common.{ap, refl, rules, ◌∙◌}
-use Rattle.pj_rule_lists.specs.Lists.{put}
-use Rattle.pj_rule_lists.specs.contracts.entry.OriginPartialEq.TheImpl.{eq-value}
-use Rattle.pj_rule_lists.proofs.Listing.{put-insert}
-use Rattle.pj_rule_lists.proofs.table.RuleTable.put.Goals as goal
+use Rattle.pj_rule_parts.specs.Lists.{put}
+use Rattle.pj_rule_parts.specs.contracts.entry.OriginPartialEq.TheImpl.{eq-value}
+use Rattle.pj_rule_parts.proofs.Listing.{put-insert}
+use Rattle.pj_rule_parts.proofs.table.RuleTable.put.Goals as goal
 
 pub returns : goal.returns
 returns c =

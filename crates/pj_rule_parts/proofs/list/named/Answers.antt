@@ -1,6 +1,6 @@
 use Rattle.std.proofs.Common.{sym, ◌∙◌}
-use Rattle.pj_rule_lists.proofs.Listing.{named_here, named_later}
-use Rattle.pj_rule_lists.proofs.list.named.Goals as goal
+use Rattle.pj_rule_parts.proofs.Listing.{named_here, named_later}
+use Rattle.pj_rule_parts.proofs.list.named.Goals as goal
 
 pub returns-then-is_called : goal.returns-then-is_called
 returns-then-is_called c =

@@ -1,7 +1,7 @@
 use Rattle.std.proofs.Common.{sym, subst}
 use Rattle.std.proofs.lemmas.Result.{err_from_is_err_and}
 use Rattle.pj_rule_expressions.specs.Faults.{IsFault}
-use Rattle.pj_rule_sets.proofs.rule.Rule.of.Goals as goal
+use Rattle.pj_rule_expressions.proofs.usable.UsableRule.of.Goals as goal
 
 pub returns-in_err-expressions-clause-fault : goal.returns-in_err-expressions-clause-fault
 returns-in_err-expressions-clause-fault c =

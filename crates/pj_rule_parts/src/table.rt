@@ -1,6 +1,6 @@
 //! Tables of what is read of a file.
 ghost use Rattle.std.specs.Prelude.{◌≡◌, ◌++◌, ◌∷◌, [], not, true, IfOk, OnOk};
-ghost use Rattle.pj_rule_lists.specs.Lists.{is_among, put};
+ghost use Rattle.pj_rule_parts.specs.Lists.{is_among, put};
 
 use crate::entry::{Entry, Origin};
 use indexmap::{IndexMap, IndexSet};
@@ -16,8 +16,8 @@ pub struct RuleTable {
 
 impl Model for RuleTable {
     ghost use Rattle.std.specs.Prelude.{List};
-    ghost use Rattle.pj_rule_lists.specs.declared.entry.Origin.{Origin};
-    ghost use Rattle.pj_rule_lists.specs.declared.entry.Entry.{Entry};
+    ghost use Rattle.pj_rule_parts.specs.declared.entry.Origin.{Origin};
+    ghost use Rattle.pj_rule_parts.specs.declared.entry.Entry.{Entry};
 
     ghost Value = { List (Origin × Entry) };
 

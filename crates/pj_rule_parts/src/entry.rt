@@ -1,8 +1,8 @@
 //! The members of the lists that files make.
 
 use pj_base::{Copied, NoMemory, Text};
+use pj_rule_expressions::UsableRule;
 use pj_rule_rows::ConfigError;
-use pj_rule_texts::RuleTexts;
 
 /// What a rule is told apart by: a rule by the file in which it is defined and its name there, and a reference to a file that is
 /// not available by the file in which it is written and its text.
@@ -28,8 +28,8 @@ pub struct Unusable {
 /// A rule, or what stands for one that cannot be used.
 #[derive(Drop)]
 pub enum Entry {
-    /// A rule.
-    Rule(RuleTexts),
+    /// A rule, with the expressions that its texts spell.
+    Rule(UsableRule),
     /// A rule that cannot be used.
     Unusable(Unusable),
 }
@@ -56,7 +56,7 @@ impl Copied for Unusable {
 impl Copied for Entry {
     fn copied(&self) -> Result<Entry, NoMemory> {
         Ok(match self {
-            Entry::Rule(texts) => Entry::Rule(texts.copied()?),
+            Entry::Rule(rule) => Entry::Rule(rule.copied()?),
             Entry::Unusable(unusable) => Entry::Unusable(unusable.copied()?),
         })
     }

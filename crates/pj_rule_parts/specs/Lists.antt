@@ -4,10 +4,10 @@ use Rattle.std.specs.List.{list_any}
 use Rattle.pj_rule_rows.specs.declared.rule_row.ConfigError.{ConfigError}
 use Rattle.pj_rule_texts.specs.Values.{Text, is_same}
 use Rattle.pj_rule_texts.specs.declared.rule.RuleTexts.{RuleTexts}
-use Rattle.pj_rule_lists.specs.declared.entry.Origin.{Origin}
-use Rattle.pj_rule_lists.specs.declared.entry.Unusable.{Unusable}
-use Rattle.pj_rule_lists.specs.declared.entry.Entry.{Entry}
-use Rattle.pj_rule_lists.specs.declared.entry.Entry.TheVariants as entry
+use Rattle.pj_rule_parts.specs.declared.entry.Origin.{Origin}
+use Rattle.pj_rule_parts.specs.declared.entry.Unusable.{Unusable}
+use Rattle.pj_rule_parts.specs.declared.entry.Entry.{Entry}
+use Rattle.pj_rule_parts.specs.declared.entry.Entry.TheVariants as entry
 
 -- A rule is its definition: the file in which it is written, by path, and its name there. What stands for a reference to a file that is
 -- not available is the reference: the file in which it is written, and its text.

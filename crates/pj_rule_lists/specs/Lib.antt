@@ -1,4 +1,0 @@
--- definitions
-pub mod Lists
--- a private clause alone cites this
-pub mod Taking
