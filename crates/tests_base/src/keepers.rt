@@ -1,57 +1,22 @@
 //! A keeper in memory: what it holds, and the calls that fail.
-use pj_base::Numbers;
-use pj_outside::{Failed, Keeper, MemKeeper, Reading, Refused};
+use crate::fixtures::{Read, expect, is_read, numbers};
+use pj_base::NoMemory;
+use pj_outside::{Failed, Keeper, MemKeeper};
 use std::alloc::Global;
 use std::test::Fail;
 
-/// What a load gives, in a word.
-fn loaded(keeper: &mut MemKeeper, name: &str, most: u64) -> &'static str {
-    match keeper.load(name, most) {
-        Ok(Reading::Absent) => "absent",
-        Ok(Reading::Longer) => "longer",
-        Ok(Reading::Whole(bytes)) => {
-            match bytes.as_slice() {
-                b"" => "empty",
-                b"one" => "one",
-                b"three" => "three",
-                _ => "other bytes",
-            }
-        }
-        Err(Refused::Failed) => "failed",
-        Err(Refused::Memory) => "memory",
-    }
-}
-
-fn keeper(alloc: Global, fail: &[u32]) -> Result<MemKeeper, Fail> {
-    let numbers = Numbers::from_vec(Vec::from_slice(alloc, fail)?);
-    Ok(MemKeeper::new(alloc, numbers))
-}
-
-#[test]
-fn a_keeper_has_what_was_put_last(rt: HostRuntime) -> Result<(), Fail> {
-    let mut keeper = keeper(rt.alloc(), &[])?;
-    assert_eq!(rt; loaded(&mut keeper, "a", 9), "absent");
-    assert_eq!(rt; keeper.replace("a", b"one"), Ok(()));
-    assert_eq!(rt; keeper.replace("b", b""), Ok(()));
-    assert_eq!(rt; loaded(&mut keeper, "a", 9), "one");
-    assert_eq!(rt; keeper.replace("a", b"three"), Ok(()));
-    assert_eq!(rt; loaded(&mut keeper, "a", 9), "three");
-    assert_eq!(rt; loaded(&mut keeper, "b", 9), "empty");
-    assert_eq!(rt; loaded(&mut keeper, "ab", 9), "absent");
-    Ok(())
-}
-
-#[test]
-fn a_keeper_loads_within_the_limit(rt: HostRuntime) -> Result<(), Fail> {
-    let mut keeper = keeper(rt.alloc(), &[])?;
-    assert_eq!(rt; keeper.replace("a", b"one"), Ok(()));
-    assert_eq!(rt; keeper.replace("b", b""), Ok(()));
-    assert_eq!(rt; loaded(&mut keeper, "a", 3), "one");
-    assert_eq!(rt; loaded(&mut keeper, "a", 2), "longer");
-    assert_eq!(rt; loaded(&mut keeper, "a", 0), "longer");
-    assert_eq!(rt; loaded(&mut keeper, "b", 0), "empty");
-    assert_eq!(rt; loaded(&mut keeper, "c", 0), "absent");
-    Ok(())
+/// A call of a keeper, and what it is to answer.
+enum Call {
+    /// Puts bytes under a name.
+    Replace(&'static str, &'static [u8]),
+    /// The same, which fails.
+    Fails(&'static str, &'static [u8]),
+    /// Reads what is under a name, at most so many bytes.
+    Load(&'static str, u64, Read),
+    /// Asks for what is under a name, which is no call that can fail.
+    Get(&'static str, &'static [u8]),
+    /// The same, where there is nothing.
+    None(&'static str),
 }
 
 /// Whether the keeper has these bytes under the name.
@@ -62,17 +27,78 @@ fn holds(keeper: &MemKeeper, name: &str, wanted: &[u8]) -> bool {
     }
 }
 
+/// Whether a call answers what it is to.
+fn is_answered(keeper: &mut MemKeeper, call: &Call) -> bool {
+    match call {
+        Call::Replace(name, bytes) => keeper.replace(name, bytes) == Ok(()),
+        Call::Fails(name, bytes) => keeper.replace(name, bytes) == Err(Failed),
+        Call::Load(name, most, wanted) => is_read(&keeper.load(name, *most), *wanted),
+        Call::Get(name, wanted) => holds(keeper, name, wanted),
+        Call::None(name) => keeper.get(name).is_none(),
+    }
+}
+
+/// Keepers: what a row shows, the numbers of the calls that are to fail, and calls.
+static KEEPERS: [(&str, &[u32], &[Call]); 3] = [
+    (
+        "a keeper has what was put last",
+        &[],
+        &[
+            Call::Load("a", 9, Read::Absent),
+            Call::Replace("a", b"one"),
+            Call::Replace("b", b""),
+            Call::Load("a", 9, Read::Whole(b"one")),
+            Call::Replace("a", b"three"),
+            Call::Load("a", 9, Read::Whole(b"three")),
+            Call::Load("b", 9, Read::Whole(b"")),
+            Call::Load("ab", 9, Read::Absent),
+        ],
+    ),
+    (
+        "a keeper loads within the limit",
+        &[],
+        &[
+            Call::Replace("a", b"one"),
+            Call::Replace("b", b""),
+            Call::Load("a", 3, Read::Whole(b"one")),
+            Call::Load("a", 2, Read::Longer),
+            Call::Load("a", 0, Read::Longer),
+            Call::Load("b", 0, Read::Whole(b"")),
+            Call::Load("c", 0, Read::Absent),
+        ],
+    ),
+    (
+        "a keeper fails where it is to",
+        &[2, 4],
+        &[
+            Call::Replace("a", b"one"),
+            Call::Fails("a", b"three"),
+            Call::Get("a", b"one"),
+            Call::Load("a", 9, Read::Whole(b"one")),
+            Call::Load("a", 9, Read::Failed),
+            Call::Replace("b", b"three"),
+            Call::Get("a", b"one"),
+            Call::Get("b", b"three"),
+            Call::None("c"),
+        ],
+    ),
+];
+
+/// Whether each call answers what it is to.
+fn are_answered(alloc: Global, fail: &[u32], calls: &[Call]) -> Result<bool, NoMemory> {
+    let mut keeper = MemKeeper::new(alloc, numbers(alloc, fail)?);
+    for call in calls {
+        if !is_answered(&mut keeper, call) {
+            return Ok(false);
+        }
+    }
+    Ok(true)
+}
+
 #[test]
-fn a_keeper_fails_where_it_is_to(rt: HostRuntime) -> Result<(), Fail> {
-    let mut keeper = keeper(rt.alloc(), &[2, 4])?;
-    assert_eq!(rt; keeper.replace("a", b"one"), Ok(()));
-    assert_eq!(rt; keeper.replace("a", b"three"), Err(Failed));
-    assert!(rt; holds(&keeper, "a", b"one"));
-    assert_eq!(rt; loaded(&mut keeper, "a", 9), "one");
-    assert_eq!(rt; loaded(&mut keeper, "a", 9), "failed");
-    assert_eq!(rt; keeper.replace("b", b"three"), Ok(()));
-    assert!(rt; holds(&keeper, "a", b"one"));
-    assert!(rt; holds(&keeper, "b", b"three"));
-    assert!(rt; keeper.get("c").is_none());
+fn keepers(rt: HostRuntime) -> Result<(), Fail> {
+    for (row, fail, calls) in &KEEPERS {
+        expect(are_answered(rt.alloc(), fail, calls)?, row)?;
+    }
     Ok(())
 }

@@ -4,8 +4,12 @@
 #[cfg(test)]
 mod base;
 #[cfg(test)]
+mod fixtures;
+#[cfg(test)]
 mod keepers;
 #[cfg(test)]
 mod names;
 #[cfg(test)]
 mod outside;
+#[cfg(test)]
+mod types;

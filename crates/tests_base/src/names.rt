@@ -1,57 +1,21 @@
-//! Names of classes, types, answers and oracles.
+//! Names of classes, answers and oracles.
 
 ghost use Rattle.std.specs.Prelude.{◌≡◌, OnOk, Some};
 ghost use Rattle.std.specs.BTreeMap.{get};
 ghost use Rattle.std.specs.Cmp.Lexicographic.{slice_cmp};
 ghost use Rattle.std.specs.Ordering.{nat_cmp};
 
-use pj_base::{Copied, Exact, NoMemory, Text};
+use crate::fixtures::{expect, name, text};
+use pj_base::{Copied, Exact, NoMemory};
 use pj_names::{
-    Answer, Answers, Bindings, Broken, ClassFault, ClassInfo, ClassName, ClassNameSet, ClassNames,
-    MapOracle, Member, Members, Oracle, Prim, Recorder, Ty, TyList, Types, copied_bindings,
-    copied_types, look_up, same_types,
+    Answer, Answers, AskFault, Broken, ClassFault, ClassInfo, ClassName, ClassNameSet, ClassNames,
+    MapOracle, Member, Members, Oracle, Recorder, look_up,
 };
 use std::alloc::{AllocFailed, Global};
 use std::cmp::Ordering;
 use std::collections::BTreeMap;
 use std::sync::Arc;
 use std::test::Fail;
-
-fn text(alloc: Global, bytes: &str) -> Result<Text, NoMemory> {
-    Text::from_str(alloc, bytes)
-}
-
-fn name(alloc: Global, text: &str) -> Result<ClassName, Fail> {
-    Ok(ClassName::of(alloc, text)?.ok_or("no class name")?)
-}
-
-fn names(alloc: Global, all: &[&str]) -> Result<ClassNames, Fail> {
-    let mut list = ClassNames::new(alloc);
-    for text in all {
-        list.push(name(alloc, text)?)?;
-    }
-    Ok(list)
-}
-
-fn class(alloc: Global, of: &str, signature: &str) -> Result<Arc<Answer>, Fail> {
-    let info = ClassInfo {
-        name: name(alloc, of)?,
-        flags: 33,
-        signature: text(alloc, signature)?,
-        fields: Members::new(alloc),
-        methods: Members::new(alloc),
-    };
-    Ok(Arc::new(alloc, Answer::Found(info))?)
-}
-
-/// Classes with the names that they lead to in place of signatures.
-fn oracle(alloc: Global, all: &[(&str, &str)]) -> Result<MapOracle, Fail> {
-    let mut answers = Answers::new(alloc);
-    for (of, signature) in all {
-        answers.push(name(alloc, of)?, class(alloc, of, signature)?)?;
-    }
-    Ok(MapOracle::new(alloc, answers))
-}
 
 /// Texts, and whether they are names of classes.
 static NAMES: [(&str, bool); 17] = [
@@ -74,170 +38,292 @@ static NAMES: [(&str, bool); 17] = [
     ("java/util.List", false),
 ];
 
+/// Whether a text is the name of a class.
+fn is_name(alloc: Global, text: &str) -> Result<bool, NoMemory> {
+    Ok(ClassName::of(alloc, text)?.is_some())
+}
+
 #[test]
 fn names_of_classes(rt: HostRuntime) -> Result<(), Fail> {
     for (text, wanted) in &NAMES {
-        let is_name = ClassName::of(rt.alloc(), text)?.is_some();
-        assert_eq!(rt; is_name, *wanted, "{text}");
+        expect(is_name(rt.alloc(), text)? == *wanted, text)?;
     }
     Ok(())
+}
+
+/// Whether a name is the same as its copy.
+fn is_name_copy(name: &ClassName) -> Result<bool, Fail> {
+    Ok(name.copied()?.is(name))
+}
+
+/// Whether the name of this text has it, and is the same as its copy.
+fn is_kept(alloc: Global, text: &str) -> Result<bool, Fail> {
+    let name = name(alloc, text)?;
+    if name.as_str() != text {
+        return Ok(false);
+    }
+    is_name_copy(&name)
+}
+
+/// Whether the name of this text becomes it.
+fn becomes_text(alloc: Global, text: &str) -> Result<bool, Fail> {
+    let made = name(alloc, text)?.into_text();
+    Ok(made.as_str() == text)
+}
+
+/// Whether a name comes behind another one.
+fn is_behind(alloc: Global, later: &str, earlier: &str) -> Result<bool, Fail> {
+    let later = name(alloc, later)?;
+    Ok(later.cmp(&name(alloc, earlier)?) == Ordering::Greater)
+}
+
+/// Whether a name is that of the class that all others have as a superclass.
+fn is_object(alloc: Global, text: &str) -> Result<bool, Fail> {
+    Ok(name(alloc, text)?.is_object())
 }
 
 #[test]
 fn a_name_of_a_class(rt: HostRuntime) -> Result<(), Fail> {
-    let entry = name(rt.alloc(), "java.util.Map$Entry")?;
-    assert_eq!(rt; entry.as_str(), "java.util.Map$Entry");
-    assert!(rt; entry.copied()?.is(&entry));
-    assert_eq!(rt;
-        entry.cmp(&name(rt.alloc(), "java.util.Map")?),
-        Ordering::Greater
-    );
-    assert_eq!(rt; entry.into_text(), text(rt.alloc(), "java.util.Map$Entry")?);
-    assert!(rt; name(rt.alloc(), "java.lang.Object")?.is_object());
-    assert!(rt; !name(rt.alloc(), "java.lang.Objects")?.is_object());
+    assert!(rt; is_kept(rt.alloc(), "java.util.Map$Entry")?);
+    assert!(rt; becomes_text(rt.alloc(), "java.util.Map$Entry")?);
+    assert!(rt; is_behind(rt.alloc(), "java.util.Map$Entry", "java.util.Map")?);
+    assert!(rt; is_object(rt.alloc(), "java.lang.Object")?);
+    assert!(rt; !is_object(rt.alloc(), "java.lang.Objects")?);
     Ok(())
 }
 
-#[test]
-fn types(rt: HostRuntime) -> Result<(), Fail> {
-    let alloc = rt.alloc();
-    let bound = Ty::Class(name(alloc, "java.lang.Object")?, Types::End);
-    let variable = Ty::Var(text(alloc, "T")?, Box::new(alloc, bound)?);
-    let array = Ty::Array(Box::new(alloc, Ty::Prim(Prim::Int))?);
-    let rest = Types::More(Box::new(alloc, array)?, Box::new(alloc, Types::End)?);
-    let arguments = Types::More(Box::new(alloc, variable)?, Box::new(alloc, rest)?);
-    let map = Ty::Class(name(alloc, "java.util.Map")?, arguments);
-    assert!(rt; map.copied()?.is(&map));
-    let kinds = [
-        Ty::Void,
-        Ty::Null,
-        Ty::Unknown,
-        Ty::Prim(Prim::Int),
-        Ty::Prim(Prim::Long),
-        Ty::Class(name(alloc, "java.util.Map")?, Types::End),
-        map,
-    ];
-    for (i, first) in kinds.iter().enumerate() {
-        for (j, second) in kinds.iter().enumerate() {
-            assert_eq!(rt; first.is(second), i == j, "{i} {j}");
-        }
-    }
-    let mut list = TyList::new(alloc);
-    list.push(Ty::Void)?;
-    list.push(Ty::Null)?;
-    assert!(rt; same_types(&copied_types(&list)?, &list));
-    let mut bindings = Bindings::new(alloc);
-    bindings.push((text(alloc, "T")?, Ty::Null))?;
-    assert_eq!(rt; copied_bindings(&bindings)?.len(), 1);
-    Ok(())
+/// Answers.
+#[derive(Clone, Copy)]
+enum Known {
+    /// A class with a method.
+    Found,
+    Absent,
+    Broken(Broken),
 }
 
-#[test]
-fn answers(rt: HostRuntime) -> Result<(), Fail> {
-    let alloc = rt.alloc();
-    let mut methods = Members::new(alloc);
-    methods.push(Member {
+/// Answers of which no two are the same.
+static KNOWN: [(&str, Known); 6] = [
+    ("found", Known::Found),
+    ("absent", Known::Absent),
+    ("too long", Known::Broken(Broken::TooLong)),
+    ("other name", Known::Broken(Broken::OtherName)),
+    (
+        "fault",
+        Known::Broken(Broken::Class(ClassFault {
+            kind: 1,
+            offset: 12,
+        })),
+    ),
+    (
+        "later fault",
+        Known::Broken(Broken::Class(ClassFault {
+            kind: 1,
+            offset: 13,
+        })),
+    ),
+];
+
+/// A method without parameters.
+fn method(alloc: Global) -> Result<Member, NoMemory> {
+    let name = text(alloc, "run")?;
+    Ok(Member {
         flags: 1,
-        name: text(alloc, "run")?,
+        name,
         signature: text(alloc, "()V")?,
-    })?;
-    let found = Answer::Found(ClassInfo {
-        name: name(alloc, "p.A")?,
+    })
+}
+
+/// The one method.
+fn one_method(alloc: Global) -> Result<Members, NoMemory> {
+    let mut methods = Members::new(alloc);
+    methods.push(method(alloc)?)?;
+    Ok(methods)
+}
+
+/// A class with these methods.
+fn class(alloc: Global, of: &str, signature: &str, methods: Members) -> Result<Answer, Fail> {
+    let name = name(alloc, of)?;
+    Ok(Answer::Found(ClassInfo {
+        name,
         flags: 33,
-        signature: text(alloc, "Ljava/lang/Object;")?,
+        signature: text(alloc, signature)?,
         fields: Members::new(alloc),
         methods,
-    });
-    let fault = ClassFault {
-        kind: 1,
-        offset: 12,
-    };
-    let later = ClassFault {
-        kind: 1,
-        offset: 13,
-    };
-    let all = [
-        found,
-        Answer::Absent,
-        Answer::Broken(Broken::TooLong),
-        Answer::Broken(Broken::OtherName),
-        Answer::Broken(Broken::Class(fault)),
-        Answer::Broken(Broken::Class(later)),
-    ];
-    for (i, first) in all.iter().enumerate() {
-        assert!(rt; first.copied()?.is(first), "{i}");
-        for (j, second) in all.iter().enumerate() {
-            assert_eq!(rt; first.is(second), i == j, "{i} {j}");
-        }
-    }
-    Ok(())
+    }))
 }
 
-#[test]
-fn map_oracle(rt: HostRuntime) -> Result<(), Fail> {
-    let mut oracle = oracle(rt.alloc(), &[("p.X", "one"), ("p.X", "two")])?;
-    let first = oracle.ask(&name(rt.alloc(), "p.X")?)?;
-    assert!(rt; first.is(&*class(rt.alloc(), "p.X", "one")?));
-    assert!(rt; !oracle.asked().contains(&name(rt.alloc(), "p.Y")?));
-    let second = oracle.ask(&name(rt.alloc(), "p.Y")?)?;
-    assert!(rt; second.is(&Answer::Absent));
-    for asked in ["p.X", "p.Y"] {
-        assert!(rt;
-            oracle.asked().contains(&name(rt.alloc(), asked)?),
-            "{asked}"
-        );
+/// The answer that is known.
+fn answer_of(alloc: Global, known: Known) -> Result<Answer, Fail> {
+    match known {
+        Known::Found => class(alloc, "p.A", "Ljava/lang/Object;", one_method(alloc)?),
+        Known::Absent => Ok(Answer::Absent),
+        Known::Broken(broken) => Ok(Answer::Broken(broken)),
     }
-    Ok(())
 }
 
-/// Whether each of these names was asked, and none of those.
-fn has_asked(
-    alloc: Global,
-    oracle: &MapOracle,
-    asked: &[&str],
-    unasked: &[&str],
-) -> Result<bool, Fail> {
-    for text in asked {
-        if !oracle.asked().contains(&name(alloc, text)?) {
-            return Ok(false);
-        }
-    }
-    for text in unasked {
-        if oracle.asked().contains(&name(alloc, text)?) {
+/// Whether this is the answer that is known.
+fn is_answer(alloc: Global, answer: &Answer, known: Known) -> Result<bool, Fail> {
+    Ok(answer.is(&answer_of(alloc, known)?))
+}
+
+/// Whether an answer is the same as each answer exactly where the places are.
+fn is_at(alloc: Global, place: usize, answer: &Answer) -> Result<bool, Fail> {
+    for (other, (_, known)) in KNOWN.iter().enumerate() {
+        if is_answer(alloc, answer, *known)? != (place == other) {
             return Ok(false);
         }
     }
     Ok(true)
 }
 
+/// Whether the answer that is known is at this place alone.
+fn is_apart(alloc: Global, place: usize, known: Known) -> Result<bool, Fail> {
+    let answer = answer_of(alloc, known)?;
+    is_at(alloc, place, &answer)
+}
+
+/// Whether an answer is the same as its copy.
+fn is_copy(answer: &Answer) -> Result<bool, Fail> {
+    Ok(answer.copied()?.is(answer))
+}
+
+/// Whether the answer that is known is the same as its copy.
+fn is_copied(alloc: Global, known: Known) -> Result<bool, Fail> {
+    let answer = answer_of(alloc, known)?;
+    is_copy(&answer)
+}
+
+#[test]
+fn answers(rt: HostRuntime) -> Result<(), Fail> {
+    for (place, (row, known)) in KNOWN.iter().enumerate() {
+        expect(is_apart(rt.alloc(), place, *known)?, row)?;
+        expect(is_copied(rt.alloc(), *known)?, row)?;
+    }
+    Ok(())
+}
+
+/// A class without methods, to be shared.
+fn shared_class(alloc: Global, of: &str, signature: &str) -> Result<Arc<Answer>, Fail> {
+    let class = class(alloc, of, signature, Members::new(alloc))?;
+    Ok(Arc::new(alloc, class)?)
+}
+
+/// Puts a class behind the others.
+fn put_class(alloc: Global, answers: &mut Answers, of: &str, signature: &str) -> Result<(), Fail> {
+    let name = name(alloc, of)?;
+    answers.push(name, shared_class(alloc, of, signature)?)?;
+    Ok(())
+}
+
+/// Classes with the names that they lead to in place of signatures.
+fn oracle(alloc: Global, all: &[(&str, &str)]) -> Result<MapOracle, Fail> {
+    let mut answers = Answers::new(alloc);
+    for (of, signature) in all {
+        put_class(alloc, &mut answers, of, signature)?;
+    }
+    Ok(MapOracle::new(alloc, answers))
+}
+
+/// Whether a name was asked.
+fn is_asked(alloc: Global, oracle: &MapOracle, text: &str) -> Result<bool, Fail> {
+    Ok(oracle.asked().contains(&name(alloc, text)?))
+}
+
+/// Names, and whether they are asked by now.
+fn are_asked(alloc: Global, oracle: &MapOracle, rows: &[(&str, bool)]) -> Result<bool, Fail> {
+    for (text, wanted) in rows {
+        if is_asked(alloc, oracle, text)? != *wanted {
+            return Ok(false);
+        }
+    }
+    Ok(true)
+}
+
+/// The answer for a name.
+fn asked(alloc: Global, oracle: &mut MapOracle, text: &str) -> Result<Arc<Answer>, Fail> {
+    Ok(oracle.ask(&name(alloc, text)?)?)
+}
+
+/// Whether the class `p.X` has this signature.
+fn has_signature(alloc: Global, answer: &Answer, signature: &str) -> Result<bool, Fail> {
+    Ok(answer.is(&*shared_class(alloc, "p.X", signature)?))
+}
+
+/// Whether the answer is the first of two classes of one name.
+fn is_first(alloc: Global, oracle: &mut MapOracle) -> Result<bool, Fail> {
+    let answer = asked(alloc, oracle, "p.X")?;
+    has_signature(alloc, &answer, "one")
+}
+
+/// Whether there is no class of a name.
+fn is_absent(alloc: Global, oracle: &mut MapOracle, text: &str) -> Result<bool, Fail> {
+    Ok(matches!(*asked(alloc, oracle, text)?, Answer::Absent))
+}
+
+#[test]
+fn map_oracle(rt: HostRuntime) -> Result<(), Fail> {
+    let alloc = rt.alloc();
+    let mut oracle = oracle(alloc, &[("p.X", "one"), ("p.X", "two")])?;
+    assert!(rt; is_first(alloc, &mut oracle)?);
+    assert!(rt; are_asked(alloc, &oracle, &[("p.X", true), ("p.Y", false)])?);
+    assert!(rt; is_absent(alloc, &mut oracle, "p.Y")?);
+    assert!(rt; are_asked(alloc, &oracle, &[("p.X", true), ("p.Y", true)])?);
+    Ok(())
+}
+
+/// Whether the class of a name is found.
+fn is_looked_up(alloc: Global, oracle: &mut MapOracle, text: &str) -> Result<bool, Fail> {
+    Ok(look_up(oracle, &name(alloc, text)?)?.is_some())
+}
+
 #[test]
 fn looking_up(rt: HostRuntime) -> Result<(), Fail> {
     let alloc = rt.alloc();
     let mut oracle = oracle(alloc, &[("p.A", "one")])?;
-    assert!(rt; look_up(&mut oracle, &name(alloc, "java.lang.Object")?)?.is_none());
-    assert!(rt; look_up(&mut oracle, &name(alloc, "p.A")?)?.is_some());
-    assert!(rt; has_asked(alloc, &oracle, &["p.A"], &["java.lang.Object", "p.B"])?);
+    assert!(rt; !is_looked_up(alloc, &mut oracle, "java.lang.Object")?);
+    assert!(rt; is_looked_up(alloc, &mut oracle, "p.A")?);
+    let wanted = [("p.A", true), ("java.lang.Object", false), ("p.B", false)];
+    assert!(rt; are_asked(alloc, &oracle, &wanted)?);
     Ok(())
+}
+
+/// Asks all these names.
+fn ask_all<O: Oracle>(alloc: Global, oracle: &mut O, all: &[&str]) -> Result<(), Fail> {
+    for text in all {
+        oracle.ask(&name(alloc, text)?)?;
+    }
+    Ok(())
+}
+
+/// The names that are noted of these.
+fn noted(alloc: Global, oracle: &mut MapOracle, all: &[&str]) -> Result<ClassNames, Fail> {
+    let mut noted = ClassNameSet::new(alloc);
+    let mut recorder = Recorder {
+        inner: oracle,
+        noted: &mut noted,
+    };
+    ask_all(alloc, &mut recorder, all)?;
+    Ok(noted.names(alloc)?)
+}
+
+/// Whether these are the names.
+fn are(names: &ClassNames, wanted: &[&str]) -> bool {
+    for (name, wanted) in names.as_slice().iter().zip(wanted) {
+        if name.as_str() != *wanted {
+            return false;
+        }
+    }
+    names.len() == wanted.len()
 }
 
 #[test]
 fn recording(rt: HostRuntime) -> Result<(), Fail> {
     let alloc = rt.alloc();
     let mut oracle = oracle(alloc, &[("p.A", "one")])?;
-    let mut noted = ClassNameSet::new(alloc);
-    let mut recorder = Recorder {
-        inner: &mut oracle,
-        noted: &mut noted,
-    };
-    for asked in ["p.B", "p.A", "p.B", "a.Z"] {
-        recorder.ask(&name(alloc, asked)?)?;
-    }
-    let listed = noted.names(alloc)?;
-    assert!(rt;
-        listed.is(&names(alloc, &["a.Z", "p.A", "p.B"])?),
-        "{listed:?}"
-    );
-    assert!(rt; has_asked(alloc, &oracle, &["p.A", "p.B", "a.Z"], &["p.C"])?);
+    let noted = noted(alloc, &mut oracle, &["p.B", "p.A", "p.B", "a.Z"])?;
+    assert!(rt; are(&noted, &["a.Z", "p.A", "p.B"]));
+    let wanted = [("p.A", true), ("p.B", true), ("a.Z", true), ("p.C", false)];
+    assert!(rt; are_asked(alloc, &oracle, &wanted)?);
     Ok(())
 }
 
@@ -253,20 +339,32 @@ fn put(
     Ok(())
 }
 
-#[test]
-fn map_by_names(rt: HostRuntime) -> Result<(), Fail> {
-    let mut map = BTreeMap::new(rt.alloc());
-    put(&mut map, name(rt.alloc(), "p.A")?, 1)?;
-    put(&mut map, name(rt.alloc(), "p.B")?, 2)?;
-    assert_eq!(rt; map.get(&name(rt.alloc(), "p.A")?).copied(), Some(1));
-    assert_eq!(rt; map.get(&name(rt.alloc(), "p.C")?).copied(), None);
+/// Puts 1 for `p.A` and 2 for `p.B`.
+fn fill(alloc: Global, map: &mut BTreeMap<ClassName, u32>) -> Result<(), Fail> {
+    put(map, name(alloc, "p.A")?, 1)?;
+    put(map, name(alloc, "p.B")?, 2)?;
     Ok(())
 }
 
+/// The value of a name in a map of these.
+fn mapped(alloc: Global, text: &str) -> Result<Option<u32>, Fail> {
+    let mut map = BTreeMap::new(alloc);
+    fill(alloc, &mut map)?;
+    Ok(map.get(&name(alloc, text)?).copied())
+}
+
+#[test]
+fn map_by_names(rt: HostRuntime) -> Result<(), Fail> {
+    assert!(rt; mapped(rt.alloc(), "p.A")? == Some(1));
+    assert!(rt; mapped(rt.alloc(), "p.C")? == None);
+    Ok(())
+}
+
+/// What can be shared between threads.
 fn shared<T: Send + Sync>(_: &T) {}
 
 #[test]
 fn answers_cross_threads(rt: HostRuntime) -> Result<(), Fail> {
-    shared(&class(rt.alloc(), "p.A", "")?);
+    shared(&shared_class(rt.alloc(), "p.A", "")?);
     Ok(())
 }

@@ -1,217 +1,330 @@
 //! Trees, class paths and sinks in memory: that calls succeed with ample memory, and fail where they are to.
-use pj_base::{Bytes, Copied, Names, Numbers, Text};
-use pj_names::ClassName;
+use crate::fixtures::{File, Read, expect, files, is_read, name, numbers, text};
+use pj_base::{Copied, Names, NoMemory};
 use pj_outside::{
-    ClassDoor, ClassPath, Failed, Files, Folders, MemClassPath, MemDoor, MemSink, MemTree, Pairs,
-    Reading, Refused, Sink, Tree,
+    ClassDoor, ClassPath, Failed, Folders, MemClassPath, MemDoor, MemSink, MemTree, Pairs, Refused,
+    Sink, Tree,
 };
-use std::alloc::{AllocError, Global};
+use std::alloc::Global;
 use std::test::Fail;
 
-fn numbers(alloc: Global, numbers: &[u32]) -> Result<Numbers, Fail> {
-    Ok(Numbers::from_vec(Vec::from_slice(alloc, numbers)?))
+/// The files of a tree, two of which have one path.
+static SOURCES: [File; 4] = [
+    ("src/A.java", b"xyz"),
+    ("src", b""),
+    ("srcs/B.java", b""),
+    ("src/A.java", b"second"),
+];
+
+/// A call of a tree over these files, and what it is to answer.
+enum Call {
+    /// The paths at a path and below it; none where there are none.
+    List(&'static str, &'static [&'static str]),
+    /// The same, which fails.
+    Fails(&'static str),
+    /// Reads a file, at most so many bytes.
+    Read(&'static str, u64, Read),
 }
 
-fn put_file(files: &mut Files, alloc: Global, path: &str, bytes: &[u8]) -> Result<(), Fail> {
-    files.push((
-        Text::from_str(alloc, path)?,
-        Bytes::from_vec(Vec::from_slice(alloc, bytes)?),
-    ))?;
-    Ok(())
-}
-
-/// The paths listed, a space behind each; `none` where there is none, `refused` where the call refused.
-fn listed(alloc: Global, tree: &mut MemTree, at: &str) -> Result<String, AllocError> {
-    let mut line = String::new(alloc);
-    match tree.list(at) {
-        Err(_) => line.push_str("refused")?,
-        Ok(None) => line.push_str("none")?,
-        Ok(Some(paths)) => {
-            for path in paths.as_slice() {
-                line.push_str(path.as_str())?;
-                line.push_str(" ")?;
-            }
+/// Whether these are the paths.
+fn are(paths: &Names, wanted: &[&str]) -> bool {
+    for (path, wanted) in paths.as_slice().iter().zip(wanted) {
+        if path.as_str() != *wanted {
+            return false;
         }
     }
-    Ok(line)
+    paths.len() == wanted.len()
 }
 
-fn sources(alloc: Global, fail: &[u32]) -> Result<MemTree, Fail> {
-    let mut files = Files::new(alloc);
-    put_file(&mut files, alloc, "src/A.java", b"xyz")?;
-    put_file(&mut files, alloc, "src", b"")?;
-    put_file(&mut files, alloc, "srcs/B.java", b"")?;
-    put_file(&mut files, alloc, "src/A.java", b"second")?;
-    Ok(MemTree::new(alloc, files, numbers(alloc, fail)?))
-}
-
-#[test]
-fn a_tree_lists_what_lies_at_a_path_and_below(rt: HostRuntime) -> Result<(), Fail> {
-    let alloc = rt.alloc();
-    let mut tree = sources(alloc, &[3])?;
-    let below = listed(alloc, &mut tree, "src")?;
-    let none = listed(alloc, &mut tree, "src/")?;
-    let failed = listed(alloc, &mut tree, "src")?;
-    assert_eq!(rt; below.as_str(), "src/A.java src src/A.java ");
-    assert_eq!(rt; none.as_str(), "none");
-    assert_eq!(rt; failed.as_str(), "refused");
-    Ok(())
-}
-
-/// What a reading is, in a word.
-fn reading(tree: &mut MemTree, path: &str, most: u64) -> &'static str {
-    match tree.read(path, most) {
-        Ok(Reading::Absent) => "absent",
-        Ok(Reading::Longer) => "longer",
-        Ok(Reading::Whole(bytes)) => {
-            if bytes.as_slice() == b"xyz".as_slice() {
-                "xyz"
-            } else {
-                "other bytes"
-            }
-        }
-        Err(Refused::Failed) => "failed",
-        Err(Refused::Memory) => "memory",
+/// Whether a list answered these paths.
+fn is_listed(answer: &Result<Option<Names>, Refused>, wanted: &[&str]) -> bool {
+    match answer {
+        Ok(Some(paths)) => are(paths, wanted),
+        Ok(None) => wanted.is_empty(),
+        Err(_) => false,
     }
 }
 
+/// Whether a call answers what it is to.
+fn is_answered(tree: &mut MemTree, call: &Call) -> bool {
+    match call {
+        Call::List(at, wanted) => is_listed(&tree.list(at), wanted),
+        Call::Fails(at) => matches!(tree.list(at), Err(Refused::Failed)),
+        Call::Read(path, most, wanted) => is_read(&tree.read(path, *most), *wanted),
+    }
+}
+
+/// Trees, of which the third call fails: what a row shows, and calls.
+static TREES: [(&str, &[Call]); 2] = [
+    (
+        "a tree lists what lies at a path and below",
+        &[
+            Call::List("src", &["src/A.java", "src", "src/A.java"]),
+            Call::List("src/", &[]),
+            Call::Fails("src"),
+        ],
+    ),
+    (
+        "a tree reads within the limit and fails where it is to",
+        &[
+            Call::Read("src/A.java", 3, Read::Whole(b"xyz")),
+            Call::Read("src/A.java", 2, Read::Longer),
+            Call::Read("src/A.java", 3, Read::Failed),
+            Call::Read("A.java", 3, Read::Absent),
+        ],
+    ),
+];
+
+/// A tree of the files, of which the third call fails.
+fn tree(alloc: Global) -> Result<MemTree, NoMemory> {
+    let fail = numbers(alloc, &[3])?;
+    Ok(MemTree::new(alloc, files(alloc, &SOURCES)?, fail))
+}
+
+/// Whether each call answers what it is to.
+fn are_answered(alloc: Global, calls: &[Call]) -> Result<bool, NoMemory> {
+    let mut tree = tree(alloc)?;
+    for call in calls {
+        if !is_answered(&mut tree, call) {
+            return Ok(false);
+        }
+    }
+    Ok(true)
+}
+
 #[test]
-fn a_tree_reads_within_the_limit_and_fails_where_it_is_to(rt: HostRuntime) -> Result<(), Fail> {
-    let mut tree = sources(rt.alloc(), &[3])?;
-    assert_eq!(rt; reading(&mut tree, "src/A.java", 3), "xyz");
-    assert_eq!(rt; reading(&mut tree, "src/A.java", 2), "longer");
-    assert_eq!(rt; reading(&mut tree, "src/A.java", 3), "failed");
-    assert_eq!(rt; reading(&mut tree, "A.java", 3), "absent");
+fn trees(rt: HostRuntime) -> Result<(), Fail> {
+    for (row, calls) in &TREES {
+        expect(are_answered(rt.alloc(), calls)?, row)?;
+    }
     Ok(())
+}
+
+/// Pieces that are put to a sink, and what is answered.
+static PIECES: [(&[u8], Result<(), Failed>); 3] = [
+    (b"ab", Ok(())),
+    (b"cd", Err(Failed)),
+    (b"ef", Ok(())),
+];
+
+/// Whether each piece is answered so.
+fn are_put(sink: &mut MemSink) -> bool {
+    for (piece, wanted) in &PIECES {
+        if sink.put(piece) != *wanted {
+            return false;
+        }
+    }
+    true
+}
+
+/// A sink whose second call fails.
+fn sink(alloc: Global) -> Result<MemSink, NoMemory> {
+    Ok(MemSink::new(alloc, numbers(alloc, &[2])?))
 }
 
 #[test]
 fn a_sink_keeps_what_it_got_and_fails_where_it_is_to(rt: HostRuntime) -> Result<(), Fail> {
-    let alloc = rt.alloc();
-    let mut sink = MemSink::new(alloc, numbers(alloc, &[2])?);
-    assert_eq!(rt; sink.put(b"ab"), Ok(()));
-    assert_eq!(rt; sink.put(b"cd"), Err(Failed));
-    assert_eq!(rt; sink.put(b"ef"), Ok(()));
-    assert_eq!(rt; sink.bytes().as_slice(), b"abef".as_slice());
+    let mut sink = sink(rt.alloc())?;
+    assert!(rt; are_put(&mut sink));
+    assert!(rt; sink.bytes().as_slice() == b"abef".as_slice());
     Ok(())
 }
 
-/// Two folders: the first has `p/A.class`, the second `p/A.class` of other bytes and `p/B.class`.
-fn class_path(alloc: Global, fail: &[u32], door_fail: (u32, u32)) -> Result<MemClassPath, Fail> {
-    let mut first = Files::new(alloc);
-    put_file(&mut first, alloc, "p/A.class", b"xyz")?;
-    let mut second = Files::new(alloc);
-    put_file(&mut second, alloc, "p/A.class", b"second")?;
-    put_file(&mut second, alloc, "p/B.class", b"xyz")?;
+/// The files of two folders.
+static ONE: [File; 1] = [("p/A.class", b"xyz")];
+
+static TWO: [File; 2] = [("p/A.class", b"second"), ("p/B.class", b"xyz")];
+
+/// Puts a folder behind the others.
+fn put_folder(
+    alloc: Global,
+    folders: &mut Folders,
+    folder: &str,
+    all: &[File],
+) -> Result<(), NoMemory> {
+    let name = text(alloc, folder)?;
+    folders.push(name, files(alloc, all)?)
+}
+
+/// The folders `one` and `two`.
+fn folders(alloc: Global) -> Result<Folders, NoMemory> {
     let mut folders = Folders::new(alloc);
-    folders.push(Text::from_str(alloc, "one")?, first)?;
-    folders.push(Text::from_str(alloc, "two")?, second)?;
+    put_folder(alloc, &mut folders, "one", &ONE)?;
+    put_folder(alloc, &mut folders, "two", &TWO)?;
+    Ok(folders)
+}
+
+/// The find of a door that is to fail.
+fn pair(alloc: Global, pair: (u32, u32)) -> Result<Pairs, NoMemory> {
     let mut pairs = Pairs::new(alloc);
-    pairs.push(door_fail)?;
-    Ok(MemClassPath::new(alloc, folders, numbers(alloc, fail)?, pairs))
+    pairs.push(pair)?;
+    Ok(pairs)
+}
+
+/// A class path of these folders, with the opens and the find of a door that are to fail.
+fn class_path(alloc: Global, fail: &[u32], find: (u32, u32)) -> Result<MemClassPath, NoMemory> {
+    let (fail, find) = (numbers(alloc, fail)?, pair(alloc, find)?);
+    Ok(MemClassPath::new(alloc, folders(alloc)?, fail, find))
+}
+
+/// Puts the name of a folder behind the others.
+fn put_name(alloc: Global, names: &mut Names, name: &str) -> Result<(), NoMemory> {
+    names.push(text(alloc, name)?)
+}
+
+/// Names of folders.
+fn names(alloc: Global, all: &[&str]) -> Result<Names, NoMemory> {
+    let mut names = Names::new(alloc);
+    for name in all {
+        put_name(alloc, &mut names, name)?;
+    }
+    Ok(names)
 }
 
 /// A door to the folders of these names; none where it could not be opened.
 fn door(
     alloc: Global,
     classes: &mut MemClassPath,
-    names: &[&str],
-) -> Result<Option<MemDoor>, Fail> {
-    let mut folders = Names::new(alloc);
-    for name in names {
-        folders.push(Text::from_str(alloc, name)?)?;
-    }
-    Ok(classes.open(&folders).ok())
+    all: &[&str],
+) -> Result<Option<MemDoor>, NoMemory> {
+    let names = names(alloc, all)?;
+    Ok(classes.open(&names).ok())
 }
 
-/// What a find is, in a word.
-fn found(alloc: Global, door: &mut Option<MemDoor>, name: &str, most: u64) -> &'static str {
-    let (Some(door), Ok(Some(name))) = (door, ClassName::of(alloc, name)) else {
-        return "none";
+/// A name of a class to be found, at most so many bytes, and what is to be answered.
+type Find = (&'static str, u64, Read);
+
+/// A door: what a row shows; the find of it that is to fail, or another door's; the folders that it opens; and what it finds.
+static DOORS: [(&str, (u32, u32), &[&str], &[Find]); 2] = [
+    (
+        "a door finds in the first folder that has the file",
+        (1, 1),
+        &["none", "one", "two"],
+        &[
+            ("p.A", 3, Read::Whole(b"xyz")),
+            ("p.B", 3, Read::Whole(b"xyz")),
+            ("p.B", 2, Read::Longer),
+            ("p", 3, Read::Absent),
+        ],
+    ),
+    (
+        "the order of the folders is that of the opening",
+        (0, 2),
+        &["two", "one"],
+        &[("p.A", 6, Read::Whole(b"second")), ("p.A", 6, Read::Failed)],
+    ),
+];
+
+/// Whether a find answers what it is to.
+fn is_found(alloc: Global, door: &mut MemDoor, find: &Find) -> Result<bool, Fail> {
+    let (text, most, wanted) = find;
+    let name = name(alloc, text)?;
+    Ok(is_read(&door.find(&name, *most), *wanted))
+}
+
+/// Whether each find answers what it is to; not where there is no door.
+fn are_found(alloc: Global, door: Option<MemDoor>, finds: &[Find]) -> Result<bool, Fail> {
+    let Some(mut door) = door else {
+        return Ok(false);
     };
-    match door.find(&name, most) {
-        Ok(Reading::Absent) => "absent",
-        Ok(Reading::Longer) => "longer",
-        Ok(Reading::Whole(bytes)) => {
-            if bytes.as_slice() == b"xyz".as_slice() {
-                "xyz"
-            } else {
-                "other bytes"
-            }
+    for find in finds {
+        if !is_found(alloc, &mut door, find)? {
+            return Ok(false);
         }
-        Err(Refused::Failed) => "failed",
-        Err(Refused::Memory) => "memory",
     }
+    Ok(true)
+}
+
+/// Whether a door, of which this find is to fail, finds what it is to.
+fn is_door(
+    alloc: Global,
+    fail: (u32, u32),
+    folders: &[&str],
+    finds: &[Find],
+) -> Result<bool, Fail> {
+    let mut classes = class_path(alloc, &[], fail)?;
+    are_found(alloc, door(alloc, &mut classes, folders)?, finds)
 }
 
 #[test]
-fn a_door_finds_in_the_first_folder_that_has_the_file(rt: HostRuntime) -> Result<(), Fail> {
-    let alloc = rt.alloc();
-    let mut classes = class_path(alloc, &[], (1, 1))?;
-    let mut door = door(alloc, &mut classes, &["none", "one", "two"])?;
-    assert_eq!(rt; found(alloc, &mut door, "p.A", 3), "xyz");
-    assert_eq!(rt; found(alloc, &mut door, "p.B", 3), "xyz");
-    assert_eq!(rt; found(alloc, &mut door, "p.B", 2), "longer");
-    assert_eq!(rt; found(alloc, &mut door, "p", 3), "absent");
+fn doors(rt: HostRuntime) -> Result<(), Fail> {
+    for (row, fail, folders, finds) in &DOORS {
+        expect(is_door(rt.alloc(), *fail, folders, finds)?, row)?;
+    }
     Ok(())
+}
+
+/// Whether an open succeeds.
+fn opens(alloc: Global, classes: &mut MemClassPath) -> Result<bool, NoMemory> {
+    Ok(door(alloc, classes, &["one"])?.is_some())
 }
 
 #[test]
-fn the_order_of_the_folders_is_that_of_the_opening(rt: HostRuntime) -> Result<(), Fail> {
-    let alloc = rt.alloc();
-    let mut classes = class_path(alloc, &[], (0, 2))?;
-    let mut door = door(alloc, &mut classes, &["two", "one"])?;
-    assert_eq!(rt; found(alloc, &mut door, "p.A", 6), "other bytes");
-    assert_eq!(rt; found(alloc, &mut door, "p.A", 6), "failed");
+fn an_open_fails_where_it_is_to(rt: HostRuntime) -> Result<(), Fail> {
+    let mut classes = class_path(rt.alloc(), &[2], (0, 1))?;
+    assert!(rt; opens(rt.alloc(), &mut classes)?);
+    assert!(rt; !opens(rt.alloc(), &mut classes)?);
     Ok(())
 }
 
-/// Opens two doors, finds once at the first and twice at the second, and shuts them: the finds counted.
-fn finds_of_two_doors(alloc: Global) -> Result<u64, Fail> {
+/// Finds at a door, whatever it answers.
+fn find_all(alloc: Global, door: &mut MemDoor, finds: &[Find]) -> Result<(), Fail> {
+    for find in finds {
+        is_found(alloc, door, find)?;
+    }
+    Ok(())
+}
+
+/// Opens a door, finds at it, and shuts it.
+fn find_and_shut(alloc: Global, classes: &mut MemClassPath, finds: &[Find]) -> Result<(), Fail> {
+    if let Some(mut door) = door(alloc, classes, &["one"])? {
+        find_all(alloc, &mut door, finds)?;
+        classes.shut(door);
+    }
+    Ok(())
+}
+
+/// One find, and two.
+static ONCE: [Find; 1] = [("p.A", 3, Read::Whole(b"xyz"))];
+
+static TWICE: [Find; 2] = [
+    ("p.A", 3, Read::Whole(b"xyz")),
+    ("p.A", 3, Read::Whole(b"xyz")),
+];
+
+/// Finds once at a door, and twice at a second one.
+fn find_at_two(alloc: Global, classes: &mut MemClassPath) -> Result<(), Fail> {
+    find_and_shut(alloc, classes, &ONCE)?;
+    find_and_shut(alloc, classes, &TWICE)
+}
+
+/// How many finds the doors had.
+fn finds_at_two(alloc: Global) -> Result<u64, Fail> {
     let mut classes = class_path(alloc, &[], (1, 2))?;
-    for count in 1..3 {
-        let mut door = door(alloc, &mut classes, &["one"])?;
-        for _ in 0..count {
-            let _ = found(alloc, &mut door, "p.A", 3);
-        }
-        if let Some(door) = door {
-            classes.shut(door);
-        }
-    }
+    find_at_two(alloc, &mut classes)?;
     Ok(classes.finds())
 }
 
 #[test]
 fn finds_are_counted_at_the_shut_of_a_door(rt: HostRuntime) -> Result<(), Fail> {
-    let alloc = rt.alloc();
-    assert_eq!(rt; finds_of_two_doors(alloc)?, 3);
+    assert!(rt; finds_at_two(rt.alloc())? == 3);
     Ok(())
 }
 
-#[test]
-fn an_open_fails_where_it_is_to(rt: HostRuntime) -> Result<(), Fail> {
-    let alloc = rt.alloc();
-    let mut classes = class_path(alloc, &[2], (0, 1))?;
-    let first = door(alloc, &mut classes, &["one"])?;
-    let second = door(alloc, &mut classes, &["one"])?;
-    assert!(rt; first.is_some());
-    assert!(rt; second.is_none());
-    Ok(())
+/// One folder.
+fn one_folder(alloc: Global) -> Result<Folders, NoMemory> {
+    let mut folders = Folders::new(alloc);
+    put_folder(alloc, &mut folders, "one", &ONE)?;
+    Ok(folders)
 }
 
 #[test]
 fn folders_are_read_and_copied(rt: HostRuntime) -> Result<(), Fail> {
-    let alloc = rt.alloc();
-    let mut files = Files::new(alloc);
-    put_file(&mut files, alloc, "p/A.class", b"xyz")?;
-    let mut folders = Folders::new(alloc);
-    assert!(rt; folders.is_empty());
-    folders.push(Text::from_str(alloc, "one")?, files)?;
-    let copy = folders.copied()?;
-    assert_eq!(rt; copy.len(), 1);
+    assert!(rt; Folders::new(rt.alloc()).is_empty());
+    let copy = one_folder(rt.alloc())?.copied()?;
+    assert!(rt; copy.len() == 1);
     for (name, files) in copy.as_slice() {
-        assert_eq!(rt; name.as_str(), "one");
-        assert_eq!(rt; files.len(), 1);
+        assert!(rt; name.as_str() == "one" && files.len() == 1);
     }
     Ok(())
 }

@@ -6,6 +6,8 @@ mod class_bodies;
 #[cfg(test)]
 mod classfile;
 #[cfg(test)]
+mod fixtures;
+#[cfg(test)]
 mod signatures;
 #[cfg(test)]
 mod types;

@@ -1,10 +1,11 @@
 //! Worked rows of the grammar of signatures (JVMS 4.3 and 4.7.9.1), and signatures that javac 17 writes.
 
-use pj_base::Text;
-use pj_names::{Bindings, ClassName, Prim, Ty, Types};
+use crate::fixtures::{expect, name};
+use pj_base::{NoMemory, Text};
+use pj_names::{Bindings, Prim, Ty, Types};
 use pj_signatures::{
-    class_signature, descriptor, field_signature, method_descriptor, method_signature,
-    method_signature_in,
+    ClassSig, MethodSig, class_signature, descriptor, field_signature, method_descriptor,
+    method_signature, method_signature_in,
 };
 use std::alloc::Global;
 use std::test::Fail;
@@ -26,15 +27,28 @@ enum Step {
     Variable(&'static str),
 }
 
-fn name(alloc: Global, name: &str) -> Result<ClassName, Fail> {
-    Ok(ClassName::of(alloc, name)?.ok_or("no class name")?)
+/// The last type that was made.
+fn last(alloc: Global, made: &mut Vec<Ty>) -> Result<Box<Ty>, Fail> {
+    let last = made.pop().ok_or("no type is made")?;
+    Ok(Box::new(alloc, last)?)
 }
 
-fn last(alloc: Global, made: &mut Vec<Ty>) -> Result<Box<Ty>, Fail> {
-    match made.pop() {
-        Some(ty) => Ok(Box::new(alloc, ty)?),
-        None => Err("no type is made".into()),
-    }
+/// The last type as the one argument.
+fn one_argument(alloc: Global, made: &mut Vec<Ty>) -> Result<Types, Fail> {
+    let end = Box::new(alloc, Types::End)?;
+    Ok(Types::More(last(alloc, made)?, end))
+}
+
+/// A class with the last type as its one argument.
+fn class_of(alloc: Global, made: &mut Vec<Ty>, of: &str) -> Result<Ty, Fail> {
+    let name = name(alloc, of)?;
+    Ok(Ty::Class(name, one_argument(alloc, made)?))
+}
+
+/// A variable whose bound is the last type.
+fn variable(alloc: Global, made: &mut Vec<Ty>, of: &str) -> Result<Ty, Fail> {
+    let name = Text::from_str(alloc, of)?;
+    Ok(Ty::Var(name, last(alloc, made)?))
 }
 
 /// The type of a step.
@@ -43,25 +57,24 @@ fn type_of(alloc: Global, made: &mut Vec<Ty>, step: Step) -> Result<Ty, Fail> {
         Step::Primitive(primitive) => Ok(Ty::Prim(primitive)),
         Step::Unknown => Ok(Ty::Unknown),
         Step::Class(of) => Ok(Ty::Class(name(alloc, of)?, Types::End)),
-        Step::Of(of) => {
-            let argument = last(alloc, made)?;
-            let arguments = Types::More(argument, Box::new(alloc, Types::End)?);
-            Ok(Ty::Class(name(alloc, of)?, arguments))
-        }
+        Step::Of(of) => class_of(alloc, made, of),
         Step::Array => Ok(Ty::Array(last(alloc, made)?)),
-        Step::Variable(of) => {
-            let bound = last(alloc, made)?;
-            Ok(Ty::Var(Text::from_str(alloc, of)?, bound))
-        }
+        Step::Variable(of) => variable(alloc, made, of),
     }
+}
+
+/// Makes the type of a step.
+fn make(alloc: Global, made: &mut Vec<Ty>, step: Step) -> Result<(), Fail> {
+    let ty = type_of(alloc, made, step)?;
+    made.push(ty)?;
+    Ok(())
 }
 
 /// The type that some steps make.
 fn made(alloc: Global, steps: &[Step]) -> Result<Option<Ty>, Fail> {
     let mut made = Vec::new(alloc);
     for step in steps {
-        let ty = type_of(alloc, &mut made, *step)?;
-        made.push(ty)?;
+        make(alloc, &mut made, *step)?;
     }
     Ok(made.pop())
 }
@@ -79,34 +92,48 @@ enum Reading {
     Result,
 }
 
-fn result_within(alloc: Global, text: &str) -> Result<Option<Ty>, Fail> {
+/// The variable `T` with the bound `p.Run`.
+fn bound(alloc: Global) -> Result<(Text, Ty), Fail> {
+    let variable = Text::from_str(alloc, "T")?;
+    Ok((variable, Ty::Class(name(alloc, "p.Run")?, Types::End)))
+}
+
+/// That variable.
+fn around(alloc: Global) -> Result<Bindings, Fail> {
     let mut around = Bindings::new(alloc);
-    let bound = Ty::Class(name(alloc, "p.Run")?, Types::End);
-    around.push((Text::from_str(alloc, "T")?, bound))?;
+    around.push(bound(alloc)?)?;
+    Ok(around)
+}
+
+/// The result of a signature of a method within a class with that variable.
+fn result_within(alloc: Global, text: &str) -> Result<Option<Ty>, Fail> {
+    let around = around(alloc)?;
     match method_signature_in(alloc, &around, text)? {
         Some(method) => Ok(Some(method.result)),
         None => Ok(None),
     }
 }
 
-fn superclass(alloc: Global, text: &str) -> Result<Option<Ty>, Fail> {
+/// The superclass of a signature of a class.
+fn superclass(alloc: Global, text: &str) -> Result<Option<Ty>, NoMemory> {
     match class_signature(alloc, text)? {
         Some(class) => Ok(Some(class.superclass)),
         None => Ok(None),
     }
 }
 
+/// What is read of a text.
 fn read(alloc: Global, reading: Reading, text: &str) -> Result<Option<Ty>, Fail> {
-    Ok(match reading {
-        Reading::Descriptor => descriptor(alloc, text)?,
-        Reading::Field => field_signature(alloc, text)?,
-        Reading::Superclass => superclass(alloc, text)?,
-        Reading::Result => result_within(alloc, text)?,
-    })
+    match reading {
+        Reading::Descriptor => Ok(descriptor(alloc, text)?),
+        Reading::Field => Ok(field_signature(alloc, text)?),
+        Reading::Superclass => Ok(superclass(alloc, text)?),
+        Reading::Result => result_within(alloc, text),
+    }
 }
 
-/// Texts with the types that are read of them.
-static TYPES: [(Reading, &str, &[Step]); 18] = [
+/// Texts with the types that are read of them; of no steps, nothing is read.
+static TYPES: [(Reading, &str, &[Step]); 47] = [
     (Reading::Descriptor, "I", &[Step::Primitive(Prim::Int)]),
     (
         Reading::Descriptor,
@@ -198,31 +225,37 @@ static TYPES: [(Reading, &str, &[Step]); 18] = [
         "<T:Lp/Own;>()TT;",
         &[Step::Class("p.Own"), Step::Variable("T")],
     ),
-];
-
-/// Texts that are no descriptors.
-static NO_DESCRIPTORS: [&str; 13] = [
-    "", "V", "[", "[V", "II", "LA", "L;", "L/A;", "LA/;", "La//b;", "La.b;", "L[A;", "A",
-];
-
-/// Texts that are no signatures of fields.
-static NO_FIELDS: [&str; 16] = [
-    "",
-    "V",
-    "LA<>;",
-    "LA<I>;",
-    "LA<+*>;",
-    "LA<LB;",
-    "LA;;",
-    "T;",
-    "Ta/b;",
-    "LA.;",
-    "LA./B;",
-    "La:b;",
-    "LA<LB;>C;",
-    "[",
-    "LA<V>;",
-    "La.b/c;",
+    // no descriptors
+    (Reading::Descriptor, "", &[]),
+    (Reading::Descriptor, "V", &[]),
+    (Reading::Descriptor, "[", &[]),
+    (Reading::Descriptor, "[V", &[]),
+    (Reading::Descriptor, "II", &[]),
+    (Reading::Descriptor, "LA", &[]),
+    (Reading::Descriptor, "L;", &[]),
+    (Reading::Descriptor, "L/A;", &[]),
+    (Reading::Descriptor, "LA/;", &[]),
+    (Reading::Descriptor, "La//b;", &[]),
+    (Reading::Descriptor, "La.b;", &[]),
+    (Reading::Descriptor, "L[A;", &[]),
+    (Reading::Descriptor, "A", &[]),
+    // no signatures of fields
+    (Reading::Field, "", &[]),
+    (Reading::Field, "V", &[]),
+    (Reading::Field, "LA<>;", &[]),
+    (Reading::Field, "LA<I>;", &[]),
+    (Reading::Field, "LA<+*>;", &[]),
+    (Reading::Field, "LA<LB;", &[]),
+    (Reading::Field, "LA;;", &[]),
+    (Reading::Field, "T;", &[]),
+    (Reading::Field, "Ta/b;", &[]),
+    (Reading::Field, "LA.;", &[]),
+    (Reading::Field, "LA./B;", &[]),
+    (Reading::Field, "La:b;", &[]),
+    (Reading::Field, "LA<LB;>C;", &[]),
+    (Reading::Field, "[", &[]),
+    (Reading::Field, "LA<V>;", &[]),
+    (Reading::Field, "La.b/c;", &[]),
 ];
 
 /// Whether both are there and the same, or neither is there.
@@ -234,24 +267,26 @@ fn same(found: &Option<Ty>, wanted: &Option<Ty>) -> bool {
     }
 }
 
-/// Whether this is read of the text; of no steps, nothing.
+/// Whether this is read of the text.
+fn is_read_as(
+    alloc: Global,
+    reading: Reading,
+    text: &str,
+    wanted: &Option<Ty>,
+) -> Result<bool, Fail> {
+    Ok(same(&read(alloc, reading, text)?, wanted))
+}
+
+/// Whether what the steps make is read of the text; of no steps, nothing.
 fn is_read(alloc: Global, reading: Reading, text: &str, steps: &[Step]) -> Result<bool, Fail> {
-    Ok(same(&read(alloc, reading, text)?, &made(alloc, steps)?))
+    let wanted = made(alloc, steps)?;
+    is_read_as(alloc, reading, text, &wanted)
 }
 
 #[test]
 fn types_of_texts(rt: HostRuntime) -> Result<(), Fail> {
     for (reading, text, steps) in &TYPES {
-        assert!(rt; is_read(rt.alloc(), *reading, text, steps)?, "{text}");
-    }
-    for text in &NO_DESCRIPTORS {
-        assert!(rt;
-            is_read(rt.alloc(), Reading::Descriptor, text, &[])?,
-            "{text}"
-        );
-    }
-    for text in &NO_FIELDS {
-        assert!(rt; is_read(rt.alloc(), Reading::Field, text, &[])?, "{text}");
+        expect(is_read(rt.alloc(), *reading, text, steps)?, text)?;
     }
     Ok(())
 }
@@ -318,7 +353,8 @@ static LONG: [Long; 6] = [
     },
 ];
 
-fn text_of(alloc: Global, long: &Long) -> Result<String, Fail> {
+/// The text.
+fn text_of(alloc: Global, long: &Long) -> Result<String, NoMemory> {
     let mut text = String::from_str(alloc, long.front)?;
     for _ in 0..long.count {
         text.push_str(long.middle)?;
@@ -327,118 +363,152 @@ fn text_of(alloc: Global, long: &Long) -> Result<String, Fail> {
     Ok(text)
 }
 
+/// Whether a text is a descriptor and a signature of a field as it is to be.
+fn is_judged(alloc: Global, text: &str, long: &Long) -> Result<bool, NoMemory> {
+    let is_descriptor = descriptor(alloc, text)?.is_some();
+    let is_field = field_signature(alloc, text)?.is_some();
+    Ok(is_descriptor == long.is_descriptor && is_field == long.is_field)
+}
+
+/// Whether the text is judged so.
+fn is_long(alloc: Global, long: &Long) -> Result<bool, NoMemory> {
+    let text = text_of(alloc, long)?;
+    is_judged(alloc, text.as_str(), long)
+}
+
+/// The first number of a text that is not judged as it is to.
+fn wrong_long(alloc: Global) -> Result<Option<usize>, NoMemory> {
+    for (number, long) in LONG.iter().enumerate() {
+        if !is_long(alloc, long)? {
+            return Ok(Some(number));
+        }
+    }
+    Ok(None)
+}
+
 #[test]
 fn limits(rt: HostRuntime) -> Result<(), Fail> {
-    for long in &LONG {
-        let text = text_of(rt.alloc(), long)?;
-        let is_descriptor = descriptor(rt.alloc(), text.as_str())?.is_some();
-        let is_field = field_signature(rt.alloc(), text.as_str())?.is_some();
-        assert_eq!(rt;
-            is_descriptor,
-            long.is_descriptor,
-            "{} {}",
-            long.count, long.end
-        );
-        assert_eq!(rt; is_field, long.is_field, "{} {}", long.count, long.end);
-    }
+    assert_eq!(rt; wrong_long(rt.alloc())?, None);
     Ok(())
 }
 
-/// Signatures of classes, with the numbers of type parameters and of interfaces.
-static CLASSES: [(&str, Option<(usize, usize)>); 11] = [
-    ("Ljava/lang/Object;", Some((0, 0))),
+/// What is counted.
+#[derive(Clone, Copy)]
+enum Counted {
+    /// A signature of a class: its type parameters, its interfaces, and no result.
+    Class,
+    /// A signature of a method: its type parameters, its parameters, and 1 where it has a result.
+    Method,
+    /// A descriptor of a method, likewise.
+    Descriptor,
+}
+
+/// Texts with what is counted in them; none where they are no signatures.
+static COUNTS: [(Counted, &str, Option<(usize, usize, usize)>); 29] = [
+    (Counted::Class, "Ljava/lang/Object;", Some((0, 0, 0))),
     (
+        Counted::Class,
         "<T::Ljava/lang/Comparable<-TT;>;:Ljava/lang/Runnable;E:Ljava/lang/Exception;U:TT;>Ljava/util/AbstractMap<TT;Ljava/util/List<+[TU;>;>;Ljava/lang/Iterable<[I>;Ljava/lang/Comparable<LA<TT;TE;TU;>;>;",
-        Some((3, 2)),
+        Some((3, 2, 0)),
     ),
-    ("<T:LU:>LA;", Some((2, 0))),
-    ("<T:LU;>LA;", Some((1, 0))),
-    ("<>LA;", None),
-    ("<T>LA;", None),
-    ("<T:I>LA;", None),
-    ("TT;", None),
-    ("[LA;", None),
-    ("LA;TT;", None),
-    ("", None),
-];
-
-/// Signatures of methods, with the numbers of type parameters and of parameters, and whether there is a result.
-static METHODS: [(&str, Option<(usize, usize, bool)>); 11] = [
-    ("(I)", None),
-    ("(I)V", Some((0, 1, false))),
+    (Counted::Class, "<T:LU:>LA;", Some((2, 0, 0))),
+    (Counted::Class, "<T:LU;>LA;", Some((1, 0, 0))),
+    (Counted::Class, "<>LA;", None),
+    (Counted::Class, "<T>LA;", None),
+    (Counted::Class, "<T:I>LA;", None),
+    (Counted::Class, "TT;", None),
+    (Counted::Class, "[LA;", None),
+    (Counted::Class, "LA;TT;", None),
+    (Counted::Class, "", None),
+    (Counted::Method, "(I)", None),
+    (Counted::Method, "(I)V", Some((0, 1, 0))),
     (
+        Counted::Method,
         "(IDLjava/lang/Thread;)Ljava/lang/Object;",
-        Some((0, 3, true)),
+        Some((0, 3, 1)),
     ),
     (
+        Counted::Method,
         "<V:Ljava/lang/Object;W::Ljava/lang/Runnable;:Ljava/lang/Cloneable;>(I[TW;Ljava/util/List<-TV;>;TT;)TV;^TE;^Ljava/io/IOException;",
-        Some((2, 4, true)),
+        Some((2, 4, 1)),
     ),
-    ("(CZBSFDLA$In;)[[J", Some((0, 7, true))),
-    ("()V^I", None),
-    ("()V^[LA;", None),
-    ("(V)V", None),
-    ("()VV", None),
-    ("()", None),
-    ("V", None),
+    (Counted::Method, "(CZBSFDLA$In;)[[J", Some((0, 7, 1))),
+    (Counted::Method, "()V^I", None),
+    (Counted::Method, "()V^[LA;", None),
+    (Counted::Method, "(V)V", None),
+    (Counted::Method, "()VV", None),
+    (Counted::Method, "()", None),
+    (Counted::Method, "V", None),
+    (
+        Counted::Descriptor,
+        "(IDLjava/lang/Thread;)Ljava/lang/Object;",
+        Some((0, 3, 1)),
+    ),
+    (Counted::Descriptor, "()V", Some((0, 0, 0))),
+    (Counted::Descriptor, "(V)V", None),
+    (Counted::Descriptor, "()", None),
+    (Counted::Descriptor, "()VV", None),
+    (Counted::Descriptor, "(TT;)V", None),
+    (Counted::Descriptor, "(La<b;)V", Some((0, 1, 0))),
 ];
 
-/// Descriptors of methods, with the number of parameters.
-static METHOD_DESCRIPTORS: [(&str, Option<usize>); 7] = [
-    ("(IDLjava/lang/Thread;)Ljava/lang/Object;", Some(3)),
-    ("()V", Some(0)),
-    ("(V)V", None),
-    ("()", None),
-    ("()VV", None),
-    ("(TT;)V", None),
-    ("(La<b;)V", Some(1)),
-];
-
-fn class_counts(alloc: Global, text: &str) -> Result<Option<(usize, usize)>, Fail> {
-    match class_signature(alloc, text)? {
-        Some(class) => Ok(Some((class.params.len(), class.interfaces.len()))),
-        None => Ok(None),
-    }
+fn of_class(class: Option<ClassSig>) -> Option<(usize, usize, usize)> {
+    let class = class?;
+    Some((class.params.len(), class.interfaces.len(), 0))
 }
 
-fn method_counts(alloc: Global, text: &str) -> Result<Option<(usize, usize, bool)>, Fail> {
-    match method_signature(alloc, text)? {
-        Some(method) => Ok(Some((
-            method.params.len(),
-            method.arguments.len(),
-            !method.result.is(&Ty::Void),
-        ))),
-        None => Ok(None),
-    }
+fn of_method(method: Option<MethodSig>) -> Option<(usize, usize, usize)> {
+    let method = method?;
+    let results = if method.result.is(&Ty::Void) { 0 } else { 1 };
+    Some((method.params.len(), method.arguments.len(), results))
 }
 
-fn parameters(alloc: Global, text: &str) -> Result<Option<usize>, Fail> {
-    match method_descriptor(alloc, text)? {
-        Some(method) => Ok(Some(method.arguments.len())),
-        None => Ok(None),
+/// What is counted in a text.
+fn count_of(
+    alloc: Global,
+    counted: Counted,
+    text: &str,
+) -> Result<Option<(usize, usize, usize)>, NoMemory> {
+    match counted {
+        Counted::Class => Ok(of_class(class_signature(alloc, text)?)),
+        Counted::Method => Ok(of_method(method_signature(alloc, text)?)),
+        Counted::Descriptor => Ok(of_method(method_descriptor(alloc, text)?)),
     }
 }
 
 #[test]
 fn counts(rt: HostRuntime) -> Result<(), Fail> {
-    for (text, wanted) in &CLASSES {
-        assert!(rt; class_counts(rt.alloc(), text)? == *wanted, "{text}");
-    }
-    for (text, wanted) in &METHODS {
-        assert!(rt; method_counts(rt.alloc(), text)? == *wanted, "{text}");
-    }
-    for (text, wanted) in &METHOD_DESCRIPTORS {
-        assert!(rt; parameters(rt.alloc(), text)? == *wanted, "{text}");
+    for (kind, text, wanted) in &COUNTS {
+        expect(count_of(rt.alloc(), *kind, text)? == *wanted, text)?;
     }
     Ok(())
 }
 
+/// Whether a copy of a class's signature has its superclass.
+fn has_superclass(class: &ClassSig) -> Result<bool, Fail> {
+    Ok(class.copied()?.superclass.is(&class.superclass))
+}
+
+/// The same of a text.
+fn class_is_copied(alloc: Global) -> Result<bool, Fail> {
+    let class = class_signature(alloc, "<T:LB;>LA<TT;>;LC;")?.ok_or("no signature")?;
+    has_superclass(&class)
+}
+
+/// Whether a copy of a method's signature has its result.
+fn has_result(method: &MethodSig) -> Result<bool, Fail> {
+    Ok(method.copied()?.result.is(&method.result))
+}
+
+/// The same of a text.
+fn method_is_copied(alloc: Global) -> Result<bool, Fail> {
+    let method = method_signature(alloc, "<T:LB;>(TT;I)TT;")?.ok_or("no signature")?;
+    has_result(&method)
+}
+
 #[test]
 fn copies(rt: HostRuntime) -> Result<(), Fail> {
-    let alloc = rt.alloc();
-    let class = class_signature(alloc, "<T:LB;>LA<TT;>;LC;")?.ok_or("no signature")?;
-    let method = method_signature(alloc, "<T:LB;>(TT;I)TT;")?.ok_or("no signature")?;
-    assert!(rt; class.copied()?.superclass.is(&class.superclass));
-    assert!(rt; method.copied()?.result.is(&method.result));
+    assert!(rt; class_is_copied(rt.alloc())?);
+    assert!(rt; method_is_copied(rt.alloc())?);
     Ok(())
 }

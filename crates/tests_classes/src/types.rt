@@ -1,6 +1,7 @@
 //! Substitution, erasure, walks over supertypes and subtyping, by hand.
 
-use pj_base::{Copied, NoMemory, Text};
+use crate::fixtures::{expect, name};
+use pj_base::{Copied, Names, NoMemory, Text};
 use pj_names::{
     Answer, Answers, AskFault, Bindings, ClassInfo, ClassName, MapOracle, Members, Oracle, Ty,
     Types,
@@ -11,10 +12,6 @@ use std::alloc::Global;
 use std::sync::Arc;
 use std::test::Fail;
 
-fn name(alloc: Global, text: &str) -> Result<ClassName, Fail> {
-    Ok(ClassName::of(alloc, text)?.ok_or("no class name")?)
-}
-
 /// The type of a signature, or `null`, or `void`.
 fn ty(alloc: Global, text: &str) -> Result<Ty, Fail> {
     match text {
@@ -24,9 +21,24 @@ fn ty(alloc: Global, text: &str) -> Result<Ty, Fail> {
     }
 }
 
-fn bind(alloc: Global, bindings: &mut Bindings, name: &str, text: &str) -> Result<(), Fail> {
-    bindings.push((Text::from_str(alloc, name)?, ty(alloc, text)?))?;
-    Ok(())
+/// Whether a type is that of a signature.
+fn is_type(alloc: Global, made: &Ty, wanted: &str) -> Result<bool, Fail> {
+    Ok(made.is(&ty(alloc, wanted)?))
+}
+
+/// A variable with the type that is bound to it.
+fn binding(alloc: Global, name: &str, text: &str) -> Result<(Text, Ty), Fail> {
+    let name = Text::from_str(alloc, name)?;
+    Ok((name, ty(alloc, text)?))
+}
+
+/// Variables with the types that are bound to them.
+fn bindings(alloc: Global, all: &[(&str, &str)]) -> Result<Bindings, Fail> {
+    let mut bindings = Bindings::new(alloc);
+    for (name, text) in all {
+        bindings.push(binding(alloc, name, text)?)?;
+    }
+    Ok(bindings)
 }
 
 /// Types, and what they are with `p.X` for `T` and an array of `T` for `U`; the second type that is bound to `T` does not count.
@@ -41,35 +53,73 @@ static SUBSTITUTED: [(&str, &str); 8] = [
     ("L?;", "L?;"),
 ];
 
+/// A type with what is bound in the place of its variables.
+fn substituted(alloc: Global, bindings: &Bindings, text: &str) -> Result<Ty, Fail> {
+    let ty = ty(alloc, text)?;
+    Ok(substitute(alloc, &ty, bindings)?)
+}
+
+/// Whether a type becomes this one.
+fn is_substituted(
+    alloc: Global,
+    bindings: &Bindings,
+    text: &str,
+    wanted: &str,
+) -> Result<bool, Fail> {
+    let made = substituted(alloc, bindings, text)?;
+    is_type(alloc, &made, wanted)
+}
+
 #[test]
 fn substitution(rt: HostRuntime) -> Result<(), Fail> {
-    let alloc = rt.alloc();
-    let mut bindings = Bindings::new(alloc);
-    bind(alloc, &mut bindings, "T", "Lp/X;")?;
-    bind(alloc, &mut bindings, "T", "Lp/Y;")?;
-    bind(alloc, &mut bindings, "U", "[TT;")?;
+    let bound = [("T", "Lp/X;"), ("T", "Lp/Y;"), ("U", "[TT;")];
+    let bindings = bindings(rt.alloc(), &bound)?;
     for (text, wanted) in &SUBSTITUTED {
-        let made = substitute(alloc, &ty(alloc, text)?, &bindings)?;
-        assert!(rt; made.is(&ty(alloc, wanted)?), "{text}");
+        expect(is_substituted(rt.alloc(), &bindings, text, wanted)?, text)?;
     }
     Ok(())
 }
 
+/// The variable `V` with this bound.
+fn bounded(alloc: Global, bound: &str) -> Result<Ty, Fail> {
+    let name = Text::from_str(alloc, "V")?;
+    Ok(Ty::Var(name, Box::new(alloc, ty(alloc, bound)?)?))
+}
+
+/// Whether a type is the variable `V` with this bound.
+fn is_bounded(alloc: Global, ty: &Ty, bound: &str) -> Result<bool, Fail> {
+    Ok(ty.is(&bounded(alloc, bound)?))
+}
+
+/// The variable `V` with what is bound in the place of the variables in its bound.
+fn substituted_bound(alloc: Global, bindings: &Bindings) -> Result<Ty, Fail> {
+    let variable = bounded(alloc, "Lp/L<TT;>;")?;
+    Ok(substitute(alloc, &variable, bindings)?)
+}
+
+/// Whether the bound of a variable is substituted.
+fn bound_is_substituted(alloc: Global, bindings: &Bindings) -> Result<bool, Fail> {
+    let made = substituted_bound(alloc, bindings)?;
+    is_bounded(alloc, &made, "Lp/L<Lp/X;>;")
+}
+
+/// What a variable with a bound is erased to.
+fn erased_bound(alloc: Global) -> Result<Ty, Fail> {
+    let variable = bounded(alloc, "Lp/L<TT;>;")?;
+    Ok(erase(alloc, &variable)?)
+}
+
+/// Whether a variable with a bound has the erasure of the bound.
+fn bound_is_erased(alloc: Global) -> Result<bool, Fail> {
+    let made = erased_bound(alloc)?;
+    is_type(alloc, &made, "Lp/L;")
+}
+
 #[test]
-fn bounds_are_substituted(rt: HostRuntime) -> Result<(), Fail> {
-    let alloc = rt.alloc();
-    let mut bindings = Bindings::new(alloc);
-    bind(alloc, &mut bindings, "T", "Lp/X;")?;
-    let bounded = Ty::Var(
-        Text::from_str(alloc, "V")?,
-        Box::new(alloc, ty(alloc, "Lp/L<TT;>;")?)?,
-    );
-    let wanted = Ty::Var(
-        Text::from_str(alloc, "V")?,
-        Box::new(alloc, ty(alloc, "Lp/L<Lp/X;>;")?)?,
-    );
-    assert!(rt; substitute(alloc, &bounded, &bindings)?.is(&wanted));
-    assert!(rt; erase(alloc, &bounded)?.is(&ty(alloc, "Lp/L;")?));
+fn bounds(rt: HostRuntime) -> Result<(), Fail> {
+    let bindings = bindings(rt.alloc(), &[("T", "Lp/X;")])?;
+    assert!(rt; bound_is_substituted(rt.alloc(), &bindings)?);
+    assert!(rt; bound_is_erased(rt.alloc())?);
     Ok(())
 }
 
@@ -85,32 +135,51 @@ static ERASED: [(&str, &str); 8] = [
     ("L?;", "L?;"),
 ];
 
+/// The erasure of a type.
+fn erased(alloc: Global, text: &str) -> Result<Ty, Fail> {
+    let ty = ty(alloc, text)?;
+    Ok(erase(alloc, &ty)?)
+}
+
+/// Whether a type has this erasure.
+fn is_erased(alloc: Global, text: &str, wanted: &str) -> Result<bool, Fail> {
+    let made = erased(alloc, text)?;
+    is_type(alloc, &made, wanted)
+}
+
 #[test]
 fn erasure(rt: HostRuntime) -> Result<(), Fail> {
-    let alloc = rt.alloc();
     for (text, wanted) in &ERASED {
-        let made = erase(alloc, &ty(alloc, text)?)?;
-        assert!(rt; made.is(&ty(alloc, wanted)?), "{text}");
+        expect(is_erased(rt.alloc(), text, wanted)?, text)?;
     }
     Ok(())
 }
 
-fn class(alloc: Global, of: &str, signature: &str) -> Result<Arc<Answer>, Fail> {
-    let info = ClassInfo {
-        name: name(alloc, of)?,
+/// A class without members.
+fn class(alloc: Global, of: &str, signature: &str) -> Result<Answer, Fail> {
+    let name = name(alloc, of)?;
+    Ok(Answer::Found(ClassInfo {
+        name,
         flags: 33,
         signature: Text::from_str(alloc, signature)?,
         fields: Members::new(alloc),
         methods: Members::new(alloc),
-    };
-    Ok(Arc::new(alloc, Answer::Found(info))?)
+    }))
+}
+
+/// Puts a class behind the others.
+fn put_class(alloc: Global, answers: &mut Answers, of: &str, signature: &str) -> Result<(), Fail> {
+    let name = name(alloc, of)?;
+    let class = Arc::new(alloc, class(alloc, of, signature)?)?;
+    answers.push(name, class)?;
+    Ok(())
 }
 
 /// Classes with their signatures.
 fn oracle(alloc: Global, all: &[(&str, &str)]) -> Result<MapOracle, Fail> {
     let mut answers = Answers::new(alloc);
     for (of, signature) in all {
-        answers.push(name(alloc, of)?, class(alloc, of, signature)?)?;
+        put_class(alloc, &mut answers, of, signature)?;
     }
     Ok(MapOracle::new(alloc, answers))
 }
@@ -120,10 +189,15 @@ fn cycle(alloc: Global) -> Result<MapOracle, Fail> {
     oracle(alloc, &[("p.A", "Lp/B;"), ("p.B", "Lp/A;")])
 }
 
-/// How many of the classes of the cycle were asked.
+/// Whether a class was asked.
+fn is_asked(alloc: Global, oracle: &MapOracle, text: &str) -> Result<bool, Fail> {
+    Ok(oracle.asked().contains(&name(alloc, text)?))
+}
+
+/// How many of the classes of the cycle were asked, of which the first is asked first.
 fn asked_of_cycle(alloc: Global, oracle: &MapOracle) -> Result<u32, Fail> {
-    let first = oracle.asked().contains(&name(alloc, "p.A")?);
-    let second = oracle.asked().contains(&name(alloc, "p.B")?);
+    let first = is_asked(alloc, oracle, "p.A")?;
+    let second = is_asked(alloc, oracle, "p.B")?;
     Ok(match (first, second) {
         (true, true) => 2,
         (true, false) => 1,
@@ -132,59 +206,81 @@ fn asked_of_cycle(alloc: Global, oracle: &MapOracle) -> Result<u32, Fail> {
     })
 }
 
-/// Whether a walk gave just this type, where `-` is none.
-fn is_given(alloc: Global, given: &Option<Ty>, wanted: &str) -> Result<bool, Fail> {
-    match given {
-        None => Ok(wanted == "-"),
-        Some(given) => Ok(wanted != "-" && given.is(&ty(alloc, wanted)?)),
+/// The names of the supertypes of a class.
+fn all_supertypes<O: Oracle>(alloc: Global, oracle: &mut O, text: &str) -> Result<Names, Fail> {
+    let name = name(alloc, text)?;
+    Ok(supertypes(alloc, oracle, &name)?)
+}
+
+/// Whether the name of a place is this.
+fn is_name_at(names: &Names, place: usize, wanted: &str) -> bool {
+    match names.get(place) {
+        Some(name) => name.as_str() == wanted,
+        None => false,
     }
 }
 
 #[test]
 fn cycles_end(rt: HostRuntime) -> Result<(), Fail> {
-    let alloc = rt.alloc();
-    let mut oracle = cycle(alloc)?;
-    let names = supertypes(alloc, &mut oracle, &name(alloc, "p.A")?)?;
-    assert_eq!(rt; names.len(), 2);
-    assert_eq!(rt; names.get(0).map(|name| name.as_str()), Some("p.A"));
-    assert_eq!(rt; names.get(1).map(|name| name.as_str()), Some("p.B"));
-    assert_eq!(rt; asked_of_cycle(alloc, &oracle)?, 2);
+    let mut oracle = cycle(rt.alloc())?;
+    let names = all_supertypes(rt.alloc(), &mut oracle, "p.A")?;
+    assert!(rt; names.len() == 2);
+    assert!(rt; is_name_at(&names, 0, "p.A") && is_name_at(&names, 1, "p.B"));
+    assert!(rt; asked_of_cycle(rt.alloc(), &oracle)? == 2);
     Ok(())
 }
 
+/// A walk from a class.
+fn walk_of(alloc: Global, text: &str) -> Result<Walk, Fail> {
+    let name = name(alloc, text)?;
+    Ok(Walk::of(alloc, &name)?)
+}
+
+/// Whether a walk gives just this type, where `-` is none.
+fn is_given(
+    alloc: Global,
+    oracle: &mut MapOracle,
+    walk: &mut Walk,
+    wanted: &str,
+) -> Result<bool, Fail> {
+    match walk.next_class(oracle)? {
+        None => Ok(wanted == "-"),
+        Some(given) => is_type(alloc, &given, wanted),
+    }
+}
+
+/// What a walk through the cycle gives, and how many classes it has asked by then.
+static CYCLE: [(&str, u32); 4] = [("Lp/A;", 0), ("Lp/B;", 1), ("-", 2), ("-", 2)];
+
 #[test]
 fn a_walk_asks_the_class_given_last(rt: HostRuntime) -> Result<(), Fail> {
-    let alloc = rt.alloc();
-    let mut oracle = cycle(alloc)?;
-    let mut walk = Walk::of(alloc, &name(alloc, "p.A")?)?;
-    for (wanted, asked) in [("Lp/A;", 0), ("Lp/B;", 1), ("-", 2), ("-", 2)] {
-        let given = walk.next_class(&mut oracle)?;
-        assert!(rt; is_given(alloc, &given, wanted)?, "{wanted} {given:?}");
-        assert_eq!(rt; asked_of_cycle(alloc, &oracle)?, asked, "{wanted}");
+    let mut oracle = cycle(rt.alloc())?;
+    let mut walk = walk_of(rt.alloc(), "p.A")?;
+    for (wanted, asked) in &CYCLE {
+        expect(
+            is_given(rt.alloc(), &mut oracle, &mut walk, wanted)?,
+            wanted,
+        )?;
+        expect(asked_of_cycle(rt.alloc(), &oracle)? == *asked, wanted)?;
     }
     Ok(())
 }
 
 /// Classes with parameters: `p.K` is raw where `p.I` names it, `p.N` and `p.Q` are not there, and `p.Z` has no signature.
-fn generic(alloc: Global) -> Result<MapOracle, Fail> {
-    oracle(
-        alloc,
-        &[
-            ("p.D", "<T:Ljava/lang/Object;>Lp/B<TT;>;Lp/I<[TT;>;"),
-            (
-                "p.B",
-                "<S:Ljava/lang/Object;>Ljava/lang/Object;Lp/J<Lp/L<TS;>;>;",
-            ),
-            ("p.J", "<E:Ljava/lang/Object;>Ljava/lang/Object;"),
-            (
-                "p.I",
-                "<E:Ljava/lang/Object;>Ljava/lang/Object;Lp/J<TE;>;Lp/K;L?;Lp/Z;Lp/Q<TE;>;",
-            ),
-            ("p.K", "<E:Ljava/lang/Object;>Ljava/lang/Object;Lp/N<TE;>;"),
-            ("p.Z", "no signature"),
-        ],
-    )
-}
+static GENERIC: [(&str, &str); 6] = [
+    ("p.D", "<T:Ljava/lang/Object;>Lp/B<TT;>;Lp/I<[TT;>;"),
+    (
+        "p.B",
+        "<S:Ljava/lang/Object;>Ljava/lang/Object;Lp/J<Lp/L<TS;>;>;",
+    ),
+    ("p.J", "<E:Ljava/lang/Object;>Ljava/lang/Object;"),
+    (
+        "p.I",
+        "<E:Ljava/lang/Object;>Ljava/lang/Object;Lp/J<TE;>;Lp/K;L?;Lp/Z;Lp/Q<TE;>;",
+    ),
+    ("p.K", "<E:Ljava/lang/Object;>Ljava/lang/Object;Lp/N<TE;>;"),
+    ("p.Z", "no signature"),
+];
 
 /// What a walk gives.
 static DEPTH_FIRST: [&str; 10] = [
@@ -202,12 +298,13 @@ static DEPTH_FIRST: [&str; 10] = [
 
 #[test]
 fn a_walk_goes_depth_first(rt: HostRuntime) -> Result<(), Fail> {
-    let alloc = rt.alloc();
-    let mut oracle = generic(alloc)?;
-    let mut walk = Walk::of(alloc, &name(alloc, "p.D")?)?;
+    let mut oracle = oracle(rt.alloc(), &GENERIC)?;
+    let mut walk = walk_of(rt.alloc(), "p.D")?;
     for wanted in &DEPTH_FIRST {
-        let given = walk.next_class(&mut oracle)?;
-        assert!(rt; is_given(alloc, &given, wanted)?, "{wanted} {given:?}");
+        expect(
+            is_given(rt.alloc(), &mut oracle, &mut walk, wanted)?,
+            wanted,
+        )?;
     }
     Ok(())
 }
@@ -250,14 +347,37 @@ static SUBTYPES: [(&str, &str, bool); 34] = [
     ("Lp/D;", "L?;", false),
 ];
 
+/// Whether a type is a subtype of that of a text.
+fn is_under_text(
+    alloc: Global,
+    oracle: &mut MapOracle,
+    lower: &Ty,
+    upper: &str,
+) -> Result<bool, Fail> {
+    let upper = ty(alloc, upper)?;
+    Ok(is_subtype(alloc, oracle, lower, &upper)?)
+}
+
+/// Whether the type of a text is a subtype of that of another one.
+fn is_under(alloc: Global, oracle: &mut MapOracle, lower: &str, upper: &str) -> Result<bool, Fail> {
+    let lower = ty(alloc, lower)?;
+    is_under_text(alloc, oracle, &lower, upper)
+}
+
+/// The first number of a pair that is not judged as it is to.
+fn wrong_pair(alloc: Global, oracle: &mut MapOracle) -> Result<Option<usize>, Fail> {
+    for (number, (lower, upper, wanted)) in SUBTYPES.iter().enumerate() {
+        if is_under(alloc, oracle, lower, upper)? != *wanted {
+            return Ok(Some(number));
+        }
+    }
+    Ok(None)
+}
+
 #[test]
 fn subtyping(rt: HostRuntime) -> Result<(), Fail> {
-    let alloc = rt.alloc();
-    let mut oracle = generic(alloc)?;
-    for (lower, upper, wanted) in &SUBTYPES {
-        let is_under = is_subtype(alloc, &mut oracle, &ty(alloc, lower)?, &ty(alloc, upper)?)?;
-        assert_eq!(rt; is_under, *wanted, "{lower} {upper}");
-    }
+    let mut oracle = oracle(rt.alloc(), &GENERIC)?;
+    assert_eq!(rt; wrong_pair(rt.alloc(), &mut oracle)?, None);
     Ok(())
 }
 
@@ -279,35 +399,50 @@ impl Oracle for Chain {
 
     fn ask(&mut self, name: &ClassName) -> Result<Arc<Answer>, AskFault> {
         self.asked = self.asked.saturating_add(1);
-        let info = linked(self.alloc, name)?;
-        Ok(Arc::new(self.alloc, info)?)
+        let answer = linked(self.alloc, name)?;
+        Ok(Arc::new(self.alloc, answer)?)
     }
+}
+
+/// The number of the superclass of a class of the chain, where it has one.
+fn next_number(name: &ClassName) -> Option<u32> {
+    let digits = name.as_str().strip_prefix("c.")?;
+    let number = digits.parse::<u32>().ok()?;
+    if number < 20000 {
+        Some(number + 1)
+    } else {
+        None
+    }
+}
+
+/// The class of a name whose superclass has this number.
+fn link(alloc: Global, name: &ClassName, number: u32) -> Result<ClassInfo, NoMemory> {
+    let signature = format!(in alloc; "Lc/{number};")?;
+    Ok(ClassInfo {
+        name: name.copied()?,
+        flags: 33,
+        signature: Text::from_string(signature),
+        fields: Members::new(alloc),
+        methods: Members::new(alloc),
+    })
 }
 
 /// The class of the chain of a name, where it is one.
 fn linked(alloc: Global, name: &ClassName) -> Result<Answer, NoMemory> {
-    let Some(digits) = name.as_str().strip_prefix("c.") else {
-        return Ok(Answer::Absent);
-    };
-    match digits.parse::<u32>() {
-        Ok(number) if number < 20000 => Ok(Answer::Found(ClassInfo {
-            name: name.copied()?,
-            flags: 33,
-            signature: Text::from_string(format!(in alloc; "Lc/{};", number + 1)?),
-            fields: Members::new(alloc),
-            methods: Members::new(alloc),
-        })),
-        _ => Ok(Answer::Absent),
+    match next_number(name) {
+        Some(number) => Ok(Answer::Found(link(alloc, name, number)?)),
+        None => Ok(Answer::Absent),
     }
 }
 
 #[test]
 fn a_long_chain(rt: HostRuntime) -> Result<(), Fail> {
-    let alloc = rt.alloc();
-    let mut chain = Chain { alloc, asked: 0 };
-    let names = supertypes(alloc, &mut chain, &name(alloc, "c.0")?)?;
-    assert_eq!(rt; names.len(), 20001);
-    assert_eq!(rt; names.get(20000).map(|name| name.as_str()), Some("c.20000"));
-    assert_eq!(rt; chain.asked, 20001);
+    let mut chain = Chain {
+        alloc: rt.alloc(),
+        asked: 0,
+    };
+    let names = all_supertypes(rt.alloc(), &mut chain, "c.0")?;
+    assert!(rt; names.len() == 20001 && chain.asked == 20001);
+    assert!(rt; is_name_at(&names, 20000, "c.20000"));
     Ok(())
 }
