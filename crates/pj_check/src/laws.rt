@@ -3,7 +3,7 @@ ghost use Rattle.pj_check.specs.Laws.{OneRefusal, OneRun, RunIsNotRefused};
 
 use pj_rules::{one_first_fault, one_set, rules_or_fault};
 use pj_sources::{one_listing, one_reading};
-use pj_workers::laws::{one_cold_report, rules_are_their_texts};
+use pj_workers::{one_cold_report, rules_are_their_texts};
 
 /// Words and files that have a run are not refused.
 pub fn runs_are_not_refused()

@@ -20,7 +20,7 @@ pub fn one_answer()
 {}
 
 /// A text is decoded from exactly the bytes that spell it in modified UTF-8 (JVMS 4.4.7).
-pub fn modified_utf8()
+pub fn texts_are_decoded()
     ensures found { (bytes text : List ℕ) → decoded bytes ≡ Some text → IsModified bytes text }
     ensures only { (bytes text : List ℕ) → IsModified bytes text → decoded bytes ≡ Some text }
 {}

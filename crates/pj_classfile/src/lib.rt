@@ -1,11 +1,11 @@
 //! Class files (JVMS 4): a class from its bytes, or the first fault that they have.
 #![tactic(auto)]
 
-pub mod answer;
+mod answer;
 mod attribute;
 mod class;
-pub mod fault;
-pub mod laws;
+mod fault;
+mod laws;
 mod lookup;
 mod member;
 mod modified_utf8;
@@ -16,3 +16,4 @@ mod texts;
 pub use answer::answer_of;
 pub use class::parse;
 pub use fault::ClassRefused;
+pub use laws::{one_answer, one_class, texts_are_decoded};

@@ -14,7 +14,7 @@ use crate::pool::Constant;
 use crate::texts::{fits_descriptor, fits_signature};
 use pj_base::{NoMemory, Text};
 use pj_format::{Refused, refused};
-use pj_signatures::names::is_internal_name;
+use pj_signatures::is_internal_name;
 use std::alloc::Global;
 
 /// The bytes of the text behind an index that stands at `offset`.

@@ -7,9 +7,9 @@ ghost use Rattle.pj_classfile.specs.ClassFile.{is_descriptor_of, is_signature_of
 use crate::member::{Holder, MemberKind};
 use pj_base::NoMemory;
 use pj_names::ClassName;
-use pj_signatures::names::{class_name, name_of_internal};
 use pj_signatures::{
-    class_signature, descriptor, field_signature, method_descriptor, method_signature,
+    class_name, class_signature, descriptor, field_signature, method_descriptor, method_signature,
+    name_of_internal,
 };
 use std::alloc::Global;
 

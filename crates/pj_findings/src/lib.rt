@@ -5,7 +5,7 @@
 
 mod denoted;
 mod found;
-pub mod laws;
+mod laws;
 mod message;
 mod reason;
 mod rows;
@@ -13,6 +13,7 @@ mod spot;
 
 pub use denoted::{Nodes, denoted_nodes};
 pub use found::{Found, FoundList, RuleResult, RuleResults};
+pub use laws::{findings_are_the_rules, nodes_are_the_items};
 pub use message::{code_name, rule_message};
 pub use reason::plain_reason;
 pub use rows::{error_rows, file_rows};

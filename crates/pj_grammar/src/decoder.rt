@@ -9,7 +9,7 @@ use pj_base::NoMemory;
 use pj_peg::{Item, Items};
 use std::alloc::Global;
 
-// Takes as many items from the top of the stack as there are, and at most `count`, the top one first.
+/// Takes as many items from the top of the stack as there are, and at most `count`, the top one first.
 fn take_parts(alloc: Global, count: u8, stack: &mut Items) -> Result<Items, NoMemory>
     ensures parts { IfOk result (λ parts. forms_of parts.items ≡ take count (forms_of (reverse stack.old.items))) }
     ensures rest { OnOk result (forms_of (reverse stack.new.items) ≡ drop count (forms_of (reverse stack.old.items))) }
@@ -23,7 +23,7 @@ fn take_parts(alloc: Global, count: u8, stack: &mut Items) -> Result<Items, NoMe
     Ok(parts)
 }
 
-// Puts the item of a piece on the stack, in place of the parts that it takes from there.
+/// Puts the item of a piece on the stack, in place of the parts that it takes from there.
 fn put(alloc: Global, piece: Piece, stack: &mut Items) -> Result<(), NoMemory>
     ensures { OnOk result (forms_of (reverse stack.new.items) ≡ piece_on piece (forms_of (reverse stack.old.items))) }
 {

@@ -17,7 +17,7 @@ use pj_peg::WellFormed;
 use pj_shape::Shape;
 use std::alloc::Global;
 
-// The pieces of the grammar's rules.
+/// The pieces of the grammar's rules.
 #[tactic(none)]
 fn pieces() -> &'static [Piece]
     ensures pieces { decoded result.now ≡ java_17_forms }

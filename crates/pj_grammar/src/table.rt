@@ -9,7 +9,7 @@ use pj_shape::Shape;
 use pj_shape::Shape::{Joined, Node, Pass, Segment, Turn};
 use pj_tree::Kind as K;
 
-// The items of the rules by their numbers, each before its parts.
+/// The items of the rules by their numbers, each before its parts.
 #[rattlefmt::skip]
 pub(crate) static PIECES: [Piece; 1348] = [
     // Unit
@@ -527,7 +527,7 @@ pub(crate) static PIECES: [Piece; 1348] = [
     Rule(R::Expr as u16), Token(T::RightParenthesis as u16),
 ];
 
-// What each rule makes, by its number.
+/// What each rule makes, by its number.
 #[rattlefmt::skip]
 pub(crate) static SHAPES: [Shape; 179] = [
     Node(K::CompilationUnit), // Unit

@@ -37,7 +37,7 @@ pub enum Terminal {
 /// The number of the first word; those of the kinds of tokens are below.
 pub(crate) const WORDS: u16 = 107;
 
-// The contextual word of a text.
+/// The contextual word of a text.
 fn word_of(text: &str) -> Option<ContextualWord>
     ensures { result ≡ word_of (chars text.now) }
 {

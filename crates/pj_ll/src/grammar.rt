@@ -1,3 +1,5 @@
+//! Grammars whose productions have select sets.
+
 /// One symbol of a production.
 #[derive(Clone, Copy, Debug, PartialEq, Eq)]
 pub enum Symbol {
@@ -30,7 +32,7 @@ pub enum Piece {
     AtEnd,
 }
 
-// A production with its select set.
+/// A production with its select set.
 #[derive(Drop)]
 pub(crate) struct Production {
     pub rule: u16,

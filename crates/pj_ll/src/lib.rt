@@ -10,13 +10,13 @@
 #![tactic(auto)]
 
 mod grammar;
-mod law;
+mod laws;
 mod parser;
 mod reading;
 mod stack;
 mod table;
 
 pub use grammar::{Piece, Symbol};
-pub use law::{one_derivation, one_end};
+pub use laws::{one_derivation, one_end};
 pub use parser::{End, Run, parse};
 pub use table::Table;

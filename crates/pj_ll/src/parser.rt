@@ -1,3 +1,4 @@
+//! The predictive parser: a leftmost derivation, or the first place at which there is none.
 ghost use Rattle.std.specs.Prelude.{◌≡◌, ◌+◌, ◌<◌, ◌^◌, List, length, slice_get, IfOk, IfSome, IfNone, OnOk, IsTrue, ◌↔◌, Some, take};
 ghost use Rattle.pj_ll.specs.Grammar.{grammar_of, closes};
 ghost use Rattle.pj_ll.specs.Outcome.{IsEnd, LeadTo};
@@ -33,7 +34,7 @@ pub struct Run {
     pub end: End,
 }
 
-// Replaces rules and passes over ends until a terminal is next, nothing is left, or nothing is chosen.
+/// Replaces rules and passes over ends until a terminal is next, nothing is left, or nothing is chosen.
 fn expand(
     table: &Table,
     ahead: Option<u16>,
@@ -62,7 +63,7 @@ fn expand(
     Ok(())
 }
 
-// Goes past the terminal at the place, or says how the run ends there.
+/// Goes past the terminal at the place, or says how the run ends there.
 fn advance(
     table: &Table,
     terminals: &[u16],
@@ -96,7 +97,7 @@ fn advance(
     Ok(Some(End::Stops(place)))
 }
 
-// How the run ends behind all terminals.
+/// How the run ends behind all terminals.
 fn finish(
     table: &Table,
     terminals: &[u16],

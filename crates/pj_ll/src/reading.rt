@@ -1,3 +1,4 @@
+//! Reading of a grammar that is given as one list of pieces.
 ghost use Rattle.std.specs.Prelude.{◌≡◌, IfOk, map};
 ghost use Rattle.pj_ll.specs.Grammar.{at_end_in, entries_of, on_in, symbols_in};
 ghost use Rattle.pj_ll.specs.Entries.{entry_of};
@@ -6,7 +7,7 @@ use crate::grammar::{Piece, Production, Symbol};
 use pj_base::NoMemory;
 use std::alloc::Global;
 
-// The production of the rule, by the pieces behind its first one.
+/// The production of the rule, by the pieces behind its first one.
 fn production_of(alloc: Global, rule: u16, behind: &[Piece]) -> Result<Production, NoMemory>
     ensures { IfOk result (λ x. entry_of x ≡ record { rule = rule; symbols = symbols_in behind.now; on = on_in behind.now; at_end = at_end_in behind.now }) }
 {
@@ -32,7 +33,7 @@ fn production_of(alloc: Global, rule: u16, behind: &[Piece]) -> Result<Productio
     })
 }
 
-// The productions that the pieces spell.
+/// The productions that the pieces spell.
 pub fn productions_of(alloc: Global, pieces: &[Piece]) -> Result<Vec<Production>, NoMemory>
     ensures { IfOk result (λ productions. map entry_of productions.items ≡ entries_of pieces.now) }
 {

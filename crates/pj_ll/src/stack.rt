@@ -1,3 +1,4 @@
+//! The symbols that the parser still expects.
 ghost use Rattle.std.specs.Prelude.{◌≡◌, List, [], ◌∷◌, ◌++◌, MatchOption, OnOk, IsTrue, ◌↔◌};
 ghost use Rattle.pj_ll.specs.declared.grammar.Symbol.{Symbol};
 ghost use Rattle.pj_ll.specs.Grammar.{closes};
@@ -8,7 +9,7 @@ use pj_base::NoMemory;
 use std::alloc::Global;
 use std::marker::Model;
 
-// The symbols that are still to come. Clauses see the next one first.
+/// The symbols that are still to come. Clauses see the next one first.
 #[derive(Drop)]
 pub struct Stack {
     // the next symbol stands last
@@ -28,7 +29,7 @@ impl Model for Stack {
     ghost invariant = { λ s. s.ends ≡ closes s.symbols.items };
 }
 
-// How many ends of what nests a symbol is.
+/// How many ends of what nests a symbol is.
 fn closing(symbol: Symbol) -> usize
     ensures { result ≡ closes (symbol ∷ []) }
 {
@@ -39,7 +40,7 @@ fn closing(symbol: Symbol) -> usize
 }
 
 impl Stack {
-    // No symbols, which takes no memory.
+    /// No symbols, which takes no memory.
     pub fn new(alloc: Global) -> Stack
         ensures { result ≡ [] }
     {
@@ -49,28 +50,28 @@ impl Stack {
         }
     }
 
-    // How many ends of what nests are still to come.
+    /// How many ends of what nests are still to come.
     pub fn closes(&self) -> usize
         ensures { result ≡ closes self.now }
     {
         self.ends
     }
 
-    // Whether no symbol is still to come.
+    /// Whether no symbol is still to come.
     pub fn is_empty(&self) -> bool
         ensures { IsTrue result ↔ (self.now ≡ []) }
     {
         self.symbols.is_empty()
     }
 
-    // The next symbol.
+    /// The next symbol.
     pub fn top(&self) -> Option<Symbol>
         ensures { MatchOption result (self.now ≡ []) (λ s. self.now ≡ s ∷ behind_top self.now) }
     {
         self.symbols.last().copied()
     }
 
-    // Whether this symbol is the next one.
+    /// Whether this symbol is the next one.
     pub fn begins_with(&self, symbol: Symbol) -> bool
         ensures { IsTrue result ↔ (self.now ≡ symbol ∷ behind_top self.now) }
     {
@@ -80,7 +81,7 @@ impl Stack {
         }
     }
 
-    // Takes the next symbol off.
+    /// Takes the next symbol off.
     pub fn pop(&mut self)
         ensures { self.new ≡ behind_top self.old }
     {
@@ -89,7 +90,7 @@ impl Stack {
         }
     }
 
-    // Puts a symbol before the others.
+    /// Puts a symbol before the others.
     fn push(&mut self, symbol: Symbol) -> Result<(), NoMemory>
         ensures { OnOk result (self.new ≡ symbol ∷ self.old) }
     {
@@ -98,7 +99,7 @@ impl Stack {
         Ok(())
     }
 
-    // Puts the symbols before the others.
+    /// Puts the symbols before the others.
     pub fn put(&mut self, symbols: &[Symbol]) -> Result<(), NoMemory>
         ensures { OnOk result (self.new ≡ symbols.now ++ self.old) }
     {

@@ -1,3 +1,4 @@
+//! The table of the predictive parser: which production it chooses for a rule, by the next terminal.
 ghost use Rattle.std.specs.Prelude.{◌≡◌, ◌≢◌, ℕ, ◌^◌, ◌+◌, ◌≤◌, ◌<◌, Some, None, Option, length, map, slice_get, IfOk, OnOk};
 ghost use Rattle.pj_ll.specs.Grammar.{Entry, entries_of};
 ghost use Rattle.pj_ll.specs.Entries.{entry_of};
@@ -31,7 +32,7 @@ impl Model for Table {
     ghost invariant = { λ t. AreChoices (map entry_of t.productions.items) t.rows.items };
 }
 
-// The column of the choices at a terminal, or at the end.
+/// The column of the choices at a terminal, or at the end.
 fn column_of(ahead: Option<u16>) -> usize
     ensures { result ≡ column_of ahead }
 {
@@ -41,7 +42,7 @@ fn column_of(ahead: Option<u16>) -> usize
     }
 }
 
-// What the row has in a column.
+/// What the row has in a column.
 fn cell(row: &[Option<u16>], column: usize) -> Option<u16>
     ensures { result ≡ cell row.now column }
 {
@@ -52,7 +53,7 @@ fn cell(row: &[Option<u16>], column: usize) -> Option<u16>
     }
 }
 
-// Makes rows up to that of the rule, in which nothing is chosen.
+/// Makes rows up to that of the rule, in which nothing is chosen.
 fn add_rows(alloc: Global, rows: &mut Vec<Vec<Option<u16>>>, rule: u16) -> Result<(), NoMemory>
     ensures there { OnOk result (rule < length rows.new.items) }
     ensures unchanged { OnOk result ((n : ℕ) → row_at rows.new.items n ≡ row_at rows.old.items n) }
@@ -63,7 +64,7 @@ fn add_rows(alloc: Global, rows: &mut Vec<Vec<Option<u16>>>, rule: u16) -> Resul
     Ok(())
 }
 
-// Sets the choice in a column, and no other.
+/// Sets the choice in a column, and no other.
 fn set(row: &mut Vec<Option<u16>>, column: usize, number: u16) -> Result<(), NoMemory>
     requires { column ≤ 2 ^ 16 }
     ensures here { OnOk result (cell row.new.items column ≡ Some number) }
@@ -76,7 +77,7 @@ fn set(row: &mut Vec<Option<u16>>, column: usize, number: u16) -> Result<(), NoM
     Ok(())
 }
 
-// Sets the choice wherever the production is chosen.
+/// Sets the choice wherever the production is chosen.
 fn add_choices(
     row: &mut Vec<Option<u16>>,
     production: &Production,
@@ -93,7 +94,7 @@ fn add_choices(
     Ok(())
 }
 
-// Adds what is chosen of a production to the row of its rule.
+/// Adds what is chosen of a production to the row of its rule.
 fn add_production(
     alloc: Global,
     rows: &mut Vec<Vec<Option<u16>>>,
@@ -123,7 +124,7 @@ impl Table {
         Ok(Table { productions, rows })
     }
 
-    // The number of the production that is chosen for the rule.
+    /// The number of the production that is chosen for the rule.
     pub(crate) fn choice(&self, rule: u16, ahead: Option<u16>) -> Option<u16>
         ensures { IsChoice self.now rule ahead result }
     {
@@ -133,7 +134,7 @@ impl Table {
         cell(&self.rows[rule as usize], column_of(ahead))
     }
 
-    // The symbols of the production of this number.
+    /// The symbols of the production of this number.
     pub(crate) fn symbols(&self, number: u16) -> &[Symbol]
         requires { number < length self.now }
         ensures { (x : Entry) → slice_get self.now number ≡ Some x → result.now ≡ x.symbols }

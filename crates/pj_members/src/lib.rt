@@ -1,4 +1,4 @@
-// Members of classes: fields and methods of a name, with those that are inherited.
+//! Members of classes: fields and methods of a name, with those that are inherited.
 #![tactic(auto)]
 
 mod bounds;

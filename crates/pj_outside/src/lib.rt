@@ -1,23 +1,24 @@
 //! The outside of the analyser: traits of what it reads and writes, and objects in memory that meet them.
 #![tactic(auto)]
 
-pub mod class_path;
+mod class_path;
 mod fault_plan;
-pub mod files;
-pub mod keeper;
-pub mod laws;
-pub mod mem_class_path;
-pub mod mem_door;
-pub mod mem_keeper;
-pub mod mem_sink;
-pub mod mem_tree;
-pub mod refused;
-pub mod sink;
-pub mod tree;
+mod files;
+mod keeper;
+mod laws;
+mod mem_class_path;
+mod mem_door;
+mod mem_keeper;
+mod mem_sink;
+mod mem_tree;
+mod refused;
+mod sink;
+mod tree;
 
 pub use class_path::{ClassDoor, ClassPath};
 pub use files::Files;
 pub use keeper::Keeper;
+pub use laws::one_name_is_replaced;
 pub use mem_class_path::{Folders, MemClassPath, Pairs};
 pub use mem_door::MemDoor;
 pub use mem_keeper::MemKeeper;

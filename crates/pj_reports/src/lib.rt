@@ -6,7 +6,7 @@
 
 mod csv_form;
 mod json_form;
-pub mod laws;
+mod laws;
 mod report;
 mod rows;
 mod shown;
@@ -14,6 +14,7 @@ mod text_form;
 
 pub use csv_form::csv_of;
 pub use json_form::json_of;
+pub use laws::{csv_reads_back, text_is_its_lines};
 pub use report::{PathRows, Report};
 pub use rows::{FileError, FileErrors, FileRows, Finding, Findings, Reason};
 pub use text_form::text_of;

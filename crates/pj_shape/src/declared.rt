@@ -16,7 +16,7 @@ use std::collections::BTreeSet;
 /// The names of variables.
 pub type Variables<'s> = BTreeSet<&'s str>;
 
-// Adds the name of a node, if it is one of a variable that is declared.
+/// Adds the name of a node, if it is one of a variable that is declared.
 fn add_variable<'s>(
     names: &mut Variables<'s>,
     text: &'s str,

@@ -18,7 +18,7 @@ pub struct Made {
     pub size: usize,
 }
 
-// Whether the nodes after the first `below` ones, of which the last one comes first, are two or more side by side.
+/// Whether the nodes after the first `below` ones, of which the last one comes first, are two or more side by side.
 fn are_two(nodes: &[Made], below: usize) -> bool
     ensures { (ns : Nodes) (rest : List Made) → reverse nodes.now ≡ flat ns ++ rest → below ≡ length rest → result ≡ is_two ns }
 {

@@ -27,7 +27,7 @@ pub enum Name {
     Class,
 }
 
-// What one more name makes of the names before it.
+/// What one more name makes of the names before it.
 fn one_more(capital: bool, before: Name) -> Name
     ensures { result ≡ name_after capital before }
 {
@@ -38,7 +38,7 @@ fn one_more(capital: bool, before: Name) -> Name
     }
 }
 
-// What a node of the kind is, by what its first child is.
+/// What a node of the kind is, by what its first child is.
 fn name_of(kind: Kind, capital: bool, below: Name) -> Name
     ensures { result ≡ name_by kind capital below }
 {
@@ -51,14 +51,14 @@ fn name_of(kind: Kind, capital: bool, below: Name) -> Name
     }
 }
 
-// Whether a node is the name of a class, by whether a variable has its first name.
+/// Whether a node is the name of a class, by whether a variable has its first name.
 fn is_class(name: Name, declared: bool) -> bool
     ensures { result ≡ (is_class_of name && not declared) }
 {
     name == Name::Class && !declared
 }
 
-// What a node's first child is, by what the node behind it is, and where that begins.
+/// What a node's first child is, by what the node behind it is, and where that begins.
 fn name_below(node: Made, behind: Name, from: u32) -> Name
     ensures { result ≡ (if nat_lt 1 node.size && from == node.from then behind else Other) }
 {
@@ -69,7 +69,7 @@ fn name_below(node: Made, behind: Name, from: u32) -> Name
     }
 }
 
-// What a node is, by what its first child is.
+/// What a node is, by what its first child is.
 fn name_at(text: &str, tokens: &[Span], node: Made, below: Name) -> Name
     requires tokens { AreTokens text.now tokens.now }
     ensures { result ≡ name_by node.kind (is_capital text.now tokens.now (node.to - 1)) below }

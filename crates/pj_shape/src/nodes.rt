@@ -23,7 +23,7 @@ fn set_count(counts: &mut Vec<usize>, at: u32, count: usize)
     counts[at as usize] = count;
 }
 
-// A list of zeros.
+/// A list of zeros.
 fn zeros(alloc: Global, count: usize) -> Result<Vec<usize>, NoMemory>
     ensures { IfOk result (λ zeros. zeros.items ≡ replicate count 0) }
 {

@@ -20,7 +20,7 @@ pub struct Body {
     pub end: u32,
 }
 
-// Whether a segment leads, by whether no node stands before it and whether a segment follows.
+/// Whether a segment leads, by whether no node stands before it and whether a segment follows.
 fn leads_at(text: &str, tokens: &[Span], step: Step, first: bool, follows: bool) -> bool
     requires tokens { AreTokens text.now tokens.now }
     ensures { result ≡ ((is_small text.now tokens.now step.from && step.to == step.from + 1) && (first && follows)) }

@@ -1,15 +1,17 @@
-// Descriptors and signatures of class files, and the types that they spell.
+//! Descriptors and signatures of class files, and the types that they spell.
 #![tactic(auto)]
 
 mod descriptors;
-pub mod laws;
-pub mod names;
+mod laws;
+mod names;
 mod parameters;
 mod read;
 mod scan;
-pub mod signature;
+mod signature;
 mod types;
 
+pub use laws::{readings_are_spelled, spelled_once};
+pub use names::{class_name, is_internal_name, name_of_internal};
 pub use signature::{
     ClassSig, MethodSig, class_signature, descriptor, field_signature, field_signature_in,
     method_descriptor, method_signature, method_signature_in,

@@ -3,7 +3,7 @@ ghost use Rattle.std.specs.Prelude.{List};
 ghost use Rattle.pj_workers.specs.Rules.{AreRulesOf, Rule};
 ghost use Rattle.pj_workers.specs.Laws.{InactiveIsNothing, ListsAreTexts, MarksAreOne, NoTreeIsOneError, OneCold, RuleAscends, RulesAreTexts, SpotsAreNodes};
 
-use pj_findings::laws::nodes_are_the_items;
+use pj_findings::nodes_are_the_items;
 use pj_rule_sets::RuleSet;
 use pj_xparse::one_expression;
 use pj_xtrees::trees_tell_expressions;

@@ -6,7 +6,7 @@
 mod analysis;
 mod fault;
 mod file;
-pub mod laws;
+mod laws;
 mod no_types;
 mod result;
 mod view;
@@ -14,6 +14,11 @@ mod work;
 
 pub use fault::fault_message;
 pub use file::analyse_file;
+pub use laws::{
+    files_without_tree_have_one_error, inactive_rules_mean_nothing,
+    marked_lines_are_those_of_tokens, one_cold_report, rules_are_their_texts, rules_find_nodes,
+    sets_have_rules,
+};
 pub use no_types::NoTypes;
 pub use result::FileResult;
 pub use work::Work;

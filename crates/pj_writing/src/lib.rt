@@ -3,11 +3,12 @@
 //! A report is written whole in memory before anything of it is put.
 #![tactic(auto)]
 
-pub mod laws;
+mod laws;
 mod put;
 mod verdict;
 mod written;
 
+pub use laws::clean_is_empty;
 pub use put::put_report;
 pub use verdict::{Verdict, verdict_of};
 pub use written::{Written, report_text, written_report};

@@ -18,7 +18,7 @@ use std::alloc::Global;
 /// The greatest nesting of a place.
 const GREATEST_NESTING: u32 = 200;
 
-// The numbers of the tokens' terminals.
+/// The numbers of the tokens' terminals.
 fn terminals_of(alloc: Global, tokens: &[Token<'_>]) -> Result<Vec<u16>, NoMemory>
     ensures { IfOk result (λ found. found.items ≡ numbers (map lexed_of tokens.now)) }
 {
@@ -31,7 +31,7 @@ fn terminals_of(alloc: Global, tokens: &[Token<'_>]) -> Result<Vec<u16>, NoMemor
     Ok(found)
 }
 
-// The run of the parser over terminals by their numbers.
+/// The run of the parser over terminals by their numbers.
 fn run_over(alloc: Global, terminals: &[u16]) -> Result<Run, NoMemory>
     requires few { length terminals.now < 2 ^ 32 }
     ensures ends { IfOk result (λ run. ll.IsEnd xpath_grammar terminals.now greatest_nesting run.end) }
@@ -41,7 +41,7 @@ fn run_over(alloc: Global, terminals: &[u16]) -> Result<Run, NoMemory>
     parse(alloc, &table, terminals, GREATEST_NESTING)
 }
 
-// Whether a run ended behind the place.
+/// Whether a run ended behind the place.
 fn is_past(end: End, place: u32) -> bool
     ensures { result ≡ is_past end place }
 {
@@ -51,7 +51,7 @@ fn is_past(end: End, place: u32) -> bool
     }
 }
 
-// The terminals before the place, and then the token as it is before an ordinary name.
+/// The terminals before the place, and then the token as it is before an ordinary name.
 fn with_last(
     alloc: Global,
     terminals: &[u16],
@@ -67,8 +67,8 @@ fn with_last(
     Ok(found)
 }
 
-// Whether the token at the place at which the run over the terminals stopped could stand there, if another token stood
-// behind it.
+/// Whether the token at the place at which the run over the terminals stopped could stand there, if another token stood
+/// behind it.
 fn could_follow(
     alloc: Global,
     terminals: &[u16],

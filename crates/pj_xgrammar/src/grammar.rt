@@ -8,7 +8,7 @@ ghost use Rattle.pj_xgrammar.specs.XPath.{xpath_grammar};
 use crate::table::PIECES;
 use pj_ll::Piece;
 
-// The productions by their numbers, with their select sets.
+/// The productions by their numbers, with their select sets.
 #[tactic(none)]
 pub(crate) fn pieces() -> &'static [Piece]
     ensures table { result.now ≡ PIECES }

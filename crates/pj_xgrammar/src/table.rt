@@ -9,7 +9,7 @@ use pj_ll::Piece;
 use pj_ll::Piece::{AtEnd, Close, LeftOut, On, Production, Rule, Terminal};
 use pj_xtokens::Sign as S;
 
-// The numbers of the terminals.
+/// The numbers of the terminals.
 const LEFT_PARENTHESIS: u16 = SIGNS + S::LeftParenthesis as u16;
 
 const RIGHT_PARENTHESIS: u16 = SIGNS + S::RightParenthesis as u16;
@@ -140,8 +140,8 @@ const SOME: u16 = PHRASES + P::Some as u16;
 
 const TREAT_AS: u16 = PHRASES + P::TreatAs as u16;
 
-// The productions by their numbers, those of each rule together: the rule, the symbols, and behind them the terminals at which
-// the production is chosen, and whether it is chosen at the end.
+/// The productions by their numbers, those of each rule together: the rule, the symbols, and behind them the terminals at which
+/// the production is chosen, and whether it is chosen at the end.
 #[rattlefmt::skip]
 pub(crate) static PIECES: [Piece; 1855] = [
     // Expr

@@ -82,7 +82,7 @@ impl Behind {
         }
     }
 
-    // What a name is for the token before it.
+    /// What a name is for the token before it.
     fn of_name(name: &str) -> Behind
         ensures behind { result ≡ name_behind (chars name.now) }
     {
@@ -93,7 +93,7 @@ impl Behind {
         }
     }
 
-    // What the token is for the one before it.
+    /// What the token is for the one before it.
     fn of(token: &Token<'_>) -> Behind
         ensures behind { result ≡ behind_of (lexed_of token.now) }
     {
@@ -106,8 +106,8 @@ impl Behind {
         }
     }
 
-    // Whether a step can begin so (XPath 2.0, A.1.2): a `[` or a `?` could begin an array or a look-up of XPath 3.1, which
-    // are left out.
+    /// Whether a step can begin so (XPath 2.0, A.1.2): a `[` or a `?` could begin an array or a look-up of XPath 3.1, which
+    /// are left out.
     fn begins_step(self) -> bool
         ensures begins { result ≡ begins_step self }
     {
@@ -129,7 +129,7 @@ impl Behind {
 }
 
 impl Phrase {
-    // Whether the word has its meaning before this.
+    /// Whether the word has its meaning before this.
     fn is_before(self, behind: Behind) -> bool
         ensures is { result ≡ makes_phrase self behind }
     {

@@ -21,7 +21,7 @@ pub struct Begun<'a, 't> {
     pub from: &'a [Token<'t>],
 }
 
-// The tokens and rules of productions that are still to come, which contracts see from the next one on.
+/// The tokens and rules of productions that are still to come, which contracts see from the next one on.
 #[derive(Drop)]
 struct Ahead {
     // the next one stands last
@@ -37,7 +37,7 @@ impl Model for Ahead {
     ghost view = { λ ahead. reverse ahead.slots.items };
 }
 
-// The tokens behind the first one.
+/// The tokens behind the first one.
 fn behind_first<'a, 't>(tokens: &'a [Token<'t>]) -> &'a [Token<'t>]
     ensures { map lexed_of result.now ≡ behind_first (map lexed_of tokens.now) }
 {
@@ -48,7 +48,7 @@ fn behind_first<'a, 't>(tokens: &'a [Token<'t>]) -> &'a [Token<'t>]
 }
 
 impl Ahead {
-    // The start, which is a rule.
+    /// The start, which is a rule.
     fn new(alloc: Global) -> Result<Ahead, NoMemory>
         ensures { IfOk result (λ ahead. ahead ≡ Rule ∷ []) }
     {
@@ -57,14 +57,14 @@ impl Ahead {
         Ok(Ahead { slots })
     }
 
-    // Takes the next one off, if there is one.
+    /// Takes the next one off, if there is one.
     fn pop(&mut self) -> Option<Slot>
         ensures { MatchOption result ((self.old ≡ []) × (self.new ≡ [])) (λ next. self.old ≡ next ∷ self.new) }
     {
         self.slots.pop()
     }
 
-    // Takes all off up to the next rule, with the tokens that they take.
+    /// Takes all off up to the next rule, with the tokens that they take.
     fn to_rule<'a, 't>(&mut self, tokens: &'a [Token<'t>]) -> &'a [Token<'t>]
         ensures slots { self.new ≡ (to_rule self.old (map lexed_of tokens.now)).slots }
         ensures tokens { map lexed_of result.now ≡ (to_rule self.old (map lexed_of tokens.now)).tokens }
@@ -79,7 +79,7 @@ impl Ahead {
         rest
     }
 
-    // Puts one before the others.
+    /// Puts one before the others.
     fn put(&mut self, slot: Slot) -> Result<(), NoMemory>
         ensures { OnOk result (self.new ≡ slot ∷ self.old) }
     {
@@ -87,7 +87,7 @@ impl Ahead {
         Ok(())
     }
 
-    // Puts some before the others.
+    /// Puts some before the others.
     fn put_all(&mut self, slots: &[Slot]) -> Result<(), NoMemory>
         ensures { OnOk result (self.new ≡ slots.now ++ self.old) }
     {

@@ -24,7 +24,7 @@ use pj_xtokens::Token;
 use pj_xvalue::Expr;
 use std::alloc::Global;
 
-// What the action makes of the first values and the token with these characters.
+/// What the action makes of the first values and the token with these characters.
 fn made(alloc: Global, action: Action, text: &str, parts: &mut Vec<Part>) -> Result<Part, NoMemory>
     ensures value { IfOk result (λ part. value_of part ≡ made action text.now (values_of parts.old.items)) }
     ensures others { values_of parts.new.items ≡ left action (values_of parts.old.items) }
@@ -57,7 +57,7 @@ fn made(alloc: Global, action: Action, text: &str, parts: &mut Vec<Part>) -> Res
     }
 }
 
-// Puts what the action makes of the first values in their place.
+/// Puts what the action makes of the first values in their place.
 fn act(alloc: Global, action: Action, text: &str, parts: &mut Vec<Part>) -> Result<(), NoMemory>
     ensures { OnOk result (values_of parts.new.items ≡ acted action text.now (values_of parts.old.items)) }
 {
@@ -65,14 +65,14 @@ fn act(alloc: Global, action: Action, text: &str, parts: &mut Vec<Part>) -> Resu
     put(parts, part)
 }
 
-// The text, whose bytes are those of its characters.
+/// The text, whose bytes are those of its characters.
 fn as_written(text: &str) -> &str
     ensures { result.now ≡ encode_utf8_all (chars text.now) }
 {
     text
 }
 
-// The characters of the first token; where there is none, no characters.
+/// The characters of the first token; where there is none, no characters.
 fn first_text<'t>(tokens: &[Token<'t>]) -> &'t str
     ensures { result.now ≡ first_text (map lexed_of tokens.now) }
 {

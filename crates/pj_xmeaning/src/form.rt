@@ -42,7 +42,7 @@ pub enum Form {
 }
 
 impl Form {
-    // The tokens and rules in their order.
+    /// The tokens and rules in their order.
     fn slots(self) -> &'static [Slot]
         ensures { result.now ≡ form_slots self }
     {
@@ -61,7 +61,7 @@ impl Form {
     }
 }
 
-// The forms of the productions by their numbers.
+/// The forms of the productions by their numbers.
 #[tactic(none)]
 fn forms() -> &'static [Form]
     ensures { map form_slots result.now ≡ map (λ line. slots line.symbols) xpath_grammar }
@@ -69,7 +69,7 @@ fn forms() -> &'static [Form]
     &FORMS
 }
 
-// The tokens and rules of a production in their order; of none, where there is no production with the number.
+/// The tokens and rules of a production in their order; of none, where there is no production with the number.
 pub fn slots_of(production: u16) -> &'static [Slot]
     ensures { result.now ≡ production_slots production }
 {

@@ -7,7 +7,7 @@ ghost use Rattle.pj_xmeaning.specs.Literals.{number_from, if_it_fits, integer_of
 use pj_base::{NoMemory, Text};
 use std::alloc::Global;
 
-// The number of the digits, where it is an integer of 64 bits.
+/// The number of the digits, where it is an integer of 64 bits.
 fn number(digits: &[u8]) -> Option<i64>
     ensures { result ≡ if_it_fits (number_from 0 digits.now) }
 {
@@ -31,21 +31,21 @@ pub fn integer_value(digits: &str) -> Option<i64>
     number(digits.as_bytes())
 }
 
-// Whether the character is a mark that is left out.
+/// Whether the character is a mark that is left out.
 fn is_left_out(mark: char, half: bool, c: char) -> bool
     ensures { result ≡ is_left_out mark half c }
 {
     c == mark && !half
 }
 
-// The character, if it is not left out.
+/// The character, if it is not left out.
 fn kept(left_out: bool, c: char) -> Option<char>
     ensures { option_to_list result ≡ kept left_out c }
 {
     if left_out { None } else { Some(c) }
 }
 
-// Puts the character at the end, if there is one.
+/// Puts the character at the end, if there is one.
 fn append(made: &mut String, value: Option<char>) -> Result<(), NoMemory>
     ensures { OnOk result (string_bytes made.new ≡ string_bytes made.old ++ encode_utf8_all (option_to_list value)) }
 {
@@ -55,7 +55,7 @@ fn append(made: &mut String, value: Option<char>) -> Result<(), NoMemory>
     Ok(())
 }
 
-// The characters without the marks that are left out.
+/// The characters without the marks that are left out.
 fn unquoted(alloc: Global, mark: char, content: &[char]) -> Result<Text, NoMemory>
     ensures { IfOk result (λ made. made ≡ encode_utf8_all (unquoted mark false content.now)) }
 {
@@ -71,7 +71,7 @@ fn unquoted(alloc: Global, mark: char, content: &[char]) -> Result<Text, NoMemor
     Ok(Text::from_string(made))
 }
 
-// The characters that a literal stands for.
+/// The characters that a literal stands for.
 fn characters_of(alloc: Global, literal: &[char]) -> Result<Text, NoMemory>
     ensures { IfOk result (λ made. made ≡ encode_utf8_all (characters_of literal.now)) }
 {

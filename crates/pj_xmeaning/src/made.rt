@@ -7,7 +7,7 @@ ghost use Rattle.pj_xmeaning.specs.Meaning.{action_of};
 use crate::action::{Action, Leaf};
 use crate::table::ACTIONS;
 
-// The actions of the productions by their numbers.
+/// The actions of the productions by their numbers.
 #[tactic(none)]
 fn actions() -> &'static [Action]
     ensures { result.now ≡ actions }

@@ -103,7 +103,7 @@ pub fn axis_named(name: &str) -> Option<Axis>
     }
 }
 
-// The name without the prefix `fn:`.
+/// The name without the prefix `fn:`.
 fn unprefixed(name: &str) -> &str
     ensures { result.now ≡ unprefixed name.now }
 {
@@ -113,7 +113,7 @@ fn unprefixed(name: &str) -> &str
     }
 }
 
-// The function of XPath, else that of PMD.
+/// The function of XPath, else that of PMD.
 fn either(function: Option<Function>, other: Option<PmdFunction>) -> Option<Callee>
     ensures { result ≡ xpath_or_pmd function other }
 {

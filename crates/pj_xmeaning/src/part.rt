@@ -41,10 +41,10 @@ pub enum Part {
 }
 
 impl Part {
-    // Frees what it holds.
+    /// Frees what it holds.
     pub fn let_go(self) {}
 
-    // The expression; where it is none, the empty sequence.
+    /// The expression; where it is none, the empty sequence.
     pub fn into_expr(self, alloc: Global) -> Expr
         ensures { tree_of result ≡ expression (value_of self) }
     {
@@ -57,7 +57,7 @@ impl Part {
         }
     }
 
-    // The expressions; where it has none, no expressions.
+    /// The expressions; where it has none, no expressions.
     pub fn into_exprs(self, alloc: Global) -> Front<Expr>
         ensures { map tree_of result ≡ expressions (value_of self) }
     {
@@ -70,7 +70,7 @@ impl Part {
         }
     }
 
-    // The operands of a sum; where it has none, no operands.
+    /// The operands of a sum; where it has none, no operands.
     pub fn into_sums(self, alloc: Global) -> Front<(Additive, Expr)>
         ensures { map operand_of result ≡ sums (value_of self) }
     {
@@ -83,7 +83,7 @@ impl Part {
         }
     }
 
-    // The operands of a product; where it has none, no operands.
+    /// The operands of a product; where it has none, no operands.
     pub fn into_products(self, alloc: Global) -> Front<(Multiplicative, Expr)>
         ensures { map operand_of result ≡ products (value_of self) }
     {
@@ -96,7 +96,7 @@ impl Part {
         }
     }
 
-    // The operands of `intersect` and `except`; where it has none, no operands.
+    /// The operands of `intersect` and `except`; where it has none, no operands.
     pub fn into_sets(self, alloc: Global) -> Front<(SetOperator, Expr)>
         ensures { map operand_of result ≡ sets (value_of self) }
     {
@@ -109,7 +109,7 @@ impl Part {
         }
     }
 
-    // The variables with their expressions; where it has none, no variables.
+    /// The variables with their expressions; where it has none, no variables.
     pub fn into_bound(self, alloc: Global) -> Front<(Text, Expr)>
         ensures { map operand_of result ≡ bindings (value_of self) }
     {
@@ -122,7 +122,7 @@ impl Part {
         }
     }
 
-    // The name; where it is none, the empty one.
+    /// The name; where it is none, the empty one.
     pub fn into_word(self, alloc: Global) -> Text
         ensures { result ≡ word (value_of self) }
     {
@@ -135,7 +135,7 @@ impl Part {
         }
     }
 
-    // The node test; where it is none, `*`.
+    /// The node test; where it is none, `*`.
     pub fn into_test(self) -> NodeTest
         ensures { result ≡ test (value_of self) }
     {

@@ -31,7 +31,7 @@ pub fn kind_test(alloc: Global, kind: Kind, name: &str, behind: Part) -> Result<
     }
 }
 
-// The call of the function.
+/// The call of the function.
 #[tactic(auto, using(crate::proofs::TreeForms::tree_of_call, crate::proofs::TreeForms::tree_of_pmd_call))]
 fn call_of(callee: Callee, arguments: Front<Expr>) -> Expr
     ensures { tree_of result ≡ called (Some callee) (map tree_of arguments) }

@@ -16,7 +16,7 @@ const SAME: Action = Action::Change(Change::Same);
 
 const FURTHER: Action = Action::Rest(Rest::Further);
 
-// The actions of the productions by their numbers.
+/// The actions of the productions by their numbers.
 #[rattlefmt::skip]
 pub(crate) static ACTIONS: [Action; 159] = [
     // Expr
@@ -139,7 +139,7 @@ pub(crate) static ACTIONS: [Action; 159] = [
     WORD, WORD, WORD,
 ];
 
-// The forms of the productions by their numbers.
+/// The forms of the productions by their numbers.
 #[rattlefmt::skip]
 pub(crate) static FORMS: [Form; 159] = [
     // Expr

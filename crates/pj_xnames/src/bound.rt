@@ -29,7 +29,7 @@ impl<'t> BoundNames<'t> {
         }
     }
 
-    // How often the name is bound.
+    /// How often the name is bound.
     fn count(&self, name: &'t str) -> usize
         ensures { result ≡ count_in self.now.counts name.now }
     {
@@ -59,7 +59,7 @@ impl<'t> BoundNames<'t> {
         Ok(())
     }
 
-    // Takes off the one that was bound last, if there is one.
+    /// Takes off the one that was bound last, if there is one.
     fn end_last(&mut self) -> Result<(), NoMemory>
         requires { IsCounted self.old }
         ensures names { OnOk result (names_of self.new ≡ drop 1 (names_of self.old)) }

@@ -16,7 +16,7 @@ use pj_xmeaning::function_named;
 use pj_xtokens::Token;
 use std::alloc::Global;
 
-// A mention before others.
+/// A mention before others.
 fn put<'t>(mention: Named<'t>, mut behind: Vec<Named<'t>>) -> Result<Vec<Named<'t>>, NoMemory>
     ensures { IfOk result (λ all. seen_mentions all.items ≡ seen_mention mention.entry ∷ seen_mentions behind.entry.items) }
 {
@@ -24,14 +24,14 @@ fn put<'t>(mention: Named<'t>, mut behind: Vec<Named<'t>>) -> Result<Vec<Named<'
     Ok(behind)
 }
 
-// The roles from a place on, counted from 0; past the end there are none.
+/// The roles from a place on, counted from 0; past the end there are none.
 fn roles_from(roles: &[Role], at: usize) -> &[Role]
     ensures { result.now ≡ drop at roles.now }
 {
     if at < roles.len() { &roles[at..] } else { &[] }
 }
 
-// What an argument names, behind what the first of the roles wants of it, and before other mentions.
+/// What an argument names, behind what the first of the roles wants of it, and before other mentions.
 fn argument<'t>(
     roles: &[Role],
     piece: Piece<'t>,
@@ -51,7 +51,7 @@ fn argument<'t>(
     }
 }
 
-// The arguments of a call before other mentions, each behind what its role wants.
+/// The arguments of a call before other mentions, each behind what its role wants.
 fn in_roles<'t>(
     roles: &[Role],
     arguments: Vec<Piece<'t>>,
@@ -68,7 +68,7 @@ fn in_roles<'t>(
     Ok(all)
 }
 
-// What a call names of which the `)` is not there.
+/// What a call names of which the `)` is not there.
 fn open_call<'t>(
     alloc: Global,
     name: &'t str,
@@ -85,7 +85,7 @@ fn open_call<'t>(
     }
 }
 
-// What a call names that begins at this offset, and what the predicates behind it name.
+/// What a call names that begins at this offset, and what the predicates behind it name.
 fn call<'t>(
     alloc: Global,
     name: &'t str,

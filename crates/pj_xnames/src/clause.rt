@@ -13,7 +13,7 @@ use pj_base::NoMemory;
 use pj_xtokens::Token;
 use std::alloc::Global;
 
-// The variable of this name, whose `$` is the first token.
+/// The variable of this name, whose `$` is the first token.
 fn variable_named<'t>(
     alloc: Global,
     tokens: &[Token<'t>],
@@ -26,7 +26,7 @@ fn variable_named<'t>(
     Ok(one(tokens, Spelling::Name(name), mentions))
 }
 
-// The variable of the name that stands first behind the `$`, though no derivation goes on there, if a name does.
+/// The variable of the name that stands first behind the `$`, though no derivation goes on there, if a name does.
 fn underived_variable<'t>(
     alloc: Global,
     tokens: &[Token<'t>],
@@ -73,7 +73,7 @@ pub fn binding<'t>(
     Ok(Part::Bound(all))
 }
 
-// Each variable is seen by the expressions behind its own, and by the body.
+/// Each variable is seen by the expressions behind its own, and by the body.
 fn scoped<'t>(
     alloc: Global,
     variables: Vec<(&'t str, Vec<Named<'t>>)>,

@@ -39,14 +39,14 @@ fn takes(callee: Option<Callee>, count: usize) -> bool
     }
 }
 
-// Whether there is a function of the name that takes so many arguments.
+/// Whether there is a function of the name that takes so many arguments.
 fn is_function(name: &str, count: usize) -> bool
     ensures { result ≡ is_function name.now count }
 {
     takes(function_named(name), count)
 }
 
-// Whether the variable is bound around the place, or the rule set gives it.
+/// Whether the variable is bound around the place, or the rule set gives it.
 fn is_bound<'t>(name: &'t str, variables: &Names, bound: &BoundNames<'t>) -> bool
     requires { IsCounted bound.now }
     ensures { result ≡ is_bound name.now (record { given = variables.now; bound = names_of bound.now }) }
@@ -54,7 +54,7 @@ fn is_bound<'t>(name: &'t str, variables: &Names, bound: &BoundNames<'t>) -> boo
     bound.contains(name) || is_given(name, variables)
 }
 
-// The fault of one mention, where these variables are there.
+/// The fault of one mention, where these variables are there.
 fn fault_in<'t>(
     alloc: Global,
     mention: Named<'t>,
@@ -81,7 +81,7 @@ fn fault_in<'t>(
     Ok(if good { None } else { Some(fault) })
 }
 
-// Goes on to behind a mention.
+/// Goes on to behind a mention.
 fn pass<'t>(bound: &mut BoundNames<'t>, mention: Named<'t>) -> Result<(), NoMemory>
     requires { IsCounted bound.old }
     ensures names { OnOk result ((given : List (List ℕ)) → record { given = given; bound = names_of bound.new } ≡ scope_behind (record { given = given; bound = names_of bound.old }) (seen_mention mention.entry)) }
@@ -94,7 +94,7 @@ fn pass<'t>(bound: &mut BoundNames<'t>, mention: Named<'t>) -> Result<(), NoMemo
     }
 }
 
-// The first fault of a whole text, where the rule set gives these variables.
+/// The first fault of a whole text, where the rule set gives these variables.
 fn first_of<'t>(
     alloc: Global,
     mentions: Vec<Named<'t>>,

@@ -19,7 +19,7 @@ use pj_xmeaning::{Action, Change, Leaf, Rest, Single, Step};
 use pj_xtokens::Token;
 use std::alloc::Global;
 
-// What a production without rules makes.
+/// What a production without rules makes.
 fn leaf<'t>(alloc: Global, leaf: Leaf, tokens: &[Token<'t>]) -> Part<'t>
     ensures { seen_naming result ≡ leaf_naming leaf (map lexed_of tokens.now) }
 {
@@ -36,14 +36,14 @@ fn leaf<'t>(alloc: Global, leaf: Leaf, tokens: &[Token<'t>]) -> Part<'t>
     }
 }
 
-// What begins at the first token, is no literal and no variable, and names what the part does.
+/// What begins at the first token, is no literal and no variable, and names what the part does.
 fn other<'t>(alloc: Global, tokens: &[Token<'t>], part: Part<'t>) -> Result<Part<'t>, NoMemory>
     ensures { IfOk result (λ made. seen_naming made ≡ one (map lexed_of tokens.now) Other (mentions_of (seen_naming part.entry))) }
 {
     Ok(one(tokens, Spelling::Other, part.into_mentions(alloc)?))
 }
 
-// What a production makes of one value that is no expression yet.
+/// What a production makes of one value that is no expression yet.
 fn change<'t>(
     alloc: Global,
     change: Change,
@@ -58,7 +58,7 @@ fn change<'t>(
     }
 }
 
-// The expression that a production makes of one value.
+/// The expression that a production makes of one value.
 fn single<'t>(
     alloc: Global,
     single: Single,
@@ -78,7 +78,7 @@ fn single<'t>(
     }
 }
 
-// An expression before others.
+/// An expression before others.
 fn further<'t>(alloc: Global, first: Part<'t>, others: Part<'t>) -> Result<Part<'t>, NoMemory>
     ensures { IfOk result (λ made. seen_naming made ≡ Many (operand_of (seen_naming first.entry) ++ operands_of (seen_naming others.entry)) (is_whole (seen_naming others.entry))) }
 {
@@ -90,7 +90,7 @@ fn further<'t>(alloc: Global, first: Part<'t>, others: Part<'t>) -> Result<Part<
     Ok(Part::Many(all, whole))
 }
 
-// What a production makes of two values that are no expression together.
+/// What a production makes of two values that are no expression together.
 fn rest<'t>(
     alloc: Global,
     rest: Rest,
@@ -111,7 +111,7 @@ fn rest<'t>(
     }
 }
 
-// What a step or a primary expression makes with what stands behind it.
+/// What a step or a primary expression makes with what stands behind it.
 fn step<'t>(
     alloc: Global,
     step: Step,
@@ -128,7 +128,7 @@ fn step<'t>(
     }
 }
 
-// What the test, the chosen and the other expression of an `if` name.
+/// What the test, the chosen and the other expression of an `if` name.
 fn choice<'t>(
     alloc: Global,
     tokens: &[Token<'t>],
@@ -143,7 +143,7 @@ fn choice<'t>(
     Ok(one(tokens, Spelling::Other, all))
 }
 
-// What the action makes of the first values, where the production begins with the first of the tokens.
+/// What the action makes of the first values, where the production begins with the first of the tokens.
 #[tactic(auto, using(crate::proofs::Values::one_taken, crate::proofs::Values::two_taken, crate::proofs::Values::three_taken))]
 fn made<'t>(
     alloc: Global,

@@ -40,7 +40,7 @@ pub fn with_rest<'t>(
     joined(alloc, tokens, first, behind)
 }
 
-// What both name, from the first token on.
+/// What both name, from the first token on.
 fn joined<'t>(
     alloc: Global,
     tokens: &[Token<'t>],

@@ -76,7 +76,7 @@ fn written_in<'t>(pieces: &[Piece<'t>]) -> Spelling<'t>
 }
 
 impl<'t> Part<'t> {
-    // Frees what it holds.
+    /// Frees what it holds.
     pub fn let_go(self) {}
 
     /// Whether its text is empty, or the tokens end before it.

@@ -19,7 +19,7 @@ pub enum Role {
     Flags,
 }
 
-// The roles of the function's arguments, as far as they are not any expression.
+/// The roles of the function's arguments, as far as they are not any expression.
 fn roles_of(function: Function) -> &'static [Role]
     ensures { result.now ≡ roles_of function }
 {

@@ -8,7 +8,7 @@ ghost use Rattle.pj_xnames.specs.Namings.{first_from, is_name, is_parenthesis, b
 
 use pj_xtokens::{Sign, Token, TokenKind};
 
-// The text, whose bytes are those of its characters.
+/// The text, whose bytes are those of its characters.
 fn as_written(text: &str) -> &str
     ensures { result.now ≡ encode_utf8_all (chars text.now) }
 {

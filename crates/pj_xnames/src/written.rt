@@ -25,7 +25,7 @@ pub fn is_given(name: &str, variables: &Names) -> bool
         .any(|other| other.as_str() == name)
 }
 
-// A pattern is a literal or a variable of the rule set.
+/// A pattern is a literal or a variable of the rule set.
 fn is_pattern<'t>(written: Spelling<'t>, variables: &Names, bound: &BoundNames<'t>) -> bool
     requires { IsCounted bound.now }
     ensures { result ≡ is_pattern (record { given = variables.now; bound = names_of bound.now }) (seen_written written.entry) }
@@ -49,7 +49,7 @@ fn all_flags(bytes: &[u8]) -> bool
     bytes.iter().all(|byte| is_flag(*byte))
 }
 
-// Flags are a string literal of the letters i, m and s.
+/// Flags are a string literal of the letters i, m and s.
 fn are_flags(alloc: Global, written: Spelling<'_>) -> Result<bool, NoMemory>
     ensures { IfOk result (λ are. are ≡ are_flags (seen_written written.entry)) }
 {
@@ -74,7 +74,7 @@ fn all_plain(bytes: &[u8]) -> bool
     bytes.iter().all(|byte| is_plain(*byte))
 }
 
-// A replacement is a string literal without `$` and `\`.
+/// A replacement is a string literal without `$` and `\`.
 fn is_replacement(alloc: Global, written: Spelling<'_>) -> Result<bool, NoMemory>
     ensures { IfOk result (λ is. is ≡ is_replacement (seen_written written.entry)) }
 {

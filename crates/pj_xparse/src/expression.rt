@@ -19,7 +19,7 @@ use pj_xtokens::tokens;
 use pj_xvalue::Expr;
 use std::alloc::Global;
 
-// The fault of what is named, with a copy of the name.
+/// The fault of what is named, with a copy of the name.
 fn named_fault(alloc: Global, fault: NameFault<'_>) -> Result<XSyntax, NoMemory>
     ensures { IfOk result (λ named. named ≡ named_fault (fault_of fault.entry)) }
 {

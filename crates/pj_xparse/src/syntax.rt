@@ -13,7 +13,7 @@ use pj_xtokens::{End, Token};
 /// One more than the greatest nesting of a place.
 const TOO_DEEP: u32 = 201;
 
-// The fault behind the last token, where something would have to stand there.
+/// The fault behind the last token, where something would have to stand there.
 fn fault_of_end(end: End) -> XSyntax
     ensures { result ≡ fault_of_end end }
 {
@@ -23,7 +23,7 @@ fn fault_of_end(end: End) -> XSyntax
     }
 }
 
-// The fault behind the last token of an expression.
+/// The fault behind the last token of an expression.
 fn fault_behind(end: End) -> Option<XSyntax>
     ensures { result ≡ fault_behind end }
 {
@@ -33,7 +33,7 @@ fn fault_behind(end: End) -> Option<XSyntax>
     }
 }
 
-// The fault of the token at a place that cannot follow, or of the end.
+/// The fault of the token at a place that cannot follow, or of the end.
 fn stopped_at(tokens: &[Token<'_>], end: End, place: u32) -> XSyntax
     ensures { result ≡ fault_at Expected (slice_get (map lexed_of tokens.now) place) end }
 {
@@ -43,7 +43,7 @@ fn stopped_at(tokens: &[Token<'_>], end: End, place: u32) -> XSyntax
     }
 }
 
-// The fault of the token at a place with which something begins that is left out.
+/// The fault of the token at a place with which something begins that is left out.
 fn left_out_at(tokens: &[Token<'_>], end: End, place: u32) -> XSyntax
     ensures { result ≡ fault_at Outside (slice_get (map lexed_of tokens.now) place) end }
 {

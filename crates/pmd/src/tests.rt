@@ -17,7 +17,7 @@ use std::os::unix;
 use std::test::Fail;
 use std::{fs, process};
 
-// What a reading is, in a word.
+/// What a reading is, in a word.
 fn word(reading: Result<Reading, Refused>) -> &'static str {
     match reading {
         Ok(Reading::Absent) => "absent",

@@ -4,7 +4,7 @@ use pj_grammar::{ContextualWord, Terminal, java_17, shapes};
 use pj_lex::TokenKind;
 use std::test::Fail;
 
-// The grammar is made, with 179 rules and a shape for each.
+/// The grammar is made, with 179 rules and a shape for each.
 #[test]
 fn is_made(rt: HostRuntime) -> Result<(), Fail> {
     let grammar = java_17(rt.alloc())?;
@@ -13,7 +13,7 @@ fn is_made(rt: HostRuntime) -> Result<(), Fail> {
     Ok(())
 }
 
-// The terminals of tokens: the contextual words, names that are none of them, and tokens that are no names.
+/// The terminals of tokens: the contextual words, names that are none of them, and tokens that are no names.
 #[test]
 fn terminals(rt: HostRuntime) {
     let name = Terminal::Token(TokenKind::Identifier);

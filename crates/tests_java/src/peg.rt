@@ -4,7 +4,7 @@ use pj_peg::{Derivation, Grammar, GrammarFault, Item, Items, Step, WellFormed, r
 use std::alloc::Global;
 use std::test::Fail;
 
-// The rules of a grammar, each written with its parts behind it.
+/// The rules of a grammar, each written with its parts behind it.
 #[derive(Clone, Copy)]
 enum Piece {
     Token(u16),
@@ -20,7 +20,7 @@ enum Piece {
     Not,
 }
 
-// Takes as many items off the stack, the top one first.
+/// Takes as many items off the stack, the top one first.
 fn parts(alloc: Global, stack: &mut Vec<Item>, count: u8) -> Result<Items, Fail> {
     let mut parts = Vec::new(alloc);
     for _ in 0..count {
@@ -73,7 +73,7 @@ fn fault(alloc: Global, pieces: &[Piece]) -> Result<Option<GrammarFault>, Fail> 
     }
 }
 
-// The derivation of the first rule, if there is one; a fault of the grammar is a failure of the test.
+/// The derivation of the first rule, if there is one; a fault of the grammar is a failure of the test.
 fn derived(alloc: Global, pieces: &[Piece], kinds: &[u16]) -> Result<Option<Derivation>, Fail> {
     if kinds.len() > 200_000 {
         return Err("too long".into());
@@ -87,7 +87,7 @@ fn derived(alloc: Global, pieces: &[Piece], kinds: &[u16]) -> Result<Option<Deri
     }
 }
 
-// Where the first rule ends, and the number of steps.
+/// Where the first rule ends, and the number of steps.
 fn summary(alloc: Global, pieces: &[Piece], kinds: &[u16]) -> Result<Option<(u32, u32)>, Fail> {
     match derived(alloc, pieces, kinds)? {
         None => Ok(None),
@@ -102,7 +102,7 @@ fn summary(alloc: Global, pieces: &[Piece], kinds: &[u16]) -> Result<Option<(u32
     }
 }
 
-// Whether the derivation has these steps.
+/// Whether the derivation has these steps.
 fn has_steps(derivation: &Derivation, wanted: &[Step]) -> bool {
     let count = derivation.len();
     let mut same = count as usize == wanted.len();
@@ -189,7 +189,7 @@ fn outcomes(rt: HostRuntime) -> Result<(), Fail> {
     Ok(())
 }
 
-// Brackets: S = '(' S ')' S / nothing.
+/// Brackets: S = '(' S ')' S / nothing.
 const BRACKETS: [Piece; 7] = [
     Piece::Choice(2),
     Piece::Seq(4),
@@ -253,7 +253,7 @@ fn nested(rt: HostRuntime) -> Result<(), Fail> {
     Ok(())
 }
 
-// The steps of what failed, and of what was only looked at, are no steps of the derivation.
+/// The steps of what failed, and of what was only looked at, are no steps of the derivation.
 #[test]
 fn dropped_steps(rt: HostRuntime) -> Result<(), Fail> {
     use Piece::{And, Any, Choice, Rule, Seq, Token};
@@ -290,7 +290,7 @@ fn dropped_steps(rt: HostRuntime) -> Result<(), Fail> {
     Ok(())
 }
 
-// A hundred thousand brackets in one another: nesting costs no stack, and the time is in proportion to the text.
+/// A hundred thousand brackets in one another: nesting costs no stack, and the time is in proportion to the text.
 #[test]
 fn deep(rt: HostRuntime) -> Result<(), Fail> {
     let mut kinds = Vec::new(rt.alloc());
@@ -303,7 +303,7 @@ fn deep(rt: HostRuntime) -> Result<(), Fail> {
     Ok(())
 }
 
-// A repetition is tried at each place, and does not start over there.
+/// A repetition is tried at each place, and does not start over there.
 #[test]
 fn long_repetition(rt: HostRuntime) -> Result<(), Fail> {
     let mut kinds = Vec::new(rt.alloc());
@@ -313,8 +313,8 @@ fn long_repetition(rt: HostRuntime) -> Result<(), Fail> {
     Ok(())
 }
 
-// Sums of products of numbers and sums in brackets. Each alternative begins with the same rule, so that a parser without a
-// table takes time that grows ninefold with each bracket.
+/// Sums of products of numbers and sums in brackets. Each alternative begins with the same rule, so that a parser without a
+/// table takes time that grows ninefold with each bracket.
 #[test]
 fn sixty_brackets(rt: HostRuntime) -> Result<(), Fail> {
     use Piece::{Choice, Rule, Seq, Token};
@@ -354,7 +354,7 @@ fn sixty_brackets(rt: HostRuntime) -> Result<(), Fail> {
     Ok(())
 }
 
-// Rules that are known to be well-formed without a look at them.
+/// Rules that are known to be well-formed without a look at them.
 #[test]
 fn known_rules(rt: HostRuntime) -> Result<(), Fail> {
     let rules = vec![in rt.alloc(); Item::Rule(1), Item::Token(1)]?;

@@ -5,7 +5,7 @@ use pj_peg::{Derivation, Grammar, run};
 use std::alloc::Global;
 use std::test::Fail;
 
-// How many steps the derivation of the first rule has, over tokens of these kinds.
+/// How many steps the derivation of the first rule has, over tokens of these kinds.
 fn steps(alloc: Global, pieces: &[Piece], kinds: &[u16]) -> Result<Option<u32>, Fail> {
     let rules = items_of(alloc, pieces)?;
     if rules.len() == 0 || rules.len() > 65536 || kinds.len() > 200_000 {
@@ -19,7 +19,7 @@ fn steps(alloc: Global, pieces: &[Piece], kinds: &[u16]) -> Result<Option<u32>, 
     }
 }
 
-// Rule 0 is a list of rules 1 with 7 between, and nothing behind; rule 1 is a 3 or a 4 and maybe a 5, and no 9 follows.
+/// Rule 0 is a list of rules 1 with 7 between, and nothing behind; rule 1 is a 3 or a 4 and maybe a 5, and no 9 follows.
 #[test]
 fn a_list(rt: HostRuntime) -> Result<(), Fail> {
     let pieces = [

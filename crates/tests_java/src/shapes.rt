@@ -44,7 +44,7 @@ fn kinds(alloc: Global, text: &str) -> Result<Vec<u16>, Fail> {
     Ok(kinds)
 }
 
-// The rules of the grammar, each written with its parts behind it.
+/// The rules of the grammar, each written with its parts behind it.
 #[derive(Clone, Copy)]
 enum Piece {
     Name,
@@ -57,7 +57,7 @@ enum Piece {
     Star,
 }
 
-// Takes as many items off the stack, the top one first.
+/// Takes as many items off the stack, the top one first.
 fn parts(alloc: Global, stack: &mut Items, count: u8) -> Result<Items, Fail> {
     let mut parts = Vec::new(alloc);
     for _ in 0..count {
@@ -87,7 +87,7 @@ fn item(alloc: Global, stack: &mut Items, piece: Piece) -> Result<Item, Fail> {
     }
 }
 
-// Files of declarations `$ a;`, types `: a.B & C;` and sums `(a).b() + c;`.
+/// Files of declarations `$ a;`, types `: a.B & C;` and sums `(a).b() + c;`.
 const PIECES: [Piece; 60] = [
     // 0 a file
     Piece::Star,

@@ -8,7 +8,7 @@ use pj_ll::{End, Piece, Table, parse};
 use std::alloc::Global;
 use std::test::Fail;
 
-// n
+/// n
 const N: u16 = 0;
 
 const PLUS: u16 = 1;
@@ -16,12 +16,12 @@ const PLUS: u16 = 1;
 const OPENS: u16 = 2;
 
 const SHUTS: u16 = 3;
-// an operator that is left out
+/// an operator that is left out
 const IS: u16 = 4;
-// an operand that is left out
+/// an operand that is left out
 const BRACKET: u16 = 5;
 
-// Sums of n and of sums in parentheses. Rule 0 is a sum, rule 1 what follows its first operand, rule 2 an operand.
+/// Sums of n and of sums in parentheses. Rule 0 is a sum, rule 1 what follows its first operand, rule 2 an operand.
 #[rattlefmt::skip]
 static SUMS: [Piece; 29] = [
     Production(0), Rule(2), Rule(1), On(N), On(OPENS), On(BRACKET),
@@ -33,7 +33,7 @@ static SUMS: [Piece; 29] = [
     Production(2), LeftOut(BRACKET), On(BRACKET),
 ];
 
-// Whether the run ends so, with these productions.
+/// Whether the run ends so, with these productions.
 fn gives(
     alloc: Global,
     terminals: &[u16],
