@@ -1,8 +1,0 @@
-use Rattle.pj_classfile.proofs.CharLaws.{found, only}
-use Rattle.pj_classfile.proofs.laws.modified_utf8.Goals as goal
-
-pub returns-clause-found : goal.returns-clause-found
-returns-clause-found c = found
-
-pub returns-clause-only : goal.returns-clause-only
-returns-clause-only c = only
