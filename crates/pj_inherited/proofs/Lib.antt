@@ -1,0 +1,3 @@
+pub mod Enclosing
+pub mod Listed
+pub mod Taken
