@@ -1,0 +1,8 @@
+-- patterns and their words
+pub mod Pattern
+-- rules: what a word is
+pub mod Rules
+-- what is left of them behind a character
+pub mod Derivatives
+-- scanners by states
+pub mod Scanners

@@ -1,0 +1,2 @@
+-- derivations as trees, with what the rules make
+pub mod Derived

@@ -1,0 +1,13 @@
+pub mod Ordered
+pub mod Placed
+pub mod Calling
+pub mod Fitting
+pub mod Making
+pub mod Filling
+pub mod Grades
+pub mod Running
+pub mod Offsets
+pub mod Outcomes
+pub mod Reaching
+pub mod Firsts
+pub mod NamedFirst

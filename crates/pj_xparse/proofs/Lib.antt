@@ -1,0 +1,6 @@
+pub mod OneAnswer
+pub mod Parsed
+pub mod SomeAnswer
+pub mod SomeRun
+pub mod SomeTokens
+pub mod TokenFacts

@@ -1,0 +1,2 @@
+-- the printed form
+pub mod Printed

@@ -1,0 +1,2 @@
+-- texts of words with a space behind each
+pub mod Spaced
