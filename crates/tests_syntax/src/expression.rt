@@ -1,0 +1,272 @@
+//! Refused texts with their first fault, and texts that are taken with their expression, by hand. The variable `p` is given.
+
+use crate::fault_rows::{
+    ENDS, LEFT_OUT_OPERATORS, LEFT_OUT_STEPS, OFFSETS_ARE_BYTES, PLACES_1, PLACES_2, TOKENS,
+};
+use crate::fixtures::{Table, expect};
+use crate::name_fault_rows::{ARGUMENTS, FUNCTIONS_1, FUNCTIONS_2, VARIABLES_1, VARIABLES_2};
+use pj_base::{Names, NoMemory, Text};
+use pj_xparse::{XSyntax, parse};
+use std::alloc::{AllocError, Global};
+use std::fmt::Write;
+use std::test::Fail;
+
+/// The variables that are given.
+pub fn variables(alloc: Global) -> Result<Names, NoMemory> {
+    let mut variables = Names::new(alloc);
+    variables.push(Text::from_str(alloc, "p")?)?;
+    Ok(variables)
+}
+
+/// The expression of the text in the words of the code, or its fault.
+fn write_read(
+    out: &mut String,
+    alloc: Global,
+    variables: &Names,
+    text: &str,
+) -> Result<(), AllocError> {
+    match parse(alloc, text, variables) {
+        Ok(expr) => write!(out, "{expr:?}"),
+        Err(XSyntax::UnknownFunction(name, from)) => {
+            write!(out, "Unknown {} {from}", name.as_str())
+        }
+        Err(XSyntax::UnknownVariable(name)) => write!(out, "No {}", name.as_str()),
+        Err(fault) => write!(out, "{fault:?}"),
+    }
+}
+
+/// Whether the text has this expression in the words of the code, or this fault.
+pub fn is_read(
+    alloc: Global,
+    variables: &Names,
+    text: &str,
+    wanted: &str,
+) -> Result<bool, AllocError> {
+    let mut found = String::new(alloc);
+    write_read(&mut found, alloc, variables, text)?;
+    Ok(found.as_str() == wanted)
+}
+
+/// Whether the text is an expression.
+pub fn is_taken(alloc: Global, variables: &Names, text: &str) -> bool {
+    parse(alloc, text, variables).is_ok()
+}
+
+/// Each row of a table.
+fn check(alloc: Global, variables: &Names, table: Table) -> Result<(), Fail> {
+    for (text, wanted) in table {
+        expect(is_read(alloc, variables, text, wanted)?, text)?;
+    }
+    Ok(())
+}
+
+fn check_each(alloc: Global, variables: &Names, tables: &[Table]) -> Result<(), Fail> {
+    for table in tables {
+        check(alloc, variables, *table)?;
+    }
+    Ok(())
+}
+
+/// Each row of tables.
+fn check_all(alloc: Global, tables: &[Table]) -> Result<(), Fail> {
+    let variables = variables(alloc)?;
+    check_each(alloc, &variables, tables)
+}
+
+/// The expression that the text spells, with each operator in the words of the code.
+static EXPRESSIONS_1: [(&str, &str); 17] = [
+    ("1", "Integer(Some(1))"),
+    (" 9223372036854775808 ", "Integer(None)"),
+    (".", "ContextItem"),
+    ("/", "Root"),
+    ("()", "Comma([])"),
+    ("(((1)))", "Integer(Some(1))"),
+    ("1, 2", "Comma([Integer(Some(1)), Integer(Some(2))])"),
+    ("-1", "Unary(Minus, Integer(Some(1)))"),
+    (
+        "1 - 2 + 3",
+        "Additive(Integer(Some(1)), [(Minus, Integer(Some(2))), (Plus, Integer(Some(3)))])",
+    ),
+    (
+        "1 idiv 2",
+        "Multiplicative(Integer(Some(1)), [(IntegerDivide, Integer(Some(2)))])",
+    ),
+    ("1 to 2", "Range(Integer(Some(1)), Integer(Some(2)))"),
+    (
+        "1 != 2",
+        "Comparison(NotEqual, Integer(Some(1)), Integer(Some(2)))",
+    ),
+    (
+        "1 or 2 and 3",
+        "Or([Integer(Some(1)), And([Integer(Some(2)), Integer(Some(3))])])",
+    ),
+    (
+        "1 || 2",
+        "Concatenation([Integer(Some(1)), Integer(Some(2))])",
+    ),
+    (
+        "* | ..",
+        "Union([Step(Child, AnyName, []), Step(Parent, AnyNode, [])])",
+    ),
+    (
+        "1 except 2",
+        "IntersectExcept(Integer(Some(1)), [(Except, Integer(Some(2)))])",
+    ),
+    ("1 ! .", "SimpleMap([Integer(Some(1)), ContextItem])"),
+];
+
+static EXPRESSIONS_2: [(&str, &str); 7] = [
+    (
+        "/*//@*",
+        "Path([Root, Step(Child, AnyName, []), Step(DescendantOrSelf, AnyNode, []), AttributeStep(AnyName, [])])",
+    ),
+    (
+        "self::element()[1][2]",
+        "Step(SelfNode, AnyElement, [Integer(Some(1)), Integer(Some(2))])",
+    ),
+    ("1[2]", "Filter(Integer(Some(1)), [Integer(Some(2))])"),
+    (
+        "if (1) then 2 else 3",
+        "If(Integer(Some(1)), Integer(Some(2)), Integer(Some(3)))",
+    ),
+    ("fn:count(.)", "Call(Count, [ContextItem])"),
+    ("pmd:fileName()", "PmdCall(FileName, [])"),
+    ("(: \u{fc} :) last()", "Call(Last, [])"),
+];
+
+/// Comments may stand in each gap between two tokens, and before and behind all of them.
+static COMMENTS: [(&str, &str); 2] = [
+    (
+        "(::)if(::)((::)1(::))(::)then(::)-(::)2(::)[(::)3(::)](::)else(::)concat(::)((::)4(::),(::).(::))(::)",
+        "If(Integer(Some(1)), Unary(Minus, Filter(Integer(Some(2)), [Integer(Some(3))])), Call(Concat, [Integer(Some(4)), ContextItem]))",
+    ),
+    (
+        "(:(::):)/(::)self(::)::(::)*(::)/(::)@(::)*(::)",
+        "Path([Root, Step(SelfNode, AnyName, []), AttributeStep(AnyName, [])])",
+    ),
+];
+
+#[test]
+fn expressions(rt: HostRuntime) -> Result<(), Fail> {
+    let tables: [Table; 3] = [&EXPRESSIONS_1, &EXPRESSIONS_2, &COMMENTS];
+    check_all(rt.alloc(), &tables)
+}
+
+#[test]
+fn faults(rt: HostRuntime) -> Result<(), Fail> {
+    let tables: [Table; 7] = [
+        &TOKENS,
+        &ENDS,
+        &PLACES_1,
+        &PLACES_2,
+        &LEFT_OUT_OPERATORS,
+        &LEFT_OUT_STEPS,
+        &OFFSETS_ARE_BYTES,
+    ];
+    check_all(rt.alloc(), &tables)
+}
+
+#[test]
+fn faults_of_names(rt: HostRuntime) -> Result<(), Fail> {
+    let tables: [Table; 5] = [
+        &FUNCTIONS_1,
+        &FUNCTIONS_2,
+        &VARIABLES_1,
+        &VARIABLES_2,
+        &ARGUMENTS,
+    ];
+    check_all(rt.alloc(), &tables)
+}
+
+/// Names in expressions, variables that are bound around their place, and arguments that are written as the functions want them.
+static TAKEN: [&str; 12] = [
+    "$p",
+    "for $x in a, $y in $x return ($x, $y, $p)",
+    "let $x := 1 return let $x := $x return $x",
+    "some $x in a satisfies every $y in $x satisfies $x = $y",
+    "matches('a', 'b')",
+    "matches('a', $p, 'ims')",
+    "tokenize($p, 1, '')",
+    "replace('a', 'b', 'c''d', 'ii')",
+    "let $x := 1 return matches($x, $p)",
+    "concat('a', 'b', 'c', 'd')",
+    "or or or",
+    "map = array",
+];
+
+fn check_taken(alloc: Global, variables: &Names) -> Result<(), Fail> {
+    for text in &TAKEN {
+        expect(is_taken(alloc, variables, text), text)?;
+    }
+    Ok(())
+}
+
+#[test]
+fn names_that_are_there(rt: HostRuntime) -> Result<(), Fail> {
+    let variables = variables(rt.alloc())?;
+    check_taken(rt.alloc(), &variables)
+}
+
+fn has_message(alloc: Global, fault: &XSyntax, wanted: &str) -> Result<bool, AllocError> {
+    let mut found = String::new(alloc);
+    write!(found, "{fault}")?;
+    Ok(found.as_str() == wanted)
+}
+
+/// A fault, with the name that is in it.
+#[derive(Clone, Copy)]
+enum Fault {
+    Token(u32),
+    Expected(u32),
+    Function(&'static str, u32),
+    Variable(&'static str),
+    Outside(u32),
+    Deep(u32),
+    Memory,
+}
+
+fn made(alloc: Global, fault: Fault) -> Result<XSyntax, NoMemory> {
+    Ok(match fault {
+        Fault::Token(from) => XSyntax::Token(from),
+        Fault::Expected(from) => XSyntax::Expected(from),
+        Fault::Function(name, from) => XSyntax::UnknownFunction(Text::from_str(alloc, name)?, from),
+        Fault::Variable(name) => XSyntax::UnknownVariable(Text::from_str(alloc, name)?),
+        Fault::Outside(from) => XSyntax::Outside(from),
+        Fault::Deep(depth) => XSyntax::Deep(depth),
+        Fault::Memory => XSyntax::Memory,
+    })
+}
+
+static MESSAGES: [(Fault, &str); 7] = [
+    (Fault::Token(3), "no token begins at offset 3"),
+    (
+        Fault::Expected(3),
+        "what stands at offset 3 is not expected there",
+    ),
+    (
+        Fault::Function("f", 3),
+        "no function f takes so many arguments, at offset 3",
+    ),
+    (Fault::Variable("x"), "no variable $x is bound"),
+    (
+        Fault::Outside(3),
+        "a construct that is left out begins at offset 3",
+    ),
+    (Fault::Deep(201), "nested 201 deep, one deeper than may be"),
+    (Fault::Memory, "out of memory"),
+];
+
+/// Whether a fault has this message.
+fn says(alloc: Global, fault: Fault, wanted: &str) -> Result<bool, NoMemory> {
+    let fault = made(alloc, fault)?;
+    Ok(has_message(alloc, &fault, wanted)?)
+}
+
+/// The message of each fault.
+#[test]
+fn messages(rt: HostRuntime) -> Result<(), Fail> {
+    for (fault, wanted) in &MESSAGES {
+        expect(says(rt.alloc(), *fault, wanted)?, wanted)?;
+    }
+    Ok(())
+}
