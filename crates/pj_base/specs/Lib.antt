@@ -1,0 +1,3 @@
+-- definitions
+pub mod Front
+pub mod WordTable

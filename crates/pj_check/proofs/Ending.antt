@@ -1,0 +1,180 @@
+-- From the steps of a run to what its outcome says.
+use Rattle.std.proofs.Common.{◌≡◌, ◌≢◌, ◌∙◌, ◌++◌, ℕ, List, map, Option, IfSome, Result, Ok, Err, OnOk, OnErr, IfOk, IfErr, ap, sym, subst, refl}
+use Rattle.pj_outside.specs.Faults.{Rises}
+use Rattle.pj_outside.specs.Files.{Bytes, Files}
+use Rattle.pj_outside.specs.Putting.{Gets, GetsPrefix}
+use Rattle.pj_reports.specs.declared.report.Report.{Report}
+use Rattle.pj_rule_sets.specs.Rules.{EffectiveRules}
+use Rattle.pj_settings.specs.declared.settings.Settings.{Settings}
+use Rattle.pj_sources.specs.Reading.{AreRead, AreWithin}
+use Rattle.pj_sources.specs.declared.listing.Listing.{Listing}
+use Rattle.pj_workers.specs.declared.work.Work.{Work}
+use Rattle.pj_writing.specs.Formats.{report_text}
+use Rattle.pj_writing.specs.Verdicts.{verdict_of}
+use Rattle.pj_writing.specs.declared.verdict.Verdict.{Verdict}
+use Rattle.pj_writing.specs.declared.verdict.Verdict.TheVariants as verdict
+use Rattle.pj_writing.specs.declared.written.Written.{Written}
+use Rattle.pj_check.specs.Cold.{IsColdOf}
+use Rattle.pj_check.specs.Outcome.{AsksFor, CountsSinkFaults, CountsTreeFaults, KeepsSink, Says, SaysOfWords, Worked}
+use Rattle.pj_check.specs.Run.{HasRules, Run}
+use Rattle.pj_check.specs.Steps.{CountsFaults, Explains, IsMade, SaysBefore, SaysRefusal, ended, refused}
+use Rattle.pj_check.specs.declared.outcome.Outcome.{Outcome}
+use Rattle.pj_check.specs.declared.outcome.Outcome.TheVariants as outcome
+use Rattle.pj_check.specs.declared.refusal.Refusal.{Refusal}
+use Rattle.pj_check.specs.declared.refusal.Refusal.TheVariants.{Usage, Rules, TreeFault, SinkFault, Missing, Limit, Memory}
+use Rattle.pj_check.proofs.Told.{all_told, told_both, told_so}
+
+-- ---- the report is made
+
+pub no_memory : (words : List Bytes) (told : Option Files) → Explains words told Memory
+no_memory words told = record { cause = all_told told (λ held. SaysRefusal words held Memory) (λ held. tt); of_words = tt }
+
+-- the work of a run, by its parts
+pub worked : (run : Run) (old new : Work) → new.analysed ≡ old.analysed ++ run.listing.paths → new.reused ≡ old.reused → new.skipped ≡ run.listing.skipped → Worked run old new
+worked run old new a r s = λ i. record { analysed = a i; reused = r i; skipped = s i }
+
+-- what is said of the same files at another moment
+pub told_later : {A : Type 0} (o p : Option A) (P : A → Type 0) → p ≡ o → IfSome o P → IfSome p P
+told_later o p P e h = subst (λ (w : Option _). IfSome w P) (sym e) h
+
+pub is_made : (words : List Bytes) (told : Option Files) (settings : Settings) (listing : Listing) (rules : EffectiveRules) (sources : Files) (report : Report) (written : Written) (old new : Work) →
+    IfSome told (λ held. HasRules words held settings listing rules) → IfSome told (λ held. AreRead held listing.paths sources) → AreWithin listing.paths sources → IsColdOf sources rules report →
+    written.text ≡ report_text settings.format report → written.verdict ≡ verdict_of report →
+    new.analysed ≡ old.analysed ++ map (λ file. file.0) sources → new.reused ≡ old.reused → new.skipped ≡ listing.skipped →
+    IfSome told (λ held. IsMade words held old new written)
+is_made words told settings listing rules sources report written old new has read within cold text comes analysed reused skipped =
+    let run : Run = record { settings = settings; listing = listing; rules = rules; sources = sources; report = report } in
+    told_both told told (λ held. HasRules words held settings listing rules) (λ held. AreRead held listing.paths sources) (λ held. IsMade words held old new written) refl
+    (λ held h r. record {
+      run = run;
+      is_run = record { has_rules = h; read = r; reported = cold };
+      text = text;
+      comes_to = comes;
+      worked = worked run old new (analysed ∙ ap (λ paths. old.analysed ++ paths) within.paths_are) reused skipped;
+    })
+    has read
+
+-- ---- the run ends before the report is put
+
+pub says_before : (r : Refusal) (words : List Bytes) (held : Files) (old new : Option Bytes) (before after : Work) → SaysRefusal words held r → Says (refused r) words held old new before after
+says_before (Usage fault) words held old new before after h = h
+says_before (Rules fault) words held old new before after h = h
+says_before TreeFault words held old new before after h = tt
+says_before SinkFault words held old new before after h = absurd h
+says_before (Missing path) words held old new before after h = h
+says_before (Limit kind) words held old new before after h = h
+says_before Memory words held old new before after h = tt
+
+pub all_say_before : (r : Refusal) (words : List Bytes) (told : Option Files) (old new : Option Bytes) (before after : Work) → Explains words told r → IfSome told (λ held. Says (refused r) words held old new before after)
+all_say_before r words told old new before after e =
+    told_so told (λ held. SaysRefusal words held r) (λ held. Says (refused r) words held old new before after) (λ held h. says_before r words held old new before after h) e.cause
+
+pub words_before : (r : Refusal) (words : List Bytes) → SaysBefore r words → SaysOfWords (refused r) words
+words_before (Usage fault) words h = h
+words_before (Rules fault) words h = h
+words_before TreeFault words h = h
+words_before SinkFault words h = absurd h
+words_before (Missing path) words h = h
+words_before (Limit kind) words h = h
+words_before Memory words h = h
+
+pub keeps_before : (r : Refusal) (old : Option Bytes) → KeepsSink (refused r) old old
+keeps_before (Usage fault) old = refl
+keeps_before (Rules fault) old = refl
+keeps_before TreeFault old = refl
+keeps_before SinkFault old = tt
+keeps_before (Missing path) old = refl
+keeps_before (Limit kind) old = refl
+keeps_before Memory old = refl
+
+pub counts_before : (r : Refusal) (words : List Bytes) (faults : ℕ) → SaysBefore r words → CountsSinkFaults (refused r) faults faults
+counts_before (Usage fault) words faults h = refl
+counts_before (Rules fault) words faults h = refl
+counts_before TreeFault words faults h = refl
+counts_before SinkFault words faults h = absurd h
+counts_before (Missing path) words faults h = refl
+counts_before (Limit kind) words faults h = refl
+counts_before Memory words faults h = refl
+
+pub tree_counts_before : (A : Type 0) (r : Refusal) (old new : ℕ) → CountsFaults {A = A} old new (Err r) → CountsTreeFaults (refused r) old new
+tree_counts_before A (Usage fault) old new h = h
+tree_counts_before A (Rules fault) old new h = h
+tree_counts_before A TreeFault old new h = h
+tree_counts_before A SinkFault old new h = h
+tree_counts_before A (Missing path) old new h = h
+tree_counts_before A (Limit kind) old new h = h
+tree_counts_before A Memory old new h = h
+
+pub no_fault_before : (r : Refusal) → r ≢ TreeFault → refused r ≢ outcome.TreeFault
+no_fault_before (Usage fault) n e = absurd (cc)
+no_fault_before (Rules fault) n e = absurd (cc)
+no_fault_before TreeFault n e = n refl
+no_fault_before SinkFault n e = absurd (cc)
+no_fault_before (Missing path) n e = absurd (cc)
+no_fault_before (Limit kind) n e = absurd (cc)
+no_fault_before Memory n e = absurd (cc)
+
+-- ---- the report is put
+
+-- what the end of a run says whose report was put, or was cut
+pub ends_so : (v : Verdict) (words : List Bytes) (held : Files) (written : Written) (old new : Option Bytes) (before after : Work) → v ≡ written.verdict → Gets old new written.text → IsMade words held before after written →
+    Says (ended (Ok v)) words held old new before after
+ends_so verdict.Clean words held written old new before after is got made =
+    record { run = made.run; is_run = made.is_run; comes_to = sym (is ∙ made.comes_to); got = subst (λ (t : Bytes). Gets old new t) made.text got; worked = made.worked }
+ends_so verdict.Violations words held written old new before after is got made =
+    record { run = made.run; is_run = made.is_run; comes_to = sym (is ∙ made.comes_to); got = subst (λ (t : Bytes). Gets old new t) made.text got; worked = made.worked }
+ends_so verdict.Errors words held written old new before after is got made =
+    record { run = made.run; is_run = made.is_run; comes_to = sym (is ∙ made.comes_to); got = subst (λ (t : Bytes). Gets old new t) made.text got; worked = made.worked }
+
+pub put_says : (r : Result Verdict Refusal) (words : List Bytes) (told : Option Files) (written : Written) (old new : Option Bytes) (before after : Work) →
+    IfOk r (λ v. v ≡ written.verdict) → OnOk r (Gets old new written.text) → OnErr r (GetsPrefix old new written.text) → IfErr r (λ e. e ≡ SinkFault) →
+    IfSome told (λ held. IsMade words held before after written) → IfSome told (λ held. Says (ended r) words held old new before after)
+put_says (Ok v) words told written old new before after is got cut fault made =
+    told_so told (λ held. IsMade words held before after written) (λ held. Says (ended (Ok v)) words held old new before after) (λ held m. ends_so v words held written old new before after is got m) made
+put_says (Err r) words told written old new before after is got cut fault made =
+    told_so told (λ held. IsMade words held before after written) (λ held. Says (refused r) words held old new before after)
+    (λ held m. subst (λ (e : Refusal). Says (refused e) words held old new before after) (sym fault)
+    (record { run = m.run; is_run = m.is_run; got = subst (λ (t : Bytes). GetsPrefix old new t) m.text cut; worked = m.worked })) made
+
+pub put_words : (r : Result Verdict Refusal) (words : List Bytes) → IfErr r (λ e. e ≡ SinkFault) → AsksFor (λ settings. Unit {0}) words → SaysOfWords (ended r) words
+put_words (Ok verdict.Clean) words fault asks = asks
+put_words (Ok verdict.Violations) words fault asks = asks
+put_words (Ok verdict.Errors) words fault asks = asks
+put_words (Err r) words fault asks = subst (λ (e : Refusal). SaysOfWords (refused e) words) (sym fault) asks
+
+pub put_keeps : (r : Result Verdict Refusal) (old new : Option Bytes) → IfErr r (λ e. e ≡ SinkFault) → KeepsSink (ended r) old new
+put_keeps (Ok verdict.Clean) old new fault = tt
+put_keeps (Ok verdict.Violations) old new fault = tt
+put_keeps (Ok verdict.Errors) old new fault = tt
+put_keeps (Err r) old new fault = subst (λ (e : Refusal). KeepsSink (refused e) old new) (sym fault) tt
+
+pub put_tree : (r : Result Verdict Refusal) (old new : ℕ) → IfErr r (λ e. e ≡ SinkFault) → new ≡ old → CountsTreeFaults (ended r) old new
+put_tree (Ok verdict.Clean) old new fault same = same
+put_tree (Ok verdict.Violations) old new fault same = same
+put_tree (Ok verdict.Errors) old new fault same = same
+put_tree (Err r) old new fault same = subst (λ (e : Refusal). CountsTreeFaults (refused e) old new) (sym fault) same
+
+pub put_counts : (r : Result Verdict Refusal) (old new : ℕ) → IfErr r (λ e. e ≡ SinkFault) → OnOk r (new ≡ old) → OnErr r (Rises old new) → CountsSinkFaults (ended r) old new
+put_counts (Ok verdict.Clean) old new fault same rises = same
+put_counts (Ok verdict.Violations) old new fault same rises = same
+put_counts (Ok verdict.Errors) old new fault same rises = same
+put_counts (Err r) old new fault same rises = subst (λ (e : Refusal). CountsSinkFaults (refused e) old new) (sym fault) rises
+
+pub put_steady : (r : Result Verdict Refusal) → IfErr r (λ e. e ≡ SinkFault) → ended r ≢ outcome.TreeFault
+put_steady (Ok verdict.Clean) fault e = absurd (cc)
+put_steady (Ok verdict.Violations) fault e = absurd (cc)
+put_steady (Ok verdict.Errors) fault e = absurd (cc)
+put_steady (Err r) fault e = let f : outcome.SinkFault ≡ outcome.TreeFault = subst (λ (x : Refusal). refused x ≡ outcome.TreeFault) fault e in absurd (cc)
+
+-- ---- an early end, as a function gives it on
+
+-- the end is this refusal
+pub ends_before : (P : Outcome → Type 0) (r : Result Verdict Refusal) (e x : Refusal) → r ≡ Err e → e ≡ x → P (refused x) → P (ended r)
+ends_before P r e x is same h = subst (λ (w : Result Verdict Refusal). P (ended w)) (sym is) (subst (λ (y : Refusal). P (refused y)) (sym same) h)
+
+module _ {A : Type 0} where
+  pub explains_on : (words : List Bytes) (told : Option Files) (r : Result A Refusal) (e x : Refusal) → r ≡ Err e → e ≡ x → Explains words told x → IfErr r (Explains words told)
+  explains_on words told r e x is same h = subst (λ (w : Result A Refusal). IfErr w (Explains words told)) (sym is) (subst (λ (y : Refusal). Explains words told y) (sym same) h)
+
+pub explains_later : (words : List Bytes) (o p : Option Files) (r : Refusal) → p ≡ o → Explains words p r → Explains words o r
+explains_later words o p r e h = subst (λ (w : Option Files). Explains words w r) e h

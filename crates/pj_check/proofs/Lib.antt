@@ -1,0 +1,7 @@
+mod Told
+mod Explaining
+mod Gathering
+mod Ending
+mod Excluding
+mod OneRefusal
+mod Once

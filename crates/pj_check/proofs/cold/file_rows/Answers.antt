@@ -1,0 +1,5 @@
+use Rattle.std.proofs.Common.{rules, []}
+use Rattle.pj_check.proofs.cold.file_rows.Goals as goal
+
+pub returns-clause-rows : goal.returns-clause-rows
+returns-clause-rows c = λ world all are. record { path = search rules; names = []; comes = c.in_ok-found.ensures.rows world all are }

@@ -1,0 +1,10 @@
+-- definitions, in the order in which they are read
+pub mod Cold
+pub mod Run
+pub mod Refused
+pub mod Outcome
+pub mod Notes
+-- what the laws say
+pub mod Laws
+-- for private clauses
+pub mod Steps

@@ -1,0 +1,95 @@
+-- What each outcome of a run says.
+use Rattle.std.specs.Prelude.{⊤, ◌≡◌, ◌⊎◌, ◌++◌, ℕ, IsTrue, List, Contains, Option, Ok, Err}
+use Rattle.pj_outside.specs.Faults.{Rises}
+use Rattle.pj_outside.specs.Files.{Files, Bytes}
+use Rattle.pj_outside.specs.Putting.{Gets, GetsPrefix}
+use Rattle.pj_settings.specs.Job.{job}
+use Rattle.pj_settings.specs.declared.settings.Settings.{Settings}
+use Rattle.pj_sources.specs.Paths.{is_source}
+use Rattle.pj_workers.specs.declared.work.Work.{Work}
+use Rattle.pj_writing.specs.Verdicts.{verdict_of}
+use Rattle.pj_writing.specs.declared.verdict.Verdict.{Verdict}
+use Rattle.pj_writing.specs.declared.verdict.Verdict.TheVariants as verdict
+use Rattle.pj_check.specs.Refused.{IsRefused}
+use Rattle.pj_check.specs.Run.{IsRun, Run, text_of}
+use Rattle.pj_check.specs.declared.outcome.Outcome.{Outcome}
+use Rattle.pj_check.specs.declared.outcome.Outcome.TheVariants.{Clean, Violations, Errors, Usage, Rules, TreeFault, ClassFault, SinkFault, Missing, Limit, Memory}
+
+-- The sources of the run were analysed, and nothing was used again.
+abbrev pub Worked : Run → Work → Work → Type 0
+Worked run old new = new ≡ record { analysed = old.analysed ++ run.listing.paths; reused = old.reused; skipped = run.listing.skipped }
+
+-- The run came to this verdict, and the sink got the whole text of its report.
+pub record IsReported (verdict : Verdict) (words : List Bytes) (held : Files) (old new : Option Bytes) (before after : Work) : Type 0 where
+  pub run : Run
+  pub is_run : IsRun words held run
+  pub comes_to : verdict_of run.report ≡ verdict
+  pub got : Gets old new (text_of run)
+  pub worked : Worked run before after
+
+-- The sink got a prefix of the text of the run's report.
+pub record IsCut (words : List Bytes) (held : Files) (old new : Option Bytes) (before after : Work) : Type 0 where
+  pub run : Run
+  pub is_run : IsRun words held run
+  pub got : GetsPrefix old new (text_of run)
+  pub worked : Worked run before after
+
+-- What an outcome says of the words and the files of a tree that tells them, of what the sink held and holds, and of the work. Of a
+-- fault of the tree and of want of memory they say nothing. No class is looked for.
+abbrev pub Says : Outcome → List Bytes → Files → Option Bytes → Option Bytes → Work → Work → Type 0
+Says Clean words held old new before after = IsReported verdict.Clean words held old new before after
+Says Violations words held old new before after = IsReported verdict.Violations words held old new before after
+Says Errors words held old new before after = IsReported verdict.Errors words held old new before after
+Says (Usage fault) words held old new before after = IsRefused words held (Usage fault)
+Says (Rules fault) words held old new before after = IsRefused words held (Rules fault)
+Says TreeFault words held old new before after = ⊤
+Says ClassFault words held old new before after = ⊥
+Says SinkFault words held old new before after = IsCut words held old new before after
+Says (Missing path) words held old new before after = IsRefused words held (Missing path)
+Says (Limit kind) words held old new before after = IsRefused words held (Limit kind)
+Says Memory words held old new before after = ⊤
+
+-- the words ask for something
+abbrev pub AsksFor : (Settings → Type 0) → List Bytes → Type 0
+AsksFor fact words = (settings : Settings) × (job words ≡ Ok settings) × fact settings
+
+-- What an outcome says of the words where nothing is known of the files. A path that is missing is one that the words name, or that of
+-- a source.
+abbrev pub SaysOfWords : Outcome → List Bytes → Type 0
+SaysOfWords Clean words = AsksFor (λ settings. ⊤) words
+SaysOfWords Violations words = AsksFor (λ settings. ⊤) words
+SaysOfWords Errors words = AsksFor (λ settings. ⊤) words
+SaysOfWords (Usage fault) words = job words ≡ Err fault
+SaysOfWords (Rules fault) words = AsksFor (λ settings. ⊤) words
+SaysOfWords TreeFault words = AsksFor (λ settings. ⊤) words
+SaysOfWords ClassFault words = ⊥
+SaysOfWords SinkFault words = AsksFor (λ settings. ⊤) words
+SaysOfWords (Missing path) words = AsksFor (λ settings. Contains settings.dirs path ⊎ IsTrue (is_source path)) words
+SaysOfWords (Limit kind) words = AsksFor (λ settings. ⊤) words
+SaysOfWords Memory words = ⊤
+
+-- The tree's faults rise exactly with `TreeFault`.
+abbrev pub CountsTreeFaults : Outcome → ℕ → ℕ → Type 0
+CountsTreeFaults TreeFault old new = Rises old new
+CountsTreeFaults other old new = new ≡ old
+
+-- The sink's faults rise exactly with `SinkFault`.
+abbrev pub CountsSinkFaults : Outcome → ℕ → ℕ → Type 0
+CountsSinkFaults SinkFault old new = Rises old new
+CountsSinkFaults other old new = new ≡ old
+
+-- Nothing is put but by a run that comes to its report.
+abbrev pub KeepsSink : Outcome → Option Bytes → Option Bytes → Type 0
+KeepsSink Clean old new = ⊤
+KeepsSink Violations old new = ⊤
+KeepsSink Errors old new = ⊤
+KeepsSink SinkFault old new = ⊤
+KeepsSink other old new = new ≡ old
+
+-- the exit status of a program that ends so
+abbrev pub status_of : Outcome → ℕ
+status_of Clean = 0
+status_of Violations = 4
+status_of Errors = 5
+status_of (Usage fault) = 2
+status_of other = 1

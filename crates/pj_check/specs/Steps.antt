@@ -1,0 +1,115 @@
+-- The steps of a run, for private clauses: what they give, and what their refusals say.
+use Rattle.std.specs.Prelude.{⊤, ◌≡◌, ℕ, List, Option, Result, Ok, Err, IfSome}
+use Rattle.std.specs.List.{AllZip}
+use Rattle.pj_outside.specs.Faults.{Rises}
+use Rattle.pj_outside.specs.Files.{Files, Bytes}
+use Rattle.pj_reports.specs.declared.rows.FileRows.{FileRows}
+use Rattle.pj_rule_sets.specs.Rules.{EffectiveRules}
+use Rattle.pj_rule_parts.specs.declared.fault.RuleRefused.{RuleRefused}
+use Rattle.pj_rule_parts.specs.declared.fault.RuleRefused.TheVariants as unloaded
+use Rattle.pj_settings.specs.declared.usage.UsageRefused.{UsageRefused}
+use Rattle.pj_settings.specs.declared.usage.UsageRefused.TheVariants as unasked
+use Rattle.pj_sources.specs.declared.limits.LimitKind.TheVariants as limit
+use Rattle.pj_sources.specs.declared.refused.ListRefused.{ListRefused}
+use Rattle.pj_sources.specs.declared.refused.ListRefused.TheVariants as unlisted
+use Rattle.pj_sources.specs.declared.refused.ReadRefused.{ReadRefused}
+use Rattle.pj_sources.specs.declared.refused.ReadRefused.TheVariants as unread
+use Rattle.pj_workers.specs.Cold.{AreRowsOf, World}
+use Rattle.pj_workers.specs.NoTypes.{no_types}
+use Rattle.pj_workers.specs.Rules.{AreRulesOf, Rule}
+use Rattle.pj_workers.specs.declared.work.Work.{Work}
+use Rattle.pj_writing.specs.Verdicts.{verdict_of}
+use Rattle.pj_writing.specs.declared.verdict.Verdict.{Verdict}
+use Rattle.pj_writing.specs.declared.verdict.Verdict.TheVariants as verdict
+use Rattle.pj_writing.specs.declared.written.Written.{Written}
+use Rattle.pj_check.specs.Outcome.{SaysOfWords, Worked}
+use Rattle.pj_check.specs.Refused.{IsRefused}
+use Rattle.pj_check.specs.Run.{IsRun, Run, text_of}
+use Rattle.pj_check.specs.declared.outcome.Outcome.{Outcome}
+use Rattle.pj_check.specs.declared.outcome.Outcome.TheVariants as outcome
+use Rattle.pj_check.specs.declared.refusal.Refusal.{Refusal}
+use Rattle.pj_check.specs.declared.refusal.Refusal.TheVariants.{Usage, Rules, TreeFault, SinkFault, Missing, Limit, Memory}
+
+-- ---- what refusals of the layers become
+
+abbrev pub after_words : UsageRefused → Refusal
+after_words (unasked.Fault fault) = Usage fault
+after_words unasked.Memory = Memory
+
+abbrev pub after_listing : ListRefused → Refusal
+after_listing unlisted.Failed = TreeFault
+after_listing (unlisted.Missing item) = Missing item
+after_listing unlisted.Memory = Memory
+
+abbrev pub after_loading : RuleRefused → Refusal
+after_loading (unloaded.Rule fault) = Rules fault
+after_loading (unloaded.TooManyRules count) = Limit limit.Rules
+after_loading unloaded.Failed = TreeFault
+after_loading unloaded.Memory = Memory
+
+abbrev pub after_reading : ReadRefused → Refusal
+after_reading unread.Failed = TreeFault
+after_reading (unread.Missing path) = Missing path
+after_reading (unread.Limit kind) = Limit kind
+after_reading unread.Memory = Memory
+
+abbrev pub refused : Refusal → Outcome
+refused (Usage fault) = outcome.Usage fault
+refused (Rules fault) = outcome.Rules fault
+refused TreeFault = outcome.TreeFault
+refused SinkFault = outcome.SinkFault
+refused (Missing path) = outcome.Missing path
+refused (Limit kind) = outcome.Limit kind
+refused Memory = outcome.Memory
+
+abbrev pub judged : Verdict → Outcome
+judged verdict.Clean = outcome.Clean
+judged verdict.Violations = outcome.Violations
+judged verdict.Errors = outcome.Errors
+
+abbrev pub ended : Result Verdict Refusal → Outcome
+ended (Ok verdict) = judged verdict
+ended (Err refusal) = refused refusal
+
+-- ---- what they say
+
+-- what a refusal before the report is put says of the words and the files
+abbrev pub SaysRefusal : List Bytes → Files → Refusal → Type 0
+SaysRefusal words held (Usage fault) = IsRefused words held (outcome.Usage fault)
+SaysRefusal words held (Rules fault) = IsRefused words held (outcome.Rules fault)
+SaysRefusal words held TreeFault = ⊤
+SaysRefusal words held SinkFault = ⊥
+SaysRefusal words held (Missing path) = IsRefused words held (outcome.Missing path)
+SaysRefusal words held (Limit kind) = IsRefused words held (outcome.Limit kind)
+SaysRefusal words held Memory = ⊤
+
+-- what it says of the words where nothing is known of the files
+abbrev pub SaysBefore : Refusal → List Bytes → Type 0
+SaysBefore SinkFault words = ⊥
+SaysBefore other words = SaysOfWords (refused other) words
+
+-- a refusal before the report is put, where the files are told and where they are not
+pub record Explains (words : List Bytes) (told : Option Files) (refusal : Refusal) : Type 0 where
+  pub cause : IfSome told (λ held. SaysRefusal words held refusal)
+  pub of_words : SaysBefore refusal words
+
+module _ {A : Type 0} where
+  -- The tree's faults rise exactly with `TreeFault`.
+  abbrev pub CountsFaults : ℕ → ℕ → Result A Refusal → Type 0
+  CountsFaults old new (Ok a) = new ≡ old
+  CountsFaults old new (Err TreeFault) = Rises old new
+  CountsFaults old new (Err other) = new ≡ old
+
+-- ---- what they give
+
+-- the rows of files, of the rules of the set
+abbrev pub AreRows : EffectiveRules → Files → List (Bytes × FileRows) → Type 0
+AreRows set files rows = (world : World) (rules : List Rule) → AreRulesOf set rules → AllZip (AreRowsOf no_types world rules) files rows
+
+-- the report of a run as it is to be put, with the work so far
+pub record IsMade (words : List Bytes) (held : Files) (before after : Work) (written : Written) : Type 0 where
+  pub run : Run
+  pub is_run : IsRun words held run
+  pub text : written.text ≡ text_of run
+  pub comes_to : written.verdict ≡ verdict_of run.report
+  pub worked : Worked run before after

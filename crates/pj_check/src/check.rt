@@ -1,0 +1,113 @@
+//! A run on one thread.
+ghost use Rattle.std.specs.Prelude.{◌≡◌, ◌≢◌, ⊤, Err, IfOk, IfErr, IfSome, OnErr, OnOk};
+ghost use Rattle.pj_outside.specs.Faults.{Rises};
+ghost use Rattle.pj_outside.specs.Putting.{Gets, GetsPrefix};
+ghost use Rattle.pj_check.specs.Notes.{GetNote, note_of};
+ghost use Rattle.pj_check.specs.Outcome.{AsksFor, CountsSinkFaults, CountsTreeFaults, KeepsSink, Says, SaysOfWords};
+ghost use Rattle.pj_check.specs.Steps.{CountsFaults, Explains, IsMade, ended};
+
+use crate::cold::cold_report;
+use crate::note::put_outcome;
+use crate::outcome::Outcome;
+use crate::refusal::{Refusal, ended};
+use crate::steps::{asked, listed, loaded, sources_of};
+use pj_base::Words;
+use pj_outside::{ClassPath, Keeper, Sink, Tree};
+use pj_workers::Work;
+use pj_writing::{Verdict, Written, put_report, written_report};
+use std::alloc::Global;
+
+/// The report that the words ask for, made whole in memory.
+fn made<T: Tree>(
+    alloc: Global,
+    words: &Words,
+    tree: &mut T,
+    work: &mut Work,
+) -> Result<Written, Refusal>
+    ensures made { IfSome (T.holds tree.old) (λ held. IfOk result (IsMade words.now held work.old work.new)) }
+    ensures asked { OnOk result (AsksFor (λ settings. ⊤) words.now) }
+    ensures refused { IfErr result (Explains words.now (T.holds tree.old)) }
+    ensures same_files { T.holds tree.new ≡ T.holds tree.old }
+    ensures counts_faults { CountsFaults (T.faults tree.old) (T.faults tree.new) result }
+    ensures steady { T.never_fails tree.old → result ≢ Err Refusal.TreeFault }
+    ensures reused { work.new.reused ≡ work.old.reused }
+{
+    let settings = asked(alloc, words)?;
+    let listing = listed(alloc, tree, &settings)?;
+    work.skipped = listing.skipped;
+    let rules = loaded(alloc, tree, &settings)?;
+    let sources = sources_of(alloc, tree, &listing)?;
+    let report = cold_report(alloc, &sources, &rules, work)?;
+    let written = written_report(alloc, settings.format, &report)?;
+    Ok(written)
+}
+
+/// Puts the report.
+fn put<S: Sink>(out: &mut S, report: &Written) -> Result<Verdict, Refusal>
+    ensures verdict { IfOk result (λ verdict. verdict ≡ report.now.verdict) }
+    ensures got { OnOk result (Gets (S.held out.old) (S.held out.new) report.now.text) }
+    ensures cut { OnErr result (GetsPrefix (S.held out.old) (S.held out.new) report.now.text) }
+    ensures refused { IfErr result (λ refusal. refusal ≡ Refusal.SinkFault) }
+    ensures faults { OnOk result (S.faults out.new ≡ S.faults out.old) }
+    ensures rises { OnErr result (Rises (S.faults out.old) (S.faults out.new)) }
+{
+    match put_report(out, report) {
+        Ok(verdict) => Ok(verdict),
+        Err(_) => Err(Refusal::SinkFault),
+    }
+}
+
+/// A run without its note: what it comes to, or why it does not come to its report.
+fn run<T: Tree, S: Sink>(
+    alloc: Global,
+    words: &Words,
+    tree: &mut T,
+    out: &mut S,
+    work: &mut Work,
+) -> Result<Verdict, Refusal>
+    ensures says { IfSome (T.holds tree.old) (λ held. Says (ended result) words.now held (S.held out.old) (S.held out.new) work.old work.new) }
+    ensures of_words { SaysOfWords (ended result) words.now }
+    ensures keeps_sink { KeepsSink (ended result) (S.held out.old) (S.held out.new) }
+    ensures same_files { T.holds tree.new ≡ T.holds tree.old }
+    ensures tree_faults { CountsTreeFaults (ended result) (T.faults tree.old) (T.faults tree.new) }
+    ensures steady { T.never_fails tree.old → ended result ≢ Outcome.TreeFault }
+    ensures sink_faults { CountsSinkFaults (ended result) (S.faults out.old) (S.faults out.new) }
+    ensures reused { work.new.reused ≡ work.old.reused }
+{
+    let written = made(alloc, words, tree, work)?;
+    put(out, &written)
+}
+
+/// The cold run on one thread: analyses the sources that the words name by the rules of the rulesets that they name, and puts the
+/// report, as `pmd check -d SOURCES -R RULESETS -f FORMAT` does.
+///
+/// The words are read, the sources listed and counted, the rulesets loaded, the sources read and analysed, and the report is made
+/// whole in memory before anything of it is put. The first refusal in this order is the outcome, and it leaves one line in the notes;
+/// a fault of the notes changes nothing else. No class is looked for and nothing is kept, so that the class path and the keeper are
+/// not called.
+pub fn check_alone<T: Tree, C: ClassPath, K: Keeper, S: Sink, N: Sink>(
+    alloc: Global,
+    words: &Words,
+    tree: &mut T,
+    classes: &mut C,
+    keeper: &mut K,
+    out: &mut S,
+    notes: &mut N,
+    work: &mut Work,
+) -> Outcome
+    ensures says { IfSome (T.holds tree.old) (λ held. Says result words.now held (S.held out.old) (S.held out.new) work.old work.new) }
+    ensures of_words { SaysOfWords result words.now }
+    ensures keeps_sink { KeepsSink result (S.held out.old) (S.held out.new) }
+    ensures notes { GetNote (note_of result) (N.held notes.old) (N.held notes.new) (N.faults notes.old) (N.faults notes.new) }
+    ensures same_files { T.holds tree.new ≡ T.holds tree.old }
+    ensures tree_faults { CountsTreeFaults result (T.faults tree.old) (T.faults tree.new) }
+    ensures steady { T.never_fails tree.old → result ≢ Outcome.TreeFault }
+    ensures sink_faults { CountsSinkFaults result (S.faults out.old) (S.faults out.new) }
+    ensures same_classes { classes.new ≡ classes.old }
+    ensures same_keeper { keeper.new ≡ keeper.old }
+    ensures reused { work.new.reused ≡ work.old.reused }
+{
+    let outcome = ended(run(alloc, words, tree, out, work));
+    put_outcome(notes, &outcome);
+    outcome
+}

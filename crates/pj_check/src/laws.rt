@@ -1,0 +1,38 @@
+//! Laws of the definitions, each the contract of a function that does nothing.
+ghost use Rattle.pj_check.specs.Laws.{OneRefusal, OneRun, RunIsNotRefused};
+
+use pj_rules::{one_first_fault, one_set, rules_or_fault};
+use pj_sources::{one_listing, one_reading};
+use pj_workers::{one_cold_report, rules_are_their_texts};
+
+/// Words and files that have a run are not refused.
+pub fn runs_are_not_refused()
+    ensures { RunIsNotRefused }
+{
+    one_listing();
+    one_reading();
+    one_set();
+    rules_or_fault();
+}
+
+/// Words and files are refused for one cause at most.
+pub fn one_refusal()
+    ensures { OneRefusal }
+{
+    one_listing();
+    one_reading();
+    one_set();
+    rules_or_fault();
+    one_first_fault();
+}
+
+/// Words and files have one run at most: a run that comes to a report comes to this one.
+pub fn one_run()
+    ensures { OneRun }
+{
+    one_listing();
+    one_set();
+    one_reading();
+    rules_are_their_texts();
+    one_cold_report();
+}

@@ -1,0 +1,96 @@
+//! Why a run does not come to its report.
+ghost use Rattle.std.specs.Prelude.{◌≡◌};
+ghost use Rattle.pj_check.specs.Steps.{after_listing, after_loading, after_reading, after_words, ended};
+
+use crate::outcome::Outcome;
+use pj_base::{NoMemory, Text};
+use pj_rules::{RuleFault, RuleRefused};
+use pj_settings::{UsageFault, UsageRefused};
+use pj_sources::{LimitKind, ListRefused, ReadRefused};
+use pj_writing::Verdict;
+
+/// Why a run does not come to its report.
+#[derive(Drop)]
+pub enum Refusal {
+    Usage(UsageFault),
+    Rules(RuleFault),
+    TreeFault,
+    SinkFault,
+    Missing(Text),
+    Limit(LimitKind),
+    Memory,
+}
+
+/// Why there are no settings.
+pub fn after_words(refused: UsageRefused) -> Refusal
+    ensures { result ≡ after_words refused }
+{
+    match refused {
+        UsageRefused::Fault(fault) => Refusal::Usage(fault),
+        UsageRefused::Memory => Refusal::Memory,
+    }
+}
+
+/// Why there is no list of sources.
+pub fn after_listing(refused: ListRefused) -> Refusal
+    ensures { result ≡ after_listing refused }
+{
+    match refused {
+        ListRefused::Failed => Refusal::TreeFault,
+        ListRefused::Missing(item) => Refusal::Missing(item),
+        ListRefused::Memory => Refusal::Memory,
+    }
+}
+
+/// Why there are no rules.
+pub fn after_loading(refused: RuleRefused) -> Refusal
+    ensures { result ≡ after_loading refused }
+{
+    match refused {
+        RuleRefused::Rule(fault) => Refusal::Rules(fault),
+        RuleRefused::TooManyRules(_) => Refusal::Limit(LimitKind::Rules),
+        RuleRefused::Failed => Refusal::TreeFault,
+        RuleRefused::Memory => Refusal::Memory,
+    }
+}
+
+/// Why the sources are not read.
+pub fn after_reading(refused: ReadRefused) -> Refusal
+    ensures { result ≡ after_reading refused }
+{
+    match refused {
+        ReadRefused::Failed => Refusal::TreeFault,
+        ReadRefused::Missing(path) => Refusal::Missing(path),
+        ReadRefused::Limit(kind) => Refusal::Limit(kind),
+        ReadRefused::Memory => Refusal::Memory,
+    }
+}
+
+impl From<NoMemory> for Refusal {
+    ghost use Rattle.std.specs.Prelude.{◌≡◌};
+    ghost use Rattle.pj_check.specs.declared.refusal.Refusal.TheVariants as refusal;
+
+    ghost from_gives = { λ _ e. e ≡ refusal.Memory };
+
+    fn from(_: NoMemory) -> Refusal {
+        Refusal::Memory
+    }
+}
+
+/// What a run comes to that ended so.
+pub fn ended(end: Result<Verdict, Refusal>) -> Outcome
+    ensures { result ≡ ended end }
+{
+    match end {
+        Ok(Verdict::Clean) => Outcome::Clean,
+        Ok(Verdict::Violations) => Outcome::Violations,
+        Ok(Verdict::Errors) => Outcome::Errors,
+        Err(Refusal::Usage(fault)) => Outcome::Usage(fault),
+        Err(Refusal::Rules(fault)) => Outcome::Rules(fault),
+        Err(Refusal::TreeFault) => Outcome::TreeFault,
+        Err(Refusal::SinkFault) => Outcome::SinkFault,
+        Err(Refusal::Missing(path)) => Outcome::Missing(path),
+        Err(Refusal::Limit(kind)) => Outcome::Limit(kind),
+        Err(Refusal::Memory) => Outcome::Memory,
+    }
+}

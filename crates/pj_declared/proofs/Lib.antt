@@ -1,0 +1,6 @@
+pub mod Past
+pub mod Around
+pub mod Nearer
+pub mod Ordered
+pub mod Within
+pub mod Along

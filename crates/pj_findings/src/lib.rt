@@ -1,0 +1,20 @@
+//! The findings of rules in a file: which nodes they are, where they stand, what suppresses them, and the rows of the file.
+//!
+//! Nothing here evaluates: a query's items are given, and so is what suppresses a finding by an expression.
+#![tactic(auto)]
+
+mod denoted;
+mod found;
+mod laws;
+mod message;
+mod reason;
+mod rows;
+mod spot;
+
+pub use denoted::{Nodes, denoted_nodes};
+pub use found::{Found, FoundList, RuleResult, RuleResults};
+pub use laws::{findings_are_the_rules, nodes_are_the_items};
+pub use message::{code_name, rule_message};
+pub use reason::plain_reason;
+pub use rows::{error_rows, file_rows};
+pub use spot::{Spot, spot_of};

@@ -1,0 +1,129 @@
+//! The rows of a file.
+ghost use Rattle.std.specs.Prelude.{◌≡◌, ◌++◌, map, IfOk, OnOk};
+ghost use Rattle.pj_findings.specs.Merged.{by_node, error_by, errors_from, finding_of, findings_from, found_by, merged, only_error};
+
+use crate::found::{Found, RuleResult, RuleResults};
+use pj_base::{Copied, NoMemory, Text};
+use pj_reports::{FileError, FileErrors, FileRows, Finding, Findings};
+use std::alloc::Global;
+
+fn finding_of(rule: u32, found: &Found) -> Finding
+    ensures { result ≡ finding_of rule found.now }
+{
+    Finding {
+        rule,
+        node: found.node,
+        begin: found.begin,
+        end: found.end,
+        reason: found.reason,
+    }
+}
+
+/// Puts the findings of a rule behind those of others.
+fn put_found(findings: &mut Vec<Finding>, rule: u32, found: &[Found]) -> Result<(), NoMemory>
+    ensures { OnOk result (findings.new.items ≡ findings.old.items ++ map (finding_of rule) found.now) }
+{
+    for one in found {
+        findings.push(finding_of(rule, one))?;
+    }
+    Ok(())
+}
+
+/// The same of what a rule comes to, where it finds nodes.
+fn put_findings(
+    findings: &mut Vec<Finding>,
+    rule: u32,
+    came_to: &RuleResult,
+) -> Result<(), NoMemory>
+    ensures { OnOk result (findings.new.items ≡ findings.old.items ++ map (finding_of rule) (found_by came_to.now)) }
+{
+    match came_to {
+        RuleResult::Findings(found) => put_found(findings, rule, found.as_slice()),
+        RuleResult::Error(_) => Ok(()),
+    }
+}
+
+/// Puts the error of a rule behind those of others, where it has one.
+fn put_error(errors: &mut Vec<FileError>, rule: u32, came_to: &RuleResult) -> Result<(), NoMemory>
+    ensures { OnOk result (errors.new.items ≡ errors.old.items ++ error_by rule came_to.now) }
+{
+    match came_to {
+        RuleResult::Findings(_) => {}
+        RuleResult::Error(message) => errors.push(FileError {
+            rule: Some(rule),
+            message: message.copied()?,
+        })?,
+    }
+    Ok(())
+}
+
+/// The number of a rule by its place; past 32 bits it wants memory.
+fn rule_number(place: usize) -> Result<u32, NoMemory>
+    ensures { IfOk result (λ number. number ≡ place) }
+{
+    match u32::try_from(place) {
+        Ok(number) => Ok(number),
+        Err(_) => Err(NoMemory),
+    }
+}
+
+/// The findings of the rules, one rule after the other.
+fn all_findings(alloc: Global, results: &[RuleResult]) -> Result<Vec<Finding>, NoMemory>
+    ensures { IfOk result (λ findings. findings.items ≡ findings_from 0 results.now) }
+{
+    let mut findings = Vec::new(alloc);
+    for (i, came_to) in results.iter().enumerate() {
+        put_findings(&mut findings, rule_number(i)?, came_to)?;
+    }
+    Ok(findings)
+}
+
+/// The errors of the rules, in their order.
+fn all_errors(alloc: Global, results: &[RuleResult]) -> Result<Vec<FileError>, NoMemory>
+    ensures { IfOk result (λ errors. errors.items ≡ errors_from 0 results.now) }
+{
+    let mut errors = Vec::new(alloc);
+    for (i, came_to) in results.iter().enumerate() {
+        put_error(&mut errors, rule_number(i)?, came_to)?;
+    }
+    Ok(errors)
+}
+
+/// Findings in the order of their nodes. Those of one node stay in their order.
+fn in_node_order(findings: Vec<Finding>) -> Result<Vec<Finding>, NoMemory>
+    ensures { IfOk result (λ ordered. ordered.items ≡ by_node findings.items) }
+{
+    let mut ordered = findings;
+    ordered.sort_by_key(|finding| finding.node)?;
+    Ok(ordered)
+}
+
+/// The rows of a file of the package of this name in which the rules came to this, in the order of their numbers, which count from 0: the
+/// findings in the order of the node, then of the rule, and the errors in the order of the rules.
+pub fn file_rows(alloc: Global, name: Text, results: &RuleResults) -> Result<FileRows, NoMemory>
+    ensures { IfOk result (λ rows. rows ≡ merged name results.now) }
+{
+    let findings = in_node_order(all_findings(alloc, results.as_slice())?)?;
+    let errors = all_errors(alloc, results.as_slice())?;
+    Ok(FileRows {
+        package: name,
+        findings: Findings::from_vec(findings),
+        errors: FileErrors::from_vec(errors),
+    })
+}
+
+/// The rows of a file without a tree: the one error that says why.
+pub fn error_rows(alloc: Global, message: Text) -> Result<FileRows, NoMemory>
+    ensures { IfOk result (λ rows. rows ≡ only_error message) }
+{
+    let mut errors = FileErrors::new(alloc);
+    errors.push(FileError {
+        rule: None,
+        message,
+    })?;
+    Ok(FileRows {
+        package: Text::new(alloc),
+        findings: Findings::new(alloc),
+        errors,
+    })
+}

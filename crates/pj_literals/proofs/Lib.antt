@@ -1,0 +1,9 @@
+pub mod BlockLaws
+pub mod DigitLaws
+pub mod EscapeCases
+pub mod EscapeLaws
+pub mod IntegerLaws
+pub mod LineLaws
+pub mod RuleLaws
+pub mod StripLaws
+pub mod TokenLaws

@@ -1,0 +1,14 @@
+pub mod Lists
+pub mod Sets
+pub mod Composing
+pub mod Chosen
+pub mod Moving
+pub mod Finishing
+pub mod Stacking
+pub mod Choices
+pub mod Going
+pub mod Places
+pub mod Decided
+pub mod Pieces
+pub mod OneEnd
+pub mod SomeEnd

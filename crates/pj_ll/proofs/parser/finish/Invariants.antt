@@ -1,0 +1,4 @@
+use Rattle.pj_ll.proofs.parser.finish.Given as goal
+
+abbrev pub ghost-expand : goal.ghost-expand
+ghost-expand g a = g.facts

@@ -1,0 +1,11 @@
+use Rattle.pj_ll.specs.Parsing.{HasComeTo}
+use Rattle.pj_ll.proofs.parser.parse.Given as goal
+
+abbrev pub ghost-advance : goal.ghost-advance
+ghost-advance g a = g.facts
+
+abbrev pub ghost-finish : goal.ghost-finish
+ghost-finish g a = g.facts
+
+abbrev pub invariant-loop-place : goal.invariant-loop-place
+invariant-loop-place g l = HasComeTo g.facts l.table l.terminals l.deepest l.place l.stack l.productions.items

@@ -1,0 +1,9 @@
+pub mod Residual
+pub mod Sound
+pub mod Complete
+pub mod Good
+pub mod Depth
+pub mod Alive
+pub mod Reached
+pub mod Fronts
+pub mod Rows

@@ -1,0 +1,4 @@
+pub mod InClass
+pub mod Fields
+pub mod Methods
+pub mod Seen

@@ -1,0 +1,3 @@
+pub mod Explicit
+pub mod Implied
+pub mod Sets

@@ -1,0 +1,4 @@
+pub mod Lists
+pub mod NameSets
+pub mod Oracles
+pub mod Parts

@@ -1,0 +1,5 @@
+pub mod Turns
+mod Loops
+mod Among
+mod Phased
+mod Chosen

@@ -1,0 +1,10 @@
+use Rattle.std.proofs.Common.{◌∙◌, sym}
+use Rattle.std.proofs.lemmas.List.{length-map}
+use Rattle.pj_names.specs.AskingLaws.{asks-then}
+use Rattle.pj_overload.specs.Seen.{argument_seen, candidates_seen}
+use Rattle.pj_overload.proofs.choosing.choice_in.Goals as goal
+
+pub returns : goal.returns
+returns g c =
+    let count = length-map c.args.arguments.now argument_seen ∙ sym c.len.ensures in
+    asks-then _ c.in_ok-found.ensures (rw count c.choice_among.ensures)

@@ -1,0 +1,133 @@
+//! How the type of an argument fits that of a parameter (JLS 5.3).
+ghost use Rattle.std.specs.Prelude.{◌≡◌, IfOk};
+ghost use Rattle.pj_names.specs.JavaType.{java_type};
+ghost use Rattle.pj_names.specs.Told.{Asks};
+ghost use Rattle.pj_types.specs.Subtyping.{is_unknown};
+ghost use Rattle.pj_overload.specs.Conversions.{boxed_name, boxed_type, converted, fits_loosely, is_class, is_some_under, unboxed};
+ghost use Rattle.pj_overload.specs.Seen.{type_seen};
+
+use pj_base::{NoMemory, value_in};
+use pj_names::{AskFault, ClassName, Oracle, Prim, Ty, Types};
+use pj_types::is_subtype;
+use std::alloc::Global;
+
+/// The classes of boxing with their primitive types.
+static BOXED: [(&str, Prim); 8] = [
+    ("java.lang.Boolean", Prim::Boolean),
+    ("java.lang.Byte", Prim::Byte),
+    ("java.lang.Short", Prim::Short),
+    ("java.lang.Integer", Prim::Int),
+    ("java.lang.Long", Prim::Long),
+    ("java.lang.Character", Prim::Char),
+    ("java.lang.Float", Prim::Float),
+    ("java.lang.Double", Prim::Double),
+];
+
+/// The name of the class that boxing makes of a primitive type (JLS 5.1.7).
+fn boxed_name(prim: Prim) -> &'static str
+    ensures { result.now ≡ boxed_name prim }
+{
+    match prim {
+        Prim::Boolean => "java.lang.Boolean",
+        Prim::Byte => "java.lang.Byte",
+        Prim::Short => "java.lang.Short",
+        Prim::Int => "java.lang.Integer",
+        Prim::Long => "java.lang.Long",
+        Prim::Char => "java.lang.Character",
+        Prim::Float => "java.lang.Float",
+        Prim::Double => "java.lang.Double",
+    }
+}
+
+/// The primitive type that unboxing makes of a class (JLS 5.1.8).
+fn unboxed(name: &ClassName) -> Option<Prim>
+    ensures { result ≡ unboxed name.now }
+{
+    value_in(&BOXED, name.as_str())
+}
+
+/// The class that boxing makes of a primitive type. Its name is a class name, so memory alone is wanted.
+fn boxed(alloc: Global, prim: Prim) -> Result<Ty, NoMemory>
+    ensures { IfOk result (λ made. java_type made ≡ boxed_type prim) }
+{
+    match ClassName::of(alloc, boxed_name(prim))? {
+        Some(name) => Ok(Ty::Class(name, Types::End)),
+        None => Err(NoMemory),
+    }
+}
+
+/// What boxing or unboxing makes of a type, where one of them is of it.
+fn converted(alloc: Global, ty: &Ty) -> Result<Option<Ty>, NoMemory>
+    ensures { IfOk result (λ made. type_seen made ≡ converted (java_type ty.now)) }
+{
+    match ty {
+        Ty::Prim(prim) => Ok(Some(boxed(alloc, *prim)?)),
+        Ty::Class(name, _) => match unboxed(name) {
+            Some(prim) => Ok(Some(Ty::Prim(prim))),
+            None => Ok(None),
+        },
+        _ => Ok(None),
+    }
+}
+
+/// Whether a type is under another one, where there is one.
+#[tactic(auto, using(pj_names::specs::AskingLaws::asking_steps))]
+fn is_some_under<O: Oracle>(
+    alloc: Global,
+    oracle: &mut O,
+    ty: &Option<Ty>,
+    parameter: &Ty,
+) -> Result<bool, AskFault>
+    ensures { Asks (is_some_under (type_seen ty.now) (java_type parameter.now)) (O.tells oracle.old) (O.tells oracle.new) result }
+{
+    match ty {
+        None => Ok(false),
+        Some(ty) => is_subtype(alloc, oracle, ty, parameter),
+    }
+}
+
+/// Whether what boxing or unboxing makes of the type of an argument is under that of a parameter.
+#[tactic(auto, using(pj_names::specs::AskingLaws::asking_steps))]
+fn fits_converted<O: Oracle>(
+    alloc: Global,
+    oracle: &mut O,
+    argument: &Ty,
+    parameter: &Ty,
+) -> Result<bool, AskFault>
+    ensures { Asks (is_some_under (converted (java_type argument.now)) (java_type parameter.now)) (O.tells oracle.old) (O.tells oracle.new) result }
+{
+    let other = converted(alloc, argument)?;
+    is_some_under(alloc, oracle, &other, parameter)
+}
+
+/// Whether the type of an argument fits that of a parameter by subtyping, or else by boxing or unboxing, and then by subtyping of
+/// what that makes.
+#[tactic(auto, using(pj_names::specs::AskingLaws::asking_steps))]
+pub fn fits_loosely<O: Oracle>(
+    alloc: Global,
+    oracle: &mut O,
+    argument: &Ty,
+    parameter: &Ty,
+) -> Result<bool, AskFault>
+    ensures { Asks (fits_loosely (java_type argument.now) (java_type parameter.now)) (O.tells oracle.old) (O.tells oracle.new) result }
+{
+    let is_under = is_subtype(alloc, oracle, argument, parameter)?;
+    if is_under {
+        return Ok(true);
+    }
+    fits_converted(alloc, oracle, argument, parameter)
+}
+
+/// Whether a lambda expression or a method reference fits a parameter of a type: that is a class or an interface.
+pub fn is_class(ty: &Ty) -> bool
+    ensures { result ≡ is_class (java_type ty.now) }
+{
+    matches!(ty, Ty::Class(_, _))
+}
+
+/// Whether a type is not known.
+pub fn is_unknown(ty: &Ty) -> bool
+    ensures { result ≡ is_unknown (java_type ty.now) }
+{
+    matches!(ty, Ty::Unknown)
+}

@@ -1,0 +1,10 @@
+pub mod Going
+pub mod Outcomes
+pub mod FileCases
+pub mod Refusals
+pub mod EntryLaws
+pub mod NameLaws
+pub mod NodeOrder
+pub mod TokenOwners
+pub mod Owners
+pub mod FileWords

@@ -1,0 +1,6 @@
+pub mod Flags
+pub mod Literals
+pub mod Numbers
+pub mod OneFile
+pub mod Parentheses
+pub mod Texts

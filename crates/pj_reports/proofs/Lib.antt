@@ -1,0 +1,4 @@
+pub mod CsvFacts
+pub mod JsonFacts
+pub mod ReportLaws
+pub mod ShownFacts

@@ -1,0 +1,13 @@
+//! An expression with its patterns.
+
+use pj_xpatterns::Patterns;
+use pj_xvalue::Expr;
+
+/// An expression with its patterns, each compiled once.
+#[derive(Drop)]
+pub struct Spelled {
+    /// The expression that a text spells.
+    pub expr: Expr,
+    /// The patterns that stand in it.
+    pub patterns: Patterns,
+}

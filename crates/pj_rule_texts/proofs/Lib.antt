@@ -1,0 +1,4 @@
+pub mod Numerals
+pub mod Slashes
+pub mod Spacing
+pub mod Steps

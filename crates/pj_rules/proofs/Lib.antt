@@ -1,0 +1,14 @@
+mod Lists
+mod Rests
+mod Chains
+mod Parts
+mod Turns
+mod PartFacts
+mod CountFacts
+mod TopFacts
+mod OneList
+mod OneSet
+mod Loads
+mod Apart
+mod OneUnreadable
+mod OneFault

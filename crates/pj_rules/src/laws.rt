@@ -1,0 +1,30 @@
+//! Laws of the definitions. The functions do nothing, and their contracts are the laws.
+ghost use Rattle.pj_rules.specs.Laws.{OneFirstFault, OneList, OneSet, RulesOrFault};
+
+use pj_markup::one_reading;
+use pj_rule_expressions::{one_fault, sound_or_fault};
+
+/// A file has one list of rules at most, and the files that are named have one set of rules at most.
+pub fn one_set()
+    ensures list { OneList }
+    ensures set { OneSet }
+{
+    one_reading();
+}
+
+/// The files that are named do not have both a set of rules and a first fault.
+pub fn rules_or_fault()
+    ensures { RulesOrFault }
+{
+    one_reading();
+    sound_or_fault();
+}
+
+/// The files that are named have one first fault at most.
+pub fn one_first_fault()
+    ensures { OneFirstFault }
+{
+    one_reading();
+    sound_or_fault();
+    one_fault();
+}

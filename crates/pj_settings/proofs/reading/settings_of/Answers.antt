@@ -1,0 +1,15 @@
+use Rattle.std.proofs.Common.{◌≡◌, codes}
+use Rattle.std.proofs.lemmas.Result.{err_from_is_err_and}
+use Rattle.pj_settings.specs.Values.{format_value, list_value, number_value}
+use Rattle.pj_settings.proofs.JobFacts.{Gives-stop, gave}
+use Rattle.pj_settings.proofs.reading.settings_of.Goals as goal
+
+pub returns-in_err-minimum : goal.returns-in_err-minimum
+returns-in_err-minimum c =
+    let g = c.args.given.now in
+    let p = err_from_is_err_and c.from_residual-in_err-minimum.result c.from_residual-in_err-minimum.ensures.1 in
+    let dirs = gave c.in_ok-dirs.dirs (list_value 44 (codes "--dir") g.dir.now) c.in_ok-dirs.ensures in
+    let rulesets = gave c.in_ok-rulesets.rulesets (list_value 44 (codes "--rulesets") g.rulesets.now) c.in_ok-rulesets.ensures in
+    let form = gave c.in_ok-format.format (format_value g.format.now) c.in_ok-format.ensures in
+    let threads = gave c.in_ok-threads.threads (number_value (codes "--threads") 0 64 g.threads.now) c.in_ok-threads.ensures in
+    rw (p.1, p.2, dirs, rulesets, form, threads) (Gives-stop _ (number_value (codes "--minimum-priority") 1 5 g.minimum.now) _ c.in_err-minimum.ensures)

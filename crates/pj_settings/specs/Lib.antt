@@ -1,0 +1,4 @@
+pub mod Options
+pub mod Values
+pub mod Job
+pub mod Borrowed

@@ -1,0 +1,88 @@
+//! From words to settings.
+ghost use Rattle.std.specs.Prelude.{◌≡◌, unwrap_or};
+ghost use Rattle.clap.specs.Words.{first_of, found_of, rows_of};
+ghost use Rattle.pj_settings.specs.Job.{Gives, given_of, job, rows_job, settings_of};
+ghost use Rattle.pj_settings.specs.Borrowed.{given_seen};
+
+use crate::command::matched;
+use crate::settings::Settings;
+use crate::usage::{UsageFault, UsageRefused};
+use crate::values::{
+    format_value, list_value, marker_value, minimum_value, threads_value, version_value,
+};
+use clap::ArgMatches;
+use pj_base::Words;
+use std::alloc::Global;
+use std::convert::AsStr;
+
+/// The word of each option, or its default.
+#[derive(Drop)]
+struct Given<'a> {
+    dir: &'a str,
+    rulesets: &'a str,
+    format: &'a str,
+    threads: &'a str,
+    minimum: &'a str,
+    marker: &'a str,
+    version: &'a str,
+}
+
+/// The value of an option, or what stands for it.
+fn value_or<'a>(matches: &ArgMatches<'a>, id: &str, default: &'a str) -> &'a str
+    ensures { result.now ≡ unwrap_or (first_of id.now (rows_of (found_of matches.now))) default.entry.now }
+{
+    match matches.get_str(id) {
+        Some(value) => value,
+        None => default,
+    }
+}
+
+fn given_of<'a>(matches: &ArgMatches<'a>) -> Given<'a>
+    ensures { given_seen result ≡ given_of (rows_of (found_of matches.now)) }
+{
+    Given {
+        dir: value_or(matches, "dir", ""),
+        rulesets: value_or(matches, "rulesets", ""),
+        format: value_or(matches, "format", "text"),
+        threads: value_or(matches, "threads", "1"),
+        minimum: value_or(matches, "minimum-priority", "5"),
+        marker: value_or(matches, "suppress-marker", "NOPMD"),
+        version: value_or(matches, "use-version", "java-17"),
+    }
+}
+
+fn settings_of(alloc: Global, given: &Given<'_>) -> Result<Settings, UsageRefused>
+    ensures { Gives result (settings_of (given_seen given.now)) }
+{
+    let dirs = list_value(alloc, "--dir", given.dir)?;
+    let rulesets = list_value(alloc, "--rulesets", given.rulesets)?;
+    let format = format_value(alloc, given.format)?;
+    let threads = threads_value(alloc, given.threads)?;
+    let minimum = minimum_value(alloc, given.minimum)?;
+    let marker = marker_value(alloc, given.marker)?;
+    version_value(alloc, given.version)?;
+    Ok(Settings {
+        dirs,
+        rulesets,
+        format,
+        threads,
+        minimum,
+        marker,
+    })
+}
+
+/// The settings that the words ask for: `Command` where the first word is not `check`, `Line` where `clap` takes the
+/// others for no line, `Value` for the first option whose value is none of its own.
+pub fn read(alloc: Global, words: &Words) -> Result<Settings, UsageRefused>
+    ensures { Gives result (job words.now) }
+{
+    match words.as_slice() {
+        [word, ..] if word.as_str() == "check" => {
+            match matched(alloc, words) {
+                Ok(matches) => settings_of(alloc, &given_of(&matches)),
+                Err(refused) => Err(refused),
+            }
+        }
+        _ => Err(UsageRefused::Fault(UsageFault::Command)),
+    }
+}

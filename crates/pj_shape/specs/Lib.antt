@@ -1,0 +1,12 @@
+pub mod Body
+pub mod NameLists
+pub mod Flat
+pub mod InOrder
+pub mod Kinds
+pub mod Marks
+pub mod Shaped
+pub mod ShapedTree
+pub mod Typed
+pub mod Words
+pub mod Writing
+pub mod Written

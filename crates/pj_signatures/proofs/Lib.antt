@@ -1,0 +1,16 @@
+pub mod Runs
+pub mod Pieces
+pub mod Arguments
+pub mod Many
+pub mod Inside
+pub mod Repeated
+pub mod Spellings
+pub mod TypesAgain
+pub mod TypesTaken
+pub mod ParametersAgain
+pub mod ParametersTaken
+pub mod Turns
+pub mod WholeLaws
+pub mod DescriptorLaws
+pub mod Exact
+pub mod Once

@@ -1,0 +1,6 @@
+pub mod Limits
+pub mod Paths
+pub mod Listing
+pub mod Reading
+pub mod Faults
+pub mod Laws

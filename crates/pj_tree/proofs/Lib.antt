@@ -1,0 +1,15 @@
+pub mod Ancestors
+pub mod Calls
+pub mod ChildLists
+pub mod Ends
+pub mod Growth
+pub mod KindLaws
+pub mod Lists
+pub mod NestedLaws
+pub mod PlaceLaws
+pub mod ReadRows
+pub mod RunPlaces
+pub mod Seen
+pub mod Siblings
+pub mod TokenLists
+pub mod TreeLaws

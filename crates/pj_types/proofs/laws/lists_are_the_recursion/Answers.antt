@@ -1,0 +1,12 @@
+use Rattle.pj_types.specs.ListingLaws.{list-meant, meant-are, names-once, one-list}
+use Rattle.pj_types.specs.FiniteLaws.{list-there}
+use Rattle.pj_types.proofs.laws.lists_are_the_recursion.Goals as goal
+
+pub returns : goal.returns
+returns c = record {
+  recursion = λ world name types names means. meant-are world name types names means;
+  meant = λ world name types are. list-meant world name types are;
+  there = λ answers name. list-there answers name;
+  one = λ world name first second here there. one-list world name first second here there;
+  once = λ world name types are. names-once world name types are;
+}

@@ -1,0 +1,21 @@
+//! Types of the Java language: substitution, erasure, supertypes and subtyping.
+#![tactic(auto)]
+
+mod hierarchy;
+mod laws;
+mod listed;
+mod members;
+mod substitution;
+mod subtyping;
+mod walk;
+
+pub use hierarchy::{supertype_list, supertypes};
+pub use laws::{
+    erasure_is_done_once, lists_are_the_recursion, sources_agree, subtyping_is_by_the_list,
+    walks_give_the_list,
+};
+pub use listed::paired;
+pub use members::{Field, Method, Methods, copied_methods};
+pub use substitution::{erase, substitute};
+pub use subtyping::is_subtype;
+pub use walk::Walk;

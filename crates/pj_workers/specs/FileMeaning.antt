@@ -1,0 +1,57 @@
+-- What rules mean at a file: the head of the file with the meaning of each rule, one after the other, merged by node and rule. Each
+-- part is a function of the path, the bytes and one rule, so that what is kept of one rule in one file can be used again.
+use Rattle.std.specs.Prelude.{ℕ, List, [], Result, Ok, Err, if◌then◌else◌}
+use Rattle.pj_findings.specs.Merged.{merged, only_error}
+use Rattle.pj_findings.specs.declared.found.RuleResult.{RuleResult}
+use Rattle.pj_findings.specs.declared.found.RuleResult.TheVariants.{Findings}
+use Rattle.pj_names.specs.Asking.{Asking, Return, bind, each}
+use Rattle.pj_parse.specs.FileOutcome.{outcome_of}
+use Rattle.pj_parse.specs.JavaFile.{JavaFile}
+use Rattle.pj_parse.specs.declared.file_fault.FileFault.{FileFault}
+use Rattle.pj_reports.specs.declared.rows.FileRows.{FileRows}
+use Rattle.pj_symbols.specs.Names.{package_name}
+use Rattle.pj_workers.specs.Faults.{fault_message}
+use Rattle.pj_workers.specs.RuleMeaning.{Reply, rule_in_file}
+use Rattle.pj_workers.specs.Rules.{Rule, is_active}
+
+abbrev pub Bytes : Type 0
+Bytes = List ℕ
+
+-- what the functions of PMD reply in a file of a path
+abbrev pub Replies : Type 0
+Replies = Bytes → JavaFile → Reply
+
+-- What is said of a file beside its rules: the name of its package, or the message that says why it has no tree.
+pub data Head : Type 0 where
+  HasTree : Bytes → Head
+  HasNone : Bytes → Head
+
+abbrev pub head_of : Result JavaFile FileFault → Head
+head_of (Ok file) = HasTree (package_name file.tree)
+head_of (Err fault) = HasNone (fault_message fault)
+
+-- the rows of a file with this head, in which the rules came to this: where there is no tree, one error
+abbrev pub merge : Head → List RuleResult → FileRows
+merge (HasTree name) results = merged name results
+merge (HasNone message) results = only_error message
+
+-- what comes of a rule that is not active, or where there is no tree: nothing, and nothing is asked
+abbrev pub nothing : Asking RuleResult
+nothing = Return (Findings [])
+
+module _ (replies : Replies) where
+  abbrev pub rule_at : Bytes → Result JavaFile FileFault → Rule → Asking RuleResult
+  rule_at path (Err fault) rule = nothing
+  rule_at path (Ok file) rule = if is_active rule.source path then rule_in_file (replies path file) file rule else nothing
+
+  -- what a rule means at a file of these bytes
+  abbrev pub rule_meaning : Bytes → Bytes → Rule → Asking RuleResult
+  rule_meaning path bytes rule = rule_at path (outcome_of bytes) rule
+
+  -- what rules mean together at a file with this outcome
+  abbrev pub file_at : Bytes → Result JavaFile FileFault → List Rule → Asking FileRows
+  file_at path outcome rules = bind (each (rule_at path outcome) rules) (λ results. Return (merge (head_of outcome) results))
+
+  -- what they mean together at a file of these bytes
+  abbrev pub file_meaning : Bytes → Bytes → List Rule → Asking FileRows
+  file_meaning path bytes rules = file_at path (outcome_of bytes) rules

@@ -1,0 +1,69 @@
+-- What follows from the definitions.
+use Rattle.std.specs.Prelude.{◌≡◌, ℕ, false, List, map, Err}
+use Rattle.std.specs.List.{AllByRecursion, AllZip}
+use Rattle.std.specs.Str.{IsUtf8}
+use Rattle.pj_grammar.specs.Words.{seen}
+use Rattle.pj_lex.specs.declared.token.Token.{Token}
+use Rattle.pj_suppress.specs.Marks as marks
+use Rattle.pj_suppress.specs.Words.{Text}
+use Rattle.pj_findings.specs.Laws.{IsAscending}
+use Rattle.pj_findings.specs.Merged.{found_by, only_error}
+use Rattle.pj_findings.specs.Spots.{spot_of}
+use Rattle.pj_findings.specs.declared.found.Found.{Found}
+use Rattle.pj_names.specs.Asking.{Return, value_of}
+use Rattle.pj_outside.specs.Files.{Files}
+use Rattle.pj_parse.specs.FileOutcome.{outcome_of}
+use Rattle.pj_parse.specs.JavaFile.{JavaFile}
+use Rattle.pj_parse.specs.declared.file_fault.FileFault.{FileFault}
+use Rattle.pj_reports.specs.declared.report.Report.{Report}
+use Rattle.pj_rule_rows.specs.declared.rule_row.ConfigError.{ConfigError}
+use Rattle.pj_workers.specs.Cold.{IsCold, World}
+use Rattle.pj_workers.specs.Faults.{fault_message}
+use Rattle.pj_workers.specs.FileFacts.{place_of}
+use Rattle.pj_workers.specs.FileMeaning.{Bytes, Replies, file_meaning, nothing, rule_meaning}
+use Rattle.pj_workers.specs.Marked.{is_marked}
+use Rattle.pj_workers.specs.RuleMeaning.{Reply, rule_in_file}
+use Rattle.pj_workers.specs.Rules.{IsSpelled, Rule, is_active}
+
+-- A rule that is not active for a path means nothing there, and asks nothing.
+abbrev pub InactiveIsNothing : Type 0
+InactiveIsNothing = (replies : Replies) (path bytes : Bytes) (rule : Rule) → is_active rule.source path ≡ false → rule_meaning replies path bytes rule ≡ nothing
+
+-- Whatever the rules, a file without a tree has its one error, and nothing is asked.
+abbrev pub NoTreeIsOneError : Type 0
+NoTreeIsOneError = (replies : Replies) (path bytes : Bytes) (rules : List Rule) (fault : FileFault) → outcome_of bytes ≡ Err fault
+    → file_meaning replies path bytes rules ≡ Return (only_error (fault_message fault))
+
+-- What a rule finds in a file ascends: no node stands twice.
+abbrev pub RuleAscends : Type 0
+RuleAscends = (replies : Replies) (world : World) (depth : ℕ) (path bytes : Bytes) (rule : Rule) → IsAscending (value_of depth world (rule_meaning replies path bytes rule))
+
+-- There is one cold report at most.
+abbrev pub OneCold : Type 0
+OneCold = (replies : Replies) (world : World) (files : Files) (rules : List Rule) (unusable : List ConfigError) (r s : Report)
+    → IsCold replies world files rules unusable r → IsCold replies world files rules unusable s → r ≡ s
+
+-- A finding stands where its node does.
+abbrev pub StandsAtNode : JavaFile → Found → Type 0
+StandsAtNode file found = record { begin = found.begin; end = found.end } ≡ spot_of (place_of file) file.tree (record { 0 = found.node })
+
+-- So do all that a rule finds in a file.
+abbrev pub SpotsAreNodes : Type 0
+SpotsAreNodes = (reply : Reply) (world : World) (depth : ℕ) (file : JavaFile) (rule : Rule) → AllByRecursion (StandsAtNode file) (found_by (value_of depth world (rule_in_file reply file rule)))
+
+-- Rules of one source mean the same: what a rule means is determined by its texts, the path patterns of its ruleset and the marker.
+abbrev pub RulesAreTexts : Type 0
+RulesAreTexts = (replies : Replies) (path bytes : Bytes) (a b : Rule) → a.source ≡ b.source → IsSpelled a → IsSpelled b → rule_meaning replies path bytes a ≡ rule_meaning replies path bytes b
+
+-- Lists of rules of the same sources, each spelled.
+abbrev pub AreAlike : List Rule → List Rule → Type 0
+AreAlike = AllZip (λ a b. (a.source ≡ b.source) × IsSpelled a × IsSpelled b)
+
+-- So do lists of them.
+abbrev pub ListsAreTexts : Type 0
+ListsAreTexts = (replies : Replies) (path bytes : Bytes) (xs ys : List Rule) → AreAlike xs ys → file_meaning replies path bytes xs ≡ file_meaning replies path bytes ys
+
+-- The lines that are marked are those that the tokens of the program mark.
+abbrev pub MarksAreOne : Type 0
+MarksAreOne = (file : JavaFile) (tokens : List Token) (marker : Text) (line : ℕ) → file.tokens ≡ map seen tokens → AllByRecursion (λ token. IsUtf8 token.text.now) tokens
+    → is_marked file marker line ≡ marks.is_marked file.source tokens marker line

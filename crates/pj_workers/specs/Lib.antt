@@ -1,0 +1,14 @@
+-- definitions, in the order in which they are read
+pub mod FileFacts
+pub mod Marked
+pub mod Rules
+pub mod Reasons
+pub mod RuleMeaning
+pub mod Faults
+pub mod FileMeaning
+pub mod NoTypes
+pub mod Cold
+-- what the laws say
+pub mod Laws
+-- private clauses alone cite this
+pub mod Views

@@ -1,0 +1,4 @@
+pub mod Deeper
+pub mod Dots
+pub mod Inside
+pub mod Steps

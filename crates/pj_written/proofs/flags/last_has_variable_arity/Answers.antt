@@ -1,0 +1,12 @@
+use Rattle.std.proofs.Common.{ap, ◌∙◌, false, subst, sym, length}
+use Rattle.pj_nodes.proofs.Inside.{AreInside, are_inside}
+use Rattle.pj_written.specs.Flags.{last_parameter}
+use Rattle.pj_written.proofs.flags.last_has_variable_arity.Goals as goal
+
+pub loop-parameter-init : goal.loop-parameter-init
+loop-parameter-init c =
+    let t = c.args.tree.now in
+    let same = c.into_iter-parameter-iterator.ensures.into_iter_gives in (
+      ap (last_parameter t false) (same ∙ c.children-parameter-items.ensures.value),
+      subst (AreInside (length t.nodes)) (sym same) (are_inside c.args.list (length t.nodes) c.children-parameter-items.result c.children-parameter-items.ensures.inside),
+    )

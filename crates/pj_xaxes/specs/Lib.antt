@@ -1,0 +1,4 @@
+pub mod Axes
+pub mod Order
+pub mod Search
+pub mod Standing

@@ -1,0 +1,21 @@
+-- Of a derivation by rules nothing is left out, and nothing nests too deep.
+use Rattle.std.proofs.Common.{ℕ, ◌+◌, List, [], length, arith}
+use Rattle.pj_xtokens.specs.Tokens.{Lexed}
+use Rattle.pj_xgrammar.specs.declared.terminal.Behind.TheVariants as b
+use Rattle.pj_xgrammar.specs.Terminals.{numbers}
+use Rattle.pj_xgrammar.specs.Expressions.{AreClear}
+use Rattle.pj_xgrammar.proofs.Outcomes.{length_numbers}
+use Rattle.pj_xmeaning.specs.Parts.{RuleValue}
+use Rattle.pj_xnames.specs.Namings.{Naming}
+use Rattle.pj_xderived.specs.Derived.{Derived}
+use Rattle.pj_xderived.proofs.Flattening.{tree_derives}
+use Rattle.pj_xderived.proofs.Kept.{not_left_out}
+use Rattle.pj_xderived.proofs.Shallow.{tree_not_deep}
+
+pub tree_clear : (tokens : List Lexed) (ps : List ℕ) (v : RuleValue) (w : Naming) → Derived 0 [] 0 tokens ps v w → AreClear tokens (length tokens + 1)
+tree_clear tokens ps v w d =
+    let count = length_numbers b.End tokens in
+    record {
+      not_left_out = λ i lt. not_left_out (numbers tokens) ps (tree_derives tokens ps v w d) i;
+      not_too_deep = λ i lt. tree_not_deep tokens ps v w d i (omega arith);
+    }

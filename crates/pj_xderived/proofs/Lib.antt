@@ -1,0 +1,14 @@
+pub mod Splitting
+pub mod Leading
+pub mod Valuing
+pub mod Flattening
+pub mod Shallow
+pub mod Kept
+pub mod Clear
+pub mod Places
+pub mod Takings
+pub mod Links
+pub mod Linking
+pub mod ReadsDerive
+pub mod DerivedReads
+pub mod Whole

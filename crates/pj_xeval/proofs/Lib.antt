@@ -1,0 +1,14 @@
+pub mod Arms
+pub mod Asked
+pub mod Asking
+pub mod Binding
+pub mod Fronts
+pub mod Kept
+pub mod ListGoals
+pub mod OfTree
+pub mod Scoping
+pub mod Stepping
+pub mod Steps
+pub mod Turned
+pub mod Turning
+pub mod Whole

@@ -1,0 +1,15 @@
+use Rattle.std.proofs.Common.{ℕ, List, refl, sym, ap}
+use Rattle.pj_xvalue.specs.declared.expr.Expr.{Expr}
+use Rattle.pj_xdenotes.specs.Bindings.{let_in}
+use Rattle.pj_xdenotes.specs.Parts.{bindings_of}
+use Rattle.pj_xdenotes.specs.Denotes.{denotes}
+use Rattle.pj_xeval.specs.Scopes.{variables_of}
+use Rattle.pj_xeval.proofs.Fronts.{whole}
+use Rattle.pj_xeval.proofs.bindings.let_from.Goals as goal
+
+pub returns-in-len1-up-clause-goes : goal.returns-in-len1-up-clause-goes
+returns-in-len1-up-clause-goes c = λ a reply at s. record {
+  meaning = sym (ap (λ (bs : List (List ℕ × Expr)). let_in (bindings_of (denotes a reply) bs) (denotes a reply c.args.body.now) at (variables_of s)) (whole c.args.bindings.now c.first-item.result c.in-len1-up.len_at_least c.first-item.is));
+  context = refl;
+  scope = refl;
+}

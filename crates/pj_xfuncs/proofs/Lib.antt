@@ -1,0 +1,9 @@
+pub mod FirstPlaces
+pub mod Gathering
+pub mod Meeting
+pub mod More
+pub mod OfTree
+pub mod Utf8Parts
+pub mod Parts
+pub mod PlaceFacts
+pub mod Words

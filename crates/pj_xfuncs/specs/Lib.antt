@@ -1,0 +1,12 @@
+pub mod Arguments
+pub mod Gathered
+pub mod General
+pub mod Library
+pub mod Numbers
+pub mod Patterns
+pub mod Places
+pub mod Seen
+pub mod Sequences
+pub mod Spaces
+pub mod Strings
+pub mod Translate

@@ -1,0 +1,14 @@
+pub mod Completing
+pub mod Endings
+pub mod Lifting
+pub mod Numbers
+pub mod OneOutcome
+pub mod OneRun
+pub mod Outcomes
+pub mod Reading
+pub mod RuleFacts
+pub mod SameTable
+pub mod Standing
+pub mod Tried
+pub mod Widening
+pub mod Words

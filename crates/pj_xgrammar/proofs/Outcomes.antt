@@ -1,0 +1,253 @@
+-- From how a run of the parser over terminals ends to the outcome for the tokens.
+use Rattle.std.proofs.Common.{◌≡◌, ℕ, zero, suc, ◌+◌, ◌<◌, ◌≤◌, ◌⊎◌, inl, inr, ⊎_elim, List, [], ◌∷◌, ◌++◌, map, length, take, get_or, Option, None, Some, refl, sym, ap, subst, ◌∙◌, append_assoc, arith}
+use Rattle.std.specs.Prelude.{slice_get}
+use Rattle.std.proofs.lemmas.List.{length-append}
+use Rattle.std.proofs.lemmas.Bool.{cases_lt}
+use Rattle.std.specs.Option.{option_map}
+use Rattle.std.proofs.lemmas.Option.{slice_get_within, slice_get-map, slice_get-get_or}
+use Rattle.std.proofs.Math.Seq.{take-append_seam, take-append-add}
+use Rattle.pj_ll.specs.declared.parser.End.{End}
+use Rattle.pj_ll.specs.declared.parser.End.TheVariants as e
+use Rattle.pj_ll.specs.Leads.{IsSentence}
+use Rattle.pj_ll.specs.Outcome as ll
+use Rattle.pj_ll.proofs.Composing.{behind_leads}
+use Rattle.pj_xtokens.specs.Tokens.{Lexed}
+use Rattle.pj_xgrammar.specs.declared.terminal.Behind.{Behind}
+use Rattle.pj_xgrammar.specs.declared.terminal.Behind.TheVariants as b
+use Rattle.pj_xgrammar.specs.Terminals.{first_behind, behind_of, numbers_before, numbers}
+use Rattle.pj_xgrammar.specs.XPath.{xpath_grammar}
+use Rattle.pj_xgrammar.specs.Expressions.{CanGoOn, IsWhole, CannotFollow, IsLeftOutFirst, IsTooDeepFirst, IsLeftOut, IsTooDeep, AreClear, IsOutcome, LeadTo}
+use Rattle.pj_xgrammar.specs.Following.{IsReadAt, CouldFollow}
+use Rattle.pj_xgrammar.proofs.Reading.{number, numbers_append}
+use Rattle.pj_xgrammar.proofs.Widening.{reached}
+use Rattle.pj_xgrammar.proofs.Lifting.{Goes, numbers_at, up, down, lifted}
+
+-- ---- places
+
+pub length_numbers : (end : Behind) (xs : List Lexed) → length (numbers_before end xs) ≡ length xs
+length_numbers end [] = refl
+length_numbers end (x ∷ xs) = ap suc (length_numbers end xs)
+
+take_all_of : (us vs : List ℕ) (i : ℕ) → length us ≡ i → take i (us ++ vs) ≡ us
+take_all_of us vs i is = ap (λ n. take n (us ++ vs)) (sym is) ∙ take-append_seam us vs
+
+take_one_more : {A : Type 0} (xs : List A) (x : A) (ys : List A) (i : ℕ) → length xs ≡ i → take (i + 1) (xs ++ x ∷ ys) ≡ xs ++ x ∷ []
+take_one_more xs x ys i is = ap (λ n. take (n + 1) (xs ++ x ∷ ys)) (sym is) ∙ take-append-add xs (x ∷ ys) 1
+
+-- the tokens before a place and those from there on
+record Cut (tokens : List Lexed) (i : ℕ) : Type 0 where
+  before : List Lexed
+  behind : List Lexed
+  is : tokens ≡ before ++ behind
+  at : length before ≡ i
+
+cut : (tokens : List Lexed) (i : ℕ) → i ≤ length tokens → Cut tokens i
+cut tokens zero le = record { before = []; behind = tokens; is = refl; at = refl }
+cut [] (suc i) le = absurd (omega arith)
+cut (x ∷ tokens) (suc i) le =
+    let c = cut tokens i (omega arith) in
+    record { before = x ∷ c.before; behind = c.behind; is = ap (λ l. x ∷ l) c.is; at = ap suc c.at }
+
+cut_take : (tokens : List Lexed) (i : ℕ) (c : Cut tokens i) → take i tokens ≡ c.before
+cut_take tokens i c =
+    ap (take i) c.is ∙ ap (λ n. take n (c.before ++ c.behind)) (sym c.at) ∙ take-append_seam c.before c.behind
+
+cut_numbers : (tokens : List Lexed) (i : ℕ) (c : Cut tokens i) → take i (numbers tokens) ≡ numbers_before (first_behind b.End c.behind) c.before
+cut_numbers tokens i c =
+    ap (λ l. take i (numbers l)) c.is ∙ ap (take i) (numbers_append b.End c.before c.behind)
+    ∙ take_all_of (numbers_before (first_behind b.End c.behind) c.before) (numbers c.behind) i (length_numbers (first_behind b.End c.behind) c.before ∙ c.at)
+
+-- what the terminals before a place say of the tokens
+before_goes : (tokens : List Lexed) (i : ℕ) → i ≤ length tokens → Goes (take i (numbers tokens)) → CanGoOn (take i tokens)
+before_goes tokens i le go =
+    let c = cut tokens i le in
+    subst CanGoOn (sym (cut_take tokens i c)) (lifted c.before (first_behind b.End c.behind) (subst Goes (cut_numbers tokens i c) go))
+
+-- ---- outcomes that are those of the terminals
+
+pub whole : (tokens : List Lexed) → ll.IsWhole xpath_grammar (numbers tokens) 200 → IsWhole tokens
+whole tokens w = record { expression = w.sentence; clear = subst (λ n. AreClear tokens (n + 1)) (length_numbers b.End tokens) w.clear }
+
+pub left_out : (tokens : List Lexed) (i : ℕ) → ll.IsLeftOutFirst xpath_grammar (numbers tokens) 200 i → IsLeftOutFirst tokens i
+left_out tokens i o =
+    let (t, at, it) = o.left_out in
+    let within : i < length tokens = subst (λ n. i < n) (length_numbers b.End tokens) (slice_get_within (numbers tokens) i t at) in
+    record { before = before_goes tokens i (omega arith) o.before; left_out = o.left_out; clear = o.clear }
+
+pub too_deep : (tokens : List Lexed) (i : ℕ) → ll.IsTooDeepFirst xpath_grammar (numbers tokens) 200 i → IsTooDeepFirst tokens i
+too_deep tokens i o =
+    let within : i ≤ length tokens = subst (λ n. i ≤ n) (length_numbers b.End tokens) o.within in
+    record { within = within; before = before_goes tokens i within o.before; deep = o.deep; here = o.here; clear = o.clear }
+
+-- the end cannot follow
+pub stops_at_end : (tokens : List Lexed) (i : ℕ) → ll.StopsAt xpath_grammar (numbers tokens) 200 i → length tokens ≤ i → CannotFollow tokens i
+stops_at_end tokens i o past =
+    let count = length_numbers b.End tokens in
+    let within : i ≤ length tokens = subst (λ n. i ≤ n) count o.within in
+    record {
+      within = within;
+      before = before_goes tokens i within o.before;
+      token = λ lt. absurd (omega arith);
+      at_end = λ is sentence. o.at_end (is ∙ sym count) sentence;
+      clear = o.clear;
+    }
+
+-- ---- a token that cannot follow
+
+record Place (tokens : List Lexed) (i : ℕ) (x : Lexed) : Type 0 where
+  before : List Lexed
+  behind : List Lexed
+  is : tokens ≡ before ++ x ∷ behind
+  at : length before ≡ i
+
+some_one : {A : Type 0} {x y : A} → Some x ≡ Some y → x ≡ y
+some_one e = cc
+
+place : (tokens : List Lexed) (i : ℕ) (x : Lexed) → slice_get tokens i ≡ Some x → Place tokens i x
+place [] i x there = absurd (let z = there in cc)
+place (y ∷ tokens) zero x there = record { before = []; behind = tokens; is = ap (λ z. z ∷ tokens) (some_one there); at = refl }
+place (y ∷ tokens) (suc i) x there =
+    let p = place tokens i x there in
+    record { before = y ∷ p.before; behind = p.behind; is = ap (λ l. y ∷ l) p.is; at = ap suc p.at }
+
+module _ (tokens : List Lexed) (i : ℕ) (x : Lexed) (p : Place tokens i x) where
+  us : List ℕ
+  us = numbers_before (behind_of x) p.before
+
+  here : ℕ
+  here = number x (first_behind b.End p.behind)
+
+  count_us : length us ≡ i
+  unfolding us
+  count_us = length_numbers (behind_of x) p.before ∙ p.at
+
+  all_numbers : numbers tokens ≡ us ++ here ∷ numbers p.behind
+  unfolding us here
+  all_numbers = ap numbers p.is ∙ numbers_at p.before x p.behind
+
+  numbers_to : take i (numbers tokens) ≡ us
+  numbers_to = ap (take i) all_numbers ∙ take_all_of us (here ∷ numbers p.behind) i count_us
+
+  numbers_past : take (i + 1) (numbers tokens) ≡ us ++ here ∷ []
+  numbers_past = ap (take (i + 1)) all_numbers ∙ take_one_more us here (numbers p.behind) i count_us
+
+  tokens_past : take (i + 1) tokens ≡ p.before ++ x ∷ []
+  tokens_past = ap (take (i + 1)) p.is ∙ take_one_more p.before x p.behind i p.at
+
+  is_within : i + 1 ≤ length tokens
+  is_within =
+      let count : length tokens ≡ length (p.before ++ x ∷ p.behind) = ap length p.is in
+      let parts : length (p.before ++ x ∷ p.behind) ≡ length p.before + suc (length p.behind) = length-append p.before (x ∷ p.behind) in
+      let at = p.at in
+      omega arith
+
+  -- the token could not follow whatever stood behind it
+  stops_here : ll.StopsAt xpath_grammar (numbers tokens) 200 i → (Goes (take i (numbers tokens) ++ number x b.Name ∷ []) → ⊥) → CannotFollow tokens i
+  unfolding us
+  stops_here o no_other =
+      let within = is_within in
+      record {
+        within = omega arith;
+        before = before_goes tokens i (omega arith) o.before;
+        token = λ lt go. no_other (subst (λ l. Goes (l ++ number x b.Name ∷ [])) (sym numbers_to) (down p.before x (subst CanGoOn tokens_past go)));
+        at_end = λ is. absurd (omega arith);
+        clear = o.clear;
+      }
+
+  -- the token could follow, but not before what stands behind it
+  not_before : ll.StopsAt xpath_grammar (numbers tokens) 200 i → Goes (us ++ here ∷ []) → ⊥
+  not_before o go =
+      let within = is_within in
+      let count = length_numbers b.End tokens in
+      o.terminal (omega arith) (subst Goes (sym numbers_past) go)
+
+  no_token : ll.StopsAt xpath_grammar (numbers tokens) 200 i → (behind : List Lexed) → p.behind ≡ behind → i + 1 < length tokens → CanGoOn (take (i + 1 + 1) tokens) → ⊥
+  unfolding us here
+  no_token o [] none lt go =
+      let count : length tokens ≡ length (p.before ++ x ∷ []) = ap length p.is ∙ ap (λ l. length (p.before ++ x ∷ l)) none in
+      let parts : length (p.before ++ x ∷ []) ≡ length p.before + 1 = length-append p.before (x ∷ []) in
+      let at = p.at in
+      absurd (omega arith)
+  no_token o (y ∷ behind) some lt (more, sentence) =
+      let longer : length (p.before ++ x ∷ []) ≡ i + 1 = length-append p.before (x ∷ []) ∙ ap (λ n. n + 1) p.at in
+      let all : tokens ≡ (p.before ++ x ∷ []) ++ y ∷ behind = p.is ∙ ap (λ l. p.before ++ x ∷ l) some ∙ sym (append_assoc p.before (x ∷ []) (y ∷ behind)) in
+      let first : take (i + 1 + 1) tokens ≡ (p.before ++ x ∷ []) ++ y ∷ [] = ap (take (i + 1 + 1)) all ∙ take_one_more (p.before ++ x ∷ []) y behind (i + 1) longer in
+      let flat : ((p.before ++ x ∷ []) ++ y ∷ []) ++ more ≡ p.before ++ x ∷ (y ∷ more) =
+      append_assoc (p.before ++ x ∷ []) (y ∷ []) more ∙ append_assoc p.before (x ∷ []) (y ∷ more) in
+      let read : numbers (take (i + 1 + 1) tokens ++ more) ≡ (us ++ number x (behind_of y) ∷ []) ++ numbers (y ∷ more) =
+      ap (λ l. numbers (l ++ more)) first ∙ ap numbers flat ∙ numbers_at p.before x (y ∷ more)
+      ∙ sym (append_assoc us (number x (behind_of y) ∷ []) (numbers (y ∷ more))) in
+      let same : here ≡ number x (behind_of y) = ap (λ l. number x (first_behind b.End l)) some in
+      not_before o (subst (λ t. Goes (us ++ t ∷ [])) (sym same) (numbers (y ∷ more), subst (IsSentence xpath_grammar) read sentence))
+
+  clear_further : ll.StopsAt xpath_grammar (numbers tokens) 200 i → AreClear tokens (i + 1 + 1)
+  clear_further o = record {
+    not_left_out = λ j lt out. ⊎_elim (λ (below : j < i + 1). o.clear.not_left_out j below out) (λ (is : j ≡ i + 1). left_out_no j is out) (below_or j lt);
+    not_too_deep = λ j lt deep. ⊎_elim (λ (below : j < i + 1). o.clear.not_too_deep j below deep) (λ (is : j ≡ i + 1). too_deep_no j is deep) (below_or j lt);
+  }
+    where
+      below_or : (j : ℕ) → j < i + 1 + 1 → (j < i + 1) ⊎ (j ≡ i + 1)
+      below_or j lt = ⊎_elim (λ (h : j < i + 1). inl h) (λ (h : i + 1 ≤ j). inr (let e : j ≡ i + 1 = omega arith in e)) (cases_lt j (i + 1))
+
+      left_out_no : (j : ℕ) → j ≡ i + 1 → IsLeftOut tokens j → ⊥
+      left_out_no j is (t, at, (ps, (ss, d))) =
+          not_before o (subst Goes (ap (λ n. take n (numbers tokens)) is ∙ numbers_past) (reached (take j (numbers tokens)) ps _ d))
+
+      too_deep_no : (j : ℕ) → j ≡ i + 1 → IsTooDeep tokens j → ⊥
+      too_deep_no j is (ps, (ss, stands, deeper)) =
+          not_before o (subst Goes (ap (λ n. take n (numbers tokens)) is ∙ numbers_past) (reached (take j (numbers tokens)) ps ss (behind_leads xpath_grammar stands)))
+
+  stops_behind : ll.StopsAt xpath_grammar (numbers tokens) 200 i → Goes (take i (numbers tokens) ++ number x b.Name ∷ []) → CannotFollow tokens (i + 1)
+  unfolding us
+  stops_behind o other =
+      record {
+        within = is_within;
+        before = subst CanGoOn (sym tokens_past) (up p.before x (subst (λ l. Goes (l ++ number x b.Name ∷ [])) numbers_to other));
+        token = λ lt go. no_token o p.behind refl lt go;
+        at_end = λ is sentence. not_before o (
+          numbers p.behind,
+          subst (IsSentence xpath_grammar) (all_numbers ∙ sym (append_assoc us (here ∷ []) (numbers p.behind))) sentence,
+        );
+        clear = clear_further o;
+      }
+
+-- ---- the outcome that is given
+
+-- where the run did not stop, it is that of the run
+pub not_stopped : (tokens : List Lexed) (end : End) → ((i : ℕ) → end ≡ e.Stops i → ⊥) → ll.IsEnd xpath_grammar (numbers tokens) 200 end → IsOutcome tokens end
+not_stopped tokens e.Whole other o = whole tokens o
+not_stopped tokens (e.Stops i) other o = absurd (other i refl)
+not_stopped tokens (e.LeftOut i) other o = left_out tokens i o
+not_stopped tokens (e.TooDeep i) other o = too_deep tokens i o
+
+pub stopped_here : (tokens : List Lexed) (i : ℕ) (x : Lexed) → slice_get tokens i ≡ Some x → ll.StopsAt xpath_grammar (numbers tokens) 200 i →
+    (CouldFollow (numbers tokens) i x → ⊥) → CannotFollow tokens i
+stopped_here tokens i x at o other = stops_here tokens i x (place tokens i x at) o other
+
+pub stopped_behind : (tokens : List Lexed) (i : ℕ) (x : Lexed) → slice_get tokens i ≡ Some x → ll.StopsAt xpath_grammar (numbers tokens) 200 i →
+    CouldFollow (numbers tokens) i x → CannotFollow tokens (i + 1)
+stopped_behind tokens i x at o could = stops_behind tokens i x (place tokens i x at) o could
+
+-- a token is read before what stands behind it
+pub read_at : (tokens : List Lexed) (i : ℕ) (x : Lexed) → slice_get tokens i ≡ Some x → IsReadAt (numbers tokens) i x
+read_at [] i x at = absurd (let z = at in cc)
+read_at (y ∷ tokens) zero x at = (first_behind b.End tokens, ap (λ o. read_of o) at)
+  where
+    read_of : Option Lexed → Option ℕ
+    read_of None = None
+    read_of (Some z) = Some (number z (first_behind b.End tokens))
+read_at (y ∷ tokens) (suc i) x at = read_at tokens i x at
+
+-- the productions are those of the run
+pub same_leads : (tokens : List Lexed) (ps : List ℕ) (end : End) → ll.LeadTo xpath_grammar (numbers tokens) ps end → LeadTo tokens ps end
+same_leads tokens ps e.Whole d = d
+same_leads tokens ps (e.Stops i) d = (i, omega arith, omega arith, d)
+same_leads tokens ps (e.LeftOut i) d = d
+same_leads tokens ps (e.TooDeep i) d = d
+
+pub leads_before : (tokens : List Lexed) (ps : List ℕ) (i : ℕ) → ll.LeadTo xpath_grammar (numbers tokens) ps (e.Stops i) → LeadTo tokens ps (e.Stops (i + 1))
+leads_before tokens ps i d = (i, omega arith, omega arith, d)
+
+-- an element of a list that is there, mapped
+pub mapped_at : {A : Type 0} (f : A → Lexed) (xs : List A) (i : ℕ) (x : A) → i < length xs → x ≡ get_or xs i x → slice_get (map f xs) i ≡ Some (f x)
+mapped_at f xs i x lt is = slice_get-map f xs i ∙ ap (option_map f) (slice_get-get_or xs i x lt ∙ ap Some (sym is))

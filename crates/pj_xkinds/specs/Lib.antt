@@ -1,0 +1,2 @@
+-- what derived expressions want of their tokens
+pub mod WellSpelled

@@ -1,0 +1,100 @@
+//! The expression of a derivation.
+
+ghost use Rattle.std.specs.Prelude.{◌≡◌, map, IfOk, OnOk};
+ghost use Rattle.std.specs.Str.{chars, encode_utf8_all};
+ghost use Rattle.pj_xtokens.specs.Answer.{lexed_of};
+ghost use Rattle.pj_xmeaning.specs.Trees.{tree_of};
+ghost use Rattle.pj_xmeaning.specs.Parts.{value_of, values_of};
+ghost use Rattle.pj_xmeaning.specs.Values.{made, left, acted};
+ghost use Rattle.pj_xmeaning.specs.Meaning.{first_text, meaning};
+
+use crate::action::Action;
+use crate::beginning::beginnings;
+use crate::change::{change, single};
+use crate::clause::{binding, bound, choice};
+use crate::leaf::leaf;
+use crate::made::action_of;
+use crate::operation::operation;
+use crate::part::Part;
+use crate::parts::{put, take};
+use crate::rest::rest;
+use crate::step::step;
+use pj_base::NoMemory;
+use pj_xtokens::Token;
+use pj_xvalue::Expr;
+use std::alloc::Global;
+
+/// What the action makes of the first values and the token with these characters.
+fn made(alloc: Global, action: Action, text: &str, parts: &mut Vec<Part>) -> Result<Part, NoMemory>
+    ensures value { IfOk result (λ part. value_of part ≡ made action text.now (values_of parts.old.items)) }
+    ensures others { values_of parts.new.items ≡ left action (values_of parts.old.items) }
+{
+    match action {
+        Action::Leaf(action) => leaf(alloc, action, text),
+        Action::Change(action) => change(alloc, action, text, take(parts)),
+        Action::Single(action) => Ok(Part::One(single(alloc, action, text, take(parts))?)),
+        Action::Rest(action) => rest(alloc, action, take(parts), take(parts)),
+        Action::Operation(action) => {
+            let (operand, behind) = (take(parts), take(parts));
+            Ok(Part::One(operation(alloc, action, operand, behind)?))
+        }
+        Action::Binder(action) => {
+            let (bindings, body) = (take(parts), take(parts));
+            Ok(Part::One(bound(alloc, action, bindings, body)?))
+        }
+        Action::Step(action) => {
+            let (first, behind) = (take(parts), take(parts));
+            Ok(Part::One(step(alloc, action, text, first, behind)?))
+        }
+        Action::If => {
+            let (test, chosen, other) = (take(parts), take(parts), take(parts));
+            Ok(Part::One(choice(alloc, test, chosen, other)?))
+        }
+        Action::Binding => {
+            let (name, value, others) = (take(parts), take(parts), take(parts));
+            binding(alloc, name, value, others)
+        }
+    }
+}
+
+/// Puts what the action makes of the first values in their place.
+fn act(alloc: Global, action: Action, text: &str, parts: &mut Vec<Part>) -> Result<(), NoMemory>
+    ensures { OnOk result (values_of parts.new.items ≡ acted action text.now (values_of parts.old.items)) }
+{
+    let part = made(alloc, action, text, parts)?;
+    put(parts, part)
+}
+
+/// The text, whose bytes are those of its characters.
+fn as_written(text: &str) -> &str
+    ensures { result.now ≡ encode_utf8_all (chars text.now) }
+{
+    text
+}
+
+/// The characters of the first token; where there is none, no characters.
+fn first_text<'t>(tokens: &[Token<'t>]) -> &'t str
+    ensures { result.now ≡ first_text (map lexed_of tokens.now) }
+{
+    match tokens {
+        [token, ..] => as_written(token.text),
+        [] => "",
+    }
+}
+
+/// The expression that the tokens spell by a leftmost derivation.
+pub fn meaning(alloc: Global, productions: &[u16], tokens: &[Token<'_>]) -> Result<Expr, NoMemory>
+    ensures { IfOk result (λ expr. tree_of expr ≡ meaning productions.now (map lexed_of tokens.now)) }
+{
+    let mut steps = beginnings(alloc, productions, tokens)?;
+    let mut parts = Vec::new(alloc);
+    'steps: while let Some(step) = steps.pop() {
+        act(
+            alloc,
+            action_of(step.production),
+            first_text(step.from),
+            &mut parts,
+        )?;
+    }
+    Ok(take(&mut parts).into_expr(alloc))
+}

@@ -1,0 +1,5 @@
+pub mod Lists
+pub mod Values
+pub mod Calls
+pub mod Scopes
+pub mod Counts

@@ -1,0 +1,3 @@
+-- what a text spells, and its first fault
+pub mod Spells
+pub mod Faults

@@ -1,0 +1,11 @@
+-- proofs of the laws of shapes
+pub mod Layers
+pub mod Nodes
+pub mod Fitted
+pub mod Bound
+pub mod Seen
+pub mod LayerForms
+pub mod SameShape
+pub mod Within
+pub mod Least
+pub mod Grows

@@ -1,0 +1,4 @@
+-- what the trees of expressions look like
+pub mod Shapes
+pub mod Nesting
+pub mod Spelled

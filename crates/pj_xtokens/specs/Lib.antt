@@ -1,0 +1,12 @@
+-- the definition of tokens
+pub mod Answer
+pub mod Characters
+pub mod Gaps
+pub mod Pattern
+pub mod Rules
+pub mod Signs
+pub mod Size
+pub mod Tokens
+-- private clauses alone cite these: what the scanner computes
+pub mod Scanning
+pub mod States

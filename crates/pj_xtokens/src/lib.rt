@@ -1,0 +1,18 @@
+//! The tokens of an XPath expression.
+//!
+//! `tokens` gives them by the grammar of XPath 2.0, A.2, with the signs that XPath 3.1 adds, up to the end of the text or
+//! up to the first place where no token begins. A keyword is a name here: where it stands tells it apart.
+#![tactic(auto)]
+
+mod characters;
+mod gap;
+mod laws;
+mod scan;
+mod state;
+mod text;
+mod token;
+mod token_list;
+
+pub use laws::tokens_are_one;
+pub use token::{End, Sign, Token, TokenKind};
+pub use token_list::{TokenList, tokens};

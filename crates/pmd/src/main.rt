@@ -1,0 +1,98 @@
+//! The program: `pmd check -d SOURCES -R RULESETS` over the real file system.
+#![tactic(auto)]
+
+ghost use Rattle.std.specs.Prelude.{◌≡◌, ◌≢◌, IfSome};
+ghost use Rattle.pj_check.specs.Notes.{GetNote, note_of};
+ghost use Rattle.pj_check.specs.Outcome.{CountsSinkFaults, CountsTreeFaults, KeepsSink, Says, SaysOfWords};
+
+mod real_class_path;
+mod real_file;
+mod real_keeper;
+mod real_sink;
+mod real_tree;
+#[cfg(test)]
+mod tests;
+
+use pj_base::{Text, Words};
+use pj_check::{Outcome, check_alone, put_outcome};
+use pj_outside::{ClassPath, Keeper, Sink, Tree};
+use pj_settings::UsageFault;
+use pj_workers::Work;
+use real_class_path::RealClassPath;
+use real_keeper::RealKeeper;
+use real_sink::RealSink;
+use real_tree::RealTree;
+use std::alloc::Global;
+use std::env::Env;
+use std::process::ExitCode;
+use std::{env, io, process};
+
+/// The top call: the cold run on one thread.
+fn run<T: Tree, C: ClassPath, K: Keeper, S: Sink, N: Sink>(
+    alloc: Global,
+    words: &Words,
+    tree: &mut T,
+    classes: &mut C,
+    keeper: &mut K,
+    out: &mut S,
+    notes: &mut N,
+    work: &mut Work,
+) -> Outcome
+    ensures says { IfSome (T.holds tree.old) (λ held. Says result words.now held (S.held out.old) (S.held out.new) work.old work.new) }
+    ensures of_words { SaysOfWords result words.now }
+    ensures keeps_sink { KeepsSink result (S.held out.old) (S.held out.new) }
+    ensures notes { GetNote (note_of result) (N.held notes.old) (N.held notes.new) (N.faults notes.old) (N.faults notes.new) }
+    ensures same_files { T.holds tree.new ≡ T.holds tree.old }
+    ensures tree_faults { CountsTreeFaults result (T.faults tree.old) (T.faults tree.new) }
+    ensures steady { T.never_fails tree.old → result ≢ Outcome.TreeFault }
+    ensures sink_faults { CountsSinkFaults result (S.faults out.old) (S.faults out.new) }
+    ensures same_classes { classes.new ≡ classes.old }
+    ensures same_keeper { keeper.new ≡ keeper.old }
+    ensures reused { work.new.reused ≡ work.old.reused }
+{
+    check_alone(alloc, words, tree, classes, keeper, out, notes, work)
+}
+
+/// The words behind the program's name. One that is not UTF-8 makes them no line.
+fn read_words(rt: &(impl Env + AllocGlobal)) -> Result<Words, Outcome> {
+    let args = env::args(rt).map_err(|error| match error.kind() {
+        io::ErrorKind::InvalidData => Outcome::Usage(UsageFault::Line),
+        _ => Outcome::Memory,
+    })?;
+    let mut words = Words::new(rt.alloc());
+    for arg in args.skip(1) {
+        if words.push(Text::from_string(arg)).is_err() {
+            return Err(Outcome::Memory);
+        }
+    }
+    Ok(words)
+}
+
+fn main(rt: HostRuntime) -> ExitCode {
+    let mut notes = RealSink::new(rt.stderr());
+    let words = match read_words(&rt) {
+        Ok(words) => words,
+        Err(outcome) => {
+            put_outcome(&mut notes, &outcome);
+            return ExitCode::from(outcome.status());
+        }
+    };
+    let alloc = rt.alloc();
+    let mut tree = RealTree::new(rt);
+    // The cold run looks for no class and keeps nothing: these two are not called.
+    let mut classes = RealClassPath::new(rt);
+    let mut keeper = RealKeeper::new(rt, process::id(rt.process()));
+    let mut out = RealSink::new(io::writer(&rt));
+    let mut work = Work::new(alloc);
+    let outcome = run(
+        alloc,
+        &words,
+        &mut tree,
+        &mut classes,
+        &mut keeper,
+        &mut out,
+        &mut notes,
+        &mut work,
+    );
+    ExitCode::from(outcome.status())
+}

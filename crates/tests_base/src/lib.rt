@@ -1,0 +1,15 @@
+//! Tests of the lowest crates, through what they show: worked rows in tables, each with one loop.
+#![tactic(auto)]
+
+#[cfg(test)]
+mod base;
+#[cfg(test)]
+mod fixtures;
+#[cfg(test)]
+mod keepers;
+#[cfg(test)]
+mod names;
+#[cfg(test)]
+mod outside;
+#[cfg(test)]
+mod types;

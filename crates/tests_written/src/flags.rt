@@ -1,0 +1,108 @@
+//! Access flags, by the tables of JVMS 4.1, 4.5 and 4.6.
+
+use crate::read::{Sort, check};
+use pj_tree::Kind;
+use std::test::Fail;
+
+#[test]
+fn of_classes(rt: HostRuntime) -> Result<(), Fail> {
+    check(
+        &rt,
+        rt.alloc(),
+        Sort::ClassFlags,
+        Kind::ClassDeclaration,
+        &[
+            ("class A { }", "32"),
+            ("public class A { }", "33"),
+            ("public final class A { }", "49"),
+            ("abstract class A { }", "1056"),
+            ("strictfp class A { }", "32"),
+            ("interface I { }", "1536"),
+            ("abstract interface I { }", "1536"),
+            ("public interface I { }", "1537"),
+        ],
+    )?;
+    check(
+        &rt,
+        rt.alloc(),
+        Sort::ClassFlags,
+        Kind::AnnotationTypeDeclaration,
+        &[
+            ("@interface N { }", "9728"),
+            ("public abstract @interface N { }", "9729"),
+        ],
+    )?;
+    check(
+        &rt,
+        rt.alloc(),
+        Sort::ClassFlags,
+        Kind::EnumDeclaration,
+        &[
+            ("enum E { X }", "16416"),
+            ("public enum E { X { } }", "16417"),
+        ],
+    )?;
+    check(
+        &rt,
+        rt.alloc(),
+        Sort::ClassFlags,
+        Kind::RecordDeclaration,
+        &[
+            ("record R() { }", "32"),
+            ("final record R(int a) { }", "48"),
+        ],
+    )
+}
+
+#[test]
+fn of_fields(rt: HostRuntime) -> Result<(), Fail> {
+    check(
+        &rt,
+        rt.alloc(),
+        Sort::FieldFlags,
+        Kind::FieldDeclaration,
+        &[
+            ("class A { int f; }", "0"),
+            ("class A { private static final int f = 1; }", "26"),
+            ("class A { public int f; }", "1"),
+            ("class A { protected volatile int f; }", "68"),
+            ("class A { transient int f; }", "128"),
+            ("class A { final @N int f = 1; }", "16"),
+            ("interface I { int F = 1; }", "0"),
+        ],
+    )
+}
+
+#[test]
+fn of_methods(rt: HostRuntime) -> Result<(), Fail> {
+    check(
+        &rt,
+        rt.alloc(),
+        Sort::MethodFlags,
+        Kind::MethodDeclaration,
+        &[
+            ("class A { void f() { } }", "0"),
+            ("class A { public synchronized native void f(); }", "289"),
+            ("class A { void f(int... a) { } }", "128"),
+            ("class A { void f(int a, String @N ... b) { } }", "128"),
+            (
+                "class A { protected abstract void f(A this, int[]... a); }",
+                "1156",
+            ),
+            ("class A { void f(int[] a) { } }", "0"),
+            ("class A { void f(A this) { } }", "0"),
+            ("class A { static final strictfp void f() { } }", "24"),
+            ("interface I { default void f() { } }", "0"),
+        ],
+    )?;
+    check(
+        &rt,
+        rt.alloc(),
+        Sort::MethodFlags,
+        Kind::ConstructorDeclaration,
+        &[
+            ("class A { private A(int... a) { } }", "130"),
+            ("class A { A() { } }", "0"),
+        ],
+    )
+}

@@ -1,0 +1,183 @@
+//! Functions of strings, by hand from the standard.
+
+use crate::rows::check;
+use std::test::Fail;
+
+#[test]
+fn parts(rt: HostRuntime) -> Result<(), Fail> {
+    check(
+        &rt,
+        rt.alloc(),
+        &[
+            ("contains('tattoo', 't')", "true"),
+            ("contains('tattoo', 'ttt')", "false"),
+            ("contains('', ())", "true"),
+            ("contains('', 'a')", "false"),
+            ("contains('a', '')", "true"),
+            ("contains((), ())", "true"),
+            ("contains('ä€😀', '€')", "true"),
+            ("contains('ä€😀', '😁')", "false"),
+            ("contains('aaab', 'aab')", "true"),
+            ("contains(1, 'a')", "XPTY0004"),
+            ("contains('a', true())", "XPTY0004"),
+            ("contains(('a', 'b'), 'a')", "XPTY0004"),
+            ("contains(., 'a')", "FOTY0012"),
+            ("contains('a', /)", "FOTY0012"),
+            ("contains(1, .)", "XPTY0004"),
+            ("contains(('a', .), 1)", "FOTY0012"),
+            ("starts-with('tattoo', 'tat')", "true"),
+            ("starts-with('tattoo', 'att')", "false"),
+            ("starts-with('', '')", "true"),
+            ("starts-with((), 'a')", "false"),
+            ("starts-with('a', ())", "true"),
+            ("starts-with('€uro', '€')", "true"),
+            ("starts-with('a', 'ab')", "false"),
+            ("starts-with(true(), 'a')", "XPTY0004"),
+            ("starts-with('a', 1)", "XPTY0004"),
+            ("ends-with('tattoo', 'too')", "true"),
+            ("ends-with('tattoo', 'tattoo')", "true"),
+            ("ends-with('tattoo', 'atto')", "false"),
+            ("ends-with('', '')", "true"),
+            ("ends-with('a', ())", "true"),
+            ("ends-with((), 'a')", "false"),
+            ("ends-with('x😀', '😀')", "true"),
+            ("ends-with('a', 'ba')", "false"),
+            ("ends-with(., 'a')", "FOTY0012"),
+            ("substring-before('tattoo', 'attoo')", "'t'"),
+            ("substring-before('tattoo', 'tatto')", "''"),
+            ("substring-before('tattoo', 'x')", "''"),
+            ("substring-before('abc', '')", "''"),
+            ("substring-before('ä€😀', '😀')", "'ä€'"),
+            ("substring-before((), 'a')", "''"),
+            ("substring-before(1, 'a')", "XPTY0004"),
+            ("substring-after('tattoo', 'tat')", "'too'"),
+            ("substring-after('tattoo', 'tattoo')", "''"),
+            ("substring-after('tattoo', 'x')", "''"),
+            ("substring-after('abc', '')", "'abc'"),
+            ("substring-after('ä€😀z', '€')", "'😀z'"),
+            ("substring-after('abab', 'b')", "'ab'"),
+            ("substring-after('a', .)", "FOTY0012"),
+        ],
+    )
+}
+
+#[test]
+fn places(rt: HostRuntime) -> Result<(), Fail> {
+    check(
+        &rt,
+        rt.alloc(),
+        &[
+            ("substring('motor car', 6)", "' car'"),
+            ("substring('metadata', 4, 3)", "'ada'"),
+            ("substring('12345', 0, 3)", "'12'"),
+            ("substring('12345', 5, -3)", "''"),
+            ("substring('12345', -3, 5)", "'1'"),
+            ("substring('12345', 1, 0)", "''"),
+            ("substring('12345', 0)", "'12345'"),
+            ("substring('12345', -10)", "'12345'"),
+            ("substring('12345', 5)", "'5'"),
+            ("substring('12345', 6)", "''"),
+            ("substring('12345', 2, 100)", "'2345'"),
+            ("substring('12345', 9223372036854775807)", "''"),
+            (
+                "substring('12345', 9223372036854775807, 9223372036854775807)",
+                "''",
+            ),
+            ("substring('12345', -9223372036854775807)", "'12345'"),
+            (
+                "substring('12345', -9223372036854775807, 9223372036854775807)",
+                "''",
+            ),
+            ("substring('12345', -5, 9223372036854775807)", "'12345'"),
+            ("substring('12345', 2, 9223372036854775807)", "'2345'"),
+            ("substring('12345', 3, -9223372036854775807)", "''"),
+            ("substring('ä€😀z', 2, 2)", "'€😀'"),
+            ("substring('ä€😀z', 4)", "'z'"),
+            ("substring((), 1, 3)", "''"),
+            ("substring('', 1)", "''"),
+            ("substring('a', '1')", "XPTY0004"),
+            ("substring('a', ())", "XPTY0004"),
+            ("substring('a', (1, 2))", "XPTY0004"),
+            ("substring(1, 1)", "XPTY0004"),
+            ("substring('a', 1, true())", "XPTY0004"),
+            ("substring(., 1)", "FOTY0012"),
+            ("substring('a', .)", "FOTY0012"),
+            ("substring('a', 'b', .)", "XPTY0004"),
+            ("string-length('Harp')", "4"),
+            ("string-length('')", "0"),
+            ("string-length(())", "0"),
+            ("string-length('ä€😀')", "3"),
+            ("string-length(12)", "XPTY0004"),
+            ("string-length(('a', 'b'))", "XPTY0004"),
+            ("string-length(.)", "FOTY0012"),
+            ("string-length()", "XPTY0004"),
+        ],
+    )
+}
+
+#[test]
+fn whole_strings(rt: HostRuntime) -> Result<(), Fail> {
+    check(
+        &rt,
+        rt.alloc(),
+        &[
+            (
+                "normalize-space('  The  wealthy \t\r\n curled  ')",
+                "'The wealthy curled'",
+            ),
+            ("normalize-space('')", "''"),
+            ("normalize-space('   ')", "''"),
+            ("normalize-space('a')", "'a'"),
+            ("normalize-space(' a')", "'a'"),
+            ("normalize-space('a ')", "'a'"),
+            ("normalize-space('a  b')", "'a b'"),
+            ("normalize-space('€ \u{a0} 😀')", "'€ \u{a0} 😀'"),
+            ("normalize-space('a\u{b}b')", "'a\u{b}b'"),
+            ("normalize-space(())", "''"),
+            ("normalize-space(1)", "XPTY0004"),
+            ("normalize-space(/)", "FOTY0012"),
+            ("upper-case('abCd0')", "'ABCD0'"),
+            ("upper-case('straße é')", "'STRAßE é'"),
+            ("upper-case('`az{')", "'`AZ{'"),
+            ("upper-case(())", "''"),
+            ("upper-case(true())", "XPTY0004"),
+            ("lower-case('ABc!D')", "'abc!d'"),
+            ("lower-case('ÄÖ@AZ[')", "'ÄÖ@az['"),
+            ("lower-case('')", "''"),
+            ("lower-case(('A', 'B'))", "XPTY0004"),
+            ("lower-case(.)", "FOTY0012"),
+            ("translate('bar', 'abc', 'ABC')", "'BAr'"),
+            ("translate('--aaa--', 'abc-', 'ABC')", "'AAA'"),
+            ("translate('abcdabc', 'abc', 'AB')", "'ABdAB'"),
+            ("translate('aaa', 'aa', 'xy')", "'xxx'"),
+            ("translate('abc', '', 'x')", "'abc'"),
+            ("translate('abc', 'abc', '')", "''"),
+            ("translate('ä€😀', '€😀', '😀e')", "'ä😀e'"),
+            ("translate('abc', 'b', 'xyz')", "'axc'"),
+            ("translate((), 'a', 'b')", "''"),
+            ("translate('a', (), 'b')", "XPTY0004"),
+            ("translate('a', 'a', ())", "XPTY0004"),
+            ("translate('a', 1, 'b')", "XPTY0004"),
+            ("translate('a', 'a', .)", "FOTY0012"),
+            ("translate(., 1, 2)", "FOTY0012"),
+            ("translate(1, ., 2)", "XPTY0004"),
+        ],
+    )
+}
+
+#[test]
+fn maps_of_characters(rt: HostRuntime) -> Result<(), Fail> {
+    check(
+        &rt,
+        rt.alloc(),
+        &[
+            ("translate('hello', 'olhe', '1234')", "'34221'"),
+            ("translate('hello', 'llo', 'xyz')", "'hexxz'"),
+            ("translate('hello', 'lxl', '1')", "'he11o'"),
+            ("translate('hello', 'xl', '1')", "'heo'"),
+            ("translate('zyxz', 'zyx', 'xzy')", "'xzyx'"),
+            ("translate('', 'abc', 'xyz')", "''"),
+            ("translate('a€ä😀', '😀ä€', 'ä€')", "'a€ä'"),
+        ],
+    )
+}
