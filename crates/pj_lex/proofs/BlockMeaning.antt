@@ -3,7 +3,7 @@ use Rattle.std.proofs.Common.{◌≡◌, refl}
 use Rattle.pj_lex.specs.Rules.{rules}
 use Rattle.pj_lex.specs.States.{spelled, block_step, block_spelled}
 use Rattle.pj_lex.specs.declared.state.State.TheVariants as s
-use Rattle.pj_lex.proofs.Patterns.{spells_none}
+use Rattle.pj_patterns.specs.Derivatives.{spells_none}
 use Rattle.pj_lex.specs.declared.text_block.BlockState.{BlockState}
 use Rattle.pj_lex.specs.declared.text_block.BlockState.TheVariants as block
 use Rattle.pj_lex.proofs.Meaning.{meaning, left_behind, led_to, left_wide, led_wide}

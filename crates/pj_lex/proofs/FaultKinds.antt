@@ -17,11 +17,11 @@ is_known (Number k) = true
 is_known (Token k) = true
 is_known Greater = true
 
-all_known : list_all (λ (r : Rule). is_known r.category) rules ≡ true
+all_known : list_all (λ (r : Rule). is_known r.kind) rules ≡ true
 unfolding rules
 all_known = refl
 
-first_known : (rs : List Rule) (w : List ℕ) (s : Category) → list_all (λ (r : Rule). is_known r.category) rs ≡ true → FirstOf rs w s → is_known s ≡ true
+first_known : (rs : List Rule) (w : List ℕ) (s : Category) → list_all (λ (r : Rule). is_known r.kind) rs ≡ true → FirstOf rs w s → is_known s ≡ true
 first_known [] w s h f = absurd f
 first_known (r ∷ rs) w s h (inl (m, e)) = let a = and_parts _ _ h in ap is_known e ∙ a.0
 first_known (r ∷ rs) w s h (inr (n, f)) = let a = and_parts _ _ h in first_known rs w s a.1 f

@@ -2,7 +2,7 @@
 use Rattle.std.proofs.Common.{◌≡◌, ℕ, Bool, true, false, cond, List, [], ◌∷◌, Option, Some, None, sym, refl, ap, ◌∙◌, subst}
 use Rattle.pj_lex.specs.Characters.{CharSet, holds}
 use Rattle.pj_lex.specs.Pattern.{Pattern, Nothing}
-use Rattle.pj_lex.specs.Rules.{Rule, rule, rules, FirstOf, is_fault, token_rules}
+use Rattle.pj_lex.specs.Rules.{Rule, rules, FirstOf, is_fault, token_rules}
 use Rattle.pj_lex.specs.States.{step}
 use Rattle.pj_lex.specs.declared.category.Category.{Category}
 use Rattle.pj_lex.specs.declared.state.State.{State}
@@ -25,7 +25,8 @@ use Rattle.pj_lex.specs.declared.comment.CommentState.{CommentState}
 use Rattle.pj_lex.specs.declared.comment.CommentState.TheVariants as comment
 use Rattle.pj_lex.proofs.Follows.{goes_on}
 use Rattle.pj_lex.proofs.Meaning.{meaning, meaning_of}
-use Rattle.pj_lex.proofs.Patterns.{derive, derive_rules, keep, spells_none, first_of_from, first_of_to, spelled_from, spelled_to}
+use Rattle.pj_patterns.specs.Derivatives.{derive, derive_rules, keep, spells_none}
+use Rattle.pj_patterns.proofs.Derived.{first_of_from, first_of_to, spelled_from, spelled_to}
 
 abbrev first_some : Option Category → Option Category → Option Category
 first_some None o = o
@@ -198,16 +199,16 @@ tokens_keep : (c : Category) (p : Pattern) (rs : List Rule) → token_rules (kee
 tokens_keep c Nothing rs = sym (either_way (is_fault c) (token_rules rs))
 tokens_keep c p rs = refl
 
-derive_choice : (is : CharSet → Bool) (b : Bool) (r : Rule) (rs : List Rule) → cond b (derive_rules is rs) (keep r.category (derive is r.pattern) (derive_rules is rs)) ≡ derive_rules is (cond b rs (r ∷ rs))
+derive_choice : (is : CharSet → Bool) (b : Bool) (r : Rule) (rs : List Rule) → cond b (derive_rules is rs) (keep r.kind (derive is r.pattern) (derive_rules is rs)) ≡ derive_rules is (cond b rs (r ∷ rs))
 derive_choice is true r rs = refl
 derive_choice is false r rs = refl
 
 tokens_derive : (is : CharSet → Bool) (rs : List Rule) → token_rules (derive_rules is rs) ≡ derive_rules is (token_rules rs)
 tokens_derive is [] = refl
 tokens_derive is (r ∷ rs) =
-    tokens_keep r.category (derive is r.pattern) (derive_rules is rs)
-    ∙ ap (λ (x : List Rule). cond (is_fault r.category) x (keep r.category (derive is r.pattern) x)) (tokens_derive is rs)
-    ∙ derive_choice is (is_fault r.category) r (token_rules rs)
+    tokens_keep r.kind (derive is r.pattern) (derive_rules is rs)
+    ∙ ap (λ (x : List Rule). cond (is_fault r.kind) x (keep r.kind (derive is r.pattern) x)) (tokens_derive is rs)
+    ∙ derive_choice is (is_fault r.kind) r (token_rules rs)
 
 -- behind any word
 behind_step : (o : Option State) (v : List ℕ) (c : Category) → ((q : State) → FirstOf (token_rules (meaning q)) v c → FirstOf (meaning q) v c) → FirstOf (token_rules (meaning_of o)) v c → FirstOf (meaning_of o) v c
@@ -215,14 +216,14 @@ behind_step None v c go f = f
 behind_step (Some q) v c go f = go q f
 
 all_keep : (w : List ℕ) (q : State) (c : Category) → FirstOf (token_rules (meaning q)) w c → FirstOf (meaning q) w c
-all_keep [] q c f = spelled_to (meaning q) c (kept q c (spelled_from (token_rules (meaning q)) c f))
+all_keep [] q c f = spelled_to holds (meaning q) c (kept q c (spelled_from holds (token_rules (meaning q)) c f))
 all_keep (d ∷ w) q c f =
     let is : CharSet → Bool = λ s. holds s d in
-    let behind : FirstOf (derive_rules is (token_rules (meaning q))) w c = first_of_from d (token_rules (meaning q)) w c f in
+    let behind : FirstOf (derive_rules is (token_rules (meaning q))) w c = first_of_from holds d (token_rules (meaning q)) w c f in
     let tokens : FirstOf (token_rules (meaning_of (step is q))) w c =
     subst (λ (rs : List Rule). FirstOf rs w c) (sym (tokens_derive is (meaning q)) ∙ ap token_rules (goes_on d q)) behind in
     let all : FirstOf (meaning_of (step is q)) w c = behind_step (step is q) w c (λ r g. all_keep w r c g) tokens in
-    first_of_to d (meaning q) w c (subst (λ (rs : List Rule). FirstOf rs w c) (sym (goes_on d q)) all)
+    first_of_to holds d (meaning q) w c (subst (λ (rs : List Rule). FirstOf rs w c) (sym (goes_on d q)) all)
 
 pub faults_take_nothing : (w : List ℕ) (c : Category) → FirstOf (token_rules rules) w c → FirstOf rules w c
 unfolding meaning

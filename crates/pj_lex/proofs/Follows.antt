@@ -10,7 +10,7 @@ use Rattle.pj_lex.specs.Rules.{Rule, rules}
 use Rattle.pj_lex.specs.States.{step, spelled, first_step}
 use Rattle.pj_lex.specs.declared.state.State.{State}
 use Rattle.pj_lex.specs.declared.state.State.TheVariants as s
-use Rattle.pj_lex.proofs.Patterns.{derive_rules, spells_none}
+use Rattle.pj_patterns.specs.Derivatives.{derive_rules, spells_none}
 use Rattle.pj_lex.proofs.Meaning.{ascii, wide, meaning, meaning_of, table, four, left_behind, led_to, left_wide, led_wide}
 use Rattle.pj_lex.proofs.SignMeaning.{sign_goes_on, sign_spells, sign_wide}
 use Rattle.pj_lex.proofs.IntegerMeaning.{int_goes_on, int_spells, int_wide}

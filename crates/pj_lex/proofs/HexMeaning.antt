@@ -3,7 +3,7 @@ use Rattle.std.proofs.Common.{◌≡◌, refl}
 use Rattle.pj_lex.specs.Rules.{rules}
 use Rattle.pj_lex.specs.States.{spelled, hex_step, hex_spelled}
 use Rattle.pj_lex.specs.declared.state.State.TheVariants as s
-use Rattle.pj_lex.proofs.Patterns.{spells_none}
+use Rattle.pj_patterns.specs.Derivatives.{spells_none}
 use Rattle.pj_lex.specs.declared.hex.HexState.{HexState}
 use Rattle.pj_lex.specs.declared.hex.HexState.TheVariants as hex
 use Rattle.pj_lex.proofs.Meaning.{meaning, left_behind, led_to, left_wide, led_wide}

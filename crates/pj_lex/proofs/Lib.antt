@@ -14,7 +14,6 @@ pub mod HexMeaning
 pub mod IntegerMeaning
 pub mod Lists
 pub mod Meaning
-pub mod Patterns
 pub mod Reading
 pub mod Scanned
 pub mod SignMeaning

@@ -22,7 +22,7 @@ use Rattle.pj_lex.specs.declared.text_block.BlockState.{BlockState}
 use Rattle.pj_lex.specs.declared.text_block.BlockState.TheVariants as block
 use Rattle.pj_lex.specs.declared.comment.CommentState.{CommentState}
 use Rattle.pj_lex.specs.declared.comment.CommentState.TheVariants as comment
-use Rattle.pj_lex.proofs.Patterns.{derive_rules}
+use Rattle.pj_patterns.specs.Derivatives.{derive_rules}
 
 -- the sets that an ASCII character is in
 abbrev pub ascii : ℕ → CharSet → Bool

@@ -9,7 +9,8 @@ use Rattle.pj_lex.specs.Tokens.{Begins, longest, nothing}
 use Rattle.pj_lex.specs.declared.category.Category.{Category}
 use Rattle.pj_lex.specs.declared.state.State.{State}
 use Rattle.pj_lex.specs.declared.state.State.TheVariants as s
-use Rattle.pj_lex.proofs.Patterns.{derive_rules, spells_none, first_of_from, first_of_to, spelled_from, spelled_to}
+use Rattle.pj_patterns.specs.Derivatives.{derive_rules, spells_none}
+use Rattle.pj_patterns.proofs.Derived.{first_of_from, first_of_to, spelled_from, spelled_to}
 use Rattle.pj_lex.proofs.Meaning.{meaning, meaning_of}
 use Rattle.pj_lex.proofs.Follows.{goes_on, spells}
 
@@ -34,7 +35,7 @@ module _ (c : ℕ) (cs : List ℕ) (q : State) where
 
   -- the rest of a word
   rest_of : (d : ℕ) (v u : List ℕ) (n : Category) → c ∷ cs ≡ (d ∷ v) ++ u → FirstOf (meaning q) (d ∷ v) n → FirstOf (derive_rules here (meaning q)) v n
-  rest_of d v u n e f = let heads : d ≡ c = cc in first_of_from c (meaning q) v n (subst (λ x. FirstOf (meaning q) (x ∷ v) n) heads f)
+  rest_of d v u n e f = let heads : d ≡ c = cc in first_of_from holds c (meaning q) v n (subst (λ x. FirstOf (meaning q) (x ∷ v) n) heads f)
 
   stops : derive_rules here (meaning q) ≡ [] → NoWord q (c ∷ cs)
   stops e = record { only_empty = λ d v u n s f. subst (λ rs. FirstOf rs v n) e (rest_of d v u n s f) }
@@ -44,7 +45,7 @@ module _ (c : ℕ) (cs : List ℕ) (q : State) where
     further d v u n s f = subst (λ rs. FirstOf rs v n) agree (rest_of d v u n s f)
 
     back : (v : List ℕ) (n : Category) → FirstOf (meaning r) v n → FirstOf (meaning q) (c ∷ v) n
-    back v n f = first_of_to c (meaning q) v n (subst (λ rs. FirstOf rs v n) (sym agree) f)
+    back v n f = first_of_to holds c (meaning q) v n (subst (λ rs. FirstOf rs v n) (sym agree) f)
 
     tail_of : (d : ℕ) (v u : List ℕ) → c ∷ cs ≡ (d ∷ v) ++ u → cs ≡ v ++ u
     tail_of d v u s = cc
@@ -70,12 +71,12 @@ module _ (c : ℕ) (cs : List ℕ) (q : State) where
     one m e lacks = record {
       word = c ∷ [];
       split = refl;
-      first = back [] m (spelled_to (meaning r) m (spells r ∙ e));
+      first = back [] m (spelled_to holds (meaning r) m (spells r ∙ e));
       far = one_far lacks;
     }
 
     none_here : spelled r ≡ None → NoWord r cs → (d : ℕ) (v u : List ℕ) (n : Category) → c ∷ cs ≡ (d ∷ v) ++ u → FirstOf (meaning q) (d ∷ v) n → ⊥
-    none_here e lacks d [] u n s f = let x : None ≡ Some n = sym e ∙ sym (spells r) ∙ spelled_from (meaning r) n (further d [] u n s f) in absurd (cc)
+    none_here e lacks d [] u n s f = let x : None ≡ Some n = sym e ∙ sym (spells r) ∙ spelled_from holds (meaning r) n (further d [] u n s f) in absurd (cc)
     none_here e lacks d (x ∷ v) u n s f = lacks.only_empty x v u n (tail_of d (x ∷ v) u s) (further d (x ∷ v) u n s f)
 
     after_same : (o : Option Category) → spelled r ≡ o → (found result : Found) → result ≡ found_at o cs found → NoWord r cs → Walked q (c ∷ cs) found result
@@ -106,7 +107,7 @@ unfolding rules
 nothing_empty = refl
 
 pub never_empty : (m : Category) → FirstOf rules [] m → ⊥
-never_empty m f = let x : None ≡ Some m = sym nothing_empty ∙ spelled_from rules m f in absurd (cc)
+never_empty m f = let x : None ≡ Some m = sym nothing_empty ∙ spelled_from holds rules m f in absurd (cc)
 
 from_start : (w : List ℕ) (m : Category) → FirstOf rules w m → FirstOf (meaning s.Start) w m
 from_start w m f = subst (λ rs. FirstOf rs w m) (sym start_is) f

@@ -3,7 +3,7 @@ use Rattle.std.proofs.Common.{◌≡◌, refl}
 use Rattle.pj_lex.specs.Rules.{rules}
 use Rattle.pj_lex.specs.States.{spelled, string_step, string_spelled}
 use Rattle.pj_lex.specs.declared.state.State.TheVariants as s
-use Rattle.pj_lex.proofs.Patterns.{spells_none}
+use Rattle.pj_patterns.specs.Derivatives.{spells_none}
 use Rattle.pj_lex.specs.declared.string_literal.StringState.{StringState}
 use Rattle.pj_lex.specs.declared.string_literal.StringState.TheVariants as string
 use Rattle.pj_lex.proofs.Meaning.{meaning, left_behind, led_to, left_wide, led_wide}

@@ -15,13 +15,14 @@ use Rattle.pj_lex.specs.Tokens.{token_of, fault_of}
 use Rattle.pj_lex.specs.declared.token.TokenKind.{TokenKind}
 use Rattle.pj_lex.specs.declared.category.Category.{Category}
 use Rattle.pj_lex.proofs.Meaning.{ascii}
-use Rattle.pj_lex.proofs.Patterns.{derive_rules, first_of_from, first_of_unique}
+use Rattle.pj_patterns.specs.Derivatives.{derive_rules}
+use Rattle.pj_patterns.proofs.Derived.{first_of_from, first_of_unique}
 use Rattle.pj_lex.proofs.Follows.{holds_ascii}
 use Rattle.pj_lex.proofs.Scanned.{never_empty}
 
 -- a word spells one thing before one text, and the empty word none
 spells_unique : (t : List ℕ) (l m : Outcome) (w : List ℕ) → Spells t l w → Spells t m w → l ≡ m
-spells_unique t l m w x y = x.is ∙ ap (λ (s : Category). outcome s w t) (first_of_unique rules w x.category y.category x.first y.first) ∙ sym y.is
+spells_unique t l m w x y = x.is ∙ ap (λ (s : Category). outcome s w t) (first_of_unique holds rules w x.category y.category x.first y.first) ∙ sym y.is
 
 pub spells_empty : (t : List ℕ) (l : Outcome) → Spells t l [] → ⊥
 spells_empty t l x = never_empty x.category x.first
@@ -93,7 +94,7 @@ white_left c h = ⊎_elim
     (cases_Bool (c == 32))
 
 white_spells_nothing : (c : ℕ) → is_white c ≡ true → (t : List ℕ) (l : Outcome) (v : List ℕ) → Spells t l (c ∷ v) → ⊥
-white_spells_nothing c h t l v k = subst (λ rs. FirstOf rs v k.category) (white_left c h) (first_of_from c rules v k.category k.first)
+white_spells_nothing c h t l v k = subst (λ rs. FirstOf rs v k.category) (white_left c h) (first_of_from holds c rules v k.category k.first)
 
 -- a reading's gap is the white space at the front
 record NoWhite (body : List ℕ) : Type 0 where

@@ -1,59 +1,20 @@
--- Regular patterns, in which the lexical grammar is written, and the words that they match.
-use Rattle.std.specs.Prelude.{ℕ, ◌≡◌, ◌⊎◌, IsTrue, List, [], ◌∷◌, ◌++◌}
+-- The patterns in which the lexical grammar is written: those over its sets of characters.
+use Rattle.std.specs.Prelude.{ℕ, List}
+use Rattle.pj_patterns.specs.Pattern as patterns
+pub use Rattle.pj_patterns.specs.Pattern.{Nothing, Empty, One, Then, Either, Many, Repeats, none, more, sequence, choice, maybe, some}
 use Rattle.pj_lex.specs.Characters.{CharSet, The, holds}
 
-pub data Pattern : Type 0 where
-  -- no word
-  Nothing : Pattern
-  -- the empty word
-  Empty : Pattern
-  -- one character of the set
-  One : CharSet → Pattern
-  -- one behind the other
-  Then : Pattern → Pattern → Pattern
-  Either : Pattern → Pattern → Pattern
-  -- any number of times, none included
-  Many : Pattern → Pattern
+abbrev pub Pattern : Type 0
+Pattern = patterns.Pattern CharSet
 
--- words of P, any number of them, one behind the other
-pub data Repeats (P : List ℕ → Type 0) : List ℕ → Type 0 where
-  none : (w : List ℕ) → w ≡ [] → Repeats P w
-  more : (w u v : List ℕ) → w ≡ u ++ v → P u → Repeats P v → Repeats P w
-
+-- the pattern matches the word
 abbrev pub Matches : Pattern → List ℕ → Type 0
-Matches Nothing w = ⊥
-Matches Empty w = w ≡ []
-Matches (One s) w = (c : ℕ) × (w ≡ c ∷ []) × IsTrue (holds s c)
-Matches (Then p q) w = (u : List ℕ) × ((v : List ℕ) × (w ≡ u ++ v) × Matches p u × Matches q v)
-Matches (Either p q) w = Matches p w ⊎ Matches q w
-Matches (Many p) w = Repeats (Matches p) w
-
--- these, one behind the other
-abbrev pub sequence : List Pattern → Pattern
-sequence [] = Empty
-sequence (p ∷ []) = p
-sequence (p ∷ q ∷ ps) = Then p (sequence (q ∷ ps))
-
--- one of these
-abbrev pub choice : List Pattern → Pattern
-choice [] = Nothing
-choice (p ∷ []) = p
-choice (p ∷ q ∷ ps) = Either p (choice (q ∷ ps))
-
--- once or not at all
-abbrev pub maybe : Pattern → Pattern
-maybe p = Either p Empty
-
--- once or more often
-abbrev pub some : Pattern → Pattern
-some p = Then p (Many p)
+Matches p w = patterns.Matches holds p w
 
 -- the one character with this code
 abbrev pub character : ℕ → Pattern
-character n = One (The n)
+character n = patterns.One (The n)
 
 -- the one word
 abbrev pub word : List ℕ → Pattern
-word [] = Empty
-word (c ∷ []) = character c
-word (c ∷ d ∷ cs) = Then (character c) (word (d ∷ cs))
+word cs = patterns.word_by The cs

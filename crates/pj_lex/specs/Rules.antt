@@ -1,7 +1,9 @@
 -- The lexical grammar of Java 17: what a word spells.
-use Rattle.std.specs.Prelude.{ℕ, ◌≡◌, ◌⊎◌, Bool, true, false, ◌==◌, ◌||◌, if◌then◌else◌, List, [], ◌∷◌, map, Result, Ok, Err}
-use Rattle.pj_lex.specs.Characters.{JavaLetter, JavaLetterOrDigit, continues_name}
-use Rattle.pj_lex.specs.Pattern.{Pattern, One, Then, Many, Matches, character, word}
+use Rattle.std.specs.Prelude.{ℕ, ◌≡◌, Bool, true, false, ◌==◌, ◌||◌, if◌then◌else◌, List, [], ◌∷◌, map, Result, Ok, Err}
+use Rattle.pj_patterns.specs.Rules as patterns
+use Rattle.pj_patterns.specs.Rules.{rule}
+use Rattle.pj_lex.specs.Characters.{CharSet, holds, JavaLetter, JavaLetterOrDigit, continues_name}
+use Rattle.pj_lex.specs.Pattern.{One, Then, Many, character, word}
 use Rattle.pj_lex.specs.Words.{Entry, signs, name_kind}
 use Rattle.pj_lex.specs.Numbers.{integer_literal, float_literal}
 use Rattle.pj_lex.specs.Quoted.{apostrophe, quote, three_quotes, char_literal, bad_char_literal, string_literal, any_string, text_block, any_block}
@@ -12,12 +14,8 @@ use Rattle.pj_lex.specs.declared.category.Category.{Category}
 use Rattle.pj_lex.specs.declared.category.Category.TheVariants.{Name, Number, Token, Greater, Fault}
 
 -- a rule of the grammar: its words, and what they are (a Category: a name, a number, a token, the sign >, or a fault)
-pub record Rule : Type 0 where
-  pub category : Category
-  pub pattern : Pattern
-
-abbrev pub rule : Category → Pattern → Rule
-rule s p = record { category = s; pattern = p }
+abbrev pub Rule : Type 0
+Rule = patterns.Rule Category CharSet
 
 abbrev pub sign_rule : Entry → Rule
 sign_rule e = rule (Token e.kind) (word e.text)
@@ -57,8 +55,7 @@ rules =
 
 -- what the first rule that matches the word spells
 abbrev pub FirstOf : List Rule → List ℕ → Category → Type 0
-FirstOf [] w s = ⊥
-FirstOf (r ∷ rs) w s = (Matches r.pattern w × (s ≡ r.category)) ⊎ ((Matches r.pattern w → ⊥) × FirstOf rs w s)
+FirstOf rs w s = patterns.FirstOf holds rs w s
 
 -- a token's kind, or the kind of the fault that spoils it
 abbrev pub Outcome : Type 0
@@ -95,4 +92,4 @@ is_fault s = false
 -- the rules for tokens, without those for faults
 abbrev pub token_rules : List Rule → List Rule
 token_rules [] = []
-token_rules (r ∷ rs) = if is_fault r.category then token_rules rs else r ∷ token_rules rs
+token_rules (r ∷ rs) = if is_fault r.kind then token_rules rs else r ∷ token_rules rs

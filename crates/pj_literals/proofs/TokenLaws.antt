@@ -60,7 +60,7 @@ module _ (is : TokenKind → Bool) where
   -- the rules whose words may be of the kind
   abbrev of_kind : List Rule → Pattern
   of_kind [] = Nothing
-  of_kind (r ∷ rs) = cond (may_be r.category) (Either r.pattern (of_kind rs)) (of_kind rs)
+  of_kind (r ∷ rs) = cond (may_be r.kind) (Either r.pattern (of_kind rs)) (of_kind rs)
 
   here : (b : Bool) (p q : Pattern) (w : List ℕ) → b ≡ true → Matches p w → Matches (cond b (Either p q) q) w
   here true p q w h m = inl m
@@ -72,8 +72,8 @@ module _ (is : TokenKind → Bool) where
 
   spelled_of_kind : (rs : List Rule) (w : List ℕ) (c : Category) → FirstOf rs w c → may_be c ≡ true → Matches (of_kind rs) w
   spelled_of_kind [] w c f h = absurd f
-  spelled_of_kind (r ∷ rs) w c (inl (m, e)) h = here (may_be r.category) r.pattern (of_kind rs) w (ap may_be (sym e) ∙ h) m
-  spelled_of_kind (r ∷ rs) w c (inr (n, f)) h = further (may_be r.category) r.pattern (of_kind rs) w (spelled_of_kind rs w c f h)
+  spelled_of_kind (r ∷ rs) w c (inl (m, e)) h = here (may_be r.kind) r.pattern (of_kind rs) w (ap may_be (sym e) ∙ h) m
+  spelled_of_kind (r ∷ rs) w c (inr (n, f)) h = further (may_be r.kind) r.pattern (of_kind rs) w (spelled_of_kind rs w c f h)
 
   in_table : (b : Bool) (k : TokenKind) (o : Option TokenKind) → is k ≡ false → is (or_identifier o) ≡ false → is (or_identifier (cond b (Some k) o)) ≡ false
   in_table true k o h g = h

@@ -8,7 +8,7 @@ use Rattle.pj_xtokens.specs.Rules.{Rule, rules}
 use Rattle.pj_xtokens.specs.States.{step, spelled, first_step}
 use Rattle.pj_xtokens.specs.declared.state.State.{State}
 use Rattle.pj_xtokens.specs.declared.state.State.TheVariants as s
-use Rattle.pj_xtokens.proofs.Patterns.{derive_rules, spells_none}
+use Rattle.pj_patterns.specs.Derivatives.{derive_rules, spells_none}
 use Rattle.pj_xtokens.proofs.Meaning.{sets_of, wide, meaning, meaning_of, table, four, left_behind, led_to, left_wide, led_wide}
 use Rattle.pj_xtokens.proofs.SignMeaning.{sign_goes_on, sign_spells, sign_wide}
 

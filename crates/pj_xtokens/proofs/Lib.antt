@@ -1,7 +1,6 @@
 pub mod Ends
 pub mod Follows
 pub mod Meaning
-pub mod Patterns
 pub mod Scanned
 pub mod SignMeaning
 pub mod Gapped

@@ -7,7 +7,7 @@ use Rattle.pj_xtokens.specs.declared.state.State.{State}
 use Rattle.pj_xtokens.specs.declared.state.State.TheVariants as s
 use Rattle.pj_xtokens.specs.declared.token.Sign.{Sign}
 use Rattle.pj_xtokens.specs.declared.token.Sign.TheVariants as sign
-use Rattle.pj_xtokens.proofs.Patterns.{derive_rules}
+use Rattle.pj_patterns.specs.Derivatives.{derive_rules}
 
 -- the sets that a character is in
 abbrev pub sets_of : ℕ → CharSet → Bool

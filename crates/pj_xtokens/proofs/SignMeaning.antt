@@ -5,7 +5,7 @@ use Rattle.pj_xtokens.specs.States.{spelled, sign_step}
 use Rattle.pj_xtokens.specs.declared.state.State.TheVariants as s
 use Rattle.pj_xtokens.specs.declared.token.Sign.{Sign}
 use Rattle.pj_xtokens.specs.declared.token.Sign.TheVariants as sign
-use Rattle.pj_xtokens.proofs.Patterns.{spells_none}
+use Rattle.pj_patterns.specs.Derivatives.{spells_none}
 use Rattle.pj_xtokens.proofs.Meaning.{meaning, left_behind, led_to, left_wide, led_wide}
 
 pub sign_goes_on : (q : Sign) → left_behind (meaning (s.Sign q)) ≡ led_to (s.Sign q)

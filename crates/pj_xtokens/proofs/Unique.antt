@@ -4,6 +4,7 @@ use Rattle.std.specs.Prelude.{IsTrue, IsFalse}
 use Rattle.std.proofs.lemmas.List.{append_cancel_left}
 use Rattle.std.proofs.lemmas.Bool.{both_ways}
 use Rattle.pj_xtokens.specs.Gaps.{Past, opens}
+use Rattle.pj_xtokens.specs.Characters.{holds}
 use Rattle.pj_xtokens.specs.Rules.{Spells, rules}
 use Rattle.pj_xtokens.specs.Size.{size}
 use Rattle.pj_xtokens.specs.Tokens.{IsLongest, IsUnspelled, is_joined, Lexed, lexed, Tokens, ended, token, joined, unspelled, IsSlice, AreSlices}
@@ -12,7 +13,7 @@ use Rattle.pj_xtokens.specs.declared.token.End.{End}
 use Rattle.pj_xtokens.specs.declared.token.End.TheVariants as ends
 use Rattle.pj_xtokens.proofs.Ends.{size-append}
 use Rattle.pj_xtokens.proofs.Gapped.{past_one, solid_end}
-use Rattle.pj_xtokens.proofs.Patterns.{first_of_unique}
+use Rattle.pj_patterns.proofs.Derived.{first_of_unique}
 use Rattle.pj_xtokens.proofs.Reading.{past_behind, spelled_length}
 
 -- prefixes of one text that are as long are the same
@@ -47,7 +48,7 @@ front_behinds body f g =
 
 front_kinds : (body : List ℕ) (f g : Front body) → f.k ≡ g.k
 front_kinds body f g =
-    first_of_unique rules g.w f.k g.k (subst (λ z. Spells f.k z) (front_words body f g) f.longest.spells) g.longest.spells
+    first_of_unique holds rules g.w f.k g.k (subst (λ z. Spells f.k z) (front_words body f g) f.longest.spells) g.longest.spells
 
 no_front : (body : List ℕ) → Front body → IsTrue (opens body) ⊎ IsUnspelled body → ⊥
 no_front body f (inl o) = both_ways (opens body) f.plain o

@@ -1,7 +1,9 @@
 -- The grammar of tokens: what a word spells.
-use Rattle.std.specs.Prelude.{ℕ, ◌≡◌, ◌⊎◌, List, [], ◌∷◌, map}
-use Rattle.pj_xtokens.specs.Characters.{NameStart, NameCharacter, Digit, ExponentMark, PlusOrMinus, NotQuote, NotApostrophe}
-use Rattle.pj_xtokens.specs.Pattern.{Pattern, One, Then, Many, Matches, sequence, choice, maybe, some, character, word}
+use Rattle.std.specs.Prelude.{ℕ, List, [], ◌∷◌, map}
+use Rattle.pj_patterns.specs.Rules as patterns
+use Rattle.pj_patterns.specs.Rules.{rule}
+use Rattle.pj_xtokens.specs.Characters.{CharSet, holds, NameStart, NameCharacter, Digit, ExponentMark, PlusOrMinus, NotQuote, NotApostrophe}
+use Rattle.pj_xtokens.specs.Pattern.{Pattern, One, Then, Many, sequence, choice, maybe, some, character, word}
 use Rattle.pj_xtokens.specs.Signs.{Entry, signs}
 use Rattle.pj_xtokens.specs.declared.token.TokenKind.{TokenKind}
 use Rattle.pj_xtokens.specs.declared.token.TokenKind.TheVariants as t
@@ -53,12 +55,8 @@ abbrev pub apostrophed : Pattern
 apostrophed = sequence (apostrophe ∷ Many (choice (One NotApostrophe ∷ Then apostrophe apostrophe ∷ [])) ∷ apostrophe ∷ [])
 
 -- a rule of the grammar: its words, and what they are
-pub record Rule : Type 0 where
-  pub kind : TokenKind
-  pub pattern : Pattern
-
-abbrev pub rule : TokenKind → Pattern → Rule
-rule k p = record { kind = k; pattern = p }
+abbrev pub Rule : Type 0
+Rule = patterns.Rule TokenKind CharSet
 
 abbrev pub sign_rule : Entry → Rule
 sign_rule e = rule (t.Sign e.sign) (word e.text)
@@ -76,8 +74,7 @@ rules =
 
 -- what the first rule that matches the word spells
 abbrev pub FirstOf : List Rule → List ℕ → TokenKind → Type 0
-FirstOf [] w k = ⊥
-FirstOf (r ∷ rs) w k = (Matches r.pattern w × (k ≡ r.kind)) ⊎ ((Matches r.pattern w → ⊥) × FirstOf rs w k)
+FirstOf rs w k = patterns.FirstOf holds rs w k
 
 -- the word spells a token of this kind
 abbrev pub Spells : TokenKind → List ℕ → Type 0
