@@ -5,3 +5,10 @@ pub mod Flattening
 pub mod Shallow
 pub mod Kept
 pub mod Clear
+pub mod Places
+pub mod Takings
+pub mod Links
+pub mod Linking
+pub mod ReadsDerive
+pub mod DerivedReads
+pub mod Whole

@@ -8,6 +8,26 @@ ghost use Rattle.pj_xmeaning.specs.Parts.{RuleValue, expression};
 ghost use Rattle.pj_xnames.specs.Meaning.{mentions};
 ghost use Rattle.pj_xnames.specs.Namings.{Naming, mentions_of};
 ghost use Rattle.pj_xderived.specs.Derived.{Derived};
+ghost use Rattle.pj_xderived.specs.Operands.{Operand};
+ghost use Rattle.pj_xderived.specs.Reads.{AreRead};
+
+/// What the tokens of a text read, rule by rule, is what their leftmost derivation means and names; it nests no deeper than it may.
+pub fn readings_are_derivations()
+    ensures { (tokens : List Lexed) (a : Operand) → AreRead tokens a →
+        (productions : List ℕ) × AreDerived tokens productions × AreClear tokens (length tokens + 1) × (meaning productions tokens ≡ a.tree) × (mentions productions tokens ≡ a.names) }
+{}
+
+/// What a leftmost derivation of tokens that nests no deeper than it may means and names is what they read.
+pub fn derivations_are_readings()
+    ensures { (tokens : List Lexed) (productions : List ℕ) → AreDerived tokens productions → AreClear tokens (length tokens + 1) →
+        (a : Operand) × AreRead tokens a × (meaning productions tokens ≡ a.tree) × (mentions productions tokens ≡ a.names) }
+{}
+
+/// Tokens read one expression at most, and name one list of things.
+pub fn one_reading()
+    ensures tree { (tokens : List Lexed) (a b : Operand) → AreRead tokens a → AreRead tokens b → a.tree ≡ b.tree }
+    ensures names { (tokens : List Lexed) (a b : Operand) → AreRead tokens a → AreRead tokens b → a.names ≡ b.names }
+{}
 
 /// A leftmost derivation of a text that nests no deeper than it may is one by rules, with the same meaning and the same names.
 pub fn derivations_are_trees()

@@ -6,4 +6,7 @@
 
 mod laws;
 
-pub use laws::{derivations_are_trees, trees_are_derivations};
+pub use laws::{
+    derivations_are_readings, derivations_are_trees, one_reading, readings_are_derivations,
+    trees_are_derivations,
+};

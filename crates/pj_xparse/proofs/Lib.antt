@@ -4,3 +4,4 @@ pub mod SomeAnswer
 pub mod SomeRun
 pub mod SomeTokens
 pub mod TokenFacts
+pub mod Derivations

@@ -14,11 +14,14 @@ use Rattle.pj_xmeaning.specs.Trees.{Tree}
 use Rattle.pj_xnames.specs.Faults.{first_fault}
 use Rattle.pj_xnames.specs.Meaning.{mentions}
 use Rattle.pj_xparse.specs.Spells.{Spells}
+use Rattle.pj_xparse.proofs.Derivations.{derivation_of}
 use Rattle.pj_xparse.specs.Faults.{IsFault, named_first, syntax_fault}
 use Rattle.pj_xparse.specs.declared.fault.XSyntax.{XSyntax}
 
 pub one_expression : (variables : List (List ℕ)) (text : List ℕ) (a b : Tree) → Spells variables text a → Spells variables text b → a ≡ b
-one_expression variables text a b x y =
+one_expression variables text a b s t =
+    let x = derivation_of s in
+    let y = derivation_of t in
     let tokens = (tokens_same (size text) text text x.tokens y.tokens _ _ x.read y.read refl).tokens in
     let productions : x.productions ≡ y.productions =
     one_derivation y.tokens x.productions y.productions (subst (λ ts. AreDerived ts x.productions) tokens x.derived) y.derived in
@@ -40,7 +43,8 @@ module _ (tokens : List Lexed) (productions : List ℕ) (derived : AreDerived to
   }
 
 pub not_both : (variables : List (List ℕ)) (text : List ℕ) (tree : Tree) (fault : XSyntax) → Spells variables text tree → IsFault variables text fault → ⊥
-not_both variables text tree fault x y =
+not_both variables text tree fault s y =
+    let x = derivation_of s in
     let same = tokens_same (size text) text text y.tokens x.tokens _ _ y.read x.read refl in
     let is_outcome : y.outcome ≡ outcome.Whole =
     one_outcome x.tokens y.outcome outcome.Whole (subst (λ ts. IsOutcome ts y.outcome) same.tokens y.is_outcome)

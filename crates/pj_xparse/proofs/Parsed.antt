@@ -15,6 +15,7 @@ use Rattle.pj_xmeaning.specs.Meaning.{meaning}
 use Rattle.pj_xnames.specs.Faults.{first_fault}
 use Rattle.pj_xnames.specs.Meaning.{mentions}
 use Rattle.pj_xparse.specs.Spells.{Spells}
+use Rattle.pj_xparse.proofs.Derivations.{IsDerived, spelled_by}
 use Rattle.pj_xparse.specs.Faults.{syntax_fault}
 use Rattle.pj_xparse.proofs.TokenFacts.{token_count, text_end}
 
@@ -31,9 +32,9 @@ read_slice text slice all end utf8 same read =
 
 module _ (variables : List (List ℕ)) (text : List ℕ) (tokens : List Lexed) (productions : List ℕ) (named : first_fault variables (mentions productions tokens) ≡ None) where
   -- the tokens of an expression, behind which the text ends
-  whole_spells : (end : token.End) → Tokens (size text) text tokens end → (n : ℕ) → end ≡ ends.Text n → IsOutcome tokens outcome.Whole
-      → LeadTo tokens productions outcome.Whole → Spells variables text (meaning productions tokens)
-  whole_spells end read n e is derived =
+  whole_derived : (end : token.End) → Tokens (size text) text tokens end → (n : ℕ) → end ≡ ends.Text n → IsOutcome tokens outcome.Whole
+      → LeadTo tokens productions outcome.Whole → IsDerived variables text (meaning productions tokens)
+  whole_derived end read n e is derived =
       let at : end ≡ ends.Text (size text) = e ∙ ap ends.Text (text_end _ _ tokens end read n e) in
       record {
         tokens = tokens;
@@ -45,11 +46,16 @@ module _ (variables : List (List ℕ)) (text : List ℕ) (tokens : List Lexed) (
         means = refl;
       }
 
-  -- a text without a fault spells what its tokens mean
+  -- a text without a fault is derived with what its tokens mean
+  pub derived_meaning : (end : token.End) (o : End) → Tokens (size text) text tokens end → IsOutcome tokens o → LeadTo tokens productions o
+      → syntax_fault tokens end o ≡ None → IsDerived variables text (meaning productions tokens)
+  derived_meaning (ends.Text n) outcome.Whole read is leads none = whole_derived (ends.Text n) read n refl is leads
+  derived_meaning (ends.Fault n) outcome.Whole read is leads none = absurd (cc)
+  derived_meaning end (outcome.Stops i) read is leads none = absurd (cc)
+  derived_meaning end (outcome.LeftOut i) read is leads none = absurd (cc)
+  derived_meaning end (outcome.TooDeep i) read is leads none = absurd (cc)
+
+  -- and spells it
   pub spells_meaning : (end : token.End) (o : End) → Tokens (size text) text tokens end → IsOutcome tokens o → LeadTo tokens productions o
       → syntax_fault tokens end o ≡ None → Spells variables text (meaning productions tokens)
-  spells_meaning (ends.Text n) outcome.Whole read is leads none = whole_spells (ends.Text n) read n refl is leads
-  spells_meaning (ends.Fault n) outcome.Whole read is leads none = absurd (cc)
-  spells_meaning end (outcome.Stops i) read is leads none = absurd (cc)
-  spells_meaning end (outcome.LeftOut i) read is leads none = absurd (cc)
-  spells_meaning end (outcome.TooDeep i) read is leads none = absurd (cc)
+  spells_meaning end o read is leads none = spelled_by (derived_meaning end o read is leads none)

@@ -10,7 +10,7 @@ use Rattle.pj_xnames.specs.Meaning.{mentions}
 use Rattle.pj_xkinds.proofs.Meanings.{meaning_is_expression}
 use Rattle.pj_xparse.specs.Faults.{named_first, syntax_fault}
 use Rattle.pj_xparse.specs.Spells.{Spells}
-use Rattle.pj_xparse.proofs.Parsed.{count_of_tokens, read_slice, spells_meaning}
+use Rattle.pj_xparse.proofs.Parsed.{count_of_tokens, read_slice, derived_meaning, spells_meaning}
 use Rattle.pj_xparse.proofs.expression.parse.Goals as goal
 
 pub derivation-requires : goal.derivation-requires
@@ -73,5 +73,5 @@ returns-clause-expression c =
     subst (λ ps. LeadTo tokens ps c.in_ok-run.run'.end) (sym c.as_slice-productions.ensures.value) c.in_ok-run.ensures.leads in
     let none : first_fault c.args.variables.now (mentions productions tokens) ≡ None = sym c.in_ok-fault.ensures ∙ ap (option_map fault_of) c.in_default.is in
     let read = read_slice _ _ _ _ c.utf8.text c.as_slice-tokens.ensures c.in_ok-found.ensures in
-    let it = spells_meaning _ _ tokens productions none c.in_ok-found.found.end c.in_ok-run.run'.end read c.in_ok-run.ensures.outcome leads (sym c.in_default-syntax_fault.ensures) in
+    let it = derived_meaning _ _ tokens productions none c.in_ok-found.found.end c.in_ok-run.run'.end read c.in_ok-run.ensures.outcome leads (sym c.in_default-syntax_fault.ensures) in
     meaning_is_expression _ it.tokens it.productions c.in_ok-expr.expr it.derived it.clear it.named (c.in_ok-expr.ensures ∙ it.means)

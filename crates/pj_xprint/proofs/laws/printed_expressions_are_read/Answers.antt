@@ -1,5 +1,0 @@
-use Rattle.pj_xprint.proofs.Reread.{printed_is_read}
-use Rattle.pj_xprint.proofs.laws.printed_expressions_are_read.Goals as goal
-
-pub returns : goal.returns
-returns c = printed_is_read

@@ -1,2 +1,0 @@
--- the printed form
-pub mod Printed

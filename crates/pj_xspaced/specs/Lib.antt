@@ -1,2 +1,0 @@
--- texts of words with a space behind each
-pub mod Spaced

@@ -1,0 +1,11 @@
+use Rattle.pj_xsyntax_laws.proofs.Gapping.{gapped_tokens, with_gaps, without_gaps}
+use Rattle.pj_xsyntax_laws.proofs.laws.comments_change_nothing.Goals as goal
+
+pub returns-clause-tokens : goal.returns-clause-tokens
+returns-clause-tokens c = gapped_tokens
+
+pub returns-clause-with_gaps : goal.returns-clause-with_gaps
+returns-clause-with_gaps c = with_gaps
+
+pub returns-clause-without_gaps : goal.returns-clause-without_gaps
+returns-clause-without_gaps c = without_gaps

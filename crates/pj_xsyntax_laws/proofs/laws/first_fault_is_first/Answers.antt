@@ -1,0 +1,15 @@
+use Rattle.pj_xnames.specs.Meaning.{mentions}
+use Rattle.pj_xsyntax_laws.specs.Every.{given}
+use Rattle.pj_xsyntax_laws.proofs.Firsts.{has_first, has_none, first_before}
+use Rattle.pj_xsyntax_laws.proofs.NamedFirst.{names_ascend}
+use Rattle.pj_xsyntax_laws.proofs.laws.first_fault_is_first.Goals as goal
+
+pub returns-clause-is_fault : goal.returns-clause-is_fault
+returns-clause-is_fault c = λ variables. has_first (given variables)
+
+pub returns-clause-none : goal.returns-clause-none
+returns-clause-none c = λ variables. has_none (given variables)
+
+pub returns-clause-first : goal.returns-clause-first
+returns-clause-first c = λ total text tokens end productions variables fault other read run.
+    first_before (given variables) (mentions productions tokens) fault other (names_ascend total text tokens end productions read run)

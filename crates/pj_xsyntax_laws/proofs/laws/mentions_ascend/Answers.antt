@@ -1,0 +1,5 @@
+use Rattle.pj_xsyntax_laws.proofs.NamedFirst.{names_ascend}
+use Rattle.pj_xsyntax_laws.proofs.laws.mentions_ascend.Goals as goal
+
+pub returns : goal.returns
+returns c = names_ascend

@@ -1,0 +1,129 @@
+//! Laws of the syntax of XPath. The functions do nothing, and their contracts are the laws.
+
+ghost use Rattle.pj_xtokens.specs.Rules as lexical;
+ghost use Rattle.std.specs.Prelude.{All, Contains, IsTrue, List, None, Some, [], codes, suc, ℕ, ◌++◌, ◌<◌, ◌∷◌, ◌^◌, ◌≡◌, ◌≢◌, ◌≤◌, ◌⊎◌};
+ghost use Rattle.std.specs.Fmt.{decimal};
+ghost use Rattle.pj_xtokens.specs.Characters.{is_digit};
+ghost use Rattle.pj_xtokens.specs.Signs.{Entry, signs};
+ghost use Rattle.pj_xtokens.specs.Size.{size};
+ghost use Rattle.pj_xtokens.specs.Tokens.{Lexed, Tokens};
+ghost use Rattle.pj_xtokens.specs.declared.token.End.TheVariants as ends;
+ghost use Rattle.pj_xtokens.specs.declared.token.Sign.TheVariants as s;
+ghost use Rattle.pj_xtokens.specs.declared.token.TokenKind.{TokenKind};
+ghost use Rattle.pj_xtokens.specs.declared.token.TokenKind.TheVariants as kinds;
+ghost use Rattle.pj_xsyntax_laws.specs.Spaced.{AreSpelled, Word, literal, placed, spaced};
+ghost use Rattle.pj_ll.specs.declared.parser.End as outcome;
+ghost use Rattle.pj_xtokens.specs.declared.token.End.{End};
+ghost use Rattle.pj_xgrammar.specs.Expressions.{IsOutcome, IsRun};
+ghost use Rattle.pj_xnames.specs.Faults.{Fault, first_fault};
+ghost use Rattle.pj_xnames.specs.Meaning.{mentions};
+ghost use Rattle.pj_xnames.specs.Mentions.{Mention};
+ghost use Rattle.pj_xsyntax_laws.specs.Every.{HasFault, given, position_of};
+ghost use Rattle.pj_xsyntax_laws.specs.Order.{AreBelow, Ascend, IsBefore, offset_at, place_of, positions};
+ghost use Rattle.std.specs.Str.{all_scalars};
+ghost use Rattle.pj_xvalue.specs.declared.function.Function.{Function};
+ghost use Rattle.pj_xgrammar.specs.Notation.{t};
+ghost use Rattle.pj_xgrammar.specs.declared.rule.Rule.TheVariants as r;
+ghost use Rattle.pj_xmeaning.specs.Names.{callee_of};
+ghost use Rattle.pj_xmeaning.specs.Trees.{Tree};
+ghost use Rattle.pj_xmeaning.specs.declared.name.Callee.TheVariants as callee;
+ghost use Rattle.pj_xderived.specs.Operands.{Operand, other};
+ghost use Rattle.pj_xderived.specs.Reads.{Reads, Takes};
+ghost use Rattle.pj_xparse.specs.Spells.{Spells};
+ghost use Rattle.pj_xshape.specs.Nesting.{nesting_of_tree};
+ghost use Rattle.pj_xshape.specs.Shapes.{part_of_tree};
+ghost use Rattle.pj_xshape.specs.Spelled.{IsSpelled};
+ghost use Rattle.pj_xsyntax_laws.specs.Abbreviations.{WrittenOut, sign};
+ghost use Rattle.pj_xsyntax_laws.specs.Gapped.{ArePieces, IsGap, Piece, gapped, located, words_in};
+ghost use Rattle.pj_xsyntax_laws.specs.Printed.{function_name, printed};
+
+/// The text of words that each spell a token, with a space behind each, has just these tokens, up to its end.
+pub fn spaced_words_are_tokens()
+    ensures { (words : List Word) → AreSpelled words → Tokens (size (spaced words)) (spaced words) (placed 0 words) (ends.Text (size (spaced words))) }
+{}
+
+/// Signs and literals spell tokens of their kinds: each sign as it stands in the table of signs, one or more digits, what is written of
+/// a number in decimal, and the literal in quotation marks of any characters.
+pub fn signs_and_literals_spell()
+    ensures each_sign { (entry : Entry) → Contains signs entry → lexical.Spells (kinds.Sign entry.sign) entry.text }
+    ensures digits { (text : List ℕ) → All (λ c. IsTrue (is_digit c)) text → text ≢ [] → lexical.Spells kinds.Integer text }
+    ensures each_number { (n : ℕ) → n < 2 ^ 64 → lexical.Spells kinds.Integer (decimal n) }
+    ensures each_string { (characters : List ℕ) → lexical.Spells kinds.String (literal characters) }
+{}
+
+/// No token but a string has a space (32) in it. So no name has one.
+pub fn strings_alone_have_spaces()
+    ensures { (kind : TokenKind) (text : List ℕ) → lexical.Spells kind text → kind ≢ kinds.String → All (λ c. c ≢ 32) text }
+{}
+
+/// What the tokens of a text name stands in strictly ascending order: by offset, and at one offset an argument before what it names.
+pub fn mentions_ascend()
+    ensures { (total : ℕ) (text : List ℕ) (tokens : List Lexed) (end : End) (productions : List ℕ) → Tokens total text tokens end → IsRun tokens productions →
+        Ascend (positions (mentions productions tokens)) }
+{}
+
+/// What the tokens of a text name stands before the place where the tokens have their fault, and where they have none before the end. So do the
+/// faults of it.
+pub fn names_come_first()
+    ensures names { (total : ℕ) (text : List ℕ) (tokens : List Lexed) (end : End) (productions : List ℕ) (fault : outcome.End) → Tokens total text tokens end →
+        IsRun tokens productions → IsOutcome tokens fault → AreBelow (offset_at tokens end (place_of tokens fault)) (positions (mentions productions tokens)) }
+    ensures faults { (total : ℕ) (text : List ℕ) (tokens : List Lexed) (end : End) (productions : List ℕ) (fault : outcome.End) (variables : List (List ℕ)) (named : Fault) →
+        Tokens total text tokens end → IsRun tokens productions → IsOutcome tokens fault → HasFault (given variables) (mentions productions tokens) named →
+        (position_of named).from < offset_at tokens end (place_of tokens fault) }
+{}
+
+/// The first fault of what the tokens of a text name is the first by offset, and at one offset a form before a function or a variable.
+pub fn first_fault_is_first()
+    ensures is_fault { (variables : List (List ℕ)) (mentions : List Mention) (fault : Fault) → first_fault variables mentions ≡ Some fault → HasFault (given variables) mentions fault }
+    ensures none { (variables : List (List ℕ)) (mentions : List Mention) (fault : Fault) → first_fault variables mentions ≡ None → ¬ HasFault (given variables) mentions fault }
+    ensures first { (total : ℕ) (text : List ℕ) (tokens : List Lexed) (end : End) (productions : List ℕ) (variables : List (List ℕ)) (fault other : Fault) →
+        Tokens total text tokens end → IsRun tokens productions → first_fault variables (mentions productions tokens) ≡ Some fault →
+        HasFault (given variables) (mentions productions tokens) other → (other ≡ fault) ⊎ IsBefore (position_of fault) (position_of other) }
+{}
+
+/// What is printed of an expression is read as that expression: the text spells it, where it may stand with these variables, its text
+/// nests no deeper than it may, and its names, strings and integers have a spelling.
+pub fn printed_expressions_are_read()
+    ensures { (variables : List (List ℕ)) (t : Tree) → IsTrue ((part_of_tree t).fits (record { given = variables; bound = [] })) → nesting_of_tree t ≤ 200 → IsSpelled t → Spells variables (printed t) t }
+{}
+
+/// What any text spells is read again from its printed form: the text of Unicode scalar values, which the characters of every text
+/// are, spells an expression only where the printed form of that expression spells it too, with the same variables.
+pub fn spelled_expressions_are_printed()
+    ensures { (variables : List (List ℕ)) (text : List ℕ) (t : Tree) → IsTrue (all_scalars text) → Spells variables text t → Spells variables (printed t) t }
+{}
+
+/// Abbreviations stand for their longer forms: a text that spells an expression spells the same one where `//`, `@`, `..` and `|` are written out and
+/// literals of one string are put for each other (XPath 2.0, 3.2.4, 3.3.3 and 3.1.1).
+pub fn abbreviations_stand_for_longer_forms()
+    ensures { (variables : List (List ℕ)) (text other : List ℕ) (tokens others : List Lexed) (tree : Tree) → Tokens (size text) text tokens (ends.Text (size text)) →
+        Tokens (size other) other others (ends.Text (size other)) → WrittenOut [] tokens others → Spells variables text tree → Spells variables other tree }
+{}
+
+/// Comments change nothing, and neither does white space: of words that each spell a token, with white space and comments before the first one, and
+/// with a space, white space and comments behind each, the tokens are these words, and a text of them spells what it spells with one space behind
+/// each (XPath 2.0, 2.6 and A.2.4.1).
+pub fn comments_change_nothing()
+    ensures tokens { (front : List ℕ) (pieces : List Piece) → IsGap front → ArePieces pieces →
+        Tokens (size (front ++ gapped pieces)) (front ++ gapped pieces) (located (size front) pieces) (ends.Text (size (front ++ gapped pieces))) }
+    ensures without_gaps { (variables : List (List ℕ)) (front : List ℕ) (pieces : List Piece) (tree : Tree) → IsGap front → ArePieces pieces →
+        Spells variables (front ++ gapped pieces) tree → Spells variables (spaced (words_in pieces)) tree }
+    ensures with_gaps { (variables : List (List ℕ)) (front : List ℕ) (pieces : List Piece) (tree : Tree) → IsGap front → ArePieces pieces →
+        Spells variables (spaced (words_in pieces)) tree → Spells variables (front ++ gapped pieces) tree }
+{}
+
+/// Each function of XPath is called by its name, with the prefix `fn:` and without it.
+pub fn prefix_of_functions_is_optional()
+    ensures with_prefix { (f : Function) → callee_of (codes "fn:" ++ function_name f) ≡ Some (callee.XPath f) }
+    ensures without_prefix { (f : Function) → callee_of (function_name f) ≡ Some (callee.XPath f) }
+{}
+
+/// Parentheses leave no trace: an expression in parentheses, where one more thing may be open, is read as the expression, but that it is no literal and
+/// no variable alone; and a text whose tokens say an expression where one more thing may be open spells that in parentheses, too.
+pub fn parentheses_leave_no_trace()
+    ensures operands { (depth : ℕ) (xs ys zs us : List Lexed) (a : Operand) → Takes (suc depth) (t "(") xs ys → Reads r.Expr (suc depth) ys zs a → Takes depth (t ")") zs us →
+        Reads r.PrimaryExpr depth xs us (other a.tree a.names) }
+    ensures texts { (variables : List (List ℕ)) (text : List ℕ) (tokens others : List Lexed) (from to : ℕ) (a : Operand) →
+        Tokens (size text) text (sign s.LeftParenthesis "(" from ∷ others) (ends.Text (size text)) → WrittenOut (sign s.RightParenthesis ")" to ∷ []) tokens others →
+        Reads r.Expr 1 tokens [] a → first_fault variables a.names ≡ None → Spells variables text a.tree }
+{}
