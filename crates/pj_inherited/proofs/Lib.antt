@@ -1,0 +1,4 @@
+pub mod Enclosing
+pub mod Listed
+pub mod Looked
+pub mod Taken

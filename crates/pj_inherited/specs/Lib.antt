@@ -1,0 +1,5 @@
+-- definitions
+pub mod Around
+pub mod Inherited
+-- laws of loops
+pub mod NameWalks
