@@ -1,10 +1,20 @@
 //! A run over three sources and two rulesets, each call of which fails in turn.
-use crate::runs::{Failing, left};
+use crate::runs::{Failing, File, expect, files_of, is_left};
+use pj_base::NoMemory;
+use std::alloc::Global;
 use std::test::Fail;
 
 /// Two calls list, two read the rulesets, and three read the sources.
-const FILES: &str =
-    "src/A.java class A {}`src/B.java class B {`lib/C.java class C {}`r.xml {//ClassDeclaration}`q.xml {//CompilationUnit}";
+static FILES: [File<'_>; 5] = [
+    ("src/A.java", "class A {}"),
+    ("src/B.java", "class B {"),
+    ("lib/C.java", "class C {}"),
+    ("r.xml", "{//ClassDeclaration}"),
+    ("q.xml", "{//CompilationUnit}"),
+];
+
+/// The words of the run.
+static WORDS: [&str; 5] = ["check", "-d", "src,lib", "-R", "r.xml,q.xml"];
 
 /// The calls that fail, and what the run leaves.
 static CALLS: [(Failing, &str); 13] = [
@@ -34,16 +44,16 @@ static CALLS: [(Failing, &str); 13] = [
     ),
 ];
 
+/// Whether the run leaves this where these calls fail.
+fn is_left_where(alloc: Global, failing: Failing, wanted: &str) -> Result<bool, NoMemory> {
+    let files = files_of(alloc, &FILES)?;
+    is_left(alloc, files, &WORDS, failing, wanted)
+}
+
 #[test]
 fn each_call_fails_in_turn(rt: HostRuntime) -> Result<(), Fail> {
     for (failing, wanted) in &CALLS {
-        let found = left(
-            rt.alloc(),
-            FILES,
-            "check -d src,lib -R r.xml,q.xml",
-            *failing,
-        )?;
-        assert_eq!(rt; found.as_str(), *wanted, "{failing:?}");
+        expect(is_left_where(rt.alloc(), *failing, wanted)?, wanted)?;
     }
     Ok(())
 }

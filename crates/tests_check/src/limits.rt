@@ -1,47 +1,72 @@
 //! The limit of a source, and what a run tells of its work.
-use crate::runs::{NONE, files_of, run, told};
-use pj_base::{Bytes, NoMemory, Text};
+use crate::runs::{File, NONE, expect, files_of, is_left, put_bytes, run};
+use pj_base::NoMemory;
+use pj_outside::Files;
+use pj_workers::Work;
 use std::alloc::Global;
 use std::test::Fail;
 
-/// What a run over a file of so many spaces leaves.
-fn left_of_spaces(alloc: Global, len: usize) -> Result<String, NoMemory> {
-    let mut files = files_of(alloc, "r.xml {//CompilationUnit}")?;
-    let bytes = Bytes::from_vec(vec![in alloc; b' '; len]?);
-    files.push((Text::from_str(alloc, "src/A.java")?, bytes))?;
-    let ran = run(alloc, files, "check -d src -R r.xml", NONE)?;
-    told(alloc, &ran)
+/// The words of each run.
+static WORDS: [&str; 5] = ["check", "-d", "src", "-R", "r.xml"];
+
+/// A ruleset, and a file of so many spaces.
+fn spaces(alloc: Global, len: usize) -> Result<Files, NoMemory> {
+    let mut files = files_of(alloc, &[("r.xml", "{//CompilationUnit}")])?;
+    let bytes = vec![in alloc; b' '; len]?;
+    put_bytes(alloc, &mut files, "src/A.java", bytes)?;
+    Ok(files)
 }
+
+/// Whether a run over a file of so many spaces leaves this.
+fn is_left_of_spaces(alloc: Global, len: usize, wanted: &str) -> Result<bool, NoMemory> {
+    let files = spaces(alloc, len)?;
+    is_left(alloc, files, &WORDS, NONE, wanted)
+}
+
+/// Numbers of spaces, and what a run over a file of them leaves.
+static SPACES: [(usize, &str); 2] = [
+    (1_048_576, "Violations 4\nsrc/A.java:1:\tN:\tm\n"),
+    (
+        1_048_577,
+        "Limit(FileBytes(Text { held: \"src/A.java\" })) 1\npmd: limit: bytes of src/A.java\n",
+    ),
+];
 
 #[test]
 fn a_source_has_at_most_a_mebibyte(rt: HostRuntime) -> Result<(), Fail> {
-    let most = left_of_spaces(rt.alloc(), 1_048_576)?;
-    let more = left_of_spaces(rt.alloc(), 1_048_577)?;
-    assert_eq!(rt; most.as_str(), "Violations 4\nsrc/A.java:1:\tN:\tm\n");
-    assert_eq!(rt;
-        more.as_str(),
-        "Limit(FileBytes(Text { held: \"src/A.java\" })) 1\npmd: limit: bytes of src/A.java\n"
-    );
+    for (len, wanted) in &SPACES {
+        expect(is_left_of_spaces(rt.alloc(), *len, wanted)?, wanted)?;
+    }
     Ok(())
 }
 
-/// What a run over these files tells of its work.
-fn worked(alloc: Global, files: &str) -> Result<String, NoMemory> {
-    let files = files_of(alloc, files)?;
-    let ran = run(alloc, files, "check -d src -R r.xml", NONE)?;
-    let work = &ran.work;
-    Ok(format!(in alloc; "{work:?}")?)
+/// Three sources, of which one is skipped, and a ruleset.
+static SOURCES: [File<'_>; 4] = [
+    ("src/B.java", "class B {}"),
+    ("src/A.java", "class A {"),
+    ("src/module-info.java", "module m {}"),
+    ("r.xml", "{//ClassDeclaration}"),
+];
+
+/// What a run over them tells of its work.
+const WORKED: &str =
+    "Work { analysed: ListOf { held: [Text { held: \"src/A.java\" }, Text { held: \"src/B.java\" }] }, reused: ListOf { held: [] }, skipped: 1 }";
+
+/// Whether this is told of the work.
+fn is_work_told(alloc: Global, work: &Work, wanted: &str) -> Result<bool, NoMemory> {
+    let text = format!(in alloc; "{work:?}")?;
+    Ok(text.as_str() == wanted)
+}
+
+/// Whether a run over the files tells this of its work.
+fn is_worked(alloc: Global, wanted: &str) -> Result<bool, NoMemory> {
+    let files = files_of(alloc, &SOURCES)?;
+    let ran = run(alloc, files, &WORDS, NONE)?;
+    is_work_told(alloc, &ran.work, wanted)
 }
 
 #[test]
 fn work_tells_the_sources(rt: HostRuntime) -> Result<(), Fail> {
-    let found = worked(
-        rt.alloc(),
-        "src/B.java class B {}`src/A.java class A {`src/module-info.java module m {}`r.xml {//ClassDeclaration}",
-    )?;
-    assert_eq!(rt;
-        found.as_str(),
-        "Work { analysed: ListOf { held: [Text { held: \"src/A.java\" }, Text { held: \"src/B.java\" }] }, reused: ListOf { held: [] }, skipped: 1 }"
-    );
+    assert!(rt; is_worked(rt.alloc(), WORKED)?);
     Ok(())
 }

@@ -1,27 +1,54 @@
 //! A file and a query, with the report.
-use crate::runs::{NONE, left};
+use crate::runs::{NONE, expect, is_left, put_file};
 use pj_base::NoMemory;
+use pj_outside::Files;
 use std::alloc::Global;
-use std::process::Abort;
 use std::test::Fail;
 
-/// What a run over the file `src/A.java` leaves, by a rule `N` with this query.
-fn asked(alloc: Global, file: &str, query: &str) -> Result<String, NoMemory> {
-    let files = format!(in alloc; "src/A.java {file}`r.xml {{{query}}}")?;
-    left(alloc, files.as_str(), "check -d src -R r.xml", NONE)
+/// The words of each run.
+static WORDS: [&str; 5] = ["check", "-d", "src", "-R", "r.xml"];
+
+/// A query between braces.
+fn braced(alloc: Global, query: &str) -> Result<String, NoMemory> {
+    let mut text = String::from_str(alloc, "{")?;
+    text.push_str(query)?;
+    text.push_str("}")?;
+    Ok(text)
 }
 
-/// Asks each row, a file and a query, and wants what stands behind them.
-fn check(rt: &impl Abort, alloc: Global, table: &[(&str, &str, &str)]) -> Result<(), Fail> {
-    for (file, query, wanted) in table {
-        let found = asked(alloc, file, query)?;
-        assert_eq!(rt; found.as_str(), *wanted, "of {query:?}");
+/// Puts a ruleset of a rule `N` with this query.
+fn put_query(alloc: Global, files: &mut Files, query: &str) -> Result<(), NoMemory> {
+    let ruleset = braced(alloc, query)?;
+    put_file(alloc, files, "r.xml", ruleset.as_str())
+}
+
+/// The file `src/A.java`, and a ruleset of a rule `N` with this query.
+fn file_and_query(alloc: Global, file: &str, query: &str) -> Result<Files, NoMemory> {
+    let mut files = Files::new(alloc);
+    put_file(alloc, &mut files, "src/A.java", file)?;
+    put_query(alloc, &mut files, query)?;
+    Ok(files)
+}
+
+/// Whether a run over the file leaves this, by the rule with this query.
+fn is_asked(alloc: Global, file: &str, query: &str, wanted: &str) -> Result<bool, NoMemory> {
+    let files = file_and_query(alloc, file, query)?;
+    is_left(alloc, files, &WORDS, NONE, wanted)
+}
+
+/// A file, a query, and what the run leaves.
+type Asked = (&'static str, &'static str, &'static str);
+
+/// Asks each row, and wants what stands in it.
+fn check(alloc: Global, rows: &'static [Asked]) -> Result<(), Fail> {
+    for (file, query, wanted) in rows {
+        expect(is_asked(alloc, file, query, wanted)?, query)?;
     }
     Ok(())
 }
 
 /// Queries that denote nodes.
-static FOUND: [(&str, &str, &str); 20] = [
+static FOUND: [Asked; 20] = [
     (
         "class A {}",
         "//ClassDeclaration",
@@ -113,7 +140,7 @@ static FOUND: [(&str, &str, &str); 20] = [
 ];
 
 /// Files and queries with an error.
-static ERRORS: [(&str, &str, &str); 11] = [
+static ERRORS: [Asked; 11] = [
     (
         "class A { String a = \"x\", b = \"y\"; }",
         "//StringLiteral[@ConstValue = 'x' or 1 idiv 0 = 1]",
@@ -161,10 +188,10 @@ static ERRORS: [(&str, &str, &str); 11] = [
 
 #[test]
 fn nodes_are_found(rt: HostRuntime) -> Result<(), Fail> {
-    check(&rt, rt.alloc(), &FOUND)
+    check(rt.alloc(), &FOUND)
 }
 
 #[test]
 fn errors_are_told(rt: HostRuntime) -> Result<(), Fail> {
-    check(&rt, rt.alloc(), &ERRORS)
+    check(rt.alloc(), &ERRORS)
 }

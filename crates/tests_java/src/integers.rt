@@ -1,5 +1,6 @@
 //! The values of integer literals. What javac 17 gives for a literal stands as it gave it; it refuses those of the second table.
 
+use crate::fixtures::expect;
 use pj_literals::value_of_any;
 use std::test::Fail;
 
@@ -69,13 +70,16 @@ static PAST_THEIR_TYPE: [(&str, Option<i64>); 15] = [
     ("0XFl", Some(15)),
 ];
 
-#[test]
-fn integers(rt: HostRuntime) -> Result<(), Fail> {
-    let tables: [&[(&str, Option<i64>)]; 2] = [&INTEGERS, &PAST_THEIR_TYPE];
-    for table in tables {
-        for (text, wanted) in table {
-            assert_eq!(rt; value_of_any(text), *wanted, "of {text:?}");
-        }
+/// Each row of a table.
+fn check(table: &[(&'static str, Option<i64>)]) -> Result<(), Fail> {
+    for (text, wanted) in table {
+        expect(value_of_any(text) == *wanted, text)?;
     }
     Ok(())
+}
+
+#[test]
+fn integers() -> Result<(), Fail> {
+    check(&INTEGERS)?;
+    check(&PAST_THEIR_TYPE)
 }

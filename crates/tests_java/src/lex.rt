@@ -1,36 +1,49 @@
 //! The tokens of small texts, by the lexical grammar. Offsets are bytes of the text with Unicode escapes translated.
 
-use pj_lex::{Source, tokens};
+use crate::fixtures::{Table, expect};
+use pj_lex::{LexFault, Source, Token, tokens};
 use std::alloc::{AllocError, Global};
 use std::fmt::Write;
-use std::process::Abort;
 use std::test::Fail;
 
-/// The answers for a text, each with where it stands. A `None` adds nothing, and the lexer is asked on after it.
-fn answers(alloc: Global, source: &Source) -> Result<String, AllocError> {
-    let mut out = String::new(alloc);
+/// An answer with where it stands. A `None` adds nothing.
+fn write_answer(
+    out: &mut String,
+    answer: &Option<Result<Token<'_>, LexFault>>,
+) -> Result<(), AllocError> {
+    match answer {
+        Some(Ok(token)) => write!(
+            out,
+            "{:?} {}-{};",
+            token.kind, token.span.from, token.span.to
+        ),
+        Some(Err(fault)) => write!(out, "fault {} at {};", fault.kind, fault.offset),
+        None => Ok(()),
+    }
+}
+
+/// The answers for a text. The lexer is asked on after a `None`.
+fn write_answers(out: &mut String, source: &Source) -> Result<(), AllocError> {
     let mut lexer = tokens(source);
     for _ in 0..40 {
-        match lexer.next_token() {
-            Some(Ok(token)) => write!(
-                out,
-                "{:?} {}-{};",
-                token.kind, token.span.from, token.span.to
-            )?,
-            Some(Err(fault)) => write!(out, "fault {} at {};", fault.kind, fault.offset)?,
-            None => {}
-        }
+        write_answer(out, &lexer.next_token())?;
     }
-    Ok(out)
+    Ok(())
+}
+
+fn are_answers(alloc: Global, source: &Source, wanted: &str) -> Result<bool, AllocError> {
+    let mut found = String::new(alloc);
+    write_answers(&mut found, source)?;
+    Ok(found.as_str() == wanted)
 }
 
 /// Whether a file has these tokens and faults.
-fn has(alloc: Global, file: &str, wanted: &str) -> Result<bool, Fail> {
+fn has(alloc: Global, file: &str, wanted: &str) -> Result<bool, AllocError> {
     if file.len() > 1_000_000 {
         return Ok(false);
     }
     match Source::read(alloc, file.as_bytes()) {
-        Ok(source) => Ok(answers(alloc, &source)?.as_str() == wanted),
+        Ok(source) => are_answers(alloc, &source, wanted),
         Err(_) => Ok(false),
     }
 }
@@ -200,38 +213,18 @@ static FAULTS: [(&str, &str); 46] = [
 ];
 
 /// Each row of a table.
-fn check_tokens_of_texts(
-    rt: &impl Abort,
-    alloc: Global,
-    table: &[(&str, &str)],
-) -> Result<(), Fail> {
+fn check(alloc: Global, table: Table) -> Result<(), Fail> {
     for (text, wanted) in table {
-        assert!(rt; has(alloc, text, wanted)?, "of {text:?}");
+        expect(has(alloc, text, wanted)?, text)?;
     }
     Ok(())
 }
 
 #[test]
-fn tokens_of_texts_signs(rt: HostRuntime) -> Result<(), Fail> {
-    check_tokens_of_texts(&rt, rt.alloc(), &SIGNS)
-}
-
-#[test]
-fn tokens_of_texts_words(rt: HostRuntime) -> Result<(), Fail> {
-    check_tokens_of_texts(&rt, rt.alloc(), &WORDS)
-}
-
-#[test]
-fn tokens_of_texts_numbers(rt: HostRuntime) -> Result<(), Fail> {
-    check_tokens_of_texts(&rt, rt.alloc(), &NUMBERS)
-}
-
-#[test]
-fn tokens_of_texts_quotes_and_comments(rt: HostRuntime) -> Result<(), Fail> {
-    check_tokens_of_texts(&rt, rt.alloc(), &QUOTES_AND_COMMENTS)
-}
-
-#[test]
-fn tokens_of_texts_faults(rt: HostRuntime) -> Result<(), Fail> {
-    check_tokens_of_texts(&rt, rt.alloc(), &FAULTS)
+fn tokens_of_texts(rt: HostRuntime) -> Result<(), Fail> {
+    let tables: [Table; 5] = [&SIGNS, &WORDS, &NUMBERS, &QUOTES_AND_COMMENTS, &FAULTS];
+    for table in tables {
+        check(rt.alloc(), table)?;
+    }
+    Ok(())
 }

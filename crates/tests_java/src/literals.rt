@@ -1,9 +1,9 @@
 //! The values of character and string literals and of text blocks, as javac 17 gives them.
 
+use crate::fixtures::{Table, expect};
 use pj_base::NoMemory;
 use pj_literals::string_value;
 use std::alloc::Global;
-use std::process::Abort;
 use std::test::Fail;
 
 fn is_value(alloc: Global, text: &str, wanted: &str) -> Result<bool, NoMemory> {
@@ -112,19 +112,18 @@ static TEXT_BLOCKS: [(&str, &str); 41] = [
 ];
 
 /// Each row of a table.
-fn check_texts(rt: &impl Abort, alloc: Global, table: &[(&str, &str)]) -> Result<(), Fail> {
+fn check(alloc: Global, table: Table) -> Result<(), Fail> {
     for (text, wanted) in table {
-        assert!(rt; is_value(alloc, text, wanted)?, "of {text:?}");
+        expect(is_value(alloc, text, wanted)?, text)?;
     }
     Ok(())
 }
 
 #[test]
-fn texts_strings(rt: HostRuntime) -> Result<(), Fail> {
-    check_texts(&rt, rt.alloc(), &STRINGS)
-}
-
-#[test]
-fn texts_text_blocks(rt: HostRuntime) -> Result<(), Fail> {
-    check_texts(&rt, rt.alloc(), &TEXT_BLOCKS)
+fn texts(rt: HostRuntime) -> Result<(), Fail> {
+    let tables: [Table; 2] = [&STRINGS, &TEXT_BLOCKS];
+    for table in tables {
+        check(rt.alloc(), table)?;
+    }
+    Ok(())
 }

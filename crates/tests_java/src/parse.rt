@@ -1,6 +1,7 @@
 //! The trees, the texts of pools and the faults of Java texts. The nodes are those of a model of the grammar that was written
 //! apart from this.
 
+use crate::fixtures::{Table, expect};
 use crate::rows_expressions::{EXPRESSIONS, MORE_EXPRESSIONS};
 use crate::rows_members::{FILES_AND_MEMBERS, MORE_FILES_AND_MEMBERS};
 use crate::rows_refused::{MORE_REFUSED, REFUSED};
@@ -10,7 +11,6 @@ use pj_parse::{Parsed, parse};
 use pj_tree::{Node, SyntaxTree};
 use std::alloc::{AllocError, Global};
 use std::fmt::Write;
-use std::process::Abort;
 use std::test::Fail;
 
 /// How many nodes stand above a node.
@@ -28,90 +28,100 @@ fn depth(tree: &SyntaxTree<'_>, node: Node) -> u32 {
     1000
 }
 
+/// What is asked of a tree.
+#[derive(Clone, Copy)]
+enum Question<'q> {
+    /// All nodes.
+    Nodes,
+    /// The stretches of the nodes of a kind, by its name.
+    Stretches(&'q str),
+    /// The texts of the pool.
+    Texts,
+}
+
 /// The nodes of a tree in preorder, each behind the number of nodes above it.
-fn nodes_of(alloc: Global, tree: &SyntaxTree<'_>) -> Result<String, AllocError> {
-    let mut found = String::new(alloc);
+fn write_nodes(out: &mut String, tree: &SyntaxTree<'_>) -> Result<(), AllocError> {
     for n in 0..tree.len() {
         let above = depth(tree, Node(n));
-        let name = tree.kind(Node(n)).name();
-        write!(found, "{above} {name} ")?;
+        write!(out, "{above} {} ", tree.kind(Node(n)).name())?;
     }
-    Ok(found)
+    Ok(())
 }
 
-/// The nodes of the tree of a source, or its fault.
-fn described(alloc: Global, source: &Source) -> Result<String, AllocError> {
+/// The stretches of the nodes of a kind, by its name.
+fn write_stretches(out: &mut String, tree: &SyntaxTree<'_>, name: &str) -> Result<(), AllocError> {
+    for n in 0..tree.len() {
+        if tree.kind(Node(n)).name() == name {
+            let span = tree.span(Node(n));
+            write!(out, "{}-{} ", span.from, span.to)?;
+        }
+    }
+    Ok(())
+}
+
+/// The texts of the pool, in the order of their nodes, each in brackets behind its node.
+fn write_texts(out: &mut String, parsed: &Parsed<'_>) -> Result<(), AllocError> {
+    for n in 0..parsed.tree.len() {
+        if let Some(text) = parsed.pool.text(Node(n)) {
+            write!(out, "{}[{text}] ", parsed.tree.kind(Node(n)).name())?;
+        }
+    }
+    Ok(())
+}
+
+fn write_answer(
+    out: &mut String,
+    parsed: &Parsed<'_>,
+    question: Question<'_>,
+) -> Result<(), AllocError> {
+    match question {
+        Question::Nodes => write_nodes(out, &parsed.tree),
+        Question::Stretches(name) => write_stretches(out, &parsed.tree, name),
+        Question::Texts => write_texts(out, parsed),
+    }
+}
+
+/// What is asked of the tree of a source, or its fault.
+fn write_outcome(
+    out: &mut String,
+    alloc: Global,
+    source: &Source,
+    question: Question<'_>,
+) -> Result<(), AllocError> {
     match parse(alloc, source) {
-        Ok(parsed) => nodes_of(alloc, &parsed.tree),
-        Err(fault) => format!(in alloc; "{fault:?}"),
+        Ok(parsed) => write_answer(out, &parsed, question),
+        Err(fault) => write!(out, "{fault:?}"),
     }
 }
 
-/// Whether what is described of a text ends so.
-fn ends_so(alloc: Global, text: &str, wanted: &str) -> Result<bool, Fail> {
+/// Whether this is the answer to the question. Of the nodes of a tree and of a fault it is the end.
+fn is_answer(
+    alloc: Global,
+    source: &Source,
+    question: Question<'_>,
+    wanted: &str,
+) -> Result<bool, AllocError> {
+    let mut found = String::new(alloc);
+    write_outcome(&mut found, alloc, source, question)?;
+    Ok(match question {
+        Question::Nodes => found.as_str().as_bytes().ends_with(wanted.as_bytes()),
+        _ => found.as_str() == wanted,
+    })
+}
+
+/// Whether this is the answer to the question about a text.
+fn has(
+    alloc: Global,
+    text: &str,
+    question: Question<'_>,
+    wanted: &str,
+) -> Result<bool, AllocError> {
     if text.len() > 1_000_000 {
         return Ok(false);
     }
     match Source::read(alloc, text.as_bytes()) {
-        Ok(source) => {
-            let found = described(alloc, &source)?;
-            Ok(found.as_str().as_bytes().ends_with(wanted.as_bytes()))
-        }
+        Ok(source) => is_answer(alloc, &source, question, wanted),
         Err(_) => Ok(false),
-    }
-}
-
-/// The stretches of the nodes of a kind, by its name.
-fn spans_of(alloc: Global, tree: &SyntaxTree<'_>, name: &str) -> Result<String, AllocError> {
-    let mut found = String::new(alloc);
-    for n in 0..tree.len() {
-        if tree.kind(Node(n)).name() == name {
-            let span = tree.span(Node(n));
-            write!(found, "{}-{} ", span.from, span.to)?;
-        }
-    }
-    Ok(found)
-}
-
-/// The stretches of the nodes of a kind in a text.
-fn spans_in(alloc: Global, text: &str, name: &str) -> Result<String, Fail> {
-    if text.len() > 1_000_000 {
-        return Ok(String::new(alloc));
-    }
-    let source = match Source::read(alloc, text.as_bytes()) {
-        Ok(source) => source,
-        Err(_) => return Ok(String::new(alloc)),
-    };
-    match parse(alloc, &source) {
-        Ok(parsed) => Ok(spans_of(alloc, &parsed.tree, name)?),
-        Err(_) => Ok(String::new(alloc)),
-    }
-}
-
-/// The texts of the pool, in the order of their nodes, each in brackets behind its node.
-fn texts_of(alloc: Global, parsed: &Parsed<'_>) -> Result<String, AllocError> {
-    let mut found = String::new(alloc);
-    for n in 0..parsed.tree.len() {
-        if let Some(text) = parsed.pool.text(Node(n)) {
-            let name = parsed.tree.kind(Node(n)).name();
-            write!(found, "{name}[{text}] ")?;
-        }
-    }
-    Ok(found)
-}
-
-/// The texts of the pool of a text.
-fn texts_in(alloc: Global, text: &str) -> Result<String, Fail> {
-    if text.len() > 1_000_000 {
-        return Ok(String::new(alloc));
-    }
-    let source = match Source::read(alloc, text.as_bytes()) {
-        Ok(source) => source,
-        Err(_) => return Ok(String::new(alloc)),
-    };
-    match parse(alloc, &source) {
-        Ok(parsed) => Ok(texts_of(alloc, &parsed)?),
-        Err(_) => Ok(String::from_str(alloc, "refused")?),
     }
 }
 
@@ -124,69 +134,43 @@ static FAULTS: [(&str, &str); 4] = [
 ];
 
 /// Each row of a table.
-fn check_trees(rt: &impl Abort, alloc: Global, table: &[(&str, &str)]) -> Result<(), Fail> {
+fn check(alloc: Global, question: Question<'_>, table: Table) -> Result<(), Fail> {
     for (text, wanted) in table {
-        assert!(rt; ends_so(alloc, text, wanted)?, "of {text}");
+        expect(has(alloc, text, question, wanted)?, text)?;
     }
     Ok(())
 }
 
 #[test]
-fn trees_files_and_members(rt: HostRuntime) -> Result<(), Fail> {
-    check_trees(&rt, rt.alloc(), &FILES_AND_MEMBERS)
+fn trees(rt: HostRuntime) -> Result<(), Fail> {
+    let tables: [Table; 8] = [
+        &FILES_AND_MEMBERS,
+        &MORE_FILES_AND_MEMBERS,
+        &STATEMENTS,
+        &MORE_STATEMENTS,
+        &FURTHER_STATEMENTS,
+        &EXPRESSIONS,
+        &MORE_EXPRESSIONS,
+        &FAULTS,
+    ];
+    for table in tables {
+        check(rt.alloc(), Question::Nodes, table)?;
+    }
+    Ok(())
 }
 
-#[test]
-fn trees_more_files_and_members(rt: HostRuntime) -> Result<(), Fail> {
-    check_trees(&rt, rt.alloc(), &MORE_FILES_AND_MEMBERS)
-}
-
-#[test]
-fn trees_statements(rt: HostRuntime) -> Result<(), Fail> {
-    check_trees(&rt, rt.alloc(), &STATEMENTS)
-}
-
-#[test]
-fn trees_more_statements(rt: HostRuntime) -> Result<(), Fail> {
-    check_trees(&rt, rt.alloc(), &MORE_STATEMENTS)
-}
-
-#[test]
-fn trees_further_statements(rt: HostRuntime) -> Result<(), Fail> {
-    check_trees(&rt, rt.alloc(), &FURTHER_STATEMENTS)
-}
-
-#[test]
-fn trees_expressions(rt: HostRuntime) -> Result<(), Fail> {
-    check_trees(&rt, rt.alloc(), &EXPRESSIONS)
-}
-
-#[test]
-fn trees_more_expressions(rt: HostRuntime) -> Result<(), Fail> {
-    check_trees(&rt, rt.alloc(), &MORE_EXPRESSIONS)
-}
-
-#[test]
-fn trees_faults(rt: HostRuntime) -> Result<(), Fail> {
-    check_trees(&rt, rt.alloc(), &FAULTS)
-}
-
-/// Each row of a table.
-fn check_refused_texts(rt: &impl Abort, alloc: Global, table: &[&str]) -> Result<(), Fail> {
+/// Each text of a table has a fault of syntax.
+fn check_refused(alloc: Global, table: &[&'static str]) -> Result<(), Fail> {
     for text in table {
-        assert!(rt; ends_so(alloc, text, "Syntax")?, "of {text}");
+        expect(has(alloc, text, Question::Nodes, "Syntax")?, text)?;
     }
     Ok(())
 }
 
 #[test]
-fn refused_texts_refused(rt: HostRuntime) -> Result<(), Fail> {
-    check_refused_texts(&rt, rt.alloc(), &REFUSED)
-}
-
-#[test]
-fn refused_texts_more_refused(rt: HostRuntime) -> Result<(), Fail> {
-    check_refused_texts(&rt, rt.alloc(), &MORE_REFUSED)
+fn refused(rt: HostRuntime) -> Result<(), Fail> {
+    check_refused(rt.alloc(), &REFUSED)?;
+    check_refused(rt.alloc(), &MORE_REFUSED)
 }
 
 static POOL_TEXTS: [(&str, &str); 22] = [
@@ -249,11 +233,7 @@ static POOL_TEXTS: [(&str, &str); 22] = [
 
 #[test]
 fn texts_of_pools(rt: HostRuntime) -> Result<(), Fail> {
-    for (text, wanted) in &POOL_TEXTS {
-        let found = texts_in(rt.alloc(), text)?;
-        assert_eq!(rt; found.as_str(), *wanted, "of {text}");
-    }
-    Ok(())
+    check(rt.alloc(), Question::Texts, &POOL_TEXTS)
 }
 
 /// Stretches of nodes by their name. A node's span runs from its first to its last token: parentheses around an expression
@@ -292,8 +272,10 @@ static STRETCHES: [(&str, &str, &str); 8] = [
 #[test]
 fn stretches(rt: HostRuntime) -> Result<(), Fail> {
     for (text, name, wanted) in &STRETCHES {
-        let found = spans_in(rt.alloc(), text, name)?;
-        assert_eq!(rt; found.as_str(), *wanted, "{name} of {text}");
+        expect(
+            has(rt.alloc(), text, Question::Stretches(name), wanted)?,
+            wanted,
+        )?;
     }
     Ok(())
 }
@@ -336,22 +318,32 @@ static LIMITS: [Long; 3] = [
     },
 ];
 
-/// Whether the text ends so.
-fn long_ends_so(alloc: Global, long: &Long) -> Result<bool, Fail> {
-    let mut text = String::from_str(alloc, long.front)?;
-    for part in [long.opening, long.closing] {
-        for _ in 0..long.count {
-            text.push_str(part)?;
-        }
+/// Writes a part so many times.
+fn repeat(text: &mut String, part: &str, count: u32) -> Result<(), AllocError> {
+    for _ in 0..count {
+        text.push_str(part)?;
     }
-    text.push_str(long.end)?;
-    ends_so(alloc, text.as_str(), long.wanted)
+    Ok(())
+}
+
+fn write_long(text: &mut String, long: &Long) -> Result<(), AllocError> {
+    text.push_str(long.front)?;
+    repeat(text, long.opening, long.count)?;
+    repeat(text, long.closing, long.count)?;
+    text.push_str(long.end)
+}
+
+/// Whether the answer for the text ends so.
+fn long_ends_so(alloc: Global, long: &Long) -> Result<bool, AllocError> {
+    let mut text = String::new(alloc);
+    write_long(&mut text, long)?;
+    has(alloc, text.as_str(), Question::Nodes, long.wanted)
 }
 
 #[test]
 fn limits(rt: HostRuntime) -> Result<(), Fail> {
     for long in &LIMITS {
-        assert!(rt; long_ends_so(rt.alloc(), long)?, "of {}", long.wanted);
+        expect(long_ends_so(rt.alloc(), long)?, long.wanted)?;
     }
     Ok(())
 }

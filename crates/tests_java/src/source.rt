@@ -1,33 +1,45 @@
 //! The texts of files, with Unicode escapes translated, and their places. The values were found by hand from JLS 3.3 to 3.5.
 
+use crate::fixtures::{Table, expect};
 use pj_lex::{Source, SourceFault};
+use pj_tree::Place;
 use std::alloc::{AllocError, Global};
 use std::fmt::Write;
-use std::process::Abort;
 use std::test::Fail;
 
-/// The text that is read of the bytes, and the place of each of its offsets, the end included; or the fault.
-fn described(alloc: Global, bytes: &[u8]) -> Result<String, AllocError> {
-    let mut found = String::new(alloc);
+fn write_place(out: &mut String, place: Place) -> Result<(), AllocError> {
+    write!(out, " {}:{}", place.line, place.column)
+}
+
+/// The text, and the place of each of its offsets, the end included.
+fn write_source(out: &mut String, source: &Source) -> Result<(), AllocError> {
+    let text = source.text();
+    write!(out, "{text:?}")?;
+    for offset in 0..text.len() as u32 + 1 {
+        write_place(out, source.place(offset))?;
+    }
+    Ok(())
+}
+
+/// What is read of the bytes, or the fault.
+fn write_file(out: &mut String, alloc: Global, bytes: &[u8]) -> Result<(), AllocError> {
     if bytes.len() > 100 {
-        return Ok(found);
+        return Ok(());
     }
     match Source::read(alloc, bytes) {
-        Ok(source) => {
-            let text = source.text();
-            write!(found, "{text:?}")?;
-            for offset in 0..text.len() as u32 + 1 {
-                let place = source.place(offset);
-                write!(found, " {}:{}", place.line, place.column)?;
-            }
-        }
-        Err(SourceFault::NotUtf8(offset)) => write!(found, "not UTF-8 at {offset}")?,
+        Ok(source) => write_source(out, &source),
+        Err(SourceFault::NotUtf8(offset)) => write!(out, "not UTF-8 at {offset}"),
         Err(SourceFault::Escape(place)) => {
-            write!(found, "escape at {}:{}", place.line, place.column)?
+            write!(out, "escape at {}:{}", place.line, place.column)
         }
-        Err(SourceFault::Memory) => write!(found, "memory")?,
+        Err(SourceFault::Memory) => write!(out, "memory"),
     }
-    Ok(found)
+}
+
+fn is_read(alloc: Global, bytes: &[u8], wanted: &str) -> Result<bool, AllocError> {
+    let mut found = String::new(alloc);
+    write_file(&mut found, alloc, bytes)?;
+    Ok(found.as_str() == wanted)
 }
 
 /// Unicode escapes.
@@ -98,33 +110,26 @@ static NO_TEXTS: [(&[u8], &str); 4] = [
 ];
 
 /// Each row of a table.
-fn check_texts_of_files(
-    rt: &impl Abort,
-    alloc: Global,
-    table: &[(&str, &str)],
-) -> Result<(), Fail> {
+fn check(alloc: Global, table: Table) -> Result<(), Fail> {
     for (file, wanted) in table {
-        let found = described(alloc, file.as_bytes())?;
-        assert_eq!(rt; found.as_str(), *wanted, "of {file:?}");
+        expect(is_read(alloc, file.as_bytes(), wanted)?, file)?;
     }
     Ok(())
 }
 
 #[test]
-fn texts_of_files_escapes(rt: HostRuntime) -> Result<(), Fail> {
-    check_texts_of_files(&rt, rt.alloc(), &ESCAPES)
+fn texts_of_files(rt: HostRuntime) -> Result<(), Fail> {
+    let tables: [Table; 2] = [&ESCAPES, &FILES];
+    for table in tables {
+        check(rt.alloc(), table)?;
+    }
+    Ok(())
 }
 
 #[test]
-fn texts_of_files_files(rt: HostRuntime) -> Result<(), Fail> {
-    check_texts_of_files(&rt, rt.alloc(), &FILES)
-}
-
-#[test]
-fn texts_of_files_others(rt: HostRuntime) -> Result<(), Fail> {
+fn bytes_that_are_no_text(rt: HostRuntime) -> Result<(), Fail> {
     for (file, wanted) in &NO_TEXTS {
-        let found = described(rt.alloc(), file)?;
-        assert_eq!(rt; found.as_str(), *wanted);
+        expect(is_read(rt.alloc(), file, wanted)?, wanted)?;
     }
     Ok(())
 }

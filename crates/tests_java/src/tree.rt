@@ -6,23 +6,26 @@ ghost use Rattle.pj_tree.specs.Building.{after_call};
 ghost use Rattle.pj_tree.specs.Nested.{Parts, NoMore, Child, calls_of, AreSpansOf};
 ghost use Rattle.pj_tree.specs.declared.kind.Kind.TheVariants.{CompilationUnit};
 
+use crate::fixtures::expect;
 use pj_base::NoMemory;
 use pj_tree::{Builder, Kind, LineMap, Node, ShapeFault, Span, SyntaxTree};
 use std::alloc::{AllocError, Global};
 use std::fmt::Write;
 use std::test::Fail;
 
-/// The places of all offsets of a text, the end included.
-fn places(alloc: Global, text: &str) -> Result<Vec<(u32, u32)>, NoMemory> {
-    let mut places = Vec::new(alloc);
-    if text.len() < 100 {
-        let map = LineMap::new(alloc, text)?;
-        for offset in 0..text.len() as u32 + 1 {
-            let place = map.place(offset);
-            places.push((place.line, place.column))?;
+/// Whether these are the places of all offsets of a text, the end included.
+fn are_places(alloc: Global, text: &str, wanted: &[(u32, u32)]) -> Result<bool, NoMemory> {
+    if text.len() > 100 || wanted.len() != text.len() + 1 {
+        return Ok(false);
+    }
+    let map = LineMap::new(alloc, text)?;
+    for offset in 0..wanted.len() {
+        let place = map.place(offset as u32);
+        if wanted[offset] != (place.line, place.column) {
+            return Ok(false);
         }
     }
-    Ok(places)
+    Ok(true)
 }
 
 /// Texts with the places of their offsets.
@@ -53,8 +56,7 @@ static PLACES: [(&str, &[(u32, u32)]); 8] = [
 #[test]
 fn places_of_texts(rt: HostRuntime) -> Result<(), Fail> {
     for (text, wanted) in &PLACES {
-        let found = places(rt.alloc(), text)?;
-        assert_eq!(rt; found.as_slice(), *wanted, "of {text:?}");
+        expect(are_places(rt.alloc(), text, wanted)?, text)?;
     }
     Ok(())
 }
@@ -78,11 +80,18 @@ fn nested(alloc: Global, depth: u32) -> Result<u32, ShapeFault> {
     Ok(tree.len())
 }
 
+/// Depths, each with the number of nodes, or why there is no tree.
+static DEPTHS: [(u32, Result<u32, ShapeFault>); 3] = [
+    (1, Ok(1)),
+    (1_000, Ok(1_000)),
+    (1_001, Err(ShapeFault::TooDeep(1_001))),
+];
+
 #[test]
 fn depths(rt: HostRuntime) {
-    assert_eq!(rt; nested(rt.alloc(), 1), Ok(1));
-    assert_eq!(rt; nested(rt.alloc(), 1_000), Ok(1_000));
-    assert_eq!(rt; nested(rt.alloc(), 1_001), Err(ShapeFault::TooDeep(1_001)));
+    for (depth, wanted) in &DEPTHS {
+        assert!(rt; nested(rt.alloc(), *depth) == *wanted);
+    }
 }
 
 /// The tree of an empty class.
@@ -103,45 +112,84 @@ fn class(alloc: Global) -> Result<SyntaxTree<'static>, ShapeFault> {
     builder.finish()
 }
 
-/// All that a tree says of a node, as one text.
-fn described(alloc: Global, tree: &SyntaxTree<'_>, n: Node) -> Result<String, AllocError>
+/// What a tree says of a node alone.
+fn write_node(out: &mut String, tree: &SyntaxTree<'_>, n: Node) -> Result<(), AllocError>
     requires { n.0 < length tree.now.nodes }
 {
-    let mut text = format!(in alloc;
-        "{} {:?} {:?} {:?}",
-        tree.kind(n).name(),
-        tree.parent(n),
-        tree.span(n),
-        tree.text(n)
-    )?;
-    write!(text, " to {:?} children", tree.subtree_end(n))?;
+    let kind = tree.kind(n).name();
+    let parent = tree.parent(n);
+    let span = tree.span(n);
+    let text = tree.text(n);
+    write!(out, "{kind} {parent:?} {span:?} {text:?}")
+}
+
+fn write_children(out: &mut String, tree: &SyntaxTree<'_>, n: Node) -> Result<(), AllocError>
+    requires { n.0 < length tree.now.nodes }
+{
     for child in tree.children(n) {
-        write!(text, " {}", child.0)?;
+        write!(out, " {}", child.0)?;
     }
-    write!(text, " behind {:?}", tree.preceding_sibling(n))?;
-    write!(text, " own")?;
+    Ok(())
+}
+
+/// The node behind those below it, the children, and the sibling before it.
+fn write_others(out: &mut String, tree: &SyntaxTree<'_>, n: Node) -> Result<(), AllocError>
+    requires { n.0 < length tree.now.nodes }
+{
+    write!(out, " to {:?} children", tree.subtree_end(n))?;
+    write_children(out, tree, n)?;
+    write!(out, " behind {:?}", tree.preceding_sibling(n))
+}
+
+/// The own tokens.
+fn write_own(out: &mut String, tree: &SyntaxTree<'_>, n: Node) -> Result<(), AllocError>
+    requires { n.0 < length tree.now.nodes }
+{
+    out.push_str(" own")?;
     for token in tree.own(n) {
-        write!(text, " {token}")?;
+        write!(out, " {token}")?;
     }
-    Ok(text)
+    Ok(())
+}
+
+/// All that a tree says of a node.
+fn write_all(out: &mut String, tree: &SyntaxTree<'_>, n: Node) -> Result<(), AllocError>
+    requires { n.0 < length tree.now.nodes }
+{
+    write_node(out, tree, n)?;
+    write_others(out, tree, n)?;
+    write_own(out, tree, n)
+}
+
+/// Whether a tree says this of a node, which it has.
+fn says(alloc: Global, tree: &SyntaxTree<'_>, n: u32, wanted: &str) -> Result<bool, AllocError> {
+    if n >= tree.len() {
+        return Ok(false);
+    }
+    let mut found = String::new(alloc);
+    write_all(&mut found, tree, Node(n))?;
+    Ok(found.as_str() == wanted)
+}
+
+/// The nodes of the tree of an empty class, in preorder.
+static NODES: [&str; 4] = [
+    "CompilationUnit None Span { from: 0, to: 10 } \"class A {}\" to Node(4) children 1 behind None own",
+    "ClassDeclaration Some(Node(0)) Span { from: 0, to: 10 } \"class A {}\" to Node(4) children 2 3 behind None own class A",
+    "ModifierList Some(Node(1)) Span { from: 6, to: 6 } \"\" to Node(3) children behind None own",
+    "ClassBody Some(Node(1)) Span { from: 8, to: 10 } \"{}\" to Node(4) children behind Some(Node(2)) own { }",
+];
+
+/// Whether a tree says these of its nodes.
+fn check_nodes(alloc: Global, tree: &SyntaxTree<'_>) -> Result<(), Fail> {
+    for (n, wanted) in NODES.iter().enumerate() {
+        expect(says(alloc, tree, n as u32, wanted)?, wanted)?;
+    }
+    Ok(())
 }
 
 #[test]
 fn reads(rt: HostRuntime) -> Result<(), Fail> {
     let tree = class(rt.alloc())?;
-    let table = [
-        "CompilationUnit None Span { from: 0, to: 10 } \"class A {}\" to Node(4) children 1 behind None own",
-        "ClassDeclaration Some(Node(0)) Span { from: 0, to: 10 } \"class A {}\" to Node(4) children 2 3 behind None own class A",
-        "ModifierList Some(Node(1)) Span { from: 6, to: 6 } \"\" to Node(3) children behind None own",
-        "ClassBody Some(Node(1)) Span { from: 8, to: 10 } \"{}\" to Node(4) children behind Some(Node(2)) own { }",
-    ];
-    assert_eq!(rt; tree.len(), 4);
-    for (n, wanted) in table.into_iter().enumerate() {
-        let n = n as u32;
-        if n < tree.len() {
-            let found = described(rt.alloc(), &tree, Node(n))?;
-            assert_eq!(rt; found.as_str(), wanted);
-        }
-    }
-    Ok(())
+    assert!(rt; tree.len() == 4);
+    check_nodes(rt.alloc(), &tree)
 }

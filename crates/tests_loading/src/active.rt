@@ -1,16 +1,21 @@
 //! For which paths rules are active, which messages they cover, and what a rule keeps of its texts.
-use crate::fixtures::{loaded, tree_of};
+use crate::fixtures::{expect, joined, loaded, tree_of};
 use pj_base::{NoMemory, Text};
-use pj_rule_sets::{Rule, RuleSet, is_active, regex_covers};
+use pj_rule_sets::{Rule, RuleSet, Rules, is_active, regex_covers};
 use pj_xpatterns::PatternFlags;
 use std::alloc::Global;
 use std::test::Fail;
 
-/// The set of the ruleset `r.xml` of this text.
+/// The set of a ruleset of this text.
 fn set_of(alloc: Global, text: &str) -> Result<RuleSet, Fail> {
-    let files = format!(in alloc; "r.xml {text}")?;
-    let mut tree = tree_of(alloc, files.as_str(), &[])?;
-    Ok(loaded(alloc, &mut tree, "r.xml", 5)?)
+    let mut tree = tree_of(alloc, &[("r.xml", text)], &[])?;
+    Ok(loaded(alloc, &mut tree, &["r.xml"], 5)?)
+}
+
+/// The set of a ruleset of these pieces.
+fn set_of_pieces(alloc: Global, pieces: &[&str]) -> Result<RuleSet, Fail> {
+    let text = joined(alloc, pieces)?;
+    set_of(alloc, text.as_str())
 }
 
 /// The patterns of a top ruleset, a path, and whether its rule is active there.
@@ -63,22 +68,33 @@ static PATHS: [(&str, &str, bool); 14] = [
     ("<exclude-pattern/>", "", false),
 ];
 
-/// Whether the one rule of a ruleset with these patterns is active at a path, and whether a rule is that is not there.
-fn active(alloc: Global, patterns: &str, path: &str) -> Result<(bool, bool), Fail> {
-    let text = format!(in alloc; "<ruleset>{patterns}<rule name=\"N\"~>#</rule></ruleset>")?;
-    let set = set_of(alloc, text.as_str())?;
+/// Whether the one rule of a set is active at a path, and no rule that is not there.
+fn is_one_active(alloc: Global, set: &RuleSet, path: &str) -> Result<(bool, bool), Fail> {
     let path = Text::from_str(alloc, path)?;
-    let one = is_active(alloc, &set, 0, &path)?;
-    let other = is_active(alloc, &set, 1, &path)?;
-    Ok((one, other))
+    let other = is_active(alloc, set, 1, &path)?;
+    Ok((is_active(alloc, set, 0, &path)?, other))
+}
+
+/// The same of a ruleset with these patterns.
+fn active(alloc: Global, patterns: &str, path: &str) -> Result<(bool, bool), Fail> {
+    let rule = "<rule name=\"N\"~>#</rule></ruleset>";
+    let set = set_of_pieces(alloc, &["<ruleset>", patterns, rule])?;
+    is_one_active(alloc, &set, path)
+}
+
+/// The first number of a row that is wrong.
+fn wrong_path(alloc: Global) -> Result<Option<usize>, Fail> {
+    for (number, (patterns, path, wanted)) in PATHS.iter().enumerate() {
+        if active(alloc, patterns, path)? != (*wanted, false) {
+            return Ok(Some(number));
+        }
+    }
+    Ok(None)
 }
 
 #[test]
 fn paths(rt: HostRuntime) -> Result<(), Fail> {
-    for (patterns, path, wanted) in &PATHS {
-        let (one, other) = active(rt.alloc(), patterns, path)?;
-        assert!(rt; one == *wanted && !other, "{patterns:?} of {path:?}");
-    }
+    assert_eq!(rt; wrong_path(rt.alloc())?, None);
     Ok(())
 }
 
@@ -91,22 +107,30 @@ static MESSAGES: [(&str, &str, bool); 5] = [
     ("x|y", "y", true),
 ];
 
+/// A ruleset in front of a message, between that and a pattern, and behind the pattern, with a rule without a pattern.
+static MESSAGE: [&str; 3] = [
+    "<ruleset><rule name=\"N\" message=\"",
+    "\"~><properties><property name=\"xpath\" value=\"//A\"/><property name=\"violationSuppressRegex\" value=\"",
+    "\"/></properties></rule><rule name=\"M\"~>#</rule></ruleset>",
+];
+
+/// Whether the first rule of a set covers its message, and whether the second does.
+fn covering(set: &RuleSet) -> Result<(bool, bool), Fail> {
+    Ok((regex_covers(set, 0)?, regex_covers(set, 1)?))
+}
+
 /// Whether a rule with this pattern covers its message, and whether a rule without a pattern does.
 fn covers(alloc: Global, pattern: &str, message: &str) -> Result<(bool, bool), Fail> {
-    let text = format!(in alloc;
-        "<ruleset><rule name=\"N\" message=\"{message}\"~><properties><property name=\"xpath\" value=\"//A\"/><property name=\"violationSuppressRegex\" value=\"{pattern}\"/></properties></rule><rule name=\"M\"~>#</rule></ruleset>"
-    )?;
-    let set = set_of(alloc, text.as_str())?;
-    let one = regex_covers(&set, 0)?;
-    let other = regex_covers(&set, 1)?;
-    Ok((one, other))
+    let [front, middle, end] = MESSAGE;
+    let set = set_of_pieces(alloc, &[front, message, middle, pattern, end])?;
+    covering(&set)
 }
 
 #[test]
 fn messages(rt: HostRuntime) -> Result<(), Fail> {
     for (pattern, message, wanted) in &MESSAGES {
-        let (one, other) = covers(rt.alloc(), pattern, message)?;
-        assert!(rt; one == *wanted && !other, "{pattern:?} of {message:?}");
+        let found = covers(rt.alloc(), pattern, message)?;
+        expect(found == (*wanted, false), pattern)?;
     }
     Ok(())
 }
@@ -123,34 +147,42 @@ fn has_pattern(alloc: Global, rule: &Rule, pattern: &str) -> Result<bool, NoMemo
 }
 
 /// A rule with variables, a suppression and a pattern, and one without.
-const RULES: &str =
+static RULES: &str =
     "<ruleset><rule name=\"N\"~><properties><property name=\"p\" type=\"Regex\" value=\"a+\"/><property name=\"q\" type=\"Boolean\" value=\"true\"/><property name=\"xpath\" value=\"//A[matches(@Name, $p)]\"/><property name=\"violationSuppressXPath\" value=\"matches(@Name, 'b')\"/></properties></rule><rule name=\"M\"~>#</rule></ruleset>";
 
-/// Of each rule how many variables it has, whether it has an expression that suppresses and patterns of it, and whether the patterns
-/// `a+` and `b` stand in its query.
-fn kept(alloc: Global) -> Result<String, Fail> {
-    let set = set_of(alloc, RULES)?;
-    let mut line = String::from_str(alloc, set.marker().as_str())?;
-    for rule in set.rules().as_slice() {
-        let variables = rule.variables().len();
-        let suppresses = rule.suppression().is_some();
-        let compiled = rule.suppression_patterns().is_some();
-        let first = has_pattern(alloc, rule, "a+")?;
-        let second = has_pattern(alloc, rule, "b")?;
-        write!(
-            line,
-            "; {variables} {suppresses} {compiled} {first} {second}"
-        )?;
+/// Of each rule whether it has an expression that suppresses and patterns of it, and whether the patterns `a+` and `b` stand in
+/// its query, behind how many variables it has.
+static KEPT: [(usize, [bool; 4]); 2] = [
+    (2, [true, true, true, false]),
+    (0, [false, false, false, false]),
+];
+
+/// Whether this is kept of a rule.
+fn is_kept(alloc: Global, rule: &Rule, wanted: &(usize, [bool; 4])) -> Result<bool, NoMemory> {
+    let (variables, [suppresses, compiled, first, second]) = *wanted;
+    Ok(
+        rule.variables().len() == variables
+            && rule.suppression().is_some() == suppresses
+            && rule.suppression_patterns().is_some() == compiled
+            && has_pattern(alloc, rule, "a+")? == first
+            && has_pattern(alloc, rule, "b")? == second,
+    )
+}
+
+/// Whether this is kept of each rule.
+fn are_kept(alloc: Global, rules: &Rules) -> Result<bool, NoMemory> {
+    for (rule, wanted) in rules.as_slice().iter().zip(&KEPT) {
+        if !is_kept(alloc, rule, wanted)? {
+            return Ok(false);
+        }
     }
-    Ok(line)
+    Ok(rules.len() == KEPT.len())
 }
 
 #[test]
 fn what_is_kept(rt: HostRuntime) -> Result<(), Fail> {
-    let words = kept(rt.alloc())?;
-    assert_eq!(rt;
-        words.as_str(),
-        "NOPMD; 2 true true true false; 0 false false false false"
-    );
+    let set = set_of(rt.alloc(), RULES)?;
+    assert!(rt; set.marker().as_str() == "NOPMD");
+    assert!(rt; are_kept(rt.alloc(), set.rules())?);
     Ok(())
 }

@@ -2,15 +2,17 @@
 use pj_base::{Bytes, Names, NoMemory, Numbers, Text};
 use pj_outside::{Files, MemTree};
 use pj_rule_sets::{Rule, RuleSet};
-use pj_rules::{RuleRefused, RuleWhat, load};
+use pj_rules::{RuleFault, RuleRefused, RuleWhat, load};
 use std::alloc::Global;
-use std::process::Abort;
 use std::test::Fail;
 
-/// Files, one on each line with its path before the first space; the paths of a load; the minimum; and what is answered.
+/// A path and the text of its file. In the text, `~` stands for the class of XPath rules and `#` for properties with a query.
+pub type File<'a> = (&'a str, &'a str);
+
+/// Files; the paths of a load; the minimum; and what is answered.
 pub struct Row {
-    pub files: &'static str,
-    pub paths: &'static str,
+    pub files: &'static [File<'static>],
+    pub paths: &'static [&'static str],
     pub minimum: u8,
     pub wanted: &'static str,
 }
@@ -21,39 +23,77 @@ const CLASS: &str = " class=\"net.sourceforge.pmd.lang.rule.xpath.XPathRule\"";
 /// Properties with a query.
 const QUERY: &str = "<properties><property name=\"xpath\" value=\"//A\"/></properties>";
 
-/// Puts a file. In its text, `~` stands for the class of XPath rules and `#` for properties with a query.
-pub fn put_file(alloc: Global, files: &mut Files, path: &str, text: &str) -> Result<(), NoMemory> {
-    let classed = text.replace(alloc, '~', CLASS)?;
-    let whole = classed.replace(alloc, '#', QUERY)?;
-    let bytes = Bytes::from_vec(whole.into_bytes());
-    files.push((Text::from_str(alloc, path)?, bytes))?;
+/// Puts pieces behind what there is.
+pub fn put(line: &mut String, pieces: &[&str]) -> Result<(), NoMemory> {
+    for piece in pieces {
+        line.push_str(piece)?;
+    }
     Ok(())
 }
 
-/// A tree with the files of these lines; the calls of these numbers fail.
-pub fn tree_of(alloc: Global, lines: &str, fail: &[u32]) -> Result<MemTree, NoMemory> {
-    let mut files = Files::new(alloc);
-    for line in lines.split('\n') {
-        if let Some((path, text)) = line.split_once(' ') {
-            put_file(alloc, &mut files, path, text)?;
-        }
-    }
-    let fail = Numbers::from_vec(Vec::from_slice(alloc, fail)?);
-    Ok(MemTree::new(alloc, files, fail))
+/// A text of these pieces.
+pub fn joined(alloc: Global, pieces: &[&str]) -> Result<String, NoMemory> {
+    let mut text = String::new(alloc);
+    put(&mut text, pieces)?;
+    Ok(text)
 }
 
-/// What a load of the paths that stand between commas answers.
+/// The text of a file, with what the signs in it stand for.
+fn written(alloc: Global, text: &str) -> Result<String, NoMemory> {
+    let classed = text.replace(alloc, '~', CLASS)?;
+    Ok(classed.replace(alloc, '#', QUERY)?)
+}
+
+/// Puts a file.
+pub fn put_bytes(files: &mut Files, path: Text, bytes: Vec<u8>) -> Result<(), NoMemory> {
+    files.push((path, Bytes::from_vec(bytes)))
+}
+
+/// Puts a file of this text.
+pub fn put_file(alloc: Global, files: &mut Files, (path, text): File<'_>) -> Result<(), NoMemory> {
+    let text = written(alloc, text)?;
+    let path = Text::from_str(alloc, path)?;
+    put_bytes(files, path, text.into_bytes())
+}
+
+/// Files of these texts.
+fn files_of(alloc: Global, all: &[File<'_>]) -> Result<Files, NoMemory> {
+    let mut files = Files::new(alloc);
+    for file in all {
+        put_file(alloc, &mut files, *file)?;
+    }
+    Ok(files)
+}
+
+/// A tree with these files; the calls of these numbers fail.
+pub fn tree_of(alloc: Global, all: &[File<'_>], fail: &[u32]) -> Result<MemTree, NoMemory> {
+    let fail = Numbers::from_vec(Vec::from_slice(alloc, fail)?);
+    Ok(MemTree::new(alloc, files_of(alloc, all)?, fail))
+}
+
+/// Puts a path behind the others.
+fn put_path(alloc: Global, names: &mut Names, path: &str) -> Result<(), NoMemory> {
+    names.push(Text::from_str(alloc, path)?)
+}
+
+/// A list of paths.
+fn names_of(alloc: Global, paths: &[&str]) -> Result<Names, NoMemory> {
+    let mut names = Names::new(alloc);
+    for path in paths {
+        put_path(alloc, &mut names, path)?;
+    }
+    Ok(names)
+}
+
+/// What a load of the paths answers.
 pub fn loaded(
     alloc: Global,
     tree: &mut MemTree,
-    paths: &str,
+    paths: &[&str],
     minimum: u8,
 ) -> Result<RuleSet, RuleRefused> {
-    let mut names = Names::new(alloc);
-    for path in paths.split(',') {
-        names.push(Text::from_str(alloc, path)?)?;
-    }
     let marker = Text::from_str(alloc, "NOPMD")?;
+    let names = names_of(alloc, paths)?;
     load(alloc, tree, &names, minimum, &marker)
 }
 
@@ -65,41 +105,66 @@ fn put_space(line: &mut String) -> Result<(), NoMemory> {
     Ok(())
 }
 
+/// Puts a number.
+fn put_number(line: &mut String, number: u32) -> Result<(), NoMemory> {
+    write!(line, "{number}")?;
+    Ok(())
+}
+
+/// Puts the number of a rule's top ruleset and its row.
+fn put_row(line: &mut String, rule: &Rule) -> Result<(), NoMemory> {
+    put_number(line, rule.top)?;
+    put(line, &[" ", rule.row.name.as_str(), " "])?;
+    put_number(line, u32::from(rule.row.priority))?;
+    put(line, &[" [", rule.row.message.as_str(), "] ["])?;
+    put(line, &[rule.row.rule_set.as_str(), "]"])
+}
+
+/// Puts a rule's properties.
+fn put_properties(line: &mut String, rule: &Rule) -> Result<(), NoMemory> {
+    for property in rule.properties.as_slice() {
+        let (name, kind) = (property.name.as_str(), property.kind.as_str());
+        put(line, &[" ", name, ":", kind, "=", property.value.as_str()])?;
+    }
+    Ok(())
+}
+
 /// Puts a rule: the number of its top ruleset, its row, its query and its properties.
 fn put_rule(line: &mut String, rule: &Rule) -> Result<(), NoMemory> {
     put_space(line)?;
-    let (top, priority) = (rule.top, rule.row.priority);
-    let (name, message) = (rule.row.name.as_str(), rule.row.message.as_str());
-    let (rule_set, query) = (rule.row.rule_set.as_str(), rule.xpath.as_str());
-    write!(
-        line,
-        "{top} {name} {priority} [{message}] [{rule_set}] {query}"
-    )?;
-    for property in rule.properties.as_slice() {
-        let (name, kind) = (property.name.as_str(), property.kind.as_str());
-        let value = property.value.as_str();
-        write!(line, " {name}:{kind}={value}")?;
-    }
-    line.push_str(";")?;
-    Ok(())
+    put_row(line, rule)?;
+    put(line, &[" ", rule.xpath.as_str()])?;
+    put_properties(line, rule)?;
+    put(line, &[";"])
 }
 
 /// Puts a configuration error.
 fn put_error(line: &mut String, rule: &str, message: &str) -> Result<(), NoMemory> {
     put_space(line)?;
-    write!(line, "!{rule}: {message};")?;
+    put(line, &["!", rule, ": ", message, ";"])
+}
+
+/// Puts each rule with a `;` behind it.
+fn put_rules(line: &mut String, set: &RuleSet) -> Result<(), NoMemory> {
+    for rule in set.rules().as_slice() {
+        put_rule(line, rule)?;
+    }
     Ok(())
 }
 
-/// Each rule with a `;` behind it, then each configuration error likewise behind a `!`.
+/// Puts each configuration error behind a `!`, with a `;` behind it.
+fn put_errors(line: &mut String, set: &RuleSet) -> Result<(), NoMemory> {
+    for error in set.unusable().as_slice() {
+        put_error(line, error.rule.as_str(), error.message.as_str())?;
+    }
+    Ok(())
+}
+
+/// Each rule, then each configuration error.
 fn shown(alloc: Global, set: &RuleSet) -> Result<String, NoMemory> {
     let mut line = String::new(alloc);
-    for rule in set.rules().as_slice() {
-        put_rule(&mut line, rule)?;
-    }
-    for error in set.unusable().as_slice() {
-        put_error(&mut line, error.rule.as_str(), error.message.as_str())?;
-    }
+    put_rules(&mut line, set)?;
+    put_errors(&mut line, set)?;
     Ok(line)
 }
 
@@ -123,41 +188,56 @@ fn word_of(what: &RuleWhat) -> &'static str {
 /// Puts what a cause tells.
 fn put_what(line: &mut String, what: &RuleWhat) -> Result<(), NoMemory> {
     match what {
-        RuleWhat::Markup(offset) => write!(line, " {offset}")?,
-        RuleWhat::NoName(offset) => write!(line, " {offset}")?,
-        RuleWhat::XPath(name, fault) => write!(line, " {name}: {fault}")?,
-        RuleWhat::NoXPath(name) => write!(line, " {name}")?,
-        RuleWhat::BadPriority(name) => write!(line, " {name}")?,
-        RuleWhat::BadProperty(name) => write!(line, " {name}")?,
-        RuleWhat::MissingRef(text) => write!(line, " {text}")?,
-        RuleWhat::RefCycle(text) => write!(line, " {text}")?,
-        RuleWhat::SameName(name) => write!(line, " {name}")?,
-        RuleWhat::PatternRefused(text) => write!(line, " {text}")?,
+        RuleWhat::Markup(offset) | RuleWhat::NoName(offset) => {
+            write!(line, " {offset}")?;
+        }
+        RuleWhat::XPath(name, fault) => {
+            write!(line, " {name}: {fault}")?;
+        }
+        RuleWhat::NoXPath(text)
+        | RuleWhat::BadPriority(text)
+        | RuleWhat::BadProperty(text)
+        | RuleWhat::MissingRef(text)
+        | RuleWhat::RefCycle(text)
+        | RuleWhat::SameName(text)
+        | RuleWhat::PatternRefused(text) => put(line, &[" ", text.as_str()])?,
         RuleWhat::TooLong => (),
     }
     Ok(())
 }
 
-/// The place and the cause of a refusal.
-fn refusal(alloc: Global, refused: &RuleRefused) -> Result<String, NoMemory> {
+/// Puts the place and the cause of a fault.
+fn put_fault(line: &mut String, fault: &RuleFault) -> Result<(), NoMemory> {
+    put(line, &[fault.path.as_str(), " "])?;
+    put(line, &[word_of(&fault.what)])?;
+    put_what(line, &fault.what)
+}
+
+/// Puts a refusal.
+fn put_refusal(line: &mut String, refused: &RuleRefused) -> Result<(), NoMemory> {
     match refused {
-        RuleRefused::Rule(fault) => {
-            let (path, word) = (fault.path.as_str(), word_of(&fault.what));
-            let mut line = format!(in alloc; "{path} {word}")?;
-            put_what(&mut line, &fault.what)?;
-            Ok(line)
+        RuleRefused::Rule(fault) => put_fault(line, fault),
+        RuleRefused::TooManyRules(count) => {
+            put(line, &["TooManyRules "])?;
+            put_number(line, *count)
         }
-        RuleRefused::TooManyRules(count) => Ok(format!(in alloc; "TooManyRules {count}")?),
-        RuleRefused::Failed => Ok(String::from_str(alloc, "Failed")?),
+        RuleRefused::Failed => put(line, &["Failed"]),
         RuleRefused::Memory => Err(NoMemory),
     }
 }
 
+/// The place and the cause of a refusal.
+fn refusal(alloc: Global, refused: &RuleRefused) -> Result<String, NoMemory> {
+    let mut line = String::new(alloc);
+    put_refusal(&mut line, refused)?;
+    Ok(line)
+}
+
 /// What a load of these paths answers, in words.
-pub fn told(
+fn told(
     alloc: Global,
     tree: &mut MemTree,
-    paths: &str,
+    paths: &[&str],
     minimum: u8,
 ) -> Result<String, NoMemory> {
     match loaded(alloc, tree, paths, minimum) {
@@ -166,28 +246,58 @@ pub fn told(
     }
 }
 
-/// How many rules a load of these paths gives, and how many configuration errors.
-pub fn counted(
+/// Whether a load of these paths answers this.
+pub fn is_told(
     alloc: Global,
     tree: &mut MemTree,
-    paths: &str,
+    paths: &[&str],
     minimum: u8,
-) -> Result<String, NoMemory> {
-    match loaded(alloc, tree, paths, minimum) {
-        Ok(set) => {
-            let (rules, errors) = (set.rules().len(), set.unusable().len());
-            Ok(format!(in alloc; "{rules} {errors}")?)
-        }
+    wanted: &str,
+) -> Result<bool, NoMemory> {
+    let words = told(alloc, tree, paths, minimum)?;
+    Ok(words.as_str() == wanted)
+}
+
+/// How many rules a set has, and how many configuration errors.
+fn counts(alloc: Global, set: &RuleSet) -> Result<String, NoMemory> {
+    let (rules, errors) = (set.rules().len(), set.unusable().len());
+    Ok(format!(in alloc; "{rules} {errors}")?)
+}
+
+/// How many rules a load of these paths gives, and how many configuration errors.
+fn counted(alloc: Global, tree: &mut MemTree, paths: &[&str]) -> Result<String, NoMemory> {
+    match loaded(alloc, tree, paths, 5) {
+        Ok(set) => counts(alloc, &set),
         Err(refused) => refusal(alloc, &refused),
     }
 }
 
+/// Whether a load of these paths gives so many.
+pub fn is_counted(
+    alloc: Global,
+    tree: &mut MemTree,
+    paths: &[&str],
+    wanted: &str,
+) -> Result<bool, NoMemory> {
+    let words = counted(alloc, tree, paths)?;
+    Ok(words.as_str() == wanted)
+}
+
+/// Fails with a text of a row where what it says does not hold.
+pub fn expect(holds: bool, row: &'static str) -> Result<(), Fail> {
+    if holds { Ok(()) } else { Err(Fail::new(row)) }
+}
+
+/// Whether a load answers what a row wants.
+fn is_answered(alloc: Global, row: &Row) -> Result<bool, NoMemory> {
+    let mut tree = tree_of(alloc, row.files, &[])?;
+    is_told(alloc, &mut tree, row.paths, row.minimum, row.wanted)
+}
+
 /// The rows answer what is wanted.
-pub fn answers(rt: &impl Abort, alloc: Global, rows: &[Row]) -> Result<(), Fail> {
+pub fn answers(alloc: Global, rows: &'static [Row]) -> Result<(), Fail> {
     for row in rows {
-        let mut tree = tree_of(alloc, row.files, &[])?;
-        let words = told(alloc, &mut tree, row.paths, row.minimum)?;
-        assert_eq!(rt; words.as_str(), row.wanted, "of {:?}", row.files);
+        expect(is_answered(alloc, row)?, row.wanted)?;
     }
     Ok(())
 }

@@ -1,5 +1,5 @@
 //! Properties of each type, with values of it and others.
-use crate::fixtures::{told, tree_of};
+use crate::fixtures::{is_told, joined, tree_of};
 use pj_base::NoMemory;
 use std::alloc::Global;
 use std::test::Fail;
@@ -48,34 +48,70 @@ static OTHERS: [(&str, &str); 18] = [
     ("", "x"),
 ];
 
-/// What a load of a rule answers that has a property `p` of this type and value.
-fn told_of(alloc: Global, kind: &str, value: &str) -> Result<String, NoMemory> {
-    let files = format!(in alloc;
-        "r.xml <ruleset><rule name=\"N\"~><properties><property name=\"xpath\" value=\"//A\"/><property name=\"p\" type=\"{kind}\" value=\"{value}\"/></properties></rule></ruleset>"
-    )?;
-    let mut tree = tree_of(alloc, files.as_str(), &[])?;
-    told(alloc, &mut tree, "r.xml", 5)
+/// A ruleset in front of a property's type, between that and its value, and behind it.
+static PIECES: [&str; 3] = [
+    "<ruleset><rule name=\"N\"~><properties><property name=\"xpath\" value=\"//A\"/><property name=\"p\" type=\"",
+    "\" value=\"",
+    "\"/></properties></rule></ruleset>",
+];
+
+/// Whether a load of a ruleset of this text answers this.
+fn is_told_of(alloc: Global, text: &str, wanted: &str) -> Result<bool, NoMemory> {
+    let mut tree = tree_of(alloc, &[("r.xml", text)], &[])?;
+    is_told(alloc, &mut tree, &["r.xml"], 5, wanted)
+}
+
+/// Whether a load of a rule that has a property `p` of this type and value answers this.
+fn is_property_told(
+    alloc: Global,
+    kind: &str,
+    value: &str,
+    wanted: &str,
+) -> Result<bool, NoMemory> {
+    let [front, middle, end] = PIECES;
+    let text = joined(alloc, &[front, kind, middle, value, end])?;
+    is_told_of(alloc, text.as_str(), wanted)
+}
+
+/// Whether a load answers the rule with this property.
+fn is_sound(alloc: Global, kind: &str, value: &str) -> Result<bool, NoMemory> {
+    let wanted = joined(alloc, &["0 N 5 [] [] //A p:", kind, "=", value, ";"])?;
+    is_property_told(alloc, kind, value, wanted.as_str())
+}
+
+/// The first number of a value that is not told to be of its type.
+fn wrong_sound(alloc: Global) -> Result<Option<usize>, NoMemory> {
+    for (number, (kind, value)) in SOUND.iter().enumerate() {
+        if !is_sound(alloc, kind, value)? {
+            return Ok(Some(number));
+        }
+    }
+    Ok(None)
 }
 
 #[test]
 fn values_are_of_their_type(rt: HostRuntime) -> Result<(), Fail> {
-    for (kind, value) in &SOUND {
-        let words = told_of(rt.alloc(), kind, value)?;
-        let wanted = format!(in rt.alloc(); "0 N 5 [] [] //A p:{kind}={value};")?;
-        assert_eq!(rt; words.as_str(), wanted.as_str());
-    }
+    assert_eq!(rt; wrong_sound(rt.alloc())?, None);
     Ok(())
+}
+
+/// Whether a load refuses this property.
+fn is_refused(alloc: Global, kind: &str, value: &str) -> Result<bool, NoMemory> {
+    is_property_told(alloc, kind, value, "r.xml BadProperty N")
+}
+
+/// The first number of a value that is not refused.
+fn wrong_other(alloc: Global) -> Result<Option<usize>, NoMemory> {
+    for (number, (kind, value)) in OTHERS.iter().enumerate() {
+        if !is_refused(alloc, kind, value)? {
+            return Ok(Some(number));
+        }
+    }
+    Ok(None)
 }
 
 #[test]
 fn other_values_are_refused(rt: HostRuntime) -> Result<(), Fail> {
-    for (kind, value) in &OTHERS {
-        let words = told_of(rt.alloc(), kind, value)?;
-        assert_eq!(rt;
-            words.as_str(),
-            "r.xml BadProperty N",
-            "of {kind:?} {value:?}"
-        );
-    }
+    assert_eq!(rt; wrong_other(rt.alloc())?, None);
     Ok(())
 }

@@ -3,29 +3,74 @@
 use crate::fault_rows::{
     ENDS, LEFT_OUT_OPERATORS, LEFT_OUT_STEPS, OFFSETS_ARE_BYTES, PLACES_1, PLACES_2, TOKENS,
 };
+use crate::fixtures::{Table, expect};
 use crate::name_fault_rows::{ARGUMENTS, FUNCTIONS_1, FUNCTIONS_2, VARIABLES_1, VARIABLES_2};
-use pj_base::{Names, Text};
+use pj_base::{Names, NoMemory, Text};
 use pj_xparse::{XSyntax, parse};
-use std::alloc::Global;
-use std::process::Abort;
+use std::alloc::{AllocError, Global};
+use std::fmt::Write;
 use std::test::Fail;
 
-/// The expression of the text in the words of the code, or its fault.
-pub fn read(alloc: Global, text: &str) -> Result<String, Fail> {
+/// The variables that are given.
+pub fn variables(alloc: Global) -> Result<Names, NoMemory> {
     let mut variables = Names::new(alloc);
     variables.push(Text::from_str(alloc, "p")?)?;
-    match parse(alloc, text, &variables) {
-        Ok(expr) => Ok(format!(in alloc; "{expr:?}")?),
+    Ok(variables)
+}
+
+/// The expression of the text in the words of the code, or its fault.
+fn write_read(
+    out: &mut String,
+    alloc: Global,
+    variables: &Names,
+    text: &str,
+) -> Result<(), AllocError> {
+    match parse(alloc, text, variables) {
+        Ok(expr) => write!(out, "{expr:?}"),
         Err(XSyntax::UnknownFunction(name, from)) => {
-            let name = name.as_str();
-            Ok(format!(in alloc; "Unknown {name} {from}")?)
+            write!(out, "Unknown {} {from}", name.as_str())
         }
-        Err(XSyntax::UnknownVariable(name)) => {
-            let name = name.as_str();
-            Ok(format!(in alloc; "No {name}")?)
-        }
-        Err(fault) => Ok(format!(in alloc; "{fault:?}")?),
+        Err(XSyntax::UnknownVariable(name)) => write!(out, "No {}", name.as_str()),
+        Err(fault) => write!(out, "{fault:?}"),
     }
+}
+
+/// Whether the text has this expression in the words of the code, or this fault.
+pub fn is_read(
+    alloc: Global,
+    variables: &Names,
+    text: &str,
+    wanted: &str,
+) -> Result<bool, AllocError> {
+    let mut found = String::new(alloc);
+    write_read(&mut found, alloc, variables, text)?;
+    Ok(found.as_str() == wanted)
+}
+
+/// Whether the text is an expression.
+pub fn is_taken(alloc: Global, variables: &Names, text: &str) -> bool {
+    parse(alloc, text, variables).is_ok()
+}
+
+/// Each row of a table.
+fn check(alloc: Global, variables: &Names, table: Table) -> Result<(), Fail> {
+    for (text, wanted) in table {
+        expect(is_read(alloc, variables, text, wanted)?, text)?;
+    }
+    Ok(())
+}
+
+fn check_each(alloc: Global, variables: &Names, tables: &[Table]) -> Result<(), Fail> {
+    for table in tables {
+        check(alloc, variables, *table)?;
+    }
+    Ok(())
+}
+
+/// Each row of tables.
+fn check_all(alloc: Global, tables: &[Table]) -> Result<(), Fail> {
+    let variables = variables(alloc)?;
+    check_each(alloc, &variables, tables)
 }
 
 /// The expression that the text spells, with each operator in the words of the code.
@@ -101,110 +146,36 @@ static COMMENTS: [(&str, &str); 2] = [
     ),
 ];
 
-/// Each row of a table.
-fn check_expressions(rt: &impl Abort, alloc: Global, table: &[(&str, &str)]) -> Result<(), Fail> {
-    for (text, wanted) in table {
-        let found = read(alloc, text)?;
-        assert_eq!(rt; found.as_str(), *wanted, "of {text:?}");
-    }
-    Ok(())
+#[test]
+fn expressions(rt: HostRuntime) -> Result<(), Fail> {
+    let tables: [Table; 3] = [&EXPRESSIONS_1, &EXPRESSIONS_2, &COMMENTS];
+    check_all(rt.alloc(), &tables)
 }
 
 #[test]
-fn expressions_expressions_1(rt: HostRuntime) -> Result<(), Fail> {
-    check_expressions(&rt, rt.alloc(), &EXPRESSIONS_1)
+fn faults(rt: HostRuntime) -> Result<(), Fail> {
+    let tables: [Table; 7] = [
+        &TOKENS,
+        &ENDS,
+        &PLACES_1,
+        &PLACES_2,
+        &LEFT_OUT_OPERATORS,
+        &LEFT_OUT_STEPS,
+        &OFFSETS_ARE_BYTES,
+    ];
+    check_all(rt.alloc(), &tables)
 }
 
 #[test]
-fn expressions_expressions_2(rt: HostRuntime) -> Result<(), Fail> {
-    check_expressions(&rt, rt.alloc(), &EXPRESSIONS_2)
-}
-
-#[test]
-fn expressions_comments(rt: HostRuntime) -> Result<(), Fail> {
-    check_expressions(&rt, rt.alloc(), &COMMENTS)
-}
-
-/// Each row of a table.
-fn check_faults(rt: &impl Abort, alloc: Global, table: &[(&str, &str)]) -> Result<(), Fail> {
-    for (text, wanted) in table {
-        let found = read(alloc, text)?;
-        assert_eq!(rt; found.as_str(), *wanted, "of {text:?}");
-    }
-    Ok(())
-}
-
-#[test]
-fn faults_tokens(rt: HostRuntime) -> Result<(), Fail> {
-    check_faults(&rt, rt.alloc(), &TOKENS)
-}
-
-#[test]
-fn faults_ends(rt: HostRuntime) -> Result<(), Fail> {
-    check_faults(&rt, rt.alloc(), &ENDS)
-}
-
-#[test]
-fn faults_places_1(rt: HostRuntime) -> Result<(), Fail> {
-    check_faults(&rt, rt.alloc(), &PLACES_1)
-}
-
-#[test]
-fn faults_places_2(rt: HostRuntime) -> Result<(), Fail> {
-    check_faults(&rt, rt.alloc(), &PLACES_2)
-}
-
-#[test]
-fn faults_left_out_operators(rt: HostRuntime) -> Result<(), Fail> {
-    check_faults(&rt, rt.alloc(), &LEFT_OUT_OPERATORS)
-}
-
-#[test]
-fn faults_left_out_steps(rt: HostRuntime) -> Result<(), Fail> {
-    check_faults(&rt, rt.alloc(), &LEFT_OUT_STEPS)
-}
-
-#[test]
-fn faults_offsets_are_bytes(rt: HostRuntime) -> Result<(), Fail> {
-    check_faults(&rt, rt.alloc(), &OFFSETS_ARE_BYTES)
-}
-
-/// Each row of a table.
-fn check_faults_of_names(
-    rt: &impl Abort,
-    alloc: Global,
-    table: &[(&str, &str)],
-) -> Result<(), Fail> {
-    for (text, wanted) in table {
-        let found = read(alloc, text)?;
-        assert_eq!(rt; found.as_str(), *wanted, "of {text:?}");
-    }
-    Ok(())
-}
-
-#[test]
-fn faults_of_names_functions_1(rt: HostRuntime) -> Result<(), Fail> {
-    check_faults_of_names(&rt, rt.alloc(), &FUNCTIONS_1)
-}
-
-#[test]
-fn faults_of_names_functions_2(rt: HostRuntime) -> Result<(), Fail> {
-    check_faults_of_names(&rt, rt.alloc(), &FUNCTIONS_2)
-}
-
-#[test]
-fn faults_of_names_variables_1(rt: HostRuntime) -> Result<(), Fail> {
-    check_faults_of_names(&rt, rt.alloc(), &VARIABLES_1)
-}
-
-#[test]
-fn faults_of_names_variables_2(rt: HostRuntime) -> Result<(), Fail> {
-    check_faults_of_names(&rt, rt.alloc(), &VARIABLES_2)
-}
-
-#[test]
-fn faults_of_names_arguments(rt: HostRuntime) -> Result<(), Fail> {
-    check_faults_of_names(&rt, rt.alloc(), &ARGUMENTS)
+fn faults_of_names(rt: HostRuntime) -> Result<(), Fail> {
+    let tables: [Table; 5] = [
+        &FUNCTIONS_1,
+        &FUNCTIONS_2,
+        &VARIABLES_1,
+        &VARIABLES_2,
+        &ARGUMENTS,
+    ];
+    check_all(rt.alloc(), &tables)
 }
 
 /// Names in expressions, variables that are bound around their place, and arguments that are written as the functions want them.
@@ -223,51 +194,79 @@ static TAKEN: [&str; 12] = [
     "map = array",
 ];
 
-fn parse_with_p(alloc: Global, text: &str) -> Result<bool, Fail> {
-    let mut variables = Names::new(alloc);
-    variables.push(Text::from_str(alloc, "p")?)?;
-    Ok(parse(alloc, text, &variables).is_ok())
+fn check_taken(alloc: Global, variables: &Names) -> Result<(), Fail> {
+    for text in &TAKEN {
+        expect(is_taken(alloc, variables, text), text)?;
+    }
+    Ok(())
 }
 
 #[test]
 fn names_that_are_there(rt: HostRuntime) -> Result<(), Fail> {
-    for text in &TAKEN {
-        assert!(rt; parse_with_p(rt.alloc(), text)?, "{text:?} is taken");
-    }
-    Ok(())
+    let variables = variables(rt.alloc())?;
+    check_taken(rt.alloc(), &variables)
+}
+
+fn has_message(alloc: Global, fault: &XSyntax, wanted: &str) -> Result<bool, AllocError> {
+    let mut found = String::new(alloc);
+    write!(found, "{fault}")?;
+    Ok(found.as_str() == wanted)
+}
+
+/// A fault, with the name that is in it.
+#[derive(Clone, Copy)]
+enum Fault {
+    Token(u32),
+    Expected(u32),
+    Function(&'static str, u32),
+    Variable(&'static str),
+    Outside(u32),
+    Deep(u32),
+    Memory,
+}
+
+fn made(alloc: Global, fault: Fault) -> Result<XSyntax, NoMemory> {
+    Ok(match fault {
+        Fault::Token(from) => XSyntax::Token(from),
+        Fault::Expected(from) => XSyntax::Expected(from),
+        Fault::Function(name, from) => XSyntax::UnknownFunction(Text::from_str(alloc, name)?, from),
+        Fault::Variable(name) => XSyntax::UnknownVariable(Text::from_str(alloc, name)?),
+        Fault::Outside(from) => XSyntax::Outside(from),
+        Fault::Deep(depth) => XSyntax::Deep(depth),
+        Fault::Memory => XSyntax::Memory,
+    })
+}
+
+static MESSAGES: [(Fault, &str); 7] = [
+    (Fault::Token(3), "no token begins at offset 3"),
+    (
+        Fault::Expected(3),
+        "what stands at offset 3 is not expected there",
+    ),
+    (
+        Fault::Function("f", 3),
+        "no function f takes so many arguments, at offset 3",
+    ),
+    (Fault::Variable("x"), "no variable $x is bound"),
+    (
+        Fault::Outside(3),
+        "a construct that is left out begins at offset 3",
+    ),
+    (Fault::Deep(201), "nested 201 deep, one deeper than may be"),
+    (Fault::Memory, "out of memory"),
+];
+
+/// Whether a fault has this message.
+fn says(alloc: Global, fault: Fault, wanted: &str) -> Result<bool, NoMemory> {
+    let fault = made(alloc, fault)?;
+    Ok(has_message(alloc, &fault, wanted)?)
 }
 
 /// The message of each fault.
 #[test]
 fn messages(rt: HostRuntime) -> Result<(), Fail> {
-    let alloc = rt.alloc();
-    let name = Text::from_str(alloc, "f")?;
-    let function = XSyntax::UnknownFunction(name, 3);
-    let name = Text::from_str(alloc, "x")?;
-    let variable = XSyntax::UnknownVariable(name);
-    for (fault, wanted) in [
-        (&XSyntax::Token(3), "no token begins at offset 3"),
-        (
-            &XSyntax::Expected(3),
-            "what stands at offset 3 is not expected there",
-        ),
-        (
-            &function,
-            "no function f takes so many arguments, at offset 3",
-        ),
-        (&variable, "no variable $x is bound"),
-        (
-            &XSyntax::Outside(3),
-            "a construct that is left out begins at offset 3",
-        ),
-        (
-            &XSyntax::Deep(201),
-            "nested 201 deep, one deeper than may be",
-        ),
-        (&XSyntax::Memory, "out of memory"),
-    ] {
-        let message = format!(in alloc; "{fault}")?;
-        assert_eq!(rt; message.as_str(), wanted);
+    for (fault, wanted) in &MESSAGES {
+        expect(says(rt.alloc(), *fault, wanted)?, wanted)?;
     }
     Ok(())
 }

@@ -1,14 +1,18 @@
 //! How derivations of the tokens of texts end.
 
+ghost use Rattle.std.specs.Prelude.{◌^◌, ◌<◌, length};
+
+use crate::fixtures::{Table, expect};
 use crate::grammar_rows::{
     EXPRESSIONS_1, EXPRESSIONS_2, EXPRESSIONS_3, EXPRESSIONS_4, EXPRESSIONS_5, FAULTS_1, FAULTS_2,
     FAULTS_3,
 };
+use pj_base::NoMemory;
 use pj_ll::End;
 use pj_xgrammar::derivation;
-use pj_xtokens::{End as TextEnd, TokenList, tokens};
-use std::alloc::Global;
-use std::process::Abort;
+use pj_xtokens::{End as TextEnd, Token, TokenList, tokens};
+use std::alloc::{AllocError, Global};
+use std::fmt::Write;
 use std::test::Fail;
 
 /// The offset of a token, or of the end.
@@ -21,107 +25,105 @@ fn offset(found: &TokenList<'_>, place: u32) -> u32 {
     }
 }
 
-/// How the derivation of the text's tokens ends, with the offset of a fault.
-fn read(alloc: Global, text: &str) -> Result<String, Fail> {
+/// How a derivation ends, with the offset of a fault.
+fn write_end(out: &mut String, found: &TokenList<'_>, end: End) -> Result<(), AllocError> {
+    match end {
+        End::Whole => out.push_str("whole"),
+        End::Stops(place) => write!(out, "Expected({})", offset(found, place)),
+        End::LeftOut(place) => write!(out, "Outside({})", offset(found, place)),
+        End::TooDeep(place) => write!(out, "Deep({})", offset(found, place)),
+    }
+}
+
+fn is_end(alloc: Global, found: &TokenList<'_>, end: End, wanted: &str) -> Result<bool, NoMemory> {
+    let mut text = String::new(alloc);
+    write_end(&mut text, found, end)?;
+    Ok(text.as_str() == wanted)
+}
+
+/// How the derivation of the tokens ends.
+fn end_of(alloc: Global, tokens: &[Token<'_>]) -> Result<End, NoMemory>
+    requires { length tokens.now < 2 ^ 32 }
+{
+    Ok(derivation(alloc, tokens)?.end)
+}
+
+/// Whether the derivation of the text's tokens ends so.
+fn ends_so(alloc: Global, text: &str, wanted: &str) -> Result<bool, NoMemory> {
     if text.len() > 10_000 {
-        return Ok(String::new(alloc));
+        return Ok(false);
     }
     let found = tokens(alloc, text)?;
-    if found.list.as_slice().len() > 10_000 {
-        return Ok(String::new(alloc));
+    let list = found.list.as_slice();
+    if list.len() > 10_000 {
+        return Ok(false);
     }
-    let run = derivation(alloc, found.list.as_slice())?;
-    match run.end {
-        End::Whole => Ok(format!(in alloc; "whole")?),
-        End::Stops(place) => {
-            let at = offset(&found, place);
-            Ok(format!(in alloc; "Expected({at})")?)
-        }
-        End::LeftOut(place) => {
-            let at = offset(&found, place);
-            Ok(format!(in alloc; "Outside({at})")?)
-        }
-        End::TooDeep(place) => {
-            let at = offset(&found, place);
-            Ok(format!(in alloc; "Deep({at})")?)
-        }
+    match end_of(alloc, list) {
+        Ok(end) => is_end(alloc, &found, end, wanted),
+        Err(fault) => Err(fault),
     }
 }
 
-/// Each row of a table.
-fn check_expressions(rt: &impl Abort, alloc: Global, table: &[&str]) -> Result<(), Fail> {
+/// Each text of a table.
+fn check_wholes(alloc: Global, table: &[&'static str]) -> Result<(), Fail> {
     for text in table {
-        let found = read(alloc, text)?;
-        assert_eq!(rt; found.as_str(), "whole", "of {text:?}");
+        expect(ends_so(alloc, text, "whole")?, text)?;
     }
     Ok(())
 }
 
 #[test]
-fn expressions_expressions_1(rt: HostRuntime) -> Result<(), Fail> {
-    check_expressions(&rt, rt.alloc(), &EXPRESSIONS_1)
-}
-
-#[test]
-fn expressions_expressions_2(rt: HostRuntime) -> Result<(), Fail> {
-    check_expressions(&rt, rt.alloc(), &EXPRESSIONS_2)
-}
-
-#[test]
-fn expressions_expressions_3(rt: HostRuntime) -> Result<(), Fail> {
-    check_expressions(&rt, rt.alloc(), &EXPRESSIONS_3)
-}
-
-#[test]
-fn expressions_expressions_4(rt: HostRuntime) -> Result<(), Fail> {
-    check_expressions(&rt, rt.alloc(), &EXPRESSIONS_4)
-}
-
-#[test]
-fn expressions_expressions_5(rt: HostRuntime) -> Result<(), Fail> {
-    check_expressions(&rt, rt.alloc(), &EXPRESSIONS_5)
+fn expressions(rt: HostRuntime) -> Result<(), Fail> {
+    let tables: [&[&'static str]; 5] = [
+        &EXPRESSIONS_1,
+        &EXPRESSIONS_2,
+        &EXPRESSIONS_3,
+        &EXPRESSIONS_4,
+        &EXPRESSIONS_5,
+    ];
+    for table in tables {
+        check_wholes(rt.alloc(), table)?;
+    }
+    Ok(())
 }
 
 /// Each row of a table.
-fn check_faults(rt: &impl Abort, alloc: Global, table: &[(&str, &str)]) -> Result<(), Fail> {
+fn check(alloc: Global, table: Table) -> Result<(), Fail> {
     for (text, wanted) in table {
-        let found = read(alloc, text)?;
-        assert_eq!(rt; found.as_str(), *wanted, "of {text:?}");
+        expect(ends_so(alloc, text, wanted)?, text)?;
     }
     Ok(())
 }
 
 #[test]
-fn faults_faults_1(rt: HostRuntime) -> Result<(), Fail> {
-    check_faults(&rt, rt.alloc(), &FAULTS_1)
+fn faults(rt: HostRuntime) -> Result<(), Fail> {
+    let tables: [Table; 3] = [&FAULTS_1, &FAULTS_2, &FAULTS_3];
+    for table in tables {
+        check(rt.alloc(), table)?;
+    }
+    Ok(())
 }
 
-#[test]
-fn faults_faults_2(rt: HostRuntime) -> Result<(), Fail> {
-    check_faults(&rt, rt.alloc(), &FAULTS_2)
-}
-
-#[test]
-fn faults_faults_3(rt: HostRuntime) -> Result<(), Fail> {
-    check_faults(&rt, rt.alloc(), &FAULTS_3)
+/// Writes the text so many times.
+pub fn repeat(text: &mut String, part: &str, count: usize) -> Result<(), AllocError> {
+    for _ in 0..count {
+        text.push_str(part)?;
+    }
+    Ok(())
 }
 
 /// The text with `front` so many times, `middle`, and `behind` as often.
-fn nested(
+pub fn nested(
     alloc: Global,
     count: usize,
     front: &str,
     middle: &str,
     behind: &str,
-) -> Result<String, Fail> {
+) -> Result<String, AllocError> {
     let mut text = String::new(alloc);
-    for _ in 0..count {
-        text.push_str(front)?;
-    }
+    repeat(&mut text, front, count)?;
     text.push_str(middle)?;
-    for _ in 0..count {
-        text.push_str(behind)?;
-    }
+    repeat(&mut text, behind, count)?;
     Ok(text)
 }
 
@@ -141,19 +143,32 @@ static NESTED: [(&str, &str, &str, &str); 12] = [
     ("(", "1.5", ")", "Outside(201)"),
 ];
 
+/// Whether the derivation of what nests so many times ends so.
+fn nested_ends_so(
+    alloc: Global,
+    count: usize,
+    row: (&str, &str, &str),
+    wanted: &str,
+) -> Result<bool, NoMemory> {
+    let (front, middle, behind) = row;
+    let text = nested(alloc, count, front, middle, behind)?;
+    ends_so(alloc, text.as_str(), wanted)
+}
+
+/// Whether what nests 200 times is taken, unless it holds what is left out, and 201 times has this fault.
+fn nests(alloc: Global, row: (&str, &str, &str), wanted: &str) -> Result<bool, NoMemory> {
+    let is_whole = nested_ends_so(alloc, 200, row, "whole")?;
+    if !is_whole && row.1 != "1.5" {
+        return Ok(false);
+    }
+    nested_ends_so(alloc, 201, row, wanted)
+}
+
 #[test]
 fn nesting(rt: HostRuntime) -> Result<(), Fail> {
-    let alloc = rt.alloc();
     for (front, middle, behind, wanted) in &NESTED {
-        let good = nested(alloc, 200, front, middle, behind)?;
-        let good = read(alloc, good.as_str())?;
-        let deep = nested(alloc, 201, front, middle, behind)?;
-        let deep = read(alloc, deep.as_str())?;
-        assert!(rt;
-            good.as_str() == "whole" || *middle == "1.5",
-            "of {front:?}"
-        );
-        assert_eq!(rt; deep.as_str(), *wanted, "of {front:?}");
+        let row = (*front, *middle, *behind);
+        expect(nests(rt.alloc(), row, wanted)?, front)?;
     }
     Ok(())
 }

@@ -6,6 +6,8 @@ mod expression;
 #[cfg(test)]
 mod fault_rows;
 #[cfg(test)]
+mod fixtures;
+#[cfg(test)]
 mod grammar;
 #[cfg(test)]
 mod grammar_rows;

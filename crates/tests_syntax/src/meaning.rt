@@ -1,87 +1,74 @@
 //! The expressions that texts spell.
 
+use crate::fixtures::{Table, expect};
 use crate::meaning_rows::{
     CLAUSES_1, LITERALS_AND_PRIMARIES_1, OPERATORS_1, OPERATORS_2, PATHS_1, PATHS_2, PATHS_3,
     WORDS_AS_NAMES_1, WORDS_AS_NAMES_2,
 };
-use crate::printed::printed;
+use crate::printed::is_printed;
+use pj_base::NoMemory;
 use pj_ll::End;
 use pj_xgrammar::derivation;
 use pj_xmeaning::meaning;
-use pj_xtokens::tokens;
+use pj_xtokens::{Token, tokens};
 use std::alloc::Global;
-use std::process::Abort;
 use std::test::Fail;
 
-/// What the text spells, with each operator in parentheses.
-fn read(alloc: Global, text: &str) -> Result<String, Fail> {
-    if text.len() > 1_000_000 {
-        return Ok(String::new(alloc));
+/// Whether the tokens spell this by a leftmost derivation, with each operator in parentheses.
+fn is_meaning(
+    alloc: Global,
+    productions: &[u16],
+    tokens: &[Token<'_>],
+    wanted: &str,
+) -> Result<bool, NoMemory> {
+    let expr = meaning(alloc, productions, tokens)?;
+    is_printed(alloc, &expr, wanted)
+}
+
+/// Whether the tokens have a derivation, and spell this.
+fn spells(alloc: Global, tokens: &[Token<'_>], wanted: &str) -> Result<bool, NoMemory> {
+    if tokens.len() > 1_000_000 {
+        return Ok(false);
     }
-    let found = tokens(alloc, text)?;
-    if found.list.len() > 1_000_000 {
-        return Ok(String::new(alloc));
-    }
-    let run = derivation(alloc, found.list.as_slice())?;
+    let run = derivation(alloc, tokens)?;
     match run.end {
-        End::Whole => {
-            let expr = meaning(alloc, run.productions.as_slice(), found.list.as_slice())?;
-            printed(alloc, &expr)
-        }
-        other => Ok(format!(in alloc; "{other:?}")?),
+        End::Whole => is_meaning(alloc, run.productions.as_slice(), tokens, wanted),
+        _ => Ok(false),
     }
 }
 
+/// Whether the text spells this.
+fn text_spells(alloc: Global, text: &str, wanted: &str) -> Result<bool, NoMemory> {
+    if text.len() > 1_000_000 {
+        return Ok(false);
+    }
+    let found = tokens(alloc, text)?;
+    spells(alloc, found.list.as_slice(), wanted)
+}
+
 /// Each row of a table.
-fn check_meanings(rt: &impl Abort, alloc: Global, table: &[(&str, &str)]) -> Result<(), Fail> {
+fn check(alloc: Global, table: Table) -> Result<(), Fail> {
     for (text, wanted) in table {
-        let found = read(alloc, text)?;
-        assert_eq!(rt; found.as_str(), *wanted, "of {text:?}");
+        expect(text_spells(alloc, text, wanted)?, text)?;
     }
     Ok(())
 }
 
 #[test]
-fn meanings_literals_and_primaries_1(rt: HostRuntime) -> Result<(), Fail> {
-    check_meanings(&rt, rt.alloc(), &LITERALS_AND_PRIMARIES_1)
-}
-
-#[test]
-fn meanings_operators_1(rt: HostRuntime) -> Result<(), Fail> {
-    check_meanings(&rt, rt.alloc(), &OPERATORS_1)
-}
-
-#[test]
-fn meanings_operators_2(rt: HostRuntime) -> Result<(), Fail> {
-    check_meanings(&rt, rt.alloc(), &OPERATORS_2)
-}
-
-#[test]
-fn meanings_paths_1(rt: HostRuntime) -> Result<(), Fail> {
-    check_meanings(&rt, rt.alloc(), &PATHS_1)
-}
-
-#[test]
-fn meanings_paths_2(rt: HostRuntime) -> Result<(), Fail> {
-    check_meanings(&rt, rt.alloc(), &PATHS_2)
-}
-
-#[test]
-fn meanings_paths_3(rt: HostRuntime) -> Result<(), Fail> {
-    check_meanings(&rt, rt.alloc(), &PATHS_3)
-}
-
-#[test]
-fn meanings_words_as_names_1(rt: HostRuntime) -> Result<(), Fail> {
-    check_meanings(&rt, rt.alloc(), &WORDS_AS_NAMES_1)
-}
-
-#[test]
-fn meanings_words_as_names_2(rt: HostRuntime) -> Result<(), Fail> {
-    check_meanings(&rt, rt.alloc(), &WORDS_AS_NAMES_2)
-}
-
-#[test]
-fn meanings_clauses_1(rt: HostRuntime) -> Result<(), Fail> {
-    check_meanings(&rt, rt.alloc(), &CLAUSES_1)
+fn meanings(rt: HostRuntime) -> Result<(), Fail> {
+    let tables: [Table; 9] = [
+        &LITERALS_AND_PRIMARIES_1,
+        &OPERATORS_1,
+        &OPERATORS_2,
+        &PATHS_1,
+        &PATHS_2,
+        &PATHS_3,
+        &WORDS_AS_NAMES_1,
+        &WORDS_AS_NAMES_2,
+        &CLAUSES_1,
+    ];
+    for table in tables {
+        check(rt.alloc(), table)?;
+    }
+    Ok(())
 }

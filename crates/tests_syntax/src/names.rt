@@ -1,43 +1,56 @@
 //! The first fault of what texts name, by hand from the scopes and the functions' signatures. The rule set gives the variable
 //! `p`.
 
-use pj_base::{Names, Text};
+use crate::expression::variables;
+use crate::fixtures::{Table, expect};
+use pj_base::{Names, NoMemory};
 use pj_xgrammar::derivation;
 use pj_xnames::{NameFault, first_fault};
-use pj_xtokens::tokens;
-use std::alloc::Global;
-use std::process::Abort;
+use pj_xtokens::{Token, tokens};
+use std::alloc::{AllocError, Global};
+use std::fmt::Write;
 use std::test::Fail;
 
 /// The fault in words.
-fn shown(alloc: Global, fault: Option<NameFault<'_>>) -> Result<String, Fail> {
-    Ok(match fault {
-        None => format!(in alloc; "None")?,
-        Some(NameFault::Form(from)) => format!(in alloc; "Form {from}")?,
-        Some(NameFault::Function(name, from)) => format!(in alloc; "Function {name} {from}")?,
-        Some(NameFault::Variable(name, from)) => format!(in alloc; "Variable {name} {from}")?,
-    })
+fn write_fault(out: &mut String, fault: Option<NameFault<'_>>) -> Result<(), AllocError> {
+    match fault {
+        None => out.push_str("None"),
+        Some(NameFault::Form(from)) => write!(out, "Form {from}"),
+        Some(NameFault::Function(name, from)) => write!(out, "Function {name} {from}"),
+        Some(NameFault::Variable(name, from)) => write!(out, "Variable {name} {from}"),
+    }
 }
 
-/// The first fault of the text, as far as a derivation of its tokens goes.
-fn fault(alloc: Global, text: &str) -> Result<String, Fail> {
+fn is_fault(alloc: Global, fault: Option<NameFault<'_>>, wanted: &str) -> Result<bool, NoMemory> {
+    let mut out = String::new(alloc);
+    write_fault(&mut out, fault)?;
+    Ok(out.as_str() == wanted)
+}
+
+/// Whether this is the first fault of the tokens, as far as a derivation of them goes.
+fn is_first_of(
+    alloc: Global,
+    tokens: &[Token<'_>],
+    variables: &Names,
+    wanted: &str,
+) -> Result<bool, NoMemory> {
+    if tokens.len() > 1_000_000 {
+        return Ok(false);
+    }
+    let run = derivation(alloc, tokens)?;
+    match first_fault(alloc, run.productions.as_slice(), tokens, variables) {
+        Ok(fault) => is_fault(alloc, fault, wanted),
+        Err(fault) => Err(fault),
+    }
+}
+
+/// Whether this is the first fault of the text.
+fn is_first(alloc: Global, text: &str, variables: &Names, wanted: &str) -> Result<bool, NoMemory> {
     if text.len() > 1_000_000 {
-        return Ok(String::new(alloc));
+        return Ok(false);
     }
     let found = tokens(alloc, text)?;
-    if found.list.len() > 1_000_000 {
-        return Ok(String::new(alloc));
-    }
-    let run = derivation(alloc, found.list.as_slice())?;
-    let mut variables = Names::new(alloc);
-    variables.push(Text::from_str(alloc, "p")?)?;
-    let first = first_fault(
-        alloc,
-        run.productions.as_slice(),
-        found.list.as_slice(),
-        &variables,
-    )?;
-    shown(alloc, first)
+    is_first_of(alloc, found.list.as_slice(), variables, wanted)
 }
 
 static FUNCTIONS: [(&str, &str); 30] = [
@@ -141,30 +154,23 @@ static WORDS: [(&str, &str); 9] = [
 ];
 
 /// Each row of a table.
-fn check_first_faults(rt: &impl Abort, alloc: Global, table: &[(&str, &str)]) -> Result<(), Fail> {
+fn check(alloc: Global, variables: &Names, table: Table) -> Result<(), Fail> {
     for (text, wanted) in table {
-        let found = fault(alloc, text)?;
-        assert_eq!(rt; found.as_str(), *wanted, "of {text:?}");
+        expect(is_first(alloc, text, variables, wanted)?, text)?;
+    }
+    Ok(())
+}
+
+fn check_each(alloc: Global, variables: &Names, tables: &[Table]) -> Result<(), Fail> {
+    for table in tables {
+        check(alloc, variables, *table)?;
     }
     Ok(())
 }
 
 #[test]
-fn first_faults_functions(rt: HostRuntime) -> Result<(), Fail> {
-    check_first_faults(&rt, rt.alloc(), &FUNCTIONS)
-}
-
-#[test]
-fn first_faults_variables(rt: HostRuntime) -> Result<(), Fail> {
-    check_first_faults(&rt, rt.alloc(), &VARIABLES)
-}
-
-#[test]
-fn first_faults_forms(rt: HostRuntime) -> Result<(), Fail> {
-    check_first_faults(&rt, rt.alloc(), &FORMS)
-}
-
-#[test]
-fn first_faults_words(rt: HostRuntime) -> Result<(), Fail> {
-    check_first_faults(&rt, rt.alloc(), &WORDS)
+fn first_faults(rt: HostRuntime) -> Result<(), Fail> {
+    let variables = variables(rt.alloc())?;
+    let tables: [Table; 4] = [&FUNCTIONS, &VARIABLES, &FORMS, &WORDS];
+    check_each(rt.alloc(), &variables, &tables)
 }

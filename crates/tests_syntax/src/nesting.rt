@@ -1,111 +1,182 @@
 //! What nests, and what does not.
 
-use crate::expression::read;
+use crate::expression::{is_read, is_taken, variables};
+use crate::fixtures::expect;
+use crate::grammar::{nested, repeat};
 use pj_base::Names;
-use pj_xparse::parse;
-use std::alloc::Global;
+use std::alloc::{AllocError, Global};
 use std::test::Fail;
 
-/// The middle with so many fronts before it and as many backs behind it.
-fn nested(
+/// Whether 200 of the fronts are taken.
+fn is_nested_taken(alloc: Global, row: (&str, &str, &str)) -> Result<bool, AllocError> {
+    let (front, middle, back) = row;
+    let text = nested(alloc, 200, front, middle, back)?;
+    Ok(is_taken(alloc, &Names::new(alloc), text.as_str()))
+}
+
+/// Whether 201 of the fronts have this expression or fault.
+fn is_nested_read(
     alloc: Global,
-    count: usize,
-    front: &str,
-    middle: &str,
-    back: &str,
-) -> Result<String, Fail> {
-    let mut text = String::new(alloc);
-    for _ in 0..count {
-        text.push_str(front)?;
-    }
-    text.push_str(middle)?;
-    for _ in 0..count {
-        text.push_str(back)?;
-    }
-    Ok(text)
+    variables: &Names,
+    row: (&str, &str, &str),
+    wanted: &str,
+) -> Result<bool, AllocError> {
+    let (front, middle, back) = row;
+    let text = nested(alloc, 201, front, middle, back)?;
+    is_read(alloc, variables, text.as_str(), wanted)
 }
 
-/// Whether the text is an expression.
-fn is_taken(alloc: Global, text: &str) -> bool {
-    parse(alloc, text, &Names::new(alloc)).is_ok()
+/// Fronts, middles and backs: 200 of the fronts are taken, and 201 are too many.
+static ENDING_AT_200: [(&str, &str, &str); 20] = [
+    ("(", "1", ")"),
+    ("a[", "1", "]"),
+    ("1[", "1", "]"),
+    ("@a[", "1", "]"),
+    ("a/(", "1", ")"),
+    ("count(", "1", ")"),
+    ("concat(1, ", "1", ")"),
+    ("-", "1", ""),
+    ("+", "1", ""),
+    ("if (", "1", ") then a else b"),
+    ("if (a) then ", "1", " else b"),
+    ("if (a) then b else ", "1", ""),
+    ("for $x in ", "1", " return 1"),
+    ("for $x in a return ", "1", ""),
+    ("let $x := ", "1", " return 1"),
+    ("let $x := 1 return ", "1", ""),
+    ("some $x in ", "1", " satisfies 1"),
+    ("some $x in a satisfies ", "1", ""),
+    ("every $x in a, $y in ", "1", " satisfies 1"),
+    ("every $x in a satisfies ", "1", ""),
+];
+
+/// Whether 200 of the fronts are taken, and 201 are too many.
+fn ends_at_200(
+    alloc: Global,
+    variables: &Names,
+    row: (&str, &str, &str),
+) -> Result<bool, AllocError> {
+    if !is_nested_taken(alloc, row)? {
+        return Ok(false);
+    }
+    is_nested_read(alloc, variables, row, "Deep(201)")
 }
 
-/// Whether 200 of the fronts are taken and 201 are too many.
-fn ends_at_200(alloc: Global, front: &str, middle: &str, back: &str) -> Result<bool, Fail> {
-    let good = nested(alloc, 200, front, middle, back)?;
-    let deep = nested(alloc, 201, front, middle, back)?;
-    let fault = read(alloc, deep.as_str())?;
-    Ok(is_taken(alloc, good.as_str()) && fault.as_str() == "Deep(201)")
+fn check_nesting(alloc: Global, variables: &Names) -> Result<(), Fail> {
+    for row in &ENDING_AT_200 {
+        expect(ends_at_200(alloc, variables, *row)?, row.0)?;
+    }
+    Ok(())
 }
 
 #[test]
 fn nesting(rt: HostRuntime) -> Result<(), Fail> {
-    let alloc = rt.alloc();
-    for (front, middle, back) in [
-        ("(", "1", ")"),
-        ("a[", "1", "]"),
-        ("1[", "1", "]"),
-        ("@a[", "1", "]"),
-        ("a/(", "1", ")"),
-        ("count(", "1", ")"),
-        ("concat(1, ", "1", ")"),
-        ("-", "1", ""),
-        ("+", "1", ""),
-        ("if (", "1", ") then a else b"),
-        ("if (a) then ", "1", " else b"),
-        ("if (a) then b else ", "1", ""),
-        ("for $x in ", "1", " return 1"),
-        ("for $x in a return ", "1", ""),
-        ("let $x := ", "1", " return 1"),
-        ("let $x := 1 return ", "1", ""),
-        ("some $x in ", "1", " satisfies 1"),
-        ("some $x in a satisfies ", "1", ""),
-        ("every $x in a, $y in ", "1", " satisfies 1"),
-        ("every $x in a satisfies ", "1", ""),
-    ] {
-        assert!(rt; ends_at_200(alloc, front, middle, back)?, "of {front:?}");
-    }
-    Ok(())
+    let variables = variables(rt.alloc())?;
+    check_nesting(rt.alloc(), &variables)
 }
 
 /// Of faults at one place, what is left out comes before the nesting, and that before a token that cannot follow; what is named
 /// comes before them.
-#[test]
-fn order_at_one_place(rt: HostRuntime) -> Result<(), Fail> {
-    let alloc = rt.alloc();
-    for (front, middle, wanted) in [
-        ("(", "1.5", "Outside(201)"),
-        ("(", "map { }", "Outside(201)"),
-        ("(", "= 1", "Deep(201)"),
-        ("(", "", "Deep(201)"),
-        ("(", "&", "Deep(201)"),
-        ("$y + (", "1", "No y"),
-        ("a + f() + (", "1", "Unknown f 4"),
-    ] {
-        let text = nested(alloc, 201, front, middle, "")?;
-        let fault = read(alloc, text.as_str())?;
-        assert_eq!(rt; fault.as_str(), wanted, "of {front:?} and {middle:?}");
+static AT_ONE_PLACE: [(&str, &str, &str); 7] = [
+    ("(", "1.5", "Outside(201)"),
+    ("(", "map { }", "Outside(201)"),
+    ("(", "= 1", "Deep(201)"),
+    ("(", "", "Deep(201)"),
+    ("(", "&", "Deep(201)"),
+    ("$y + (", "1", "No y"),
+    ("a + f() + (", "1", "Unknown f 4"),
+];
+
+fn check_order(alloc: Global, variables: &Names) -> Result<(), Fail> {
+    for (front, middle, wanted) in &AT_ONE_PLACE {
+        let row = (*front, *middle, "");
+        expect(is_nested_read(alloc, variables, row, wanted)?, middle)?;
     }
     Ok(())
 }
 
+#[test]
+fn order_at_one_place(rt: HostRuntime) -> Result<(), Fail> {
+    let variables = variables(rt.alloc())?;
+    check_order(rt.alloc(), &variables)
+}
+
+/// A text that begins, has so many parts, and ends.
+struct Chain {
+    front: &'static str,
+    part: &'static str,
+    count: usize,
+    end: &'static str,
+}
+
 /// Chains do not nest, and no call goes as deep as a chain is long.
+static CHAINS: [Chain; 8] = [
+    Chain {
+        front: "",
+        part: "1 + ",
+        count: 100_000,
+        end: "a",
+    },
+    Chain {
+        front: "",
+        part: "a/",
+        count: 100_000,
+        end: "a",
+    },
+    Chain {
+        front: "",
+        part: "a, ",
+        count: 10_000,
+        end: "a",
+    },
+    Chain {
+        front: "",
+        part: "a or ",
+        count: 10_000,
+        end: "a",
+    },
+    Chain {
+        front: "",
+        part: "1 ! ",
+        count: 10_000,
+        end: "a",
+    },
+    Chain {
+        front: "",
+        part: "a | ",
+        count: 10_000,
+        end: "a",
+    },
+    Chain {
+        front: "for ",
+        part: "$x in a, ",
+        count: 10_000,
+        end: "$x in a return 1",
+    },
+    Chain {
+        front: "a",
+        part: "[1]",
+        count: 10_000,
+        end: "",
+    },
+];
+
+fn write_chain(text: &mut String, chain: &Chain) -> Result<(), AllocError> {
+    text.push_str(chain.front)?;
+    repeat(text, chain.part, chain.count)?;
+    text.push_str(chain.end)
+}
+
+fn is_chain_taken(alloc: Global, chain: &Chain) -> Result<bool, AllocError> {
+    let mut text = String::new(alloc);
+    write_chain(&mut text, chain)?;
+    Ok(is_taken(alloc, &Names::new(alloc), text.as_str()))
+}
+
 #[test]
 fn chains_do_not_nest(rt: HostRuntime) -> Result<(), Fail> {
-    let alloc = rt.alloc();
-    for front in ["1 + ", "a/"] {
-        let text = nested(alloc, 100_000, front, "a", "")?;
-        assert!(rt; is_taken(alloc, text.as_str()), "of {front:?}");
+    for chain in &CHAINS {
+        expect(is_chain_taken(rt.alloc(), chain)?, chain.part)?;
     }
-    for front in ["a, ", "a or ", "1 ! ", "a | "] {
-        let text = nested(alloc, 10_000, front, "a", "")?;
-        assert!(rt; is_taken(alloc, text.as_str()), "of {front:?}");
-    }
-    let bindings = nested(alloc, 10_000, "$x in a, ", "$x in a", "")?;
-    let bindings = bindings.as_str();
-    let text = format!(in alloc; "for {bindings} return 1")?;
-    assert!(rt; is_taken(alloc, text.as_str()));
-    let predicates = nested(alloc, 10_000, "", "a", "[1]")?;
-    assert!(rt; is_taken(alloc, predicates.as_str()));
     Ok(())
 }

@@ -1,13 +1,12 @@
 //! Expressions as texts in which each operator has its parentheses.
 
-use pj_base::Text;
+use pj_base::{NoMemory, Text};
 use pj_xvalue::{
     Additive, Axis, Compare, Expr, Function, Multiplicative, NodeTest, PmdFunction, Quantifier,
     SetOperator, Sign,
 };
-use std::alloc::Global;
+use std::alloc::{AllocError, Global};
 use std::fmt::Write;
-use std::test::Fail;
 
 /// What is still to be printed.
 #[derive(Clone, Copy)]
@@ -16,24 +15,48 @@ enum Piece<'e> {
     Expr(&'e Expr),
 }
 
-/// The expression as a text: chains in parentheses, `child::` left out, other axes and functions by their names in the
-/// code.
-pub fn printed(alloc: Global, expr: &Expr) -> Result<String, Fail> {
-    let mut out = String::new(alloc);
-    let mut left = Vec::new(alloc);
-    left.push(Piece::Expr(expr))?;
+/// Prints what is left.
+fn print_all(out: &mut String, left: &mut Vec<Piece<'_>>) -> Result<(), AllocError> {
     for _ in 0..1_000_000 {
         match left.pop() {
-            None => return Ok(out),
-            Some(Piece::Text(text)) => out.push_str(text)?,
-            Some(Piece::Expr(expr)) => print(&mut out, &mut left, expr)?,
+            None => return Ok(()),
+            Some(piece) => print_piece(out, left, piece)?,
         }
     }
-    Ok(out)
+    Ok(())
+}
+
+fn print_piece<'e>(
+    out: &mut String,
+    left: &mut Vec<Piece<'e>>,
+    piece: Piece<'e>,
+) -> Result<(), AllocError> {
+    match piece {
+        Piece::Text(text) => out.push_str(text),
+        Piece::Expr(expr) => print(out, left, expr),
+    }
+}
+
+fn print_expr(out: &mut String, alloc: Global, expr: &Expr) -> Result<(), AllocError> {
+    let mut left = Vec::new(alloc);
+    left.push(Piece::Expr(expr))?;
+    print_all(out, &mut left)
+}
+
+/// Whether this is the expression as a text: chains in parentheses, `child::` left out, other axes and functions by their
+/// names in the code.
+pub fn is_printed(alloc: Global, expr: &Expr, wanted: &str) -> Result<bool, NoMemory> {
+    let mut out = String::new(alloc);
+    print_expr(&mut out, alloc, expr)?;
+    Ok(out.as_str() == wanted)
 }
 
 /// Prints what stands before the parts of an expression, and keeps what is left.
-fn print<'e>(out: &mut String, left: &mut Vec<Piece<'e>>, expr: &'e Expr) -> Result<(), Fail> {
+fn print<'e>(
+    out: &mut String,
+    left: &mut Vec<Piece<'e>>,
+    expr: &'e Expr,
+) -> Result<(), AllocError> {
     match expr {
         Expr::Step(axis, test, predicates) => {
             step(out, *axis, test)?;
@@ -58,7 +81,7 @@ fn print<'e>(out: &mut String, left: &mut Vec<Piece<'e>>, expr: &'e Expr) -> Res
 }
 
 /// Keeps the parts of an expression with the texts around them.
-fn operation<'e>(left: &mut Vec<Piece<'e>>, expr: &'e Expr) -> Result<(), Fail> {
+fn operation<'e>(left: &mut Vec<Piece<'e>>, expr: &'e Expr) -> Result<(), AllocError> {
     match expr {
         Expr::Comma(parts) => chain(left, ", ", parts.as_slice()),
         Expr::Or(parts) => chain(left, " or ", parts.as_slice()),
@@ -111,46 +134,37 @@ fn operation<'e>(left: &mut Vec<Piece<'e>>, expr: &'e Expr) -> Result<(), Fail> 
     }
 }
 
-fn called(out: &mut String, function: Function) -> Result<(), Fail> {
-    write!(out, "{function:?}")?;
-    Ok(())
+fn called(out: &mut String, function: Function) -> Result<(), AllocError> {
+    write!(out, "{function:?}")
 }
 
-fn pmd_called(out: &mut String, function: PmdFunction) -> Result<(), Fail> {
-    write!(out, "pmd {function:?}")?;
-    Ok(())
+fn pmd_called(out: &mut String, function: PmdFunction) -> Result<(), AllocError> {
+    write!(out, "pmd {function:?}")
 }
 
-fn step(out: &mut String, axis: Axis, test: &NodeTest) -> Result<(), Fail> {
+fn step(out: &mut String, axis: Axis, test: &NodeTest) -> Result<(), AllocError> {
     if axis != Axis::Child {
         write!(out, "{axis:?}::")?;
     }
     tested(out, test)
 }
 
-fn attribute(out: &mut String, test: &NodeTest) -> Result<(), Fail> {
+fn attribute(out: &mut String, test: &NodeTest) -> Result<(), AllocError> {
     out.push_str("@")?;
     tested(out, test)
 }
 
 /// What has no expressions in it.
-fn leaf(out: &mut String, expr: &Expr) -> Result<(), Fail> {
+fn leaf(out: &mut String, expr: &Expr) -> Result<(), AllocError> {
     match expr {
-        Expr::Root => out.push_str("^")?,
-        Expr::Integer(Some(value)) => write!(out, "{value}")?,
-        Expr::Integer(None) => out.push_str("large")?,
-        Expr::String(text) => {
-            let text = text.as_str();
-            write!(out, "'{text}'")?
-        }
-        Expr::Variable(name) => {
-            let name = name.as_str();
-            write!(out, "${name}")?
-        }
-        Expr::ContextItem => out.push_str(".")?,
-        _ => {}
+        Expr::Root => out.push_str("^"),
+        Expr::Integer(Some(value)) => write!(out, "{value}"),
+        Expr::Integer(None) => out.push_str("large"),
+        Expr::String(text) => write!(out, "'{}'", text.as_str()),
+        Expr::Variable(name) => write!(out, "${}", name.as_str()),
+        Expr::ContextItem => out.push_str("."),
+        _ => Ok(()),
     }
-    Ok(())
 }
 
 fn compare_text(compare: Compare) -> &'static str {
@@ -201,14 +215,14 @@ fn set_text(word: SetOperator) -> &'static str {
 }
 
 /// Keeps pieces, the first of which comes next.
-fn put<'e>(left: &mut Vec<Piece<'e>>, pieces: &[Piece<'e>]) -> Result<(), Fail> {
+fn put<'e>(left: &mut Vec<Piece<'e>>, pieces: &[Piece<'e>]) -> Result<(), AllocError> {
     for i in 0..pieces.len() {
         left.push(pieces[pieces.len() - 1 - i])?;
     }
     Ok(())
 }
 
-fn signed<'e>(left: &mut Vec<Piece<'e>>, sign: Sign, operand: &'e Expr) -> Result<(), Fail> {
+fn signed<'e>(left: &mut Vec<Piece<'e>>, sign: Sign, operand: &'e Expr) -> Result<(), AllocError> {
     put(
         left,
         &[
@@ -224,7 +238,7 @@ fn pair<'e>(
     first: &'e Expr,
     between: &'e str,
     second: &'e Expr,
-) -> Result<(), Fail> {
+) -> Result<(), AllocError> {
     put(
         left,
         &[
@@ -242,7 +256,7 @@ fn conditional<'e>(
     test: &'e Expr,
     chosen: &'e Expr,
     other: &'e Expr,
-) -> Result<(), Fail> {
+) -> Result<(), AllocError> {
     put(
         left,
         &[
@@ -264,7 +278,7 @@ fn binder<'e>(
     bindings: &'e [(Text, Expr)],
     last: &'e str,
     body: &'e Expr,
-) -> Result<(), Fail> {
+) -> Result<(), AllocError> {
     put(
         left,
         &[Piece::Text(last), Piece::Expr(body), Piece::Text(")")],
@@ -288,7 +302,7 @@ fn sum<'e>(
     left: &mut Vec<Piece<'e>>,
     first: &'e Expr,
     rest: &'e [(Additive, Expr)],
-) -> Result<(), Fail> {
+) -> Result<(), AllocError> {
     put(left, &[Piece::Text(")")])?;
     for i in 0..rest.len() {
         let (sign, operand) = &rest[rest.len() - 1 - i];
@@ -301,7 +315,7 @@ fn product<'e>(
     left: &mut Vec<Piece<'e>>,
     first: &'e Expr,
     rest: &'e [(Multiplicative, Expr)],
-) -> Result<(), Fail> {
+) -> Result<(), AllocError> {
     put(left, &[Piece::Text(")")])?;
     for i in 0..rest.len() {
         let (sign, operand) = &rest[rest.len() - 1 - i];
@@ -317,7 +331,7 @@ fn intersection<'e>(
     left: &mut Vec<Piece<'e>>,
     first: &'e Expr,
     rest: &'e [(SetOperator, Expr)],
-) -> Result<(), Fail> {
+) -> Result<(), AllocError> {
     put(left, &[Piece::Text(")")])?;
     for i in 0..rest.len() {
         let (word, operand) = &rest[rest.len() - 1 - i];
@@ -326,7 +340,11 @@ fn intersection<'e>(
     put(left, &[Piece::Text("("), Piece::Expr(first)])
 }
 
-fn chain<'e>(left: &mut Vec<Piece<'e>>, between: &'e str, parts: &'e [Expr]) -> Result<(), Fail> {
+fn chain<'e>(
+    left: &mut Vec<Piece<'e>>,
+    between: &'e str,
+    parts: &'e [Expr],
+) -> Result<(), AllocError> {
     put(left, &[Piece::Text(")")])?;
     for i in 0..parts.len() {
         let place = parts.len() - 1 - i;
@@ -338,7 +356,7 @@ fn chain<'e>(left: &mut Vec<Piece<'e>>, between: &'e str, parts: &'e [Expr]) -> 
     put(left, &[Piece::Text("(")])
 }
 
-fn bracketed<'e>(left: &mut Vec<Piece<'e>>, predicates: &'e [Expr]) -> Result<(), Fail> {
+fn bracketed<'e>(left: &mut Vec<Piece<'e>>, predicates: &'e [Expr]) -> Result<(), AllocError> {
     for i in 0..predicates.len() {
         put(
             left,
@@ -352,12 +370,11 @@ fn bracketed<'e>(left: &mut Vec<Piece<'e>>, predicates: &'e [Expr]) -> Result<()
     Ok(())
 }
 
-fn tested(out: &mut String, test: &NodeTest) -> Result<(), Fail> {
+fn tested(out: &mut String, test: &NodeTest) -> Result<(), AllocError> {
     match test {
-        NodeTest::Name(name) => out.push_str(name.as_str())?,
-        NodeTest::AnyName => out.push_str("*")?,
-        NodeTest::AnyNode => out.push_str("node()")?,
-        NodeTest::AnyElement => out.push_str("element()")?,
+        NodeTest::Name(name) => out.push_str(name.as_str()),
+        NodeTest::AnyName => out.push_str("*"),
+        NodeTest::AnyNode => out.push_str("node()"),
+        NodeTest::AnyElement => out.push_str("element()"),
     }
-    Ok(())
 }

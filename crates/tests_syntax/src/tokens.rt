@@ -1,25 +1,43 @@
 //! The tokens of small texts, by hand from the grammar of tokens. Offsets are bytes.
 
-use pj_xtokens::{End, tokens};
-use std::alloc::Global;
+use crate::fixtures::{Table, expect};
+use pj_base::NoMemory;
+use pj_xtokens::{End, Token, tokens};
+use std::alloc::{AllocError, Global};
 use std::fmt::Write;
-use std::process::Abort;
 use std::test::Fail;
 
-/// The tokens of a text, each with its offset, its kind and its characters, and where they end.
-fn written(alloc: Global, text: &str) -> Result<String, Fail> {
-    let mut out = String::new(alloc);
+/// Tokens, each with its offset, its kind and its characters.
+fn write_tokens(out: &mut String, tokens: &[Token<'_>]) -> Result<(), AllocError> {
+    for token in tokens {
+        write!(out, "{} {:?} {};", token.from, token.kind, token.text)?;
+    }
+    Ok(())
+}
+
+/// Where tokens end.
+fn write_end(out: &mut String, end: End) -> Result<(), AllocError> {
+    match end {
+        End::Text(at) => write!(out, "end {at}"),
+        End::Fault(at) => write!(out, "fault {at}"),
+    }
+}
+
+/// The tokens of a text, and where they end.
+fn write_text(out: &mut String, alloc: Global, text: &str) -> Result<(), NoMemory> {
     if text.len() < 1000 {
         let found = tokens(alloc, text)?;
-        for token in found.list.as_slice() {
-            write!(out, "{} {:?} {};", token.from, token.kind, token.text)?;
-        }
-        match found.end {
-            End::Text(at) => write!(out, "end {at}")?,
-            End::Fault(at) => write!(out, "fault {at}")?,
-        }
+        write_tokens(out, found.list.as_slice())?;
+        write_end(out, found.end)?;
     }
-    Ok(out)
+    Ok(())
+}
+
+/// Whether a text has these tokens, and they end so.
+fn has(alloc: Global, text: &str, wanted: &str) -> Result<bool, NoMemory> {
+    let mut out = String::new(alloc);
+    write_text(&mut out, alloc, text)?;
+    Ok(out.as_str() == wanted)
 }
 
 static SIGNS: [(&str, &str); 8] = [
@@ -101,34 +119,18 @@ static LITERALS_AND_GAPS: [(&str, &str); 13] = [
 ];
 
 /// Each row of a table.
-fn check_tokens_of_texts(
-    rt: &impl Abort,
-    alloc: Global,
-    table: &[(&str, &str)],
-) -> Result<(), Fail> {
+fn check(alloc: Global, table: Table) -> Result<(), Fail> {
     for (text, wanted) in table {
-        let found = written(alloc, text)?;
-        assert_eq!(rt; found.as_str(), *wanted, "of {text:?}");
+        expect(has(alloc, text, wanted)?, text)?;
     }
     Ok(())
 }
 
 #[test]
-fn tokens_of_texts_signs(rt: HostRuntime) -> Result<(), Fail> {
-    check_tokens_of_texts(&rt, rt.alloc(), &SIGNS)
-}
-
-#[test]
-fn tokens_of_texts_names(rt: HostRuntime) -> Result<(), Fail> {
-    check_tokens_of_texts(&rt, rt.alloc(), &NAMES)
-}
-
-#[test]
-fn tokens_of_texts_numbers(rt: HostRuntime) -> Result<(), Fail> {
-    check_tokens_of_texts(&rt, rt.alloc(), &NUMBERS)
-}
-
-#[test]
-fn tokens_of_texts_literals_and_gaps(rt: HostRuntime) -> Result<(), Fail> {
-    check_tokens_of_texts(&rt, rt.alloc(), &LITERALS_AND_GAPS)
+fn tokens_of_texts(rt: HostRuntime) -> Result<(), Fail> {
+    let tables: [Table; 4] = [&SIGNS, &NAMES, &NUMBERS, &LITERALS_AND_GAPS];
+    for table in tables {
+        check(rt.alloc(), table)?;
+    }
+    Ok(())
 }

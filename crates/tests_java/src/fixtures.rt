@@ -1,0 +1,10 @@
+//! Tables of rows, and how a row fails.
+use std::test::Fail;
+
+/// Texts, each with what is wanted of it.
+pub type Table = &'static [(&'static str, &'static str)];
+
+/// Fails with the name of a row where what it says does not hold.
+pub fn expect(holds: bool, row: &'static str) -> Result<(), Fail> {
+    if holds { Ok(()) } else { Err(Fail::new(row)) }
+}
