@@ -11,7 +11,7 @@ set -euo pipefail
 folder=$(cd "$1" && pwd)
 . "$(dirname "$0")/scratch.sh"
 scratch_repository corpus_bench 'anyhow pj_grammar pj_lex pj_parse pj_peg' \
-    pj_base pj_tree pj_peg pj_lex pj_shape pj_grammar pj_literals pj_parse
+    pj_base pj_tree pj_peg pj_patterns pj_lex pj_shape pj_grammar pj_literals pj_parse
 cat > "$bench/src/main.rt" <<'PROGRAM'
 // The trees of many files.
 #![tactic(auto)]

@@ -10,7 +10,7 @@
 # allocator, and nothing in Rattle allocates without one.
 set -euo pipefail
 . "$(dirname "$0")/scratch.sh"
-scratch_repository lex_bench 'pj_lex' pj_base pj_tree pj_lex
+scratch_repository lex_bench 'pj_lex' pj_base pj_patterns pj_tree pj_lex
 cat > "$bench/src/main.rt" <<'PROGRAM'
 // Rows of time and memory.
 #![tactic(auto)]

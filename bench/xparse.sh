@@ -8,7 +8,7 @@
 # byte, the best of three. They should stay the same whatever the size.
 set -euo pipefail
 . "$(dirname "$0")/scratch.sh"
-scratch_repository xparse_bench 'pj_base pj_xparse' pj_base pj_ll pj_names pj_tree pj_xvalue pj_xtokens pj_xgrammar pj_xmeaning pj_xshape \
+scratch_repository xparse_bench 'pj_base pj_xparse' pj_base pj_ll pj_names pj_tree pj_xvalue pj_patterns pj_xtokens pj_xgrammar pj_xmeaning pj_xshape \
     pj_xnames pj_xderived pj_xkinds pj_xparse
 cat > "$bench/src/main.rt" <<'PROGRAM'
 // Rows of time.
