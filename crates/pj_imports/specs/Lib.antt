@@ -1,2 +1,3 @@
+-- definitions
 pub mod Candidates
 pub mod Imports
