@@ -7,8 +7,8 @@ ghost use Rattle.pj_parse.specs.PoolText.{IsPoolOf};
 
 use crate::shown::{node_at, wanted_lines};
 use pj_attrs::{Facts, effective_modifiers, explicit_modifiers, tokens_are_in_order};
-use pj_lex::Source;
 use pj_parse::{Parsed, parse};
+use pj_source::Source;
 use pj_symbols::Symbols;
 use pj_tree::Node;
 use pj_xvalue::{Attributes, Modifier, Modifiers};
