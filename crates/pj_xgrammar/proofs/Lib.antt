@@ -1,4 +1,5 @@
 pub mod Completing
+pub mod Deeper
 pub mod Endings
 pub mod Lifting
 pub mod Numbers

@@ -1,7 +1,7 @@
 -- Tokens have one outcome.
-use Rattle.std.proofs.Common.{◌≡◌, ℕ, zero, suc, ◌+◌, ◌<◌, ◌≤◌, true, false, List, [], ◌∷◌, ◌++◌, length, take, Some, None, refl, sym, ◌∙◌, ap, subst, ⊎_elim, arith, append_assoc}
+use Rattle.std.proofs.Common.{◌≡◌, ℕ, zero, suc, ◌+◌, ◌<◌, ◌≤◌, ◌⊎◌, inl, inr, true, false, List, [], ◌∷◌, ◌++◌, length, take, Some, None, refl, sym, ◌∙◌, ap, subst, ⊎_elim, arith, append_assoc}
 use Rattle.std.specs.Prelude.{slice_get}
-use Rattle.std.proofs.lemmas.Bool.{cases_lt, cases_Bool}
+use Rattle.std.proofs.lemmas.Bool.{cases_lt, cases_Bool, false≢true}
 use Rattle.std.proofs.lemmas.List.{take_all}
 use Rattle.std.proofs.lemmas.Option.{slice_get_within}
 use Rattle.pj_ll.specs.declared.parser.End.{End}
@@ -16,9 +16,10 @@ use Rattle.pj_xgrammar.specs.declared.table.TheConstants.{PIECES}
 use Rattle.pj_xgrammar.specs.declared.terminal.Behind.TheVariants as b
 use Rattle.pj_xgrammar.specs.Terminals.{numbers}
 use Rattle.pj_xgrammar.specs.XPath.{xpath_grammar}
-use Rattle.pj_xgrammar.specs.Expressions.{AreDerived, IsExpression, CanGoOn, IsLeftOut, IsWhole, CannotFollow, IsLeftOutFirst, IsTooDeepFirst, IsOutcome}
-use Rattle.pj_xgrammar.specs.Following.{is_past, terminals_with_last}
-use Rattle.pj_xgrammar.proofs.Outcomes.{length_numbers, not_stopped, stops_at_end, stopped_here, stopped_behind, read_at}
+use Rattle.pj_xgrammar.specs.Expressions.{AreDerived, IsExpression, CanGoOn, IsLeftOut, IsTooDeep, IsWhole, CannotFollow, IsLeftOutFirst, IsTooDeepFirst, IsOutcome, stands_apart}
+use Rattle.pj_xgrammar.specs.Following.{is_past, is_too_deep, terminals_with_last}
+use Rattle.pj_xgrammar.proofs.Deeper.{deep, not_deep}
+use Rattle.pj_xgrammar.proofs.Outcomes.{length_numbers, whole, left_out, deep_before, too_deep, stops_at_end, stopped_here, stopped_behind, read_at}
 use Rattle.pj_xgrammar.proofs.RuleFacts.{xpath_facts}
 use Rattle.pj_xgrammar.proofs.SameTable.{is_predictive, table_is}
 use Rattle.pj_xgrammar.proofs.Tried.{past, not_past}
@@ -77,7 +78,11 @@ module _ (ts : List Lexed) where
       (λ (lt : i < j). d.clear.not_left_out i lt l.left_out)
       (λ (le : j ≤ i). ⊎_elim
       (λ (lt : j < i). l.clear.not_too_deep j lt d.deep)
-      (λ (ge : i ≤ j). let same : i ≡ j = omega arith in d.here (subst (IsLeftOut ts) same l.left_out))
+      (λ (ge : i ≤ j).
+      let same : j ≡ i = omega arith in
+      let apart : stands_apart ts i ≡ true = subst (λ n. stands_apart ts n ≡ true) same (d.reached (subst (IsLeftOut ts) (sym same) l.left_out)) in
+      let joined : stands_apart ts i ≡ false = l.reached (subst (IsTooDeep ts) same d.deep) in
+      false≢true (sym joined ∙ apart))
       (cases_lt j i))
       (cases_lt i j)
 
@@ -132,14 +137,29 @@ stopped ts i o = ⊎_elim
     (λ (le : length ts ≤ i). (Stops i, stops_at_end ts i o le))
     (cases_lt i (length ts))
 
+-- what is left out, or the place where too much is open before it
+pub left_out_or_deep : (ts : List Lexed) (i : ℕ) → ll.IsLeftOutFirst xpath_grammar (numbers ts) 200 i →
+    (end : End) × IsOutcome ts end × ((end ≡ LeftOut i) ⊎ (end ≡ TooDeep i))
+left_out_or_deep ts i o = ⊎_elim
+    (λ (apart : stands_apart ts i ≡ true).
+    let (t, at, it) = o.left_out in
+    let within : i < length (numbers ts) = slice_get_within (numbers ts) i t at in
+    let (end, is) = end_of (take i (numbers ts)) in
+    ⊎_elim
+    (λ (h : is_too_deep end ≡ true). (TooDeep i, deep_before ts i o (deep (numbers ts) i (omega arith) o.before o.clear end is h) apart, inr refl))
+    (λ (h : is_too_deep end ≡ false). (LeftOut i, left_out ts i o (λ there. absurd (not_deep (numbers ts) i (omega arith) o.before o.clear end is h there)), inl refl))
+    (cases_Bool (is_too_deep end)))
+    (λ (joined : stands_apart ts i ≡ false). (LeftOut i, left_out ts i o (λ _. joined), inl refl))
+    (cases_Bool (stands_apart ts i))
+
 pub some_outcome : (ts : List Lexed) → (end : End) × IsOutcome ts end
 some_outcome ts = of_end (end_of (numbers ts)).0 (end_of (numbers ts)).1
   where
     of_end : (end : End) → ll.IsEnd xpath_grammar (numbers ts) 200 end → (end : End) × IsOutcome ts end
-    of_end Whole it = (Whole, not_stopped ts Whole (λ i e. let z = e in cc) it)
+    of_end Whole it = (Whole, whole ts it)
     of_end (Stops i) it = stopped ts i it
-    of_end (LeftOut i) it = (LeftOut i, not_stopped ts (LeftOut i) (λ j e. let z = e in cc) it)
-    of_end (TooDeep i) it = (TooDeep i, not_stopped ts (TooDeep i) (λ j e. let z = e in cc) it)
+    of_end (LeftOut i) it = let (end, is, place) = left_out_or_deep ts i it in (end, is)
+    of_end (TooDeep i) it = (TooDeep i, too_deep ts i it)
 
 -- ---- a derivation
 

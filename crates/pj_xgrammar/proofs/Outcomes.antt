@@ -16,8 +16,8 @@ use Rattle.pj_xgrammar.specs.declared.terminal.Behind.{Behind}
 use Rattle.pj_xgrammar.specs.declared.terminal.Behind.TheVariants as b
 use Rattle.pj_xgrammar.specs.Terminals.{first_behind, behind_of, numbers_before, numbers}
 use Rattle.pj_xgrammar.specs.XPath.{xpath_grammar}
-use Rattle.pj_xgrammar.specs.Expressions.{CanGoOn, IsWhole, CannotFollow, IsLeftOutFirst, IsTooDeepFirst, IsLeftOut, IsTooDeep, AreClear, IsOutcome, LeadTo}
-use Rattle.pj_xgrammar.specs.Following.{IsReadAt, CouldFollow}
+use Rattle.pj_xgrammar.specs.Expressions.{CanGoOn, IsWhole, CannotFollow, IsLeftOutFirst, IsTooDeepFirst, IsLeftOut, IsTooDeep, AreClear, stands_apart, IsOutcome, LeadTo}
+use Rattle.pj_xgrammar.specs.Following.{IsReadAt, CouldFollow, HasOutcome}
 use Rattle.pj_xgrammar.proofs.Reading.{number, numbers_append}
 use Rattle.pj_xgrammar.proofs.Widening.{reached}
 use Rattle.pj_xgrammar.proofs.Lifting.{Goes, numbers_at, up, down, lifted}
@@ -68,16 +68,28 @@ before_goes tokens i le go =
 pub whole : (tokens : List Lexed) → ll.IsWhole xpath_grammar (numbers tokens) 200 → IsWhole tokens
 whole tokens w = record { expression = w.sentence; clear = subst (λ n. AreClear tokens (n + 1)) (length_numbers b.End tokens) w.clear }
 
-pub left_out : (tokens : List Lexed) (i : ℕ) → ll.IsLeftOutFirst xpath_grammar (numbers tokens) 200 i → IsLeftOutFirst tokens i
-left_out tokens i o =
+left_out_within : (tokens : List Lexed) (i : ℕ) → ll.IsLeftOutFirst xpath_grammar (numbers tokens) 200 i → i < length tokens
+left_out_within tokens i o =
     let (t, at, it) = o.left_out in
-    let within : i < length tokens = subst (λ n. i < n) (length_numbers b.End tokens) (slice_get_within (numbers tokens) i t at) in
-    record { before = before_goes tokens i (omega arith) o.before; left_out = o.left_out; clear = o.clear }
+    subst (λ n. i < n) (length_numbers b.End tokens) (slice_get_within (numbers tokens) i t at)
+
+pub left_out : (tokens : List Lexed) (i : ℕ) → ll.IsLeftOutFirst xpath_grammar (numbers tokens) 200 i → (IsTooDeep tokens i → stands_apart tokens i ≡ false) →
+    IsLeftOutFirst tokens i
+left_out tokens i o reached =
+    let within = left_out_within tokens i o in
+    record { before = before_goes tokens i (omega arith) o.before; left_out = o.left_out; reached = reached; clear = o.clear }
+
+-- what is left out stands behind white space or a comment, before which too much is open
+pub deep_before : (tokens : List Lexed) (i : ℕ) → ll.IsLeftOutFirst xpath_grammar (numbers tokens) 200 i → IsTooDeep tokens i → stands_apart tokens i ≡ true →
+    IsTooDeepFirst tokens i
+deep_before tokens i o deep apart =
+    let within = left_out_within tokens i o in
+    record { within = omega arith; before = before_goes tokens i (omega arith) o.before; deep = deep; reached = λ _. apart; clear = o.clear }
 
 pub too_deep : (tokens : List Lexed) (i : ℕ) → ll.IsTooDeepFirst xpath_grammar (numbers tokens) 200 i → IsTooDeepFirst tokens i
 too_deep tokens i o =
     let within : i ≤ length tokens = subst (λ n. i ≤ n) (length_numbers b.End tokens) o.within in
-    record { within = within; before = before_goes tokens i within o.before; deep = o.deep; here = o.here; clear = o.clear }
+    record { within = within; before = before_goes tokens i within o.before; deep = o.deep; reached = λ out. absurd (o.here out); clear = o.clear }
 
 -- the end cannot follow
 pub stops_at_end : (tokens : List Lexed) (i : ℕ) → ll.StopsAt xpath_grammar (numbers tokens) 200 i → length tokens ≤ i → CannotFollow tokens i
@@ -213,13 +225,6 @@ module _ (tokens : List Lexed) (i : ℕ) (x : Lexed) (p : Place tokens i x) wher
 
 -- ---- the outcome that is given
 
--- where the run did not stop, it is that of the run
-pub not_stopped : (tokens : List Lexed) (end : End) → ((i : ℕ) → end ≡ e.Stops i → ⊥) → ll.IsEnd xpath_grammar (numbers tokens) 200 end → IsOutcome tokens end
-not_stopped tokens e.Whole other o = whole tokens o
-not_stopped tokens (e.Stops i) other o = absurd (other i refl)
-not_stopped tokens (e.LeftOut i) other o = left_out tokens i o
-not_stopped tokens (e.TooDeep i) other o = too_deep tokens i o
-
 pub stopped_here : (tokens : List Lexed) (i : ℕ) (x : Lexed) → slice_get tokens i ≡ Some x → ll.StopsAt xpath_grammar (numbers tokens) 200 i →
     (CouldFollow (numbers tokens) i x → ⊥) → CannotFollow tokens i
 stopped_here tokens i x at o other = stops_here tokens i x (place tokens i x at) o other
@@ -238,15 +243,45 @@ read_at (y ∷ tokens) zero x at = (first_behind b.End tokens, ap (λ o. read_of
     read_of (Some z) = Some (number z (first_behind b.End tokens))
 read_at (y ∷ tokens) (suc i) x at = read_at tokens i x at
 
--- the productions are those of the run
-pub same_leads : (tokens : List Lexed) (ps : List ℕ) (end : End) → ll.LeadTo xpath_grammar (numbers tokens) ps end → LeadTo tokens ps end
+-- ---- the productions that lead to it
+
+-- those of the run, where it is that of the run
+same_leads : (tokens : List Lexed) (ps : List ℕ) (end : End) → ll.LeadTo xpath_grammar (numbers tokens) ps end → LeadTo tokens ps end
 same_leads tokens ps e.Whole d = d
 same_leads tokens ps (e.Stops i) d = (i, omega arith, omega arith, d)
 same_leads tokens ps (e.LeftOut i) d = d
 same_leads tokens ps (e.TooDeep i) d = d
 
-pub leads_before : (tokens : List Lexed) (ps : List ℕ) (i : ℕ) → ll.LeadTo xpath_grammar (numbers tokens) ps (e.Stops i) → LeadTo tokens ps (e.Stops (i + 1))
-leads_before tokens ps i d = (i, omega arith, omega arith, d)
+as_run : (tokens : List Lexed) (end : End) → IsOutcome tokens end → HasOutcome tokens end end
+as_run tokens end is = record { is = is; leads = λ ps d. same_leads tokens ps end d }
+
+pub of_whole : (tokens : List Lexed) → ll.IsEnd xpath_grammar (numbers tokens) 200 e.Whole → HasOutcome tokens e.Whole e.Whole
+of_whole tokens o = as_run tokens e.Whole (whole tokens o)
+
+module _ (tokens : List Lexed) (i : ℕ) where
+  pub of_too_deep : ll.IsEnd xpath_grammar (numbers tokens) 200 (e.TooDeep i) → HasOutcome tokens (e.TooDeep i) (e.TooDeep i)
+  of_too_deep o = as_run tokens (e.TooDeep i) (too_deep tokens i o)
+
+  pub of_stop_at_end : ll.StopsAt xpath_grammar (numbers tokens) 200 i → length tokens ≤ i → HasOutcome tokens (e.Stops i) (e.Stops i)
+  of_stop_at_end o past = as_run tokens (e.Stops i) (stops_at_end tokens i o past)
+
+  pub of_stop_here : (x : Lexed) → slice_get tokens i ≡ Some x → ll.StopsAt xpath_grammar (numbers tokens) 200 i → (CouldFollow (numbers tokens) i x → ⊥) →
+      HasOutcome tokens (e.Stops i) (e.Stops i)
+  of_stop_here x at o other = as_run tokens (e.Stops i) (stopped_here tokens i x at o other)
+
+  pub of_stop_behind : (x : Lexed) → slice_get tokens i ≡ Some x → ll.StopsAt xpath_grammar (numbers tokens) 200 i → CouldFollow (numbers tokens) i x →
+      HasOutcome tokens (e.Stops i) (e.Stops (i + 1))
+  of_stop_behind x at o could = record { is = stopped_behind tokens i x at o could; leads = λ ps d. (i, omega arith, omega arith, d) }
+
+  pub of_left_out_joined : ll.IsLeftOutFirst xpath_grammar (numbers tokens) 200 i → stands_apart tokens i ≡ false → HasOutcome tokens (e.LeftOut i) (e.LeftOut i)
+  of_left_out_joined o joined = as_run tokens (e.LeftOut i) (left_out tokens i o (λ _. joined))
+
+  pub of_left_out_shallow : ll.IsLeftOutFirst xpath_grammar (numbers tokens) 200 i → (IsTooDeep tokens i → ⊥) → HasOutcome tokens (e.LeftOut i) (e.LeftOut i)
+  of_left_out_shallow o shallow = as_run tokens (e.LeftOut i) (left_out tokens i o (λ deep. absurd (shallow deep)))
+
+  pub of_left_out_deep : ll.IsLeftOutFirst xpath_grammar (numbers tokens) 200 i → IsTooDeep tokens i → stands_apart tokens i ≡ true →
+      HasOutcome tokens (e.LeftOut i) (e.TooDeep i)
+  of_left_out_deep o deep apart = record { is = deep_before tokens i o deep apart; leads = λ ps d. d }
 
 -- an element of a list that is there, mapped
 pub mapped_at : {A : Type 0} (f : A → Lexed) (xs : List A) (i : ℕ) (x : A) → i < length xs → x ≡ get_or xs i x → slice_get (map f xs) i ≡ Some (f x)

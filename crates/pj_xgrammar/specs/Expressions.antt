@@ -1,12 +1,13 @@
 -- Which tokens are an expression, which can begin one, and the first fault of those that are none.
 --
 -- A place is a number of tokens, from 0: that of the token there, and the number of all tokens for the end.
-use Rattle.std.specs.Prelude.{◌≡◌, ℕ, ◌+◌, ◌<◌, ◌≤◌, List, ◌++◌, length, take}
+use Rattle.std.specs.Prelude.{◌≡◌, ℕ, zero, suc, ◌+◌, ◌<◌, ◌≤◌, Bool, true, false, nat_lt, List, ◌++◌, length, take, Option, Some, slice_get}
 use Rattle.pj_ll.specs.Leads.{Derives, IsSentence}
 use Rattle.pj_ll.specs.Outcome as terminals
 use Rattle.pj_ll.specs.Outcome.{IsLeftOutAt, IsTooDeepAt, AreClearBelow, LeadBehind}
 use Rattle.pj_ll.specs.declared.parser.End.{End}
 use Rattle.pj_ll.specs.declared.parser.End.TheVariants as ends
+use Rattle.pj_xtokens.specs.Size.{size}
 use Rattle.pj_xtokens.specs.Tokens.{Lexed}
 use Rattle.pj_xgrammar.specs.Terminals.{numbers}
 use Rattle.pj_xgrammar.specs.XPath.{xpath_grammar}
@@ -38,6 +39,16 @@ IsTooDeep tokens i = IsTooDeepAt xpath_grammar (numbers tokens) greatest_nesting
 abbrev pub AreClear : List Lexed → ℕ → Type 0
 AreClear tokens i = AreClearBelow xpath_grammar (numbers tokens) greatest_nesting i
 
+-- whether white space or comments stand between the two, where both are there
+abbrev pub are_apart : Option Lexed → Option Lexed → Bool
+are_apart (Some x) (Some y) = nat_lt (x.from + size x.text) y.from
+are_apart _ _ = false
+
+-- whether they stand before the token at the place, behind another one
+abbrev pub stands_apart : List Lexed → ℕ → Bool
+stands_apart tokens zero = false
+stands_apart tokens (suc i) = are_apart (slice_get tokens i) (slice_get tokens (suc i))
+
 -- the tokens are an expression
 pub record IsWhole (tokens : List Lexed) : Type 0 where
   pub expression : IsExpression tokens
@@ -51,18 +62,20 @@ pub record CannotFollow (tokens : List Lexed) (i : ℕ) : Type 0 where
   pub at_end : i ≡ length tokens → ¬ IsExpression tokens
   pub clear : AreClear tokens (i + 1)
 
--- the first place at which something is left out; nothing before it nests too deep
+-- The first place at which something is left out; nothing before it nests too deep. What nests too deep is reached where the token before ends; so
+-- where too much is open at this place, what is left out begins right there.
 pub record IsLeftOutFirst (tokens : List Lexed) (i : ℕ) : Type 0 where
   pub before : CanGoOn (take i tokens)
   pub left_out : IsLeftOut tokens i
+  pub reached : IsTooDeep tokens i → stands_apart tokens i ≡ false
   pub clear : AreClear tokens i
 
--- the first place at which too much is open; nothing before it or there is left out
+-- the first place at which too much is open; nothing before it is left out, and what is left out there begins behind white space or a comment
 pub record IsTooDeepFirst (tokens : List Lexed) (i : ℕ) : Type 0 where
   pub within : i ≤ length tokens
   pub before : CanGoOn (take i tokens)
   pub deep : IsTooDeep tokens i
-  pub here : ¬ IsLeftOut tokens i
+  pub reached : IsLeftOut tokens i → stands_apart tokens i ≡ true
   pub clear : AreClear tokens i
 
 abbrev pub IsOutcome : List Lexed → End → Type 0
