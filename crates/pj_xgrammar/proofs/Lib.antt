@@ -1,6 +1,7 @@
 pub mod Completing
 pub mod Deeper
 pub mod Endings
+pub mod LeftOutNumbers
 pub mod Lifting
 pub mod Numbers
 pub mod OneOutcome

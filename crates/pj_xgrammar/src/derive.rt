@@ -4,10 +4,10 @@ ghost use Rattle.std.specs.Prelude.{◌≡◌, ◌+◌, ◌<◌, ◌≤◌, ◌^
 ghost use Rattle.std.specs.Str.{chars};
 ghost use Rattle.pj_ll.specs.Leads.{CanGoOn};
 ghost use Rattle.pj_ll.specs.Outcome as ll;
-ghost use Rattle.pj_ll.specs.declared.parser.End.TheVariants.{LeftOut, Stops};
+ghost use Rattle.pj_ll.specs.declared.parser.End.TheVariants.{LeftOut, Stops, TooDeep};
 ghost use Rattle.pj_xtokens.specs.Size.{size};
 ghost use Rattle.pj_xtokens.specs.Answer.{lexed_of};
-ghost use Rattle.pj_xgrammar.specs.Expressions.{IsOutcome, IsRun, LeadTo, are_apart, greatest_nesting, stands_apart};
+ghost use Rattle.pj_xgrammar.specs.Expressions.{IsOutcome, IsRun, LeadTo, are_apart, greatest_nesting, is_left_out_kind, is_left_out_token, stands_apart};
 ghost use Rattle.pj_xgrammar.specs.Following.{CouldFollow, HasOutcome, IsReadAt, is_past, is_too_deep, terminals_with_last};
 ghost use Rattle.pj_xgrammar.specs.Terminals.{numbers};
 ghost use Rattle.pj_xgrammar.specs.XPath.{xpath_grammar};
@@ -16,7 +16,7 @@ use crate::grammar::pieces;
 use crate::terminal::{Behind, Terminal};
 use pj_base::NoMemory;
 use pj_ll::{End, Run, Table, parse};
-use pj_xtokens::Token;
+use pj_xtokens::{Token, TokenKind};
 use std::alloc::Global;
 
 /// The greatest nesting of a place.
@@ -90,6 +90,26 @@ fn could_follow(
     Ok(is_past(run.end, place))
 }
 
+/// Whether it is a decimal or double number, which is left out wherever it stands.
+fn is_left_out_kind(kind: TokenKind) -> bool
+    ensures { result ≡ is_left_out_kind kind }
+{
+    match kind {
+        TokenKind::Decimal | TokenKind::Double => true,
+        _ => false,
+    }
+}
+
+/// Whether such a number stands at the place.
+fn is_left_out_at(tokens: &[Token<'_>], place: u32) -> bool
+    ensures { result ≡ is_left_out_token (slice_get (map lexed_of tokens.now) place) }
+{
+    match tokens.get(place as usize) {
+        Some(token) => is_left_out_kind(token.kind),
+        None => false,
+    }
+}
+
 /// The outcome of the tokens, where the run over their terminals stopped at the place.
 fn stopped(
     alloc: Global,
@@ -105,6 +125,9 @@ fn stopped(
     let Some(token) = tokens.get(place as usize) else {
         return Ok(End::Stops(place));
     };
+    if is_left_out_kind(token.kind) {
+        return Ok(End::LeftOut(place));
+    }
     if could_follow(alloc, terminals, place, token)? {
         return Ok(End::Stops(place + 1));
     }
@@ -118,26 +141,21 @@ fn offset_behind(from: u32, text: &str) -> u64
     from as u64 + text.len() as u64
 }
 
-/// Whether white space or comments stand between the two, where both are there.
-fn are_apart(before: Option<&Token<'_>>, token: Option<&Token<'_>>) -> bool
-    ensures { result ≡ are_apart (option_map (λ x. lexed_of x.now) before) (option_map (λ x. lexed_of x.now) token) }
+/// Whether white space or comments stand between the two.
+fn are_apart(before: &Token<'_>, token: &Token<'_>) -> bool
+    ensures { result ≡ are_apart (Some (lexed_of before.now)) (Some (lexed_of token.now)) }
 {
-    match (before, token) {
-        (Some(before), Some(token)) => {
-            offset_behind(before.from, before.text) < token.from as u64
-        }
-        _ => false,
-    }
+    offset_behind(before.from, before.text) < token.from as u64
 }
 
 /// Whether white space or comments stand before the token at the place, behind another one.
 fn stands_apart(tokens: &[Token<'_>], place: u32) -> bool
     ensures { result ≡ stands_apart (map lexed_of tokens.now) place }
 {
-    if place == 0 {
-        return false;
+    match tokens.get(place as usize) {
+        Some(token) if place > 0 => are_apart(&tokens[place as usize - 1], token),
+        _ => false,
     }
-    are_apart(tokens.get(place as usize - 1), tokens.get(place as usize))
 }
 
 /// Whether a run ended where too much is open.
@@ -154,8 +172,8 @@ fn is_too_deep(end: End) -> bool
 fn too_much_is_open(alloc: Global, terminals: &[u16], place: u32) -> Result<bool, NoMemory>
     requires few { length terminals.now < 2 ^ 32 }
     requires left_out { ll.IsLeftOutFirst xpath_grammar terminals.now greatest_nesting place }
-    ensures open { IfOk result (λ open. IsTrue open → ll.IsTooDeepAt xpath_grammar terminals.now greatest_nesting place) }
-    ensures closed { IfOk result (λ open. IsFalse open → ¬ ll.IsTooDeepAt xpath_grammar terminals.now greatest_nesting place) }
+    ensures deep { IfOk result (λ is_deep. IsTrue is_deep → ll.IsTooDeepAt xpath_grammar terminals.now greatest_nesting place) }
+    ensures not_deep { IfOk result (λ is_deep. IsFalse is_deep → ¬ ll.IsTooDeepAt xpath_grammar terminals.now greatest_nesting place) }
 {
     let run = run_over(alloc, &terminals[..place as usize])?;
     Ok(is_too_deep(run.end))
@@ -183,6 +201,18 @@ fn left_out(
     Ok(End::LeftOut(place))
 }
 
+/// The outcome of the tokens, where the run over their terminals came to a place at which too much is open.
+fn too_deep(tokens: &[Token<'_>], place: u32) -> End
+    requires deep { ll.IsTooDeepFirst xpath_grammar (numbers (map lexed_of tokens.now)) greatest_nesting place }
+    ensures { HasOutcome (map lexed_of tokens.now) (TooDeep place) result }
+{
+    if is_left_out_at(tokens, place) && !stands_apart(tokens, place) {
+        End::LeftOut(place)
+    } else {
+        End::TooDeep(place)
+    }
+}
+
 /// The outcome of the tokens, where the run over their terminals ended so.
 fn outcome(
     alloc: Global,
@@ -196,7 +226,8 @@ fn outcome(
     ensures { IfOk result (HasOutcome (map lexed_of tokens.now) end) }
 {
     match end {
-        End::Whole | End::TooDeep(_) => Ok(end),
+        End::Whole => Ok(end),
+        End::TooDeep(place) => Ok(too_deep(tokens, place)),
         End::Stops(place) => stopped(alloc, tokens, terminals, place),
         End::LeftOut(place) => left_out(alloc, tokens, terminals, place),
     }

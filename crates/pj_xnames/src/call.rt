@@ -1,10 +1,9 @@
 //! Calls of functions, and what else begins with a name.
 
-ghost use Rattle.std.specs.Prelude.{◌≡◌, ◌++◌, ◌∷◌, [], drop, take, length, map, IfOk, option_to_list, slice_get};
+ghost use Rattle.std.specs.Prelude.{◌≡◌, ◌++◌, ◌∷◌, [], drop, take, map, IfOk, option_to_list, slice_get};
 ghost use Rattle.pj_xtokens.specs.Answer.{lexed_of};
 ghost use Rattle.pj_xmeaning.specs.Names.{callee_of};
-ghost use Rattle.pj_xnames.specs.Mentions.{roles_named};
-ghost use Rattle.pj_xnames.specs.Namings.{count_ended, in_roles, open_call, call, named};
+ghost use Rattle.pj_xnames.specs.Namings.{in_roles, open_call, call, named};
 ghost use Rattle.pj_xnames.specs.Readings.{seen_mention, seen_mentions, seen_operand, seen_operands, seen_naming};
 
 use crate::named::{Named, Spelling};
@@ -73,43 +72,35 @@ fn in_roles<'t>(
 fn roles_to(roles: &[Role], count: usize) -> &[Role]
     ensures { result.now ≡ take count roles.now }
 {
-    if count < roles.len() { &roles[..count] } else { roles }
+    if count < roles.len() {
+        &roles[..count]
+    } else {
+        roles
+    }
 }
 
-/// The arguments of a call of which the `)` is not there: those that are there to their ends behind what their roles want.
-fn open_arguments<'t>(
-    alloc: Global,
-    name: &'t str,
-    arguments: Vec<Piece<'t>>,
-    extent: Extent,
-) -> Result<Vec<Named<'t>>, NoMemory>
-    ensures { IfOk result (λ mentions. seen_mentions mentions.items ≡ in_roles (take (count_ended extent (length arguments.entry.items)) (roles_named name.now)) (seen_operands arguments.entry.items)) }
-{
-    let ended = extent.count_ended(arguments.len());
-    in_roles(
-        roles_to(roles_named(name), ended),
-        arguments,
-        Vec::new(alloc),
-    )
-}
-
-/// What a call names of which the `)` is not there.
+/// What a call names of which the `)` is not there, before other mentions: the arguments that are there to their ends behind what their roles want.
 fn open_call<'t>(
     alloc: Global,
     name: &'t str,
     from: u32,
     arguments: Vec<Piece<'t>>,
     extent: Extent,
+    behind: Vec<Named<'t>>,
 ) -> Result<Vec<Named<'t>>, NoMemory>
-    ensures { IfOk result (λ mentions. seen_mentions mentions.items ≡ open_call (callee_of name.now) name.now from (seen_operands arguments.entry.items) extent) }
+    ensures { IfOk result (λ mentions. seen_mentions mentions.items ≡ open_call (callee_of name.now) name.now from (seen_operands arguments.entry.items) extent ++ seen_mentions behind.entry.items) }
 {
     let count = arguments.len();
     match function_named(name) {
-        None => put(
-            Named::Call(name, count, from),
-            mentions_in(alloc, arguments)?,
+        None => {
+            let mentions = before(mentions_in(alloc, arguments)?, behind)?;
+            put(Named::Call(name, count, from), mentions)
+        }
+        Some(_) => in_roles(
+            roles_to(roles_named(name), extent.count_ended(count)),
+            arguments,
+            behind,
         ),
-        Some(_) => open_arguments(alloc, name, arguments, extent),
     }
 }
 
@@ -130,10 +121,9 @@ fn call<'t>(
             let mentions = in_roles(roles_named(name), arguments, predicates)?;
             put(Named::Call(name, count, from), mentions)
         }
-        Extent::Open | Extent::Awaiting => before(
-            open_call(alloc, name, from, arguments, extent)?,
-            predicates,
-        ),
+        Extent::Open | Extent::Awaiting => {
+            open_call(alloc, name, from, arguments, extent, predicates)
+        }
     }
 }
 

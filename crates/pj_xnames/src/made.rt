@@ -104,11 +104,7 @@ fn rest<'t>(
         Rest::Called => {
             let extent = first.extent();
             let arguments = first.into_pieces(alloc);
-            Ok(Part::Called(
-                arguments,
-                extent,
-                others.into_mentions(alloc)?,
-            ))
+            Ok(Part::Called(arguments, extent, others.into_mentions(alloc)?))
         }
         Rest::AxisTest => other(alloc, tokens, others),
         _ => further(alloc, first, others),

@@ -2,7 +2,7 @@
 
 ghost use Rattle.std.specs.Prelude.{◌≡◌, ◌++◌, IfOk, option_to_list};
 ghost use Rattle.std.specs.Option.{option_map};
-ghost use Rattle.pj_xnames.specs.Namings.{mentions_in, mentions_of, written_in, written_of, count_ended, extent_from, extent_of, is_empty, word_of, operand_of, operands_of, bound_of};
+ghost use Rattle.pj_xnames.specs.Namings.{mentions_in, mentions_of, written_in, written_of, count_ended, extent_behind, extent_from, extent_of, is_empty, word_of, operand_of, operands_of, bound_of};
 ghost use Rattle.pj_xnames.specs.Readings.{seen_written, seen_mentions, seen_operand, seen_operands, seen_variables, seen_naming};
 
 use crate::named::{Named, Spelling};
@@ -123,13 +123,22 @@ impl<'t> Part<'t> {
         }
     }
 
+    /// How far a list is there of which the tokens end behind this operand, or before it.
+    fn extent_behind(&self) -> Extent
+        ensures { result ≡ extent_behind (seen_naming self.now) }
+    {
+        match self {
+            Part::Missing => Extent::Awaiting,
+            _ => Extent::Open,
+        }
+    }
+
     /// How far a list is there, of this operand before others.
     pub fn extent_before(&self, others: &Part<'t>) -> Extent
         ensures { result ≡ extent_from (seen_naming self.now) (seen_naming others.now) }
     {
-        match (self, others) {
-            (Part::Missing, Part::Missing) => Extent::Awaiting,
-            (_, Part::Missing) => Extent::Open,
+        match others {
+            Part::Missing => self.extent_behind(),
             _ => others.extent(),
         }
     }
