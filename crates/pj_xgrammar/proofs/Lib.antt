@@ -1,3 +1,4 @@
+pub mod Apart
 pub mod Completing
 pub mod Deeper
 pub mod Endings

@@ -118,7 +118,7 @@ number_where_stopped tokens i o is =
       clear = record { not_left_out = λ j lt. o.clear.not_left_out j (omega arith); not_too_deep = λ j lt. o.clear.not_too_deep j (omega arith) };
     }
 
-no_token_there : (tokens : List Lexed) (i : ℕ) → length tokens ≤ i → slice_get tokens i ≡ None
+pub no_token_there : (tokens : List Lexed) (i : ℕ) → length tokens ≤ i → slice_get tokens i ≡ None
 no_token_there [] i past = refl
 no_token_there (x ∷ tokens) zero past = absurd (omega arith)
 no_token_there (x ∷ tokens) (suc i) past = no_token_there tokens i (omega arith)

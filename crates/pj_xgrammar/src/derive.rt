@@ -152,10 +152,13 @@ fn are_apart(before: &Token<'_>, token: &Token<'_>) -> bool
 fn stands_apart(tokens: &[Token<'_>], place: u32) -> bool
     ensures { result ≡ stands_apart (map lexed_of tokens.now) place }
 {
-    match tokens.get(place as usize) {
-        Some(token) if place > 0 => are_apart(&tokens[place as usize - 1], token),
-        _ => false,
+    let Some(token) = tokens.get(place as usize) else {
+        return false;
+    };
+    if place == 0 {
+        return false;
     }
+    are_apart(&tokens[place as usize - 1], token)
 }
 
 /// Whether a run ended where too much is open.
