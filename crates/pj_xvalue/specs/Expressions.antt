@@ -227,8 +227,8 @@ part_step layer = record { written = written_as layer; level = level_of layer; n
 unfoldable pub part_of : Expr → Part
 part_of = fold-Expr Part part_step
 
--- That the value is an expression, where the rule set gives these variables: some text spells it, whose nesting is at
--- most 200.
+-- That the value is an expression, where the rule set gives these variables: each of its parts may stand where it stands, and it nests at most 200
+-- deep. That some text spells it is not said: its names and strings may be ones that no text spells.
 pub record IsExpression (variables : List (List ℕ)) (e : Expr) : Type 0 where
   pub fits : IsTrue ((part_of e).fits (record { given = variables; bound = [] }))
   pub shallow : (part_of e).nesting ≤ 200
