@@ -474,7 +474,8 @@ pub(crate) static PIECES: [Piece; 1855] = [
     Production(R::NodeTest as u16), Terminal(NODE), Rule(R::KindTail as u16), On(NODE),
     Production(R::NodeTest as u16), Terminal(ELEMENT), Rule(R::KindTail as u16), On(ELEMENT),
     // KindTail
-    Production(R::KindTail as u16), Terminal(LEFT_PARENTHESIS), Terminal(RIGHT_PARENTHESIS), On(LEFT_PARENTHESIS),
+    Production(R::KindTail as u16), Terminal(LEFT_PARENTHESIS), Close, Terminal(RIGHT_PARENTHESIS),
+        On(LEFT_PARENTHESIS),
     Production(R::KindTail as u16),
         On(DECIMAL), On(DOUBLE), On(RIGHT_PARENTHESIS), On(LEFT_BRACKET), On(RIGHT_BRACKET), On(COMMA), On(SLASH),
         On(SLASH_SLASH), On(BANG), On(BANG_EQUAL), On(STAR), On(PLUS), On(MINUS), On(LESS), On(LESS_LESS),
