@@ -1,0 +1,175 @@
+//! The superclass and the interfaces of an anonymous class (JLS 15.9.5, 8.9.1).
+
+ghost use Rattle.std.specs.Prelude.{◌≡◌, ◌<◌, Some, false, length, IfOk};
+ghost use Rattle.pj_names.specs.JavaType.{java_type};
+ghost use Rattle.pj_names.specs.Told.{Asks, seen};
+ghost use Rattle.pj_file_oracle.specs.Seen.{supertypes_view};
+ghost use Rattle.pj_file_oracle.specs.Supertypes.{anonymous_supertypes, asked_interface, by_type, created_supertypes, enum_type, has_interface_flag, interface_named, is_interface_type, is_of_object, of_one};
+ghost use Rattle.pj_written.specs.Headers.{created};
+ghost use Rattle.pj_written.specs.Types.{object_type};
+
+use crate::nodes::node_named;
+use crate::supertypes::{Supertypes, of_one, supertype};
+use pj_base::{NoMemory, Numbers};
+use pj_imports::File;
+use pj_names::{Answer, AskFault, ClassName, Oracle, Ty};
+use pj_symbols::class_around;
+use pj_tree::Node;
+use pj_written::{class_of_text, created, is_constant_body, is_interface, object_type};
+use std::alloc::Global;
+
+/// Whether an answer is an interface, by its flags.
+fn has_interface_flag(answer: &Answer) -> bool
+    ensures { result ≡ has_interface_flag answer.now }
+{
+    match answer {
+        Answer::Found(class) => class.flags & 0x0200 != 0,
+        Answer::Absent | Answer::Broken(_) => false,
+    }
+}
+
+/// Whether a class is `java.lang.Object`, or has the name of a member class of it.
+fn is_of_object(name: &ClassName) -> bool
+    ensures { result ≡ is_of_object name.now }
+{
+    name.is_object() || name.as_str().starts_with("java.lang.Object$")
+}
+
+/// Whether a class outside the file is an interface.
+#[tactic(auto, using(pj_names::specs::AskingLaws::asking_steps))]
+fn asked_interface<O: Oracle>(oracle: &mut O, name: &ClassName) -> Result<bool, AskFault>
+    ensures { Asks (asked_interface name.now) (O.tells oracle.old) (O.tells oracle.new) result }
+{
+    if is_of_object(name) {
+        return Ok(false);
+    }
+    let answer = oracle.ask(name)?;
+    let is_interface = has_interface_flag(&answer);
+    Ok(is_interface)
+}
+
+/// Whether a class is an interface: of the file by its declaration, and else by its flags.
+#[tactic(auto, using(pj_names::specs::AskingLaws::asking_steps))]
+fn interface_named<O: Oracle>(
+    file: &File<'_>,
+    oracle: &mut O,
+    name: &ClassName,
+) -> Result<bool, AskFault>
+    ensures { Asks (interface_named file.now name.now) (O.tells oracle.old) (O.tells oracle.new) result }
+{
+    match node_named(file, name.as_str()) {
+        Some(class) => Ok(is_interface(file.tree(), class)),
+        None => asked_interface(oracle, name),
+    }
+}
+
+/// Whether a type is an interface.
+#[tactic(auto, using(pj_names::specs::AskingLaws::asking_steps))]
+fn is_interface_type<O: Oracle>(file: &File<'_>, oracle: &mut O, ty: &Ty) -> Result<bool, AskFault>
+    ensures { Asks (is_interface_type file.now (java_type ty.now)) (O.tells oracle.old) (O.tells oracle.new) result }
+{
+    match ty {
+        Ty::Class(name, _) => interface_named(file, oracle, name),
+        _ => Ok(false),
+    }
+}
+
+/// The supertypes of a class by the type of its `new`.
+#[tactic(auto, using(pj_names::specs::AskingLaws::asking_steps))]
+fn by_type<O: Oracle>(
+    alloc: Global,
+    file: &File<'_>,
+    oracle: &mut O,
+    ty: Ty,
+) -> Result<Supertypes, AskFault>
+    ensures { Asks (by_type file.now (java_type ty)) (O.tells oracle.old) (O.tells oracle.new) (seen supertypes_view result) }
+{
+    let is_interface = is_interface_type(file, oracle, &ty)?;
+    let types = of_one(alloc, ty, is_interface)?;
+    Ok(types)
+}
+
+/// `java.lang.Object` alone.
+fn only_object(alloc: Global) -> Result<Supertypes, NoMemory>
+    ensures { IfOk result (λ types. supertypes_view types ≡ of_one object_type false) }
+{
+    let ty = object_type(alloc)?;
+    of_one(alloc, ty, false)
+}
+
+/// The same by the node of that type.
+#[tactic(auto, using(pj_names::specs::AskingLaws::asking_steps))]
+fn by_node<O: Oracle>(
+    alloc: Global,
+    file: &File<'_>,
+    oracle: &mut O,
+    busy: &Numbers,
+    n: Node,
+) -> Result<Supertypes, AskFault>
+    requires inside { n.0 < length file.now.nodes }
+    ensures { Asks (created_supertypes file.now busy.now (Some n)) (O.tells oracle.old) (O.tells oracle.new) (seen supertypes_view result) }
+{
+    let ty = supertype(alloc, file, oracle, busy, n)?;
+    by_type(alloc, file, oracle, ty)
+}
+
+/// The supertypes of a class that is created by a `new`.
+#[tactic(auto, using(pj_names::specs::AskingLaws::asking_steps))]
+fn created_supertypes<O: Oracle>(
+    alloc: Global,
+    file: &File<'_>,
+    oracle: &mut O,
+    busy: &Numbers,
+    class: Node,
+) -> Result<Supertypes, AskFault>
+    requires inside { class.0 < length file.now.nodes }
+    ensures { Asks (created_supertypes file.now busy.now (created file.now class)) (O.tells oracle.old) (O.tells oracle.new) (seen supertypes_view result) }
+{
+    match created(file.tree(), class) {
+        Some(n) => by_node(alloc, file, oracle, busy, n),
+        None => {
+            let types = only_object(alloc)?;
+            Ok(types)
+        }
+    }
+}
+
+/// The enum around the body of one of its constants.
+fn enum_type(alloc: Global, file: &File<'_>, class: Node) -> Result<Ty, NoMemory>
+    requires inside { class.0 < length file.now.nodes }
+    ensures { IfOk result (λ ty. java_type ty ≡ enum_type file.now class) }
+{
+    match class_around(file.tree(), class) {
+        Some(owner) => class_of_text(alloc, file.class_text(owner)),
+        None => object_type(alloc),
+    }
+}
+
+/// The supertypes of such a body.
+fn constant_supertypes(alloc: Global, file: &File<'_>, class: Node) -> Result<Supertypes, NoMemory>
+    requires inside { class.0 < length file.now.nodes }
+    ensures { IfOk result (λ types. supertypes_view types ≡ of_one (enum_type file.now class) false) }
+{
+    let ty = enum_type(alloc, file, class)?;
+    of_one(alloc, ty, false)
+}
+
+/// The superclass and the interfaces of an anonymous class, where the headers of some classes are being resolved.
+#[tactic(auto, using(pj_names::specs::AskingLaws::asking_steps))]
+pub fn anonymous_supertypes<O: Oracle>(
+    alloc: Global,
+    file: &File<'_>,
+    oracle: &mut O,
+    busy: &Numbers,
+    class: Node,
+) -> Result<Supertypes, AskFault>
+    requires inside { class.0 < length file.now.nodes }
+    ensures { Asks (anonymous_supertypes file.now busy.now class) (O.tells oracle.old) (O.tells oracle.new) (seen supertypes_view result) }
+{
+    if is_constant_body(file.tree(), class) {
+        let types = constant_supertypes(alloc, file, class)?;
+        Ok(types)
+    } else {
+        created_supertypes(alloc, file, oracle, busy, class)
+    }
+}
