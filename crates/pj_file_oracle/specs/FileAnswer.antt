@@ -1,8 +1,8 @@
 -- What a class of the file answers: from its declaration, by the types that it writes (JVMS 4.1, 4.5, 4.6). It is itself a meaning, and
 -- its names are those of these types.
 --
--- First its header is resolved, in which it is itself the class whose header is being resolved; then its members in the order of the
--- text, where none is. So an inherited member class is found in the members of a class and not in its own header.
+-- First its header is resolved, in which it is itself the class whose header is being resolved; then its members in the order of the text, where none is,
+-- and of each its types in the order of its signature. So an inherited member class is found in the members of a class and not in its own header.
 use Rattle.std.specs.Prelude.{ℕ, Option, None, Some, List, [], ◌∷◌}
 use Rattle.pj_tree.specs.Tree.{Tree}
 use Rattle.pj_tree.specs.declared.node.Node.{Node}
@@ -34,16 +34,19 @@ header_text t class = header_within t (class.0 ∷ []) class
 
 -- ---- the answer
 
+-- by the signature and the members
 abbrev pub found_with : Tree → Name → Node → List ℕ → MemberLists → Answer
 found_with t name class signature members =
     Found (record { name = name; flags = class_flags t class; signature = signature; fields = members.fields; methods = members.methods })
 
+-- of a class of the file, by its node
 abbrev pub class_answer : Tree → Name → Node → Asking Answer
 class_answer t name class =
     bind (header_text t class) (λ signature.
     bind (members_of t class) (λ members.
     Return (found_with t name class signature members)))
 
+-- by the node of the class of the file that has the name, if there is one
 abbrev pub answer_by : Tree → Name → Option Node → Asking Answer
 answer_by t name None = ask name
 answer_by t name (Some class) = class_answer t name class

@@ -1,7 +1,7 @@
 -- The superclass and the interfaces that a class of the file answers, where the headers of some classes are being resolved.
 --
 -- Types that are written are resolved, each at its own place; those that a class has without writing them are not, and are none of its needs.
-use Rattle.std.specs.Prelude.{ℕ, ◌==◌, ◌||◌, nat_eq, Bool, true, false, not, Option, None, Some, if◌then◌else◌, List, [], ◌∷◌, codes}
+use Rattle.std.specs.Prelude.{ℕ, ◌==◌, ◌||◌, nat_eq, Bool, false, is_some, Option, None, Some, if◌then◌else◌, List, [], ◌∷◌, codes}
 use Rattle.std.specs.Int.Bits.{bit_and}
 use Rattle.std.specs.List.{starts_with}
 use Rattle.std.specs.Option.{option_map_or}
@@ -14,6 +14,7 @@ use Rattle.pj_names.specs.declared.answer.Answer.TheVariants.{Found, Absent, Bro
 use Rattle.pj_names.specs.ClassName.{Name, is_class_name, is_object}
 use Rattle.pj_names.specs.JavaType.{JavaType, Class, Unknown, NoMore, Argument}
 use Rattle.pj_names.specs.Asking.{Asking, Return, ask, bind, each}
+use Rattle.pj_signatures.specs.Reading.{class_signature_of}
 use Rattle.pj_symbols.specs.Classes.{class_around}
 use Rattle.pj_written.specs.Headers.{class_text, created, extended, implemented, is_constant_body}
 use Rattle.pj_written.specs.Types.{class_of_text, object_type}
@@ -33,13 +34,14 @@ abbrev pub as_supertype : JavaType → JavaType
 as_supertype (Class name arguments) = Class name arguments
 as_supertype other = Unknown
 
-abbrev pub supertype : Tree → List ℕ → Node → Asking JavaType
+unfoldable pub supertype : Tree → List ℕ → Node → Asking JavaType
 supertype t busy n = bind (written_type t busy 0 n) (λ ty. Return (as_supertype ty))
 
--- those behind `extends`, and those behind `implements`
+-- those behind `extends`
 abbrev pub extended_types : Tree → List ℕ → Node → Asking (List JavaType)
 extended_types t busy class = each (supertype t busy) (extended t class)
 
+-- and those behind `implements`
 abbrev pub implemented_types : Tree → List ℕ → Node → Asking (List JavaType)
 implemented_types t busy class = each (supertype t busy) (implemented t class)
 
@@ -66,6 +68,7 @@ first_or implied (ty ∷ types) = ty
 abbrev pub with_interfaces : Tree → Node → List JavaType → List JavaType → Supertypes
 with_interfaces t class above interfaces = record { superclass = first_or (implied_superclass t class) above; interfaces = interfaces }
 
+-- of a class that is no interface
 abbrev pub class_supertypes : Tree → List ℕ → Node → Asking Supertypes
 class_supertypes t busy class =
     bind (extended_types t busy class) (λ above.
@@ -79,31 +82,36 @@ only_interfaces interfaces = record { superclass = object_type; interfaces = int
 abbrev pub interface_supertypes : Tree → List ℕ → Node → Asking Supertypes
 interface_supertypes t busy class = bind (extended_types t busy class) (λ above. Return (only_interfaces above))
 
+-- of a class or an interface
 abbrev pub named_supertypes : Tree → List ℕ → Node → Asking Supertypes
 named_supertypes t busy class = if is_plain_interface t class then interface_supertypes t busy class else class_supertypes t busy class
 
 -- ---- of an anonymous class
 
--- the one type that a class has as its superclass or as its interface
-abbrev pub of_one : JavaType → Bool → Supertypes
-of_one ty true = only_interfaces (ty ∷ [])
-of_one ty false = record { superclass = ty; interfaces = [] }
+-- the one type that it writes, as its superclass
+abbrev pub as_superclass : JavaType → Supertypes
+as_superclass ty = record { superclass = ty; interfaces = [] }
 
--- the flag of interfaces, 512 (JVMS 4.1)
-abbrev pub has_interface_flag : Answer → Bool
-has_interface_flag (Found class) = not (bit_and class.flags 512 == 0)
-has_interface_flag Absent = false
-has_interface_flag (Broken broken) = false
+-- or as its one interface
+abbrev pub as_interface : JavaType → Supertypes
+as_interface ty = only_interfaces (ty ∷ [])
 
--- nothing is looked for in `java.lang.Object`, so neither it nor a member class of it was asked when the type was resolved; they count as no interfaces
+-- Whether an answer is an interface, by the flag of interfaces, 512 (JVMS 4.1). A class whose signature is none counts as a broken one.
+abbrev pub is_interface_answer : Answer → Bool
+is_interface_answer (Found class) = if bit_and class.flags 512 == 0 then false else is_some (class_signature_of class.signature)
+is_interface_answer Absent = false
+is_interface_answer (Broken broken) = false
+
+-- Nothing is looked for in `java.lang.Object`: neither it nor a member class of it is asked when a type is resolved, but where an import or a name with a package writes the
+-- member class. So they are not asked here, and count as no interfaces.
 abbrev pub is_of_object : Name → Bool
 is_of_object name = is_object name || starts_with nat_eq name (codes "java.lang.Object$")
 
 -- A class outside the file is asked once more, which asks nothing new: it was asked when the type was resolved.
 abbrev pub asked_interface : Name → Asking Bool
-asked_interface name = if is_of_object name then Return false else bind (ask name) (λ answer. Return (has_interface_flag answer))
+asked_interface name = if is_of_object name then Return false else bind (ask name) (λ answer. Return (is_interface_answer answer))
 
--- of the file by its declaration, and else by its flags
+-- whether a class is an interface: of the file by its declaration, and else by its answer
 abbrev pub interface_by : Tree → Name → Option Node → Asking Bool
 interface_by t name None = asked_interface name
 interface_by t name (Some class) = Return (is_interface t class)
@@ -111,32 +119,36 @@ interface_by t name (Some class) = Return (is_interface t class)
 abbrev pub interface_named : Tree → Name → Asking Bool
 interface_named t name = interface_by t name (node_named (file_classes t) name)
 
+-- and a type
 abbrev pub is_interface_type : Tree → JavaType → Asking Bool
 is_interface_type t (Class name arguments) = interface_named t name
 is_interface_type t other = Return false
 
 -- the type of the `new` is the superclass, or the one interface (JLS 15.9.5)
 abbrev pub by_type : Tree → JavaType → Asking Supertypes
-by_type t ty = bind (is_interface_type t ty) (λ interface. Return (of_one ty interface))
+by_type t ty = bind (is_interface_type t ty) (λ interface. Return (if interface then as_interface ty else as_superclass ty))
 
+-- of the class of a `new`, by the node of that type
 abbrev pub created_supertypes : Tree → List ℕ → Option Node → Asking Supertypes
-created_supertypes t busy None = Return (of_one object_type false)
+created_supertypes t busy None = Return (as_superclass object_type)
 created_supertypes t busy (Some n) = bind (supertype t busy n) (λ ty. by_type t ty)
 
 -- the body of an enum constant has the enum as its superclass, without arguments (JLS 8.9.1)
 abbrev pub enum_type : Tree → Node → JavaType
 enum_type t class = option_map_or (λ enum. class_of_text (class_text t enum)) (class_around t class) object_type
 
+-- of any anonymous class
 abbrev pub anonymous_supertypes : Tree → List ℕ → Node → Asking Supertypes
 anonymous_supertypes t busy class =
-    if is_constant_body t class then Return (of_one (enum_type t class) false) else created_supertypes t busy (created t class)
+    if is_constant_body t class then Return (as_superclass (enum_type t class)) else created_supertypes t busy (created t class)
 
 -- ---- of any class of the file
 
 -- an annotation interface extends `java.lang.annotation.Annotation` (JLS 9.6)
 abbrev pub annotation_supertypes : Supertypes
-annotation_supertypes = only_interfaces (class_of_text (codes "java.lang.annotation.Annotation") ∷ [])
+annotation_supertypes = as_interface (class_of_text (codes "java.lang.annotation.Annotation"))
 
+-- by what declares the class
 abbrev pub supertypes_by : Tree → List ℕ → Node → Option Kind → Asking Supertypes
 supertypes_by t busy class (Some k.AnonymousClassDeclaration) = anonymous_supertypes t busy class
 supertypes_by t busy class (Some k.AnnotationTypeDeclaration) = Return annotation_supertypes

@@ -12,11 +12,12 @@ use Rattle.pj_type_names.specs.TypeName.{written_bound, written_type}
 
 -- ---- type parameters (JLS 8.1.2, 8.4.4), where the headers of some classes are being resolved
 
+-- a type parameter by its bounds
 abbrev pub parameter_with : Tree → Node → List JavaType → Parameter
 parameter_with t n bounds = record { name = first_of (words_of t n); bounds = bounds }
 
 -- a type parameter with each of its bounds
-abbrev pub parameter_of : Tree → List ℕ → Node → Asking Parameter
+unfoldable pub parameter_of : Tree → List ℕ → Node → Asking Parameter
 parameter_of t busy n = bind (each (written_bound t busy) (bounds_of t n)) (λ bounds. Return (parameter_with t n bounds))
 
 -- those of a class, a method or a constructor
@@ -31,5 +32,5 @@ type_or_unknown t behind None = Return Unknown
 type_or_unknown t behind (Some n) = written_type t [] behind n
 
 -- the type that the declaration of a field, a method or a parameter writes
-abbrev pub declared_type : Tree → ℕ → Node → Asking JavaType
+unfoldable pub declared_type : Tree → ℕ → Node → Asking JavaType
 declared_type t behind n = type_or_unknown t behind (type_child t n)

@@ -18,7 +18,7 @@ use pj_type_names::type_name;
 use std::alloc::Global;
 use std::sync::Arc;
 
-/// It answers the classes of a file from their declarations, and every other name as the oracle beneath.
+/// It answers the classes of a file from their declarations, and asks every other name of the oracle beneath.
 ///
 /// The names that a class of the file needs are those of the classes that its declaration writes, first in its header and then in its members. After a
 /// refusal it is as before, and of the oracle beneath none but these names was asked.
@@ -36,7 +36,8 @@ impl<'a, O> FileOracle<'a, O> {
     /// The oracle of a file over another oracle. It takes no memory.
     pub fn new(alloc: Global, file: &'a File<'a>, inner: &'a mut O) -> FileOracle<'a, O>
         ensures file { result.file.now ≡ file.now }
-        ensures inner { result.inner ≡ inner }
+        ensures inner { result.inner.now ≡ inner.old }
+        ensures held { result.inner.ghost_name ≡ inner.entry.ghost_name }
     {
         FileOracle { alloc, file, inner }
     }

@@ -10,11 +10,11 @@ ghost use Rattle.pj_written.specs.Spelling.{class_signature_text};
 
 use crate::anonymous::anonymous_supertypes;
 use crate::named::named_supertypes;
-use crate::supertypes::{Supertypes, only_interfaces};
+use crate::supertypes::{Supertypes, as_interface};
 use crate::types::type_parameters;
 use pj_base::{NoMemory, Numbers, Text};
 use pj_imports::File;
-use pj_names::{AskFault, Oracle, TyList};
+use pj_names::{AskFault, Oracle};
 use pj_tree::{Kind, Node};
 use pj_written::{Parameters, class_of_text, class_signature};
 use std::alloc::Global;
@@ -24,9 +24,7 @@ fn annotation_supertypes(alloc: Global) -> Result<Supertypes, NoMemory>
     ensures { IfOk result (λ types. supertypes_view types ≡ annotation_supertypes) }
 {
     let ty = class_of_text(alloc, "java.lang.annotation.Annotation")?;
-    let mut interfaces = TyList::new(alloc);
-    interfaces.push(ty)?;
-    only_interfaces(alloc, interfaces)
+    as_interface(alloc, ty)
 }
 
 /// The superclass and the interfaces of a class of the file, where the headers of some classes are being resolved.

@@ -7,7 +7,7 @@ ghost use Rattle.pj_names.specs.JavaType.{java_type, type_list};
 ghost use Rattle.pj_names.specs.Told.{Asks, seen};
 ghost use Rattle.pj_tree.specs.declared.node.Node.{Node};
 ghost use Rattle.pj_file_oracle.specs.Seen.{supertypes_view};
-ghost use Rattle.pj_file_oracle.specs.Supertypes.{as_supertype, of_one, only_interfaces, supertype};
+ghost use Rattle.pj_file_oracle.specs.Supertypes.{as_interface, as_superclass, as_supertype, only_interfaces, supertype};
 
 use pj_base::{NoMemory, Numbers};
 use pj_imports::File;
@@ -35,20 +35,23 @@ pub fn only_interfaces(alloc: Global, interfaces: TyList) -> Result<Supertypes, 
     })
 }
 
-/// A type as the superclass, or as the one interface.
-pub fn of_one(alloc: Global, ty: Ty, is_interface: bool) -> Result<Supertypes, NoMemory>
-    ensures { IfOk result (λ types. supertypes_view types ≡ of_one (java_type ty) is_interface) }
+/// A type as the superclass, without interfaces.
+pub fn as_superclass(alloc: Global, ty: Ty) -> Supertypes
+    ensures { supertypes_view result ≡ as_superclass (java_type ty) }
+{
+    Supertypes {
+        superclass: ty,
+        interfaces: TyList::new(alloc),
+    }
+}
+
+/// A type as the one interface.
+pub fn as_interface(alloc: Global, ty: Ty) -> Result<Supertypes, NoMemory>
+    ensures { IfOk result (λ types. supertypes_view types ≡ as_interface (java_type ty)) }
 {
     let mut interfaces = TyList::new(alloc);
-    if is_interface {
-        interfaces.push(ty)?;
-        only_interfaces(alloc, interfaces)
-    } else {
-        Ok(Supertypes {
-            superclass: ty,
-            interfaces,
-        })
-    }
+    interfaces.push(ty)?;
+    only_interfaces(alloc, interfaces)
 }
 
 /// A written supertype: one that is no class is not known.
@@ -62,7 +65,7 @@ fn as_supertype(ty: Ty) -> Ty
 }
 
 /// The supertype that is written in a node.
-#[tactic(auto, using(pj_names::specs::AskingLaws::asking_steps))]
+#[tactic(auto, using(pj_names::specs::AskingLaws::asking_steps), unfolding(crate::specs::Supertypes::supertype))]
 pub fn supertype<O: Oracle>(
     alloc: Global,
     file: &File<'_>,

@@ -54,7 +54,7 @@ fn parameter_with(
 }
 
 /// A type parameter with each of its bounds.
-#[tactic(auto, using(pj_names::specs::AskingLaws::asking_steps))]
+#[tactic(auto, using(pj_names::specs::AskingLaws::asking_steps), unfolding(crate::specs::Types::parameter_of))]
 fn parameter_of<O: Oracle>(
     alloc: Global,
     file: &File<'_>,
@@ -108,7 +108,7 @@ pub fn type_parameters<O: Oracle>(
 }
 
 /// The type that the declaration of a field, a method or a parameter writes, with so many brackets behind the name.
-#[tactic(auto, using(pj_names::specs::AskingLaws::asking_steps))]
+#[tactic(auto, using(pj_names::specs::AskingLaws::asking_steps), unfolding(crate::specs::Types::declared_type))]
 pub fn declared_type<O: Oracle>(
     alloc: Global,
     file: &File<'_>,

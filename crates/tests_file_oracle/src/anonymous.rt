@@ -3,7 +3,7 @@
 use crate::asked::{Row, Sort, check};
 use std::test::Fail;
 
-static ANONYMOUS_CLASSES: [Row; 13] = [
+static ANONYMOUS_CLASSES: [Row; 15] = [
     (
         "class A { Object o = new q.C() {}; }",
         "A$$",
@@ -27,6 +27,18 @@ static ANONYMOUS_CLASSES: [Row; 13] = [
         "A$$",
         "q.C!",
         "32 Lq/C; / /; q.C",
+    ),
+    (
+        "class A { Object o = new q.C() {}; }",
+        "A$$",
+        "q.C~*",
+        "32 Lq/C; / /; q.C",
+    ),
+    (
+        "class A { Object o = new q.C() { X f; }; }",
+        "A$$",
+        "q.C q.C$X",
+        "32 Lq/C; / 0 f Lq/C$X; /; q.C q.C$X",
     ),
     (
         "class A { Object o = new q.C<q.D>() { q.E f; }; }",
@@ -89,13 +101,19 @@ fn anonymous_classes(rt: HostRuntime) -> Result<(), Fail> {
     check(rt.alloc(), Sort::Answer, &ANONYMOUS_CLASSES)
 }
 
-static BODIES_OF_ENUM_CONSTANTS: [Row; 2] = [
+static BODIES_OF_ENUM_CONSTANTS: [Row; 3] = [
     ("enum E { K {} }", "E$$", "", "32 LE; / /;"),
     (
         "enum E { K(q.B.x) { q.C f; void g() {} } }",
         "E$$",
         "",
         "32 LE; / 0 f Lq/C; / 0 g ()V; q.C",
+    ),
+    (
+        "enum E implements q.I { K { X f; } }",
+        "E$$",
+        "q.I q.I$X",
+        "32 LE; / 0 f Lq/I$X; /; E$X q.I java.lang.Enum$X java.lang.Enum q.I$X",
     ),
 ];
 

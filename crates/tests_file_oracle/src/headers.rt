@@ -45,7 +45,7 @@ fn kinds(rt: HostRuntime) -> Result<(), Fail> {
 }
 
 /// The modifiers that are written, and no effective ones.
-static FLAGS: [Row; 8] = [
+static FLAGS: [Row; 10] = [
     (
         "public final class A {}",
         "A",
@@ -93,6 +93,18 @@ static FLAGS: [Row; 8] = [
         "O$R",
         "",
         "48 Ljava/lang/Record; / /;",
+    ),
+    (
+        "sealed interface I permits B {} non-sealed class B implements I {}",
+        "I",
+        "",
+        "1536 Ljava/lang/Object; / /;",
+    ),
+    (
+        "sealed interface I permits B {} non-sealed class B implements I {}",
+        "B",
+        "",
+        "32 Ljava/lang/Object;LI; / /;",
     ),
 ];
 
@@ -236,7 +248,7 @@ fn headers_that_do_not_resolve(rt: HostRuntime) -> Result<(), Fail> {
 }
 
 /// Headers lead to one another; a class whose header is being resolved has no supertypes.
-static HEADERS_OF_THE_FILE: [Row; 5] = [
+static HEADERS_OF_THE_FILE: [Row; 6] = [
     (
         "class A extends B {} class B extends A {}",
         "A",
@@ -260,6 +272,12 @@ static HEADERS_OF_THE_FILE: [Row; 5] = [
         "A",
         "q.C$B",
         "32 Lq/C;LA$B; / /; q.C A$B",
+    ),
+    (
+        "class A<T extends A.X> extends q.C { A.X g; }",
+        "A",
+        "q.C q.C$X",
+        "32 <T:LA$X;>Lq/C; / 0 g Lq/C$X; /; A$X q.C q.C$X",
     ),
     (
         "class A { int x; } class A { int y; }",

@@ -3,7 +3,7 @@
 use crate::asked::{Row, Sort, check};
 use std::test::Fail;
 
-static METHODS: [Row; 8] = [
+static METHODS: [Row; 9] = [
     (
         "class A<T> { T f(int a, T... b) { return null; } <U extends T> void g(U u) {} A(q.C c) {} }",
         "A",
@@ -27,6 +27,12 @@ static METHODS: [Row; 8] = [
         "A",
         "",
         "32 Ljava/lang/Object; / / 128 f ([[I)V 8 g (I)V;",
+    ),
+    (
+        "class A { void f(int... a, int b) {} void g(q.C... x[]) {} }",
+        "A",
+        "",
+        "32 Ljava/lang/Object; / / 0 f ([II)V 128 g ([[Lq/C;)V; q.C",
     ),
     (
         "class A { <T extends q.C & q.I, U> T f(U u) throws U { return null; } }",

@@ -1,7 +1,8 @@
 //! Classes that are written out, and an oracle over them.
 //!
 //! A world is the names of classes with spaces between. Behind a name stand in parentheses its superclass and its interfaces with commas between;
-//! where nothing stands it is `java.lang.Object`. A `!` behind a name says that its class file is broken, and a `~` that it is an interface.
+//! where nothing stands it is `java.lang.Object`. A `!` behind a name says that its class file is broken, a `~` that it is an interface, and a `*` behind
+//! that one that its signature is none.
 
 use pj_base::{Copied, NoMemory, Text};
 use pj_names::{Answer, AskFault, Broken, ClassInfo, ClassName, Members, Oracle};
@@ -98,6 +99,9 @@ fn push_signature(text: &mut Text, name: &str) -> Result<(), NoMemory> {
 
 /// The signature of a class with these supertypes.
 fn signature(alloc: Global, entry: &str) -> Result<Text, NoMemory> {
+    if entry.contains('*') {
+        return Text::from_str(alloc, "*");
+    }
     if !entry.contains('(') {
         return Text::from_str(alloc, "Ljava/lang/Object;");
     }
