@@ -1,10 +1,14 @@
--- The first of a list of types, and members that are gathered in a loop, one child of the body after the other.
-use Rattle.std.proofs.Common.{◌≡◌, List, [], ◌∷◌, ◌++◌, Option, Some, None, refl, sym, ap, ◌∙◌, append_assoc, append-nil}
+-- The first of a list of types, and what is gathered in a loop: types as they are seen, and members, one child of the body after the other.
+use Rattle.std.proofs.Common.{◌≡◌, ℕ, ◌+◌, ◌<◌, List, [], ◌∷◌, ◌++◌, Option, Some, None, refl, sym, subst, ap, ◌∙◌, append_assoc, append-nil, drop, get_or, length, map}
+use Rattle.std.proofs.lemmas.List.{map-append}
+use Rattle.std.specs.Prelude.{Ok}
 use Rattle.std.specs.List.{slice_get}
 use Rattle.pj_names.specs.JavaType.{JavaType, java_type, type_list}
 use Rattle.pj_names.specs.declared.ty.Ty.{Ty}
 use Rattle.pj_names.specs.Asking.{Asking, Return, bind, each}
-use Rattle.pj_names.specs.MeaningLaws.{bind-bind}
+use Rattle.pj_names.specs.AskingLaws.{ComesTo, comes-then, left_from}
+use Rattle.pj_names.specs.MeaningLaws.{bind-bind, gather}
+use Rattle.pj_names.specs.Told.{Asks, Told}
 use Rattle.pj_file_oracle.specs.declared.members.MemberLists.{MemberLists}
 use Rattle.pj_file_oracle.specs.Members.{all_members, both_lists, no_members}
 use Rattle.pj_file_oracle.specs.Supertypes.{first_or}
@@ -20,6 +24,16 @@ first-none implied [] is = refl
 first-none implied (x ∷ xs) is = absurd (cc)
 
 pub ruleset first_steps = (first-some, first-none)
+
+-- ---- values that are gathered, as they are seen
+
+pub gather-turn : {K A B C : Type 0} {m : Asking (List B)} {t u w : Told K} (f : A → Asking B) (view : C → B) (front new : List C) (xs : List A) (i : ℕ) (d : A) (v : C)
+    → i < length xs → new ≡ front ++ v ∷ [] → ComesTo m t (gather f (map view front) (drop i xs)) u → Asks (f (get_or xs i d)) u w (Ok (view v))
+    → ComesTo m t (gather f (map view new) (drop (i + 1) xs)) w
+gather-turn {A = A} {B = B} {m = m} {t = t} {u = u} {w = w} f view front new xs i d v below grown so_far asked =
+    let here = subst (λ (l : List A). ComesTo m t (gather f (map view front) l) u) (left_from xs i d below) so_far in
+    let further = comes-then {n = f (get_or xs i d)} (λ (value : B). gather f (map view front ++ value ∷ []) (drop (i + 1) xs)) here asked in
+    subst (λ (l : List B). ComesTo m t (gather f l (drop (i + 1) xs)) w) (sym (ap (map view) grown ∙ map-append view front (v ∷ []))) further
 
 -- ---- members
 
@@ -48,3 +62,12 @@ module _ {A : Type 0} (f : A → Asking MemberLists) where
 
   pub members-begin : (xs : List A) → bind (each f xs) (λ lists. Return (all_members lists)) ≡ behind no_members xs
   members-begin xs = all_behind no_members xs
+
+-- one child more
+pub behind-turn : {K A : Type 0} {m : Asking MemberLists} {t u w : Told K} (f : A → Asking MemberLists) (front new more : MemberLists) (xs : List A) (i : ℕ) (d : A)
+    → i < length xs → new ≡ both_lists front more → ComesTo m t (behind f front (drop i xs)) u → Asks (f (get_or xs i d)) u w (Ok more)
+    → ComesTo m t (behind f new (drop (i + 1) xs)) w
+behind-turn {A = A} {m = m} {t = t} {u = u} {w = w} f front new more xs i d below grown so_far asked =
+    let here = subst (λ (l : List A). ComesTo m t (behind f front l) u) (left_from xs i d below) so_far in
+    let further = comes-then {n = f (get_or xs i d)} (λ (lists : MemberLists). behind f (both_lists front lists) (drop (i + 1) xs)) here asked in
+    subst (λ (lists : MemberLists). ComesTo m t (behind f lists (drop (i + 1) xs)) w) (sym grown) further

@@ -1,8 +1,7 @@
 -- The superclass and the interfaces that a class of the file answers, where the headers of some classes are being resolved.
 --
 -- Types that are written are resolved, each at its own place; those that a class has without writing them are not, and are none of its needs.
-use Rattle.std.specs.Prelude.{ℕ, ◌==◌, ◌||◌, nat_eq, Bool, false, is_some, Option, None, Some, if◌then◌else◌, List, [], ◌∷◌, codes}
-use Rattle.std.specs.Int.Bits.{bit_and}
+use Rattle.std.specs.Prelude.{ℕ, ◌==◌, ◌||◌, nat_eq, bit_and, Bool, false, is_some, Option, None, Some, if◌then◌else◌, List, [], ◌∷◌, codes}
 use Rattle.std.specs.List.{starts_with}
 use Rattle.std.specs.Option.{option_map_or}
 use Rattle.pj_tree.specs.Tree.{Tree, kind_of}
