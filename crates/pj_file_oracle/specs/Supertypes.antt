@@ -8,6 +8,7 @@ use Rattle.pj_tree.specs.Tree.{Tree, kind_of}
 use Rattle.pj_tree.specs.declared.kind.Kind.{Kind}
 use Rattle.pj_tree.specs.declared.kind.Kind.TheVariants as k
 use Rattle.pj_tree.specs.declared.node.Node.{Node}
+use Rattle.pj_nodes.specs.Kinds.{is_kind}
 use Rattle.pj_names.specs.declared.answer.Answer.{Answer}
 use Rattle.pj_names.specs.declared.answer.Answer.TheVariants.{Found, Absent, Broken}
 use Rattle.pj_names.specs.ClassName.{Name, is_class_name, is_object}
@@ -101,10 +102,14 @@ is_interface_answer (Found class) = if bit_and class.flags 512 == 0 then false e
 is_interface_answer Absent = false
 is_interface_answer (Broken broken) = false
 
+-- whether a name is that of a member class of `java.lang.Object`
+abbrev pub is_in_object : List ℕ → Bool
+is_in_object name = starts_with nat_eq name (codes "java.lang.Object$")
+
 -- Nothing is looked for in `java.lang.Object`: neither it nor a member class of it is asked when a type is resolved, but where an import or a name with a package writes the
 -- member class. So they are not asked here, and count as no interfaces.
 abbrev pub is_of_object : Name → Bool
-is_of_object name = is_object name || starts_with nat_eq name (codes "java.lang.Object$")
+is_of_object name = is_object name || is_in_object name
 
 -- A class outside the file is asked once more, which asks nothing new: it was asked when the type was resolved.
 abbrev pub asked_interface : Name → Asking Bool
@@ -147,11 +152,8 @@ anonymous_supertypes t busy class =
 abbrev pub annotation_supertypes : Supertypes
 annotation_supertypes = as_interface (class_of_text (codes "java.lang.annotation.Annotation"))
 
--- by what declares the class
-abbrev pub supertypes_by : Tree → List ℕ → Node → Option Kind → Asking Supertypes
-supertypes_by t busy class (Some k.AnonymousClassDeclaration) = anonymous_supertypes t busy class
-supertypes_by t busy class (Some k.AnnotationTypeDeclaration) = Return annotation_supertypes
-supertypes_by t busy class other = named_supertypes t busy class
-
 abbrev pub supertypes_of : Tree → List ℕ → Node → Asking Supertypes
-supertypes_of t busy class = supertypes_by t busy class (kind_of t class)
+supertypes_of t busy class =
+    if is_kind t k.AnonymousClassDeclaration class then anonymous_supertypes t busy class
+    else if is_kind t k.AnnotationTypeDeclaration class then Return annotation_supertypes
+    else named_supertypes t busy class

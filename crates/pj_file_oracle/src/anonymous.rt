@@ -4,7 +4,7 @@ ghost use Rattle.std.specs.Prelude.{◌≡◌, ◌<◌, Some, if◌then◌else�
 ghost use Rattle.pj_names.specs.JavaType.{java_type};
 ghost use Rattle.pj_names.specs.Told.{Asks, seen};
 ghost use Rattle.pj_file_oracle.specs.Seen.{supertypes_view};
-ghost use Rattle.pj_file_oracle.specs.Supertypes.{anonymous_supertypes, as_interface, as_superclass, asked_interface, by_type, created_supertypes, enum_type, interface_named, is_interface_answer, is_interface_type, is_of_object};
+ghost use Rattle.pj_file_oracle.specs.Supertypes.{anonymous_supertypes, as_interface, as_superclass, asked_interface, by_type, created_supertypes, enum_type, interface_named, is_in_object, is_interface_answer, is_interface_type, is_of_object};
 ghost use Rattle.pj_signatures.specs.Reading.{class_signature_of};
 ghost use Rattle.pj_written.specs.Headers.{created};
 ghost use Rattle.pj_written.specs.Types.{object_type};
@@ -45,11 +45,18 @@ fn is_interface_answer(alloc: Global, answer: &Answer) -> Result<bool, NoMemory>
     }
 }
 
+/// Whether a name is that of a member class of `java.lang.Object`.
+fn is_in_object(name: &str) -> bool
+    ensures { result ≡ is_in_object name.now }
+{
+    name.starts_with("java.lang.Object$")
+}
+
 /// Whether a class is `java.lang.Object`, or has the name of a member class of it.
 fn is_of_object(name: &ClassName) -> bool
     ensures { result ≡ is_of_object name.now }
 {
-    name.is_object() || name.as_str().starts_with("java.lang.Object$")
+    name.is_object() || is_in_object(name.as_str())
 }
 
 /// Whether a class outside the file is an interface.

@@ -15,6 +15,7 @@ use crate::types::type_parameters;
 use pj_base::{NoMemory, Numbers, Text};
 use pj_imports::File;
 use pj_names::{AskFault, Oracle};
+use pj_nodes::is_kind;
 use pj_tree::{Kind, Node};
 use pj_written::{Parameters, class_of_text, class_signature};
 use std::alloc::Global;
@@ -39,14 +40,15 @@ fn supertypes_of<O: Oracle>(
     requires inside { class.0 < length file.now.nodes }
     ensures { Asks (supertypes_of file.now busy.now class) (O.tells oracle.old) (O.tells oracle.new) (seen supertypes_view result) }
 {
-    match file.tree().kind(class) {
-        Kind::AnonymousClassDeclaration => anonymous_supertypes(alloc, file, oracle, busy, class),
-        Kind::AnnotationTypeDeclaration => {
-            let types = annotation_supertypes(alloc)?;
-            Ok(types)
-        }
-        _ => named_supertypes(alloc, file, oracle, busy, class),
+    let tree = file.tree();
+    if is_kind(tree, Kind::AnonymousClassDeclaration, class) {
+        return anonymous_supertypes(alloc, file, oracle, busy, class);
     }
+    if is_kind(tree, Kind::AnnotationTypeDeclaration, class) {
+        let types = annotation_supertypes(alloc)?;
+        return Ok(types);
+    }
+    named_supertypes(alloc, file, oracle, busy, class)
 }
 
 /// A signature by its type parameters and supertypes.

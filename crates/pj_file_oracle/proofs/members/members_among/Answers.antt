@@ -9,7 +9,7 @@ loop-n-init g c =
     let f = member_lists c.args.file.now c.args.class in
     let nodes = c.args.nodes.now in
     let t = g.O.Oracle.tells c.args.oracle.now in
-    subst (λ m. ComesTo (members_among c.args.file.now c.args.class nodes) t m t) (members-begin f nodes ∙ ap (λ members. behind f members nodes) (sym c.no_members.ensures)) comes-begin
+    subst (λ m. ComesTo (members_among c.args.file.now c.args.class nodes) t m t) (members-begin f nodes ∙ ap (λ members. behind f members nodes) (sym c.no_members-members.ensures)) comes-begin
 
 pub loop-n-preserved : goal.loop-n-preserved
 loop-n-preserved g c =
