@@ -85,13 +85,22 @@ fn name_of(entry: &str) -> &str {
     before(before(before(entry, '('), '!'), '*')
 }
 
+/// Puts a word of a name at the end, behind the sign of a class or a solidus.
+fn push_part(text: &mut Text, is_first: bool, part: &str) -> Result<(), NoMemory> {
+    if is_first {
+        text.push_str("L")?;
+    } else {
+        text.push_str("/")?;
+    }
+    text.push_str(part)
+}
+
 /// Puts the signature of a class at the end, whose package has its words with a solidus between.
 fn push_signature(text: &mut Text, name: &str) -> Result<(), NoMemory> {
-    let mut sign = "L";
+    let mut is_first = true;
     for part in name.split('.') {
-        text.push_str(sign)?;
-        text.push_str(part)?;
-        sign = "/";
+        push_part(text, is_first, part)?;
+        is_first = false;
     }
     text.push_str(";")
 }
