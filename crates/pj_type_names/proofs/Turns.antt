@@ -1,0 +1,100 @@
+-- What a level of each recursion that counts comes to.
+use Rattle.std.proofs.Common.{◌≡◌, ℕ, ◌<◌, ◌≤◌, ◌-◌, ◌+◌, ◌&&◌, zero, suc, ap, arith, Bool, true, false, List, [], ◌∷◌, ◌++◌, drop, get_or, length, Option, None, Some, nat_le, subst, sym, ◌∙◌}
+use Rattle.std.proofs.lemmas.Bool.{lt-leb}
+use Rattle.std.proofs.lemmas.List.{length-append}
+use Rattle.pj_tree.specs.Tree.{Tree}
+use Rattle.pj_tree.specs.declared.node.Node.{Node}
+use Rattle.pj_names.specs.Asking.{Asking, Return, bind}
+use Rattle.pj_names.specs.AskingLaws.{ComesTo, left_from}
+use Rattle.pj_names.specs.Told.{Asks, Told}
+use Rattle.pj_names.specs.declared.oracle.AskFault.{AskFault}
+use Rattle.std.specs.Prelude.{Result}
+use Rattle.pj_names.specs.ClassName.{Name}
+use Rattle.pj_names.specs.JavaType.{JavaType, Variable, Unknown}
+use Rattle.pj_symbols.specs.Symbols.{class_at, classes_below, one_class}
+use Rattle.pj_symbols.specs.declared.class.Class.{Class as DeclaredClass}
+use Rattle.pj_written.specs.Fits.{argument_by, bare, brackets, fits, fits_within, listed_fit, most_signs, most_signs_is}
+use Rattle.pj_written.specs.Types.{object_type}
+use Rattle.pj_written.specs.Words.{below_child}
+use Rattle.pj_tree.specs.declared.kind.Kind.TheVariants as k
+use Rattle.pj_imports.specs.Candidates.{file_classes}
+use Rattle.pj_type_names.specs.Searching as resolution
+use Rattle.pj_type_names.specs.TypeName.{direct, direct_by}
+
+-- ---- asking
+
+-- what asks as one meaning says asks as another one says that is the same
+pub asks-as : {K A : Type 0} {m n : Asking A} {t u : Told K} {r : Result A AskFault} → m ≡ n → Asks n t u r → Asks m t u r
+asks-as {t = t} {u = u} {r = r} same asks = subst (λ m. Asks m t u r) (sym same) asks
+
+-- and where the meaning is at a point of a loop
+pub comes-as : {K B : Type 0} {m : Asking B} {n other : Asking B} {t u : Told K} → n ≡ other → ComesTo m t n u → ComesTo m t other u
+comes-as {m = m} {t = t} {u = u} same comes = subst (λ n. ComesTo m t n u) same comes
+
+-- ---- headers
+
+pub direct-none : (t : Tree) (left : ℕ) (busy : List ℕ) (name : Name) → left ≡ 0 → resolution.supers t left busy name ≡ Return []
+unfolding direct
+direct-none t left busy name none = ap (λ n. direct t (file_classes t) n busy name) none
+
+pub direct-some : (t : Tree) (left : ℕ) (busy : List ℕ) (name : Name) → 0 < left → resolution.supers t left busy name ≡ resolution.supers_by t (left - 1) busy name
+unfolding direct
+direct-some t left busy name some = let more : left ≡ suc (left - 1) = omega (arith, some) in ap (λ n. direct t (file_classes t) n busy name) more
+
+-- ---- bounds of type parameters
+
+pub bound-none : (t : Tree) (left : ℕ) (busy : List ℕ) (bounds : ℕ) (n : Node) → bounds ≡ 0 → resolution.bound t left busy bounds n ≡ Return object_type
+bound-none t left busy bounds n none = ap (λ b. resolution.bound t left busy b n) none
+
+pub bound-some : (t : Tree) (left : ℕ) (busy : List ℕ) (bounds fewer : ℕ) (n : Node) → fewer + 1 ≡ bounds → resolution.bound t left busy bounds n ≡ resolution.type_written t left busy fewer 1 0 n
+bound-some t left busy bounds fewer n more = let one : bounds ≡ suc fewer = omega (arith, more) in ap (λ b. resolution.bound t left busy b n) one
+
+-- ---- type arguments
+
+pub argument-none : (t : Tree) (left : ℕ) (busy : List ℕ) (bounds deep : ℕ) (n : Node) → deep ≡ 0 → resolution.argument t left busy bounds deep n ≡ Return Unknown
+argument-none t left busy bounds deep n none = ap (λ d. resolution.argument t left busy bounds d n) none
+
+pub argument-some : (t : Tree) (left : ℕ) (busy : List ℕ) (bounds deep : ℕ) (n : Node) → 0 < deep → resolution.argument t left busy bounds deep n ≡ resolution.argument_by t left busy bounds (deep - 1) n
+argument-some t left busy bounds deep n some = let more : deep ≡ suc (deep - 1) = omega (arith, some) in ap (λ d. resolution.argument t left busy bounds d n) more
+
+-- ---- the first of a list
+
+empty_is : {X : Type 0} (xs : List X) → length xs ≡ 0 → xs ≡ []
+empty_is [] none = cc
+empty_is (x ∷ xs) none = absurd (omega (arith, none))
+
+module _ (t : Tree) (left : ℕ) (busy : List ℕ) (bounds : ℕ) where
+  pub variable-none : (simple : List ℕ) (among : List Node) → length among ≡ 0 → resolution.variable_by t left busy bounds simple among ≡ Return (Variable simple object_type)
+  variable-none simple among none = ap (resolution.variable_by t left busy bounds simple) (empty_is among none)
+
+  pub variable-some : (simple : List ℕ) (among : List Node) (first : Node) → 0 < length among
+      → resolution.variable_by t left busy bounds simple among ≡ bind (resolution.bound t left busy bounds (get_or among 0 first)) (λ ty. Return (Variable simple ty))
+  variable-some simple among first some = ap (resolution.variable_by t left busy bounds simple) (left_from among 0 first some)
+
+  pub along-none : (place : Node) (parts : List (List ℕ)) → length parts ≡ 0 → resolution.class_along t left busy bounds place parts ≡ Return Unknown
+  along-none place parts none = ap (resolution.class_along t left busy bounds place) (empty_is parts none)
+
+  pub along-some : (place : Node) (parts : List (List ℕ)) (first : List ℕ) → 0 < length parts
+      → resolution.class_along t left busy bounds place parts ≡ bind (resolution.simple_name t left busy bounds place (get_or parts 0 first)) (λ ty. resolution.members_along t left busy bounds ty (drop 1 parts))
+  along-some place parts first some = ap (resolution.class_along t left busy bounds place) (left_from parts 0 first some)
+
+-- ---- numbers
+
+one_few : (class : Option DeclaredClass) → length (one_class class) ≤ 1
+one_few None = omega arith
+one_few (Some class) = omega arith
+
+pub classes_few : (t : Tree) (n : ℕ) → length (classes_below t n) ≤ n
+classes_few t zero = omega arith
+classes_few t (suc n) =
+    let node : Node = record { 0 = n } in
+    let both : length (classes_below t n ++ one_class (class_at t node)) ≡ length (classes_below t n) + length (one_class (class_at t node)) = length-append (classes_below t n) (one_class (class_at t node)) in
+    omega (arith, both, classes_few t n, one_few (class_at t node))
+
+-- where more signs than may be are open, no type fits
+pub fits-not : (t : Tree) (around : ℕ) (n : Node) → 255 < around → fits t around n ≡ false
+fits-not t around n many =
+    let more : most_signs + 1 ≡ suc most_signs = omega arith in
+    let past : nat_le (around + brackets t n) most_signs ≡ false = ap (λ most. nat_le (around + brackets t n) most) most_signs_is ∙ lt-leb (around + brackets t n) 255 (omega (arith, many)) in
+    ap (λ d. fits_within t d around n) more
+    ∙ ap (λ b. b && listed_fit t (around + brackets t n + 1) (argument_by t (fits_within t most_signs (around + brackets t n + 1))) (below_child t (bare t n) k.TypeArguments)) past

@@ -1,0 +1,9 @@
+use Rattle.std.proofs.Common.{ap, length, subst, sym}
+use Rattle.pj_symbols.proofs.Below.{all_found}
+use Rattle.pj_symbols.specs.Symbols.{FindsClasses}
+use Rattle.pj_type_names.proofs.read.implied.Goals as goal
+
+pub implied_supertypes-requires-finds : goal.implied_supertypes-requires-finds
+implied_supertypes-requires-finds c =
+    let t = c.args.file.now in
+    rw (c.symbols.ensures, c.tree.ensures) (all_found t)
