@@ -1,4 +1,4 @@
--- Types as they are written (JLS 4.3, 4.5, 6.5.5), by what a simple name means at a place and what a class has as member classes.
+-- Types as they are written (JLS 4.3, 4.5, 4.5.1, 6.5.5, 10.1, 10.2), by what a simple name means at a place and what a class has as member classes.
 use Rattle.std.specs.Prelude.{ℕ, zero, suc, ◌+◌, Option, Some, if◌then◌else◌, List, [], ◌∷◌, map, codes}
 use Rattle.std.specs.Option.{option_map_or}
 use Rattle.pj_tree.specs.Tree.{Tree, kind_of}
@@ -24,6 +24,15 @@ use Rattle.pj_imports.specs.Candidates.{as_type, dotted_class}
 abbrev pub packaged : List DeclaredClass → List (List ℕ) → Asking JavaType
 packaged classes parts = bind (dotted_class classes (with_dots parts)) (λ found. Return (as_type found))
 
+-- the arguments of a list, from left to right
+abbrev pub arguments_by : (Node → Asking JavaType) → List Node → Asking Arguments
+arguments_by argument list = bind (each argument list) (λ types. Return (arguments_of (map as_argument types)))
+
+-- a class with its arguments: where the class is not known, or is a type variable, they are not resolved
+abbrev pub with_arguments : (Node → Asking JavaType) → List Node → JavaType → Asking JavaType
+with_arguments argument list (Class name none) = bind (arguments_by argument list) (λ arguments. Return (Class name arguments))
+with_arguments argument list other = Return other
+
 -- Resolving, by the meaning of a simple name at a place, the member class of a class, and the classes of the file.
 module _ (t : Tree) (classes : List DeclaredClass) (simple : Node → List ℕ → Asking JavaType) (member : Name → List ℕ → Asking JavaType) where
   -- the member class of a type: of an unknown type and of a type variable none is known, and nothing more is asked
@@ -43,15 +52,6 @@ module _ (t : Tree) (classes : List DeclaredClass) (simple : Node → List ℕ �
   -- the class of a name, without arguments: with a package it goes by candidates as a whole
   abbrev pub class_of : Written → Asking JavaType
   class_of name = if name.has_package then packaged classes name.parts else class_along name.at name.parts
-
-  -- the arguments of a list, from left to right
-  abbrev pub arguments_by : (Node → Asking JavaType) → List Node → Asking Arguments
-  arguments_by argument list = bind (each argument list) (λ types. Return (arguments_of (map as_argument types)))
-
-  -- a class with its arguments: where the class is not known, or is a type variable, they are not resolved
-  abbrev pub with_arguments : (Node → Asking JavaType) → List Node → JavaType → Asking JavaType
-  with_arguments argument list (Class name none) = bind (arguments_by argument list) (λ arguments. Return (Class name arguments))
-  with_arguments argument list other = Return other
 
   abbrev pub class_type : (Node → Asking JavaType) → Node → Asking JavaType
   class_type argument n = bind (class_of (written_name t n)) (λ ty. with_arguments argument (below_child t n k.TypeArguments) ty)
@@ -74,7 +74,7 @@ module _ (t : Tree) (classes : List DeclaredClass) (simple : Node → List ℕ �
       then (if has (codes "extends") (words_of t n) then option_map_or (type_by argument) (last_child t n) (Return Unknown) else Return object_type)
       else type_by argument n
 
-  -- a type argument with at most so many lists of arguments in one another
+  -- A type argument with at most so many lists of arguments in one another. This depth is no bound of its own: a type that fits has no more lists.
   abbrev pub argument_within : ℕ → Node → Asking JavaType
   argument_within zero n = Return Unknown
   argument_within (suc deep) n = argument_by (argument_within deep) n

@@ -95,13 +95,13 @@ module _ (t : Tree) (left : ℕ) (busy : List ℕ) where
     argument_by deep n = writing.argument_by t (file_classes t) simple_name member (argument deep) n
 
     abbrev pub arguments : ℕ → List Node → Asking Arguments
-    arguments deep list = writing.arguments_by t (file_classes t) simple_name member (argument deep) list
+    arguments deep list = writing.arguments_by (argument deep) list
 
     abbrev pub own_arguments : ℕ → Node → Asking Arguments
     own_arguments deep n = arguments deep (below_child t n k.TypeArguments)
 
     abbrev pub with_arguments : ℕ → Node → JavaType → Asking JavaType
-    with_arguments deep n ty = writing.with_arguments t (file_classes t) simple_name member (argument deep) (below_child t n k.TypeArguments) ty
+    with_arguments deep n ty = writing.with_arguments (argument deep) (below_child t n k.TypeArguments) ty
 
     abbrev pub class_type : ℕ → Node → Asking JavaType
     class_type deep n = writing.class_type t (file_classes t) simple_name member (argument deep) n

@@ -1,11 +1,14 @@
--- What a name of a type means at a place (JLS 6.3, 6.4.1, 6.5.5, 7.5): a type, and the classes that are asked.
+-- What a name of a type means at a place (JLS 6.3, 6.4.1, 6.5.5, 7.3 to 7.5, 8.5): a type, and the classes that are asked. What a class of the file
+-- has as supertypes, by its header (JLS 8.1.4, 8.1.5, 9.1.3).
 --
 -- A simple name is looked for in five steps, and the first step with a hit counts.
 --
 -- 1. From the inside out: type parameters, local classes that are declared before, and each class around, which has its type
 --    parameters, itself, its member classes, and those that it inherits. What the file declares is told by `type_meant` of `pj_declared` as
---    a whole, with the number of the node that opens the scope; a class whose number is greater stands further in, so what such
---    classes inherit goes before it.
+--    a whole, with the number of the node that opens the scope. What classes inherit that stand further in than that node goes before it.
+--    These are the classes around whose numbers are greater: the node that opens the scope begins at the place or before it, and the numbers
+--    between a node and one within it are those of nodes within it; so a class around with a number no greater has that node
+--    within it, or is it, and one with a greater number does not.
 -- 2. Classes of the file. They too are what `type_meant` tells.
 -- 3. to 5. Imports of the name, the package, imports on demand with `java.lang`: `outside` of `pj_imports`.
 --
@@ -13,12 +16,10 @@
 -- further classes inherit. So headers lead to one another, and back. A class whose header is being resolved has no supertypes; which
 -- ones these are is a set that grows with each header that is entered within another. So the recursion is over headers alone
 -- (`direct`), each of which is entered once within one another, and needs no depth of its own: `enough` is one more than there are
--- classes. All else here is said by what the direct supertypes of a class are.
+-- classes, and with more nothing is different (`HeadersEnd`). All else here is said by what the direct supertypes of a class are.
 --
--- Nothing is held here, and a header within a header is taken anew under the set of the search that needs it. So plain calls by
--- this definition would cost the power of the depth of nested classes, and a stack as deep as there are classes. The code counts
--- both, the headers that are open and those that a call has entered, and wants memory past a number. No definition has it.
-use Rattle.std.specs.Prelude.{ℕ, zero, suc, ◌+◌, ◌==◌, Bool, Option, None, Some, if◌then◌else◌, List, [], ◌∷◌, ◌++◌, length}
+-- Nothing is held here, and a header within a header is taken anew under the set of the search that needs it.
+use Rattle.std.specs.Prelude.{◌≡◌, ℕ, zero, suc, ◌+◌, ◌≤◌, ◌==◌, Bool, Option, None, Some, if◌then◌else◌, List, [], ◌∷◌, ◌++◌, length}
 use Rattle.std.specs.List.{list_any}
 use Rattle.std.specs.Option.{option_map}
 use Rattle.pj_tree.specs.Tree.{Tree}
@@ -30,19 +31,18 @@ use Rattle.pj_symbols.specs.declared.class.Class.{Class as DeclaredClass}
 use Rattle.pj_declared.specs.declared.nearest.Declared.{Declared}
 use Rattle.pj_declared.specs.Nearest.{type_meant}
 use Rattle.pj_declared.specs.Rows.{names_type_parameter}
-use Rattle.pj_imports.specs.Candidates.{class_named}
-use Rattle.pj_written.specs.Headers.{class_text}
-use Rattle.pj_type_names.specs.Resolved.{class_of, type_written}
+use Rattle.pj_written.specs.Headers.{all_bounds, bounds_of, class_text, implied_supertypes, written_supertypes}
 use Rattle.pj_written.specs.Types.{class_of_text, object_type}
 use Rattle.pj_written.specs.Written.{name_of_text}
-use Rattle.pj_written.specs.Headers.{all_bounds, bounds_of, implied_supertypes, written_supertypes}
+use Rattle.pj_imports.specs.Candidates.{class_named, file_classes}
+use Rattle.pj_imports.specs.Imports.{outside}
 use Rattle.pj_inherited.specs.Around.{searched}
 use Rattle.pj_inherited.specs.Inherited.{class_names, inherited_member, member_along, outside_supertypes}
-use Rattle.pj_imports.specs.Imports.{outside}
-use Rattle.pj_imports.specs.Candidates.{file_classes}
+use Rattle.pj_type_names.specs.Resolved.{class_of, type_written}
 
 -- ---- a simple name
 
+-- a class that was found, and else what follows
 abbrev pub hit_or : Option Name → Asking JavaType → Asking JavaType
 hit_or None rest = rest
 hit_or (Some name) rest = Return (Class name NoMore)
@@ -54,9 +54,11 @@ member_found class simple (Some hit) = Class hit NoMore
 
 -- By what the direct supertypes of a class are.
 module _ (t : Tree) (classes : List DeclaredClass) (supers : Name → Asking (List Name)) where
+  -- the member class that a class declares or inherits
   abbrev pub member : Name → List ℕ → Asking JavaType
   member class simple = bind (member_along classes supers class simple) (λ hit. Return (member_found class simple hit))
 
+  -- the member class that a class of the file inherits
   abbrev pub inherited : List ℕ → Node → Asking (Option Name)
   inherited simple class = if is_class_name (class_text t class) then inherited_member classes supers (class_text t class) simple else Return None
 
@@ -71,10 +73,12 @@ module _ (t : Tree) (classes : List DeclaredClass) (supers : Name → Asking (Li
     abbrev pub declared_type : List ℕ → Node → Asking JavaType
     declared_type simple n = if names_type_parameter t n then variable simple (bounds_of t n) else Return (class_of_text (class_text t n))
 
+    -- what the file declares, and else what stands behind its scopes
     abbrev pub declared_or : List ℕ → Option Declared → Asking JavaType
     declared_or simple None = outside t classes simple
     declared_or simple (Some declared) = declared_type simple declared.node
 
+    -- what classes further in inherit, and else what the file declares, and else what stands behind its scopes
     abbrev pub found_or : Node → List ℕ → Option Declared → Asking JavaType
     found_or place simple found = bind (first_hit (inherited simple) (searched t place found)) (λ hit. hit_or hit (declared_or simple found))
 
@@ -103,13 +107,15 @@ module _ (t : Tree) (classes : List DeclaredClass) (supers : Name → Asking (Li
   abbrev pub text_in : Node → List ℕ → Asking JavaType
   text_in place text = if is_class_name text then class_of t classes name_meant member (name_of_text place text) else Return Unknown
 
-  -- the bounds that a header writes, and the supertypes
+  -- the bounds that a header writes
   abbrev pub header_bounds : Node → Asking (List JavaType)
   header_bounds class = each bound_type (all_bounds t class)
 
+  -- and the supertypes that it writes
   abbrev pub header_types : Node → Asking (List JavaType)
   header_types class = each (type_in 0) (written_supertypes t class)
 
+  -- the classes that it implies, and behind them those that it writes
   abbrev pub header_names : Node → Asking (List Name)
   header_names class = bind (header_types class) (λ types. Return (implied_supertypes t class ++ class_names types))
 
@@ -119,6 +125,7 @@ module _ (t : Tree) (classes : List DeclaredClass) (supers : Name → Asking (Li
 
 -- ---- headers
 
+-- whether the header of a class is being resolved
 abbrev pub is_busy : List ℕ → Node → Bool
 is_busy busy n = list_any (λ m. m == n.0) busy
 
@@ -132,6 +139,7 @@ module _ (t : Tree) (classes : List DeclaredClass) (deeper : List ℕ → Name �
   abbrev pub supertypes_of_file : List ℕ → Node → Asking (List Name)
   supertypes_of_file busy class = if is_busy busy class then Return [] else header_supertypes t classes (deeper (busy ++ class.0 ∷ [])) class
 
+  -- of a class outside the file by its signature, and of one of the file by its header
   abbrev pub supertypes_by : List ℕ → Name → Option Node → Asking (List Name)
   supertypes_by busy name None = outside_supertypes name
   supertypes_by busy name (Some class) = supertypes_of_file busy class
@@ -166,3 +174,7 @@ written_type t busy behind n = type_in t (file_classes t) (supers_of t busy) beh
 -- a bound of a type parameter
 abbrev pub written_bound : Tree → List ℕ → Node → Asking JavaType
 written_bound t busy n = bound_type t (file_classes t) (supers_of t busy) n
+
+-- However many headers more may be entered within one another than `enough`, a class has the same direct supertypes, with the same questions.
+abbrev pub HeadersEnd : Tree → List ℕ → Name → Type 0
+HeadersEnd t busy name = (more : ℕ) → enough t ≤ more → direct t (file_classes t) more busy name ≡ supers_of t busy name

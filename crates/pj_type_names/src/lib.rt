@@ -2,8 +2,10 @@
 //! the file and what its classes inherit, and behind them by imports and the package; as computations that ask an oracle for classes.
 #![tactic(auto)]
 
+mod laws;
 mod read;
 mod resolve;
 mod stage;
 
+pub use laws::{headers_end, sources_agree};
 pub use resolve::{type_name, written_bound, written_type};

@@ -22,9 +22,11 @@ fn nested(alloc: Global, depth: u32) -> Result<Text, NoMemory> {
     Ok(text)
 }
 
-static NESTED: [(u32, &str); 3] = [
+static NESTED: [(u32, &str); 5] = [
     (1, "?; q.C q.C$X X java.lang.X"),
     (8, "?; q.C q.C$C q.C$X X java.lang.X"),
+    (12, "?; q.C q.C$C q.C$X X java.lang.X"),
+    (16, "memory; q.C q.C$C"),
     (40, "memory; q.C q.C$C"),
 ];
 
@@ -69,6 +71,28 @@ fn bounds_of_signatures(rt: HostRuntime) -> Result<(), Fail> {
         let found = found_at(rt.alloc(), text.as_str(), Sort::Name, "T", "")?;
         if (found.as_str() != "T:?;") != *fits {
             return Err(Fail::new(format_args!("{lists} {brackets}")));
+        }
+    }
+    Ok(())
+}
+
+/// A class type with so many type arguments.
+fn wide(alloc: Global, arguments: u32) -> Result<Text, NoMemory> {
+    let mut text = Text::from_str(alloc, "class A { /*?*/q.C<int")?;
+    push_often(&mut text, ",int", arguments.saturating_sub(1))?;
+    text.push_str("> f; }")?;
+    Ok(text)
+}
+
+static WIDE: [(u32, bool); 3] = [(1, true), (255, true), (256, false)];
+
+#[test]
+fn bounds_of_lists(rt: HostRuntime) -> Result<(), Fail> {
+    for (arguments, fits) in &WIDE {
+        let text = wide(rt.alloc(), *arguments)?;
+        let found = found_at(rt.alloc(), text.as_str(), Sort::Written, "", "")?;
+        if (found.as_str() != "?;") != *fits {
+            return Err(Fail::new(format_args!("{arguments}")));
         }
     }
     Ok(())

@@ -3,7 +3,7 @@
 use crate::looked_up::{Row, Sort, check};
 use std::test::Fail;
 
-static PLACES_IN_HEADERS: [Row; 6] = [
+static PLACES_IN_HEADERS: [Row; 8] = [
     (
         "class A extends /*?*/B { class B {} }",
         "B",
@@ -34,6 +34,18 @@ static PLACES_IN_HEADERS: [Row; 6] = [
         "T",
         "",
         "T:q.C; q.C",
+    ),
+    (
+        "class A<T extends A.X> extends q.C { /*?*/T f; }",
+        "T",
+        "q.C q.C$X",
+        "T:q.C$X; A$X q.C q.C$X",
+    ),
+    (
+        "record R(/*?*/X x) implements q.I {}",
+        "X",
+        "q.I q.I$X",
+        "q.I$X; q.I java.lang.Record$X java.lang.Record q.I$X",
     ),
 ];
 

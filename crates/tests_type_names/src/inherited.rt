@@ -3,7 +3,7 @@
 use crate::looked_up::{Row, Sort, check};
 use std::test::Fail;
 
-static FROM_CLASSES_OUTSIDE: [Row; 17] = [
+static FROM_CLASSES_OUTSIDE: [Row; 18] = [
     (
         "class A extends q.C { /*?*/B f; }",
         "B",
@@ -101,6 +101,7 @@ static FROM_CLASSES_OUTSIDE: [Row; 17] = [
         "q.C$B",
         "A$B; q.E q.E$B",
     ),
+    ("class B extends q.C {} class B { /*?*/X f; }", "X", "q.C q.C$X", "q.C$X; q.C q.C$X"),
 ];
 
 #[test]
@@ -108,7 +109,7 @@ fn from_classes_outside(rt: HostRuntime) -> Result<(), Fail> {
     check(rt.alloc(), Sort::Name, &FROM_CLASSES_OUTSIDE)
 }
 
-static FROM_CLASSES_OF_THE_FILE: [Row; 5] = [
+static FROM_CLASSES_OF_THE_FILE: [Row; 6] = [
     (
         "class A extends B { /*?*/X f; } class B { class X {} }",
         "X",
@@ -138,6 +139,12 @@ static FROM_CLASSES_OF_THE_FILE: [Row; 5] = [
         "X",
         "",
         "?; X java.lang.X",
+    ),
+    (
+        "class A { class I { class X {} } Object o = new A().new I() { /*?*/X f; }; }",
+        "X",
+        "",
+        "A$I$X;",
     ),
 ];
 

@@ -4,7 +4,7 @@ use crate::looked_up::{Row, Sort, check};
 use std::test::Fail;
 
 /// A type parameter stands with its first bound, resolved at its own place.
-static TYPE_PARAMETERS: [Row; 15] = [
+static TYPE_PARAMETERS: [Row; 16] = [
     ("class A<T> { /*?*/T f; }", "T", "T", "T:java.lang.Object;"),
     (
         "class A<T extends q.B> { /*?*/T f; }",
@@ -85,6 +85,7 @@ static TYPE_PARAMETERS: [Row; 15] = [
         "",
         "T:?; B java.lang.B",
     ),
+    ("class A<T, T extends q.C> { /*?*/T f; }", "T", "", "T:java.lang.Object;"),
 ];
 
 #[test]
@@ -164,7 +165,7 @@ fn classes_of_the_file(rt: HostRuntime) -> Result<(), Fail> {
 }
 
 /// They are in scope from their declaration on.
-static LOCAL_CLASSES: [Row; 8] = [
+static LOCAL_CLASSES: [Row; 10] = [
     (
         "class A { void f() { class L {} /*?*/L x; } }",
         "L",
@@ -212,6 +213,18 @@ static LOCAL_CLASSES: [Row; 8] = [
         "B",
         "q.C q.C$B",
         "A$$12;",
+    ),
+    (
+        "class A { void f(int i) { switch (i) { case 0: class L {} case 1: /*?*/L x; } } }",
+        "L",
+        "",
+        "?; L java.lang.L",
+    ),
+    (
+        "class A { void f(int i) { switch (i) { case 0: class L {} /*?*/L x; } } }",
+        "L",
+        "",
+        "A$$19;",
     ),
 ];
 

@@ -207,7 +207,7 @@ fn classes_of_the_file(rt: HostRuntime) -> Result<(), Fail> {
 }
 
 /// Imports of the name go before the package, and that before imports on demand.
-static IMPORTS_AND_PACKAGE: [Row; 18] = [
+static IMPORTS_AND_PACKAGE: [Row; 20] = [
     ("import p.X; class A { /*?*/X x; }", "X", "p.X", "p.X; p.X"),
     ("class A { /*?*/X x; }", "X", "", "?; X java.lang.X"),
     (
@@ -305,6 +305,18 @@ static IMPORTS_AND_PACKAGE: [Row; 18] = [
         "X",
         "java.lang.X",
         "java.lang.X; p.X java.lang.X",
+    ),
+    (
+        "package p; import p.A.*; class A { static class B {} } class C { /*?*/B f; }",
+        "B",
+        "",
+        "p.A$B; p.B p.A.B java.lang.B",
+    ),
+    (
+        "package p; import p.A.B; class A { class B {} } class C { /*?*/B f; }",
+        "B",
+        "",
+        "p.A$B; p.A.B",
     ),
 ];
 
