@@ -1,5 +1,5 @@
 -- The number that bounds how deep headers lead into one another is never reached: each header that is entered has one class less to go.
-use Rattle.std.proofs.Common.{◌≡◌, ℕ, ◌<◌, ◌≤◌, ◌+◌, ◌==◌, ◌||◌, zero, suc, ap, arith, Bool, true, false, cond, List, [], ◌∷◌, ◌++◌, length, Option, None, Some, refl, sym, ◌∙◌}
+use Rattle.std.proofs.Common.{◌≡◌, ℕ, ◌<◌, ◌≤◌, ◌+◌, ◌==◌, ◌||◌, zero, suc, ap, arith, Bool, true, false, cond, List, [], ◌∷◌, ◌++◌, length, Option, None, Some, inl, inr, refl, sym, ◌∙◌}
 use Rattle.std.specs.Prelude.{find, nat_eq, if◌then◌else◌}
 use Rattle.std.specs.Cmp.Lexicographic.{pointwise}
 use Rattle.std.specs.Option.{option_map}
@@ -11,7 +11,7 @@ use Rattle.pj_names.specs.Asking.{Asking, Return}
 use Rattle.pj_names.specs.ClassName.{Name, is_object}
 use Rattle.pj_symbols.specs.declared.class.Class.{Class as DeclaredClass}
 use Rattle.pj_imports.specs.Candidates.{class_named, file_classes}
-use Rattle.pj_type_names.specs.TypeName.{HeadersEnd, direct, enough, header_supertypes, is_busy, supertypes_by}
+use Rattle.pj_type_names.specs.TypeName.{HeadersEnd, direct, enough, header_supertypes, is_busy, node_named, supertypes_by}
 
 -- ---- classes whose headers are being resolved
 
@@ -70,10 +70,12 @@ strictly false false x y same below = omega (arith, below)
 entered : (busy : List ℕ) (p : DeclaredClass → Bool) (classes : List DeclaredClass) (class : DeclaredClass) → find p classes ≡ Some class → is_busy busy class.node ≡ false
     → left_over (busy ++ class.node.0 ∷ []) classes < left_over busy classes
 entered busy p [] class is free = absurd (cc)
-entered busy p (one ∷ classes) class is free = at (p one) is
+entered busy p (one ∷ classes) class is free = at (p one) is (λ further. entered busy p classes class further free)
   where
-    at : (b : Bool) → cond b (Some one) (find p classes) ≡ Some class → left_over (busy ++ class.node.0 ∷ []) (one ∷ classes) < left_over busy (one ∷ classes)
-    at true here =
+    at : (b : Bool) → cond b (Some one) (find p classes) ≡ Some class
+        → (find p classes ≡ Some class → left_over (busy ++ class.node.0 ∷ []) classes < left_over busy classes)
+        → left_over (busy ++ class.node.0 ∷ []) (one ∷ classes) < left_over busy (one ∷ classes)
+    at true here deeper =
         let same : one ≡ class = cc in
         let was : is_busy busy one.node ≡ false = ap (λ (c : DeclaredClass). is_busy busy c.node) same ∙ free in
         let now : is_busy (busy ++ class.node.0 ∷ []) one.node ≡ true = ap (λ (c : DeclaredClass). is_busy (busy ++ class.node.0 ∷ []) c.node) same ∙ added busy class.node in
@@ -82,9 +84,9 @@ entered busy p (one ∷ classes) class is free = at (p one) is
         let behind : left_over (busy ++ class.node.0 ∷ []) (one ∷ classes) ≡ left_over (busy ++ class.node.0 ∷ []) classes =
             ap (λ b. cond b (left_over (busy ++ class.node.0 ∷ []) classes) (suc (left_over (busy ++ class.node.0 ∷ []) classes))) now in
         omega (arith, few, before, behind)
-    at false further =
+    at false further deeper =
         strictly (is_busy busy one.node) (is_busy (busy ++ class.node.0 ∷ []) one.node) (left_over (busy ++ class.node.0 ∷ []) classes) (left_over busy classes)
-        (stays busy class.node.0 one.node) (entered busy p classes class further free)
+        (stays busy class.node.0 one.node) (deeper further)
 
 -- ---- headers
 
@@ -92,33 +94,32 @@ module _ (t : Tree) (classes : List DeclaredClass) where
   abbrev Alike : ℕ → ℕ → List ℕ → Type 0
   Alike left more busy = (name : Name) → direct t classes left busy name ≡ direct t classes more busy name
 
-  by_header : (left more : ℕ) (busy : List ℕ) (class : Node) (b : Bool) → is_busy busy class ≡ b → (b ≡ false → Alike left more (busy ++ class.0 ∷ []))
+  by_header : (left more : ℕ) (busy : List ℕ) (class : Node) (b : Bool) → (b ≡ false → Alike left more (busy ++ class.0 ∷ []))
       → (if b then Return [] else header_supertypes t classes (direct t classes left (busy ++ class.0 ∷ [])) class)
       ≡ (if b then Return [] else header_supertypes t classes (direct t classes more (busy ++ class.0 ∷ [])) class)
-  by_header left more busy class true is alike = refl
-  by_header left more busy class false is alike = λ i. header_supertypes t classes (λ name. alike refl name i) class
+  by_header left more busy class true same = refl
+  by_header left more busy class false same = λ i. header_supertypes t classes (λ name. same refl name i) class
 
   by_class : (left more : ℕ) (busy : List ℕ) (name : Name) (found : Option DeclaredClass)
       → ((class : DeclaredClass) → found ≡ Some class → is_busy busy class.node ≡ false → Alike left more (busy ++ class.node.0 ∷ []))
       → supertypes_by t classes (direct t classes left) busy name (option_map (λ (class : DeclaredClass). class.node) found)
       ≡ supertypes_by t classes (direct t classes more) busy name (option_map (λ (class : DeclaredClass). class.node) found)
-  by_class left more busy name None alike = refl
-  by_class left more busy name (Some class) alike = by_header left more busy class.node (is_busy busy class.node) refl (alike class refl)
+  by_class left more busy name None same = refl
+  by_class left more busy name (Some class) same = by_header left more busy class.node (is_busy busy class.node) (same class refl)
+
+  by_name : (b : Bool) (none one other : Asking (List Name)) → one ≡ other → (if b then none else one) ≡ (if b then none else other)
+  by_name true none one other same = refl
+  by_name false none one other same = same
 
   alike : (left more : ℕ) (busy : List ℕ) → left_over busy classes < left → left_over busy classes < more → Alike left more busy
   unfolding direct
   alike zero more busy few less = absurd (omega (arith, few))
   alike (suc left) zero busy few less = absurd (omega (arith, less))
-  alike (suc left) (suc more) busy few less = λ name. at name (is_object name)
-    where
-      at : (name : Name) (b : Bool) →
-          (if b then Return [] else supertypes_by t classes (direct t classes left) busy name (option_map (λ (class : DeclaredClass). class.node) (class_named classes name)))
-          ≡ (if b then Return [] else supertypes_by t classes (direct t classes more) busy name (option_map (λ (class : DeclaredClass). class.node) (class_named classes name)))
-      at name true = refl
-      at name false =
-          by_class left more busy name (class_named classes name) (λ class is free.
-          let fewer = entered busy (λ class. pointwise nat_eq class.name name) classes class is free in
-          alike left more (busy ++ class.node.0 ∷ []) (omega (arith, fewer, few)) (omega (arith, fewer, less)))
+  alike (suc left) (suc more) busy few less = λ name.
+      by_name (is_object name) (Return []) (supertypes_by t classes (direct t classes left) busy name (node_named classes name)) (supertypes_by t classes (direct t classes more) busy name (node_named classes name))
+      (by_class left more busy name (class_named classes name) (λ class is free.
+      let fewer : left_over (busy ++ class.node.0 ∷ []) classes < left_over busy classes = entered busy (λ class. pointwise nat_eq class.name name) classes class is free in
+      alike left more (busy ++ class.node.0 ∷ []) (omega (arith, fewer, few)) (omega (arith, fewer, less))))
 
 pub headers-end : (t : Tree) (busy : List ℕ) (name : Name) → HeadersEnd t busy name
 headers-end t busy name = λ more far.
