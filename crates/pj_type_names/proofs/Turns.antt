@@ -1,16 +1,22 @@
 -- What a level of each recursion that counts comes to.
-use Rattle.std.proofs.Common.{◌≡◌, ℕ, ◌<◌, ◌≤◌, ◌-◌, ◌+◌, ◌&&◌, zero, suc, ap, arith, Bool, true, false, List, [], ◌∷◌, ◌++◌, drop, get_or, length, Option, None, Some, nat_le, subst, sym, ◌∙◌}
+use Rattle.std.proofs.Common.{◌≡◌, ℕ, ◌<◌, ◌≤◌, ◌-◌, ◌+◌, ◌==◌, ◌&&◌, zero, suc, ap, arith, Bool, true, false, List, [], ◌∷◌, ◌++◌, drop, get_or, length, Option, None, Some, nat_le, subst, sym, ◌∙◌}
 use Rattle.std.proofs.lemmas.Bool.{lt-leb}
-use Rattle.std.proofs.lemmas.List.{length-append}
+use Rattle.std.proofs.lemmas.List.{length-append, map-append}
+use Rattle.std.specs.Prelude.{if◌then◌else◌}
 use Rattle.pj_tree.specs.Tree.{Tree}
 use Rattle.pj_tree.specs.declared.node.Node.{Node}
-use Rattle.pj_names.specs.Asking.{Asking, Return, bind}
+use Rattle.pj_names.specs.Asking.{Asking, Return, bind, each}
 use Rattle.pj_names.specs.AskingLaws.{ComesTo, left_from}
 use Rattle.pj_names.specs.Told.{Asks, Told}
 use Rattle.pj_names.specs.declared.oracle.AskFault.{AskFault}
 use Rattle.std.specs.Prelude.{Result}
-use Rattle.pj_names.specs.ClassName.{Name}
-use Rattle.pj_names.specs.JavaType.{JavaType, Variable, Unknown}
+use Rattle.pj_names.specs.ClassName.{Name, is_class_name, is_object}
+use Rattle.pj_names.specs.JavaType.{JavaType, Variable, Unknown, java_type, type_list}
+use Rattle.pj_names.specs.declared.ty.Ty.{Ty}
+use Rattle.pj_declared.specs.Nearest.{type_meant}
+use Rattle.pj_declared.specs.declared.nearest.Declared.{Declared}
+use Rattle.pj_written.specs.Headers.{class_text}
+use Rattle.pj_inherited.specs.Inherited.{inherited_member, outside_supertypes}
 use Rattle.pj_symbols.specs.Symbols.{class_at, classes_below, one_class}
 use Rattle.pj_symbols.specs.declared.class.Class.{Class as DeclaredClass}
 use Rattle.pj_written.specs.Fits.{argument_by, bare, brackets, fits, fits_within, listed_fit, most_signs, most_signs_is}
@@ -19,7 +25,7 @@ use Rattle.pj_written.specs.Words.{below_child}
 use Rattle.pj_tree.specs.declared.kind.Kind.TheVariants as k
 use Rattle.pj_imports.specs.Candidates.{file_classes}
 use Rattle.pj_type_names.specs.Searching as resolution
-use Rattle.pj_type_names.specs.TypeName.{direct, direct_by}
+use Rattle.pj_type_names.specs.TypeName.{direct, node_named, supertypes_by}
 
 -- ---- asking
 
@@ -49,6 +55,18 @@ bound-none t left busy bounds n none = ap (λ b. resolution.bound t left busy b 
 pub bound-some : (t : Tree) (left : ℕ) (busy : List ℕ) (bounds fewer : ℕ) (n : Node) → fewer + 1 ≡ bounds → resolution.bound t left busy bounds n ≡ resolution.type_written t left busy fewer 1 0 n
 bound-some t left busy bounds fewer n more = let one : bounds ≡ suc fewer = omega (arith, more) in ap (λ b. resolution.bound t left busy b n) one
 
+-- the bounds that a header writes: no bound may be entered within one of them
+pub bounds-each : (t : Tree) (left : ℕ) (busy : List ℕ) (bounds : ℕ) (nodes written : List Node) → bounds ≡ 0 → written ≡ nodes
+    → each (resolution.bound t left busy 1) nodes ≡ each (resolution.type_written t left busy bounds 1 0) written
+bounds-each t left busy bounds nodes written none same =
+    ap (λ (ns : List Node). each (resolution.bound t left busy 1) ns) (sym same) ∙ ap (λ b. each (resolution.type_written t left busy b 1 0) written) (sym none)
+
+-- and the supertypes that it writes
+pub types-each : (t : Tree) (left : ℕ) (busy : List ℕ) (bounds : ℕ) (nodes written : List Node) → bounds ≡ 1 → written ≡ nodes
+    → each (resolution.type_written t left busy 1 0 0) nodes ≡ each (resolution.type_written t left busy bounds 0 0) written
+types-each t left busy bounds nodes written one same =
+    ap (λ (ns : List Node). each (resolution.type_written t left busy 1 0 0) ns) (sym same) ∙ ap (λ b. each (resolution.type_written t left busy b 0 0) written) (sym one)
+
 -- ---- type arguments
 
 pub argument-none : (t : Tree) (left : ℕ) (busy : List ℕ) (bounds deep : ℕ) (n : Node) → deep ≡ 0 → resolution.argument t left busy bounds deep n ≡ Return Unknown
@@ -63,6 +81,14 @@ empty_is : {X : Type 0} (xs : List X) → length xs ≡ 0 → xs ≡ []
 empty_is [] none = cc
 empty_is (x ∷ xs) none = absurd (omega (arith, none))
 
+pub length-none : (n : ℕ) (b : Bool) → b ≡ (n == 0) → b ≡ true → n ≡ 0
+length-none zero b is yes = omega arith
+length-none (suc n) b is yes = absurd (let no : b ≡ false = is in cc)
+
+pub length-some : (n : ℕ) (b : Bool) → b ≡ (n == 0) → b ≡ false → 0 < n
+length-some zero b is no = absurd (let yes : b ≡ true = is in cc)
+length-some (suc n) b is no = omega arith
+
 module _ (t : Tree) (left : ℕ) (busy : List ℕ) (bounds : ℕ) where
   pub variable-none : (simple : List ℕ) (among : List Node) → length among ≡ 0 → resolution.variable_by t left busy bounds simple among ≡ Return (Variable simple object_type)
   variable-none simple among none = ap (resolution.variable_by t left busy bounds simple) (empty_is among none)
@@ -74,9 +100,62 @@ module _ (t : Tree) (left : ℕ) (busy : List ℕ) (bounds : ℕ) where
   pub along-none : (place : Node) (parts : List (List ℕ)) → length parts ≡ 0 → resolution.class_along t left busy bounds place parts ≡ Return Unknown
   along-none place parts none = ap (resolution.class_along t left busy bounds place) (empty_is parts none)
 
-  pub along-some : (place : Node) (parts : List (List ℕ)) (first : List ℕ) → 0 < length parts
-      → resolution.class_along t left busy bounds place parts ≡ bind (resolution.simple_name t left busy bounds place (get_or parts 0 first)) (λ ty. resolution.members_along t left busy bounds ty (drop 1 parts))
-  along-some place parts first some = ap (resolution.class_along t left busy bounds place) (left_from parts 0 first some)
+  pub along-some : (place : Node) (parts : List (List ℕ)) (first : List ℕ) → 0 < length parts → first ≡ get_or parts 0 first
+      → resolution.class_along t left busy bounds place parts ≡ bind (resolution.simple_name t left busy bounds place first) (λ ty. resolution.members_along t left busy bounds ty (drop 1 parts))
+  along-some place parts first some is =
+      ap (resolution.class_along t left busy bounds place) (left_from parts 0 first some)
+      ∙ ap (λ x. bind (resolution.simple_name t left busy bounds place x) (λ ty. resolution.members_along t left busy bounds ty (drop 1 parts))) (sym is)
+
+-- ---- names of classes
+
+-- a text that is a name
+pub simple-named : (t : Tree) (left : ℕ) (busy : List ℕ) (bounds : ℕ) (place : Node) (simple : List ℕ) (found : Option Declared) → is_class_name simple ≡ true → found ≡ type_meant t simple place
+    → resolution.simple_name t left busy bounds place simple ≡ resolution.found_or t left busy bounds place simple found
+simple-named t left busy bounds place simple found named is =
+    ap (λ b. if b then resolution.found_or t left busy bounds place simple (type_meant t simple place) else Return Unknown) named
+    ∙ ap (resolution.found_or t left busy bounds place simple) (sym is)
+
+-- and one that is none
+pub simple-none : (t : Tree) (left : ℕ) (busy : List ℕ) (bounds : ℕ) (place : Node) (simple : List ℕ) → is_class_name simple ≡ false
+    → resolution.simple_name t left busy bounds place simple ≡ Return Unknown
+simple-none t left busy bounds place simple no =
+    ap (λ b. if b then resolution.found_or t left busy bounds place simple (type_meant t simple place) else Return Unknown) no
+
+pub inherited-named : (t : Tree) (left : ℕ) (busy : List ℕ) (simple : List ℕ) (class : Node) (text name : List ℕ) → text ≡ class_text t class → is_class_name text ≡ true → name ≡ text
+    → resolution.inherited t left busy simple class ≡ resolution.first_member t left busy false name simple
+inherited-named t left busy simple class text name is named same =
+    ap (λ x. if is_class_name x then inherited_member (file_classes t) (resolution.supers t left busy) x simple else Return None) (sym is)
+    ∙ ap (λ b. if b then inherited_member (file_classes t) (resolution.supers t left busy) text simple else Return None) named
+    ∙ ap (λ x. inherited_member (file_classes t) (resolution.supers t left busy) x simple) (sym same)
+
+pub inherited-none : (t : Tree) (left : ℕ) (busy : List ℕ) (simple : List ℕ) (class : Node) (text : List ℕ) → text ≡ class_text t class → is_class_name text ≡ false
+    → resolution.inherited t left busy simple class ≡ Return None
+inherited-none t left busy simple class text is no =
+    ap (λ x. if is_class_name x then inherited_member (file_classes t) (resolution.supers t left busy) x simple else Return None) (sym is)
+    ∙ ap (λ b. if b then inherited_member (file_classes t) (resolution.supers t left busy) text simple else Return None) no
+
+-- ---- classes by their names
+
+module _ (t : Tree) (left : ℕ) (busy : List ℕ) where
+  pub by-object : (name : Name) → is_object name ≡ true → resolution.supers_by t left busy name ≡ Return []
+  by-object name is = ap (λ b. if b then Return [] else supertypes_by t (file_classes t) (direct t (file_classes t) left) busy name (node_named (file_classes t) name)) is
+
+  by-found : (name : Name) (found : Option Node) → is_object name ≡ false → node_named (file_classes t) name ≡ found
+      → resolution.supers_by t left busy name ≡ supertypes_by t (file_classes t) (direct t (file_classes t) left) busy name found
+  by-found name found other is =
+      ap (λ b. if b then Return [] else supertypes_by t (file_classes t) (direct t (file_classes t) left) busy name (node_named (file_classes t) name)) other
+      ∙ ap (supertypes_by t (file_classes t) (direct t (file_classes t) left) busy name) is
+
+  pub by-none : (name : Name) → is_object name ≡ false → node_named (file_classes t) name ≡ None → resolution.supers_by t left busy name ≡ outside_supertypes name
+  by-none name other is = by-found name None other is
+
+  pub by-some : (name : Name) (class : Node) → is_object name ≡ false → node_named (file_classes t) name ≡ Some class → resolution.supers_by t left busy name ≡ resolution.of_file t left busy class
+  by-some name class other is = by-found name (Some class) other is
+
+-- ---- types that a loop gathers
+
+pub types-more : (types grown : List Ty) (ty : Ty) → grown ≡ types ++ ty ∷ [] → type_list grown ≡ type_list types ++ java_type ty ∷ []
+types-more types grown ty is = ap (λ (l : List Ty). type_list l) is ∙ map-append java_type types (ty ∷ [])
 
 -- ---- numbers
 

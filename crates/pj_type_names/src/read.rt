@@ -3,6 +3,7 @@
 ghost use Rattle.std.specs.Prelude.{◌≡◌, ◌<◌, ◌≤◌, ◌+◌, ◌++◌, None, length, IfOk, IfSome};
 ghost use Rattle.pj_names.specs.JavaType.{Variable, java_type, type_list};
 ghost use Rattle.pj_declared.specs.Nearest.{type_meant};
+ghost use Rattle.pj_declared.specs.Rows.{is_type_parameter, names_type_parameter};
 ghost use Rattle.pj_imports.specs.Candidates.{file_classes};
 ghost use Rattle.pj_inherited.specs.Inherited.{class_names};
 ghost use Rattle.pj_written.specs.Fits.{fits};
@@ -15,7 +16,7 @@ use pj_declared::Declared;
 use pj_imports::{File, class_named};
 use pj_inherited::with_classes;
 use pj_names::{ClassName, ClassNames, Ty, TyList};
-use pj_tree::{Node, SyntaxTree};
+use pj_tree::{Kind, Node, SyntaxTree};
 use pj_written::{
     MOST_SIGNS, Written, class_of_text, fits, implied_supertypes, member_name, written_name,
 };
@@ -47,6 +48,24 @@ pub fn type_meant(file: &File<'_>, simple: &str, place: Node) -> Option<Declared
     ensures inside { IfSome result (λ found. found.node.0 < length file.now.nodes) }
 {
     file.declarations().class_or_type_parameter(simple, place)
+}
+
+/// Whether nodes of a kind declare type parameters.
+fn is_type_parameter(kind: Kind) -> bool
+    ensures { result ≡ is_type_parameter kind }
+{
+    match kind {
+        Kind::TypeParameter => true,
+        _ => false,
+    }
+}
+
+/// Whether a node declares a type parameter.
+pub fn names_type_parameter(tree: &SyntaxTree<'_>, n: Node) -> bool
+    requires inside { n.0 < length tree.now.nodes }
+    ensures { result ≡ names_type_parameter tree.now n }
+{
+    is_type_parameter(tree.kind(n))
 }
 
 /// The name that a class type writes, which is looked up at a node of the tree.

@@ -5,7 +5,7 @@
 //! lists of type arguments; past a number of either it wants memory, so that no file costs the power of its depth, nor a stack as
 //! deep as it has classes.
 
-ghost use Rattle.std.specs.Prelude.{◌≡◌, ◌<◌, ◌≤◌, ◌-◌, length, IfSome};
+ghost use Rattle.std.specs.Prelude.{◌≡◌, ◌<◌, ◌≤◌, ◌-◌, [], length, IfSome};
 ghost use Rattle.std.specs.List.{All};
 ghost use Rattle.pj_names.specs.Asking.{each, first_hit};
 ghost use Rattle.pj_names.specs.JavaType.{java_type, java_types, type_list};
@@ -15,11 +15,12 @@ ghost use Rattle.pj_imports.specs.Candidates.{file_classes};
 ghost use Rattle.pj_inherited.specs.Around.{searched};
 ghost use Rattle.pj_type_names.specs.Searching as resolution;
 ghost use Rattle.pj_type_names.specs.Resolved.{packaged};
-ghost use Rattle.pj_type_names.specs.TypeName.{type_name, written_bound, written_type};
+ghost use Rattle.pj_type_names.specs.TypeName.{enough, type_name, written_bound, written_type};
+ghost use Rattle.pj_written.specs.Written.{name_of_text};
 
 use crate::read::{
-    absent_member, enough, fits_behind, made_variable, name_written, node_named, type_meant,
-    with_implied,
+    absent_member, enough, fits_behind, made_variable, name_written, names_type_parameter, node_named,
+    type_meant, with_implied,
 };
 use crate::stage::{Entered, MOST_ENTERED, MOST_NESTED, Stage, is_busy};
 use pj_base::{Copied, Names, Numbers, Text};
@@ -362,7 +363,7 @@ fn declared_type<O: Oracle>(
     requires inside { n.0 < length stage.now.file.now.nodes }
     ensures { Asks (resolution.declared_type stage.now.file.now stage.now.left stage.now.busy.now stage.now.bounds simple.now n) (O.tells oracle.old) (O.tells oracle.new) (seen java_type result) }
 {
-    if is_kind(stage.file.tree(), Kind::TypeParameter, n) {
+    if names_type_parameter(stage.file.tree(), n) {
         return variable(alloc, stage, oracle, entered, n, simple);
     }
     let ty = class_of_text(alloc, stage.file.class_text(n))?;
@@ -429,11 +430,12 @@ fn simple_name<O: Oracle>(
     requires inside { place.0 < length stage.now.file.now.nodes }
     ensures { Asks (resolution.simple_name stage.now.file.now stage.now.left stage.now.busy.now stage.now.bounds place simple.now) (O.tells oracle.old) (O.tells oracle.new) (seen java_type result) }
 {
-    if ClassName::of(alloc, simple)?.is_none() {
-        return Ok(Ty::Unknown);
-    }
+    let name = ClassName::of(alloc, simple)?;
     let found = type_meant(stage.file, simple, place);
-    found_or(alloc, stage, oracle, entered, place, simple, found)
+    match name {
+        Some(_) => found_or(alloc, stage, oracle, entered, place, simple, found),
+        None => Ok(Ty::Unknown),
+    }
 }
 
 /// The first member class that one of the classes around a place inherits, of those that stand further in than what was found.
@@ -794,8 +796,8 @@ fn type_by<O: Oracle>(
     ensures { Asks (resolution.type_by stage.now.file.now stage.now.left stage.now.busy.now stage.now.bounds deep n) (O.tells oracle.old) (O.tells oracle.new) (seen java_type result) }
 {
     let tree = stage.file.tree();
-    let ty = bare_type(alloc, stage, oracle, entered, deep, bare(tree, n))?;
-    let ty = arrays(alloc, brackets(tree, n), ty)?;
+    let member = bare_type(alloc, stage, oracle, entered, deep, bare(tree, n))?;
+    let ty = arrays(alloc, brackets(tree, n), member)?;
     Ok(ty)
 }
 
@@ -820,9 +822,33 @@ fn type_written<O: Oracle>(
     if !fits_behind(stage.file.tree(), around, behind, n) {
         return Ok(Ty::Unknown);
     }
-    let ty = type_by(alloc, stage, oracle, entered, MOST_SIGNS, n)?;
-    let ty = arrays(alloc, behind, ty)?;
+    let member = type_by(alloc, stage, oracle, entered, MOST_SIGNS, n)?;
+    let ty = arrays(alloc, behind, member)?;
     Ok(ty)
+}
+
+/// The class of a text at a place, where the text is a name of a class. There no header is being resolved.
+#[tactic(auto, using(pj_names::specs::AskingLaws::asking_steps))]
+fn class_at<O: Oracle>(
+    alloc: Global,
+    file: &File<'_>,
+    oracle: &mut O,
+    place: Node,
+    text: &str,
+) -> Result<Ty, AskFault>
+    requires inside { place.0 < length file.now.nodes }
+    ensures { Asks (resolution.class_of file.now (enough file.now) [] 1 (name_of_text place text.now)) (O.tells oracle.old) (O.tells oracle.new) (seen java_type result) }
+{
+    let name = name_of_text(alloc, place, text)?;
+    let busy = Numbers::new(alloc);
+    let stage = Stage {
+        file,
+        left: enough(file),
+        busy: &busy,
+        bounds: 1,
+        nested: 0,
+    };
+    class_of(alloc, &stage, oracle, &mut Entered { headers: 0 }, &name)
 }
 
 /// The type that a name means at a place: a simple name or one with dots.
@@ -837,19 +863,10 @@ pub fn type_name<O: Oracle>(
     requires inside { place.0 < length file.now.nodes }
     ensures { Asks (type_name file.now place text.now) (O.tells oracle.old) (O.tells oracle.new) (seen java_type result) }
 {
-    if ClassName::of(alloc, text)?.is_none() {
-        return Ok(Ty::Unknown);
+    match ClassName::of(alloc, text)? {
+        Some(_) => class_at(alloc, file, oracle, place, text),
+        None => Ok(Ty::Unknown),
     }
-    let name = name_of_text(alloc, place, text)?;
-    let busy = Numbers::new(alloc);
-    let stage = Stage {
-        file,
-        left: enough(file),
-        busy: &busy,
-        bounds: 1,
-        nested: 0,
-    };
-    class_of(alloc, &stage, oracle, &mut Entered { headers: 0 }, &name)
 }
 
 /// The type that is written in a node, where the headers of some classes are being resolved, with so many brackets behind the
