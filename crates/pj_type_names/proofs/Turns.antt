@@ -1,26 +1,30 @@
 -- What a level of each recursion that counts comes to.
-use Rattle.std.proofs.Common.{◌≡◌, ℕ, ◌<◌, ◌≤◌, ◌-◌, ◌+◌, ◌==◌, ◌&&◌, zero, suc, ap, arith, Bool, true, false, List, [], ◌∷◌, ◌++◌, drop, get_or, length, Option, None, Some, nat_le, subst, sym, ◌∙◌}
-use Rattle.std.proofs.lemmas.Bool.{lt-leb}
+use Rattle.std.proofs.Common.{◌≡◌, ℕ, ◌<◌, ◌≤◌, ◌-◌, ◌+◌, ◌==◌, ◌&&◌, zero, suc, ap, arith, Bool, true, false, List, [], ◌∷◌, ◌++◌, drop, get_or, length, Option, None, Some, nat_le, refl, subst, sym, take, ◌∙◌}
+use Rattle.std.proofs.lemmas.Bool.{eqb-true, lt-leb}
 use Rattle.std.proofs.lemmas.List.{length-append, map-append}
+use Rattle.std.proofs.Math.Seq.{take-length}
 use Rattle.std.specs.Prelude.{if◌then◌else◌}
 use Rattle.pj_tree.specs.Tree.{Tree}
 use Rattle.pj_tree.specs.declared.node.Node.{Node}
 use Rattle.pj_names.specs.Asking.{Asking, Return, bind, each}
-use Rattle.pj_names.specs.AskingLaws.{ComesTo, left_from}
+use Rattle.pj_names.specs.AskingLaws.{ComesTo, comes-then, left_from}
+use Rattle.pj_names.specs.MeaningLaws.{gather}
 use Rattle.pj_names.specs.Told.{Asks, Told}
 use Rattle.pj_names.specs.declared.oracle.AskFault.{AskFault}
-use Rattle.std.specs.Prelude.{Result}
+use Rattle.std.specs.Prelude.{Ok, Result}
 use Rattle.pj_names.specs.ClassName.{Name, is_class_name, is_object}
 use Rattle.pj_names.specs.JavaType.{JavaType, Variable, Unknown, java_type, type_list}
 use Rattle.pj_names.specs.declared.ty.Ty.{Ty}
 use Rattle.pj_declared.specs.Nearest.{type_meant}
 use Rattle.pj_declared.specs.declared.nearest.Declared.{Declared}
 use Rattle.pj_written.specs.Headers.{class_text}
+use Rattle.std.specs.Option.{MatchOption}
+use Rattle.pj_inherited.specs.Around.{classes_around, further_in, searched}
 use Rattle.pj_inherited.specs.Inherited.{inherited_member, outside_supertypes}
 use Rattle.pj_symbols.specs.Symbols.{class_at, classes_below, one_class}
 use Rattle.pj_symbols.specs.declared.class.Class.{Class as DeclaredClass}
 use Rattle.pj_written.specs.Fits.{argument_by, bare, brackets, fits, fits_within, listed_fit, most_signs, most_signs_is}
-use Rattle.pj_written.specs.Types.{object_type}
+use Rattle.pj_written.specs.Types.{arrays, object_type}
 use Rattle.pj_written.specs.Words.{below_child}
 use Rattle.pj_tree.specs.declared.kind.Kind.TheVariants as k
 use Rattle.pj_imports.specs.Candidates.{file_classes}
@@ -82,12 +86,11 @@ empty_is [] none = cc
 empty_is (x ∷ xs) none = absurd (omega (arith, none))
 
 pub length-none : (n : ℕ) (b : Bool) → b ≡ (n == 0) → b ≡ true → n ≡ 0
-length-none zero b is yes = omega arith
-length-none (suc n) b is yes = absurd (let no : b ≡ false = is in cc)
+length-none n b is holds = eqb-true n 0 (sym is ∙ holds)
 
 pub length-some : (n : ℕ) (b : Bool) → b ≡ (n == 0) → b ≡ false → 0 < n
-length-some zero b is no = absurd (let yes : b ≡ true = is in cc)
-length-some (suc n) b is no = omega arith
+length-some zero b is fails = absurd (let other : b ≡ true = is in cc)
+length-some (suc n) b is fails = omega arith
 
 module _ (t : Tree) (left : ℕ) (busy : List ℕ) (bounds : ℕ) where
   pub variable-none : (simple : List ℕ) (among : List Node) → length among ≡ 0 → resolution.variable_by t left busy bounds simple among ≡ Return (Variable simple object_type)
@@ -106,6 +109,35 @@ module _ (t : Tree) (left : ℕ) (busy : List ℕ) (bounds : ℕ) where
       ap (resolution.class_along t left busy bounds place) (left_from parts 0 first some)
       ∙ ap (λ x. bind (resolution.simple_name t left busy bounds place x) (λ ty. resolution.members_along t left busy bounds ty (drop 1 parts))) (sym is)
 
+-- what a slice from the second one on has
+pub rest-is : (parts : List (List ℕ)) → take (length parts - 1) (drop 1 parts) ≡ drop 1 parts
+rest-is [] = refl
+rest-is (x ∷ xs) = let few : length (x ∷ xs) - 1 ≡ length xs = omega arith in ap (λ n. take n xs) few ∙ take-length xs
+
+-- ---- classes around a place
+
+pub searched-turn : (t u : Tree) (place class : Node) (found : Option Declared) (next : Option Node) → u ≡ t
+    → MatchOption next (further_in found (classes_around u place) ≡ []) (λ class. further_in found (classes_around u place) ≡ class ∷ further_in found (classes_around u class))
+    → next ≡ Some class → searched t place found ≡ class ∷ searched t class found
+searched-turn t u place class found next same given is =
+    subst (λ (x : Tree). searched x place found ≡ class ∷ searched x class found) same
+    (subst (λ (o : Option Node). MatchOption o (further_in found (classes_around u place) ≡ []) (λ class. further_in found (classes_around u place) ≡ class ∷ further_in found (classes_around u class))) is given)
+
+pub searched-end : (t u : Tree) (place : Node) (found : Option Declared) (next : Option Node) → u ≡ t
+    → MatchOption next (further_in found (classes_around u place) ≡ []) (λ class. further_in found (classes_around u place) ≡ class ∷ further_in found (classes_around u class))
+    → next ≡ None → searched t place found ≡ []
+searched-end t u place found next same given is =
+    subst (λ (x : Tree). searched x place found ≡ []) same
+    (subst (λ (o : Option Node). MatchOption o (further_in found (classes_around u place) ≡ []) (λ class. further_in found (classes_around u place) ≡ class ∷ further_in found (classes_around u class))) is given)
+
+-- ---- types that fit
+
+pub written-fits : (t : Tree) (left : ℕ) (busy : List ℕ) (bounds around behind : ℕ) (n : Node) (deep : ℕ) → most_signs ≡ deep → fits t (around + behind) n ≡ true
+    → resolution.type_written t left busy bounds around behind n ≡ bind (resolution.type_by t left busy bounds deep n) (λ ty. Return (arrays behind ty))
+written-fits t left busy bounds around behind n deep same is =
+    ap (λ b. if b then bind (resolution.type_by t left busy bounds most_signs n) (λ ty. Return (arrays behind ty)) else Return Unknown) is
+    ∙ ap (λ d. bind (resolution.type_by t left busy bounds d n) (λ ty. Return (arrays behind ty))) same
+
 -- ---- names of classes
 
 -- a text that is a name
@@ -118,8 +150,8 @@ simple-named t left busy bounds place simple found named is =
 -- and one that is none
 pub simple-none : (t : Tree) (left : ℕ) (busy : List ℕ) (bounds : ℕ) (place : Node) (simple : List ℕ) → is_class_name simple ≡ false
     → resolution.simple_name t left busy bounds place simple ≡ Return Unknown
-simple-none t left busy bounds place simple no =
-    ap (λ b. if b then resolution.found_or t left busy bounds place simple (type_meant t simple place) else Return Unknown) no
+simple-none t left busy bounds place simple fails =
+    ap (λ b. if b then resolution.found_or t left busy bounds place simple (type_meant t simple place) else Return Unknown) fails
 
 pub inherited-named : (t : Tree) (left : ℕ) (busy : List ℕ) (simple : List ℕ) (class : Node) (text name : List ℕ) → text ≡ class_text t class → is_class_name text ≡ true → name ≡ text
     → resolution.inherited t left busy simple class ≡ resolution.first_member t left busy false name simple
@@ -130,9 +162,9 @@ inherited-named t left busy simple class text name is named same =
 
 pub inherited-none : (t : Tree) (left : ℕ) (busy : List ℕ) (simple : List ℕ) (class : Node) (text : List ℕ) → text ≡ class_text t class → is_class_name text ≡ false
     → resolution.inherited t left busy simple class ≡ Return None
-inherited-none t left busy simple class text is no =
+inherited-none t left busy simple class text is fails =
     ap (λ x. if is_class_name x then inherited_member (file_classes t) (resolution.supers t left busy) x simple else Return None) (sym is)
-    ∙ ap (λ b. if b then inherited_member (file_classes t) (resolution.supers t left busy) text simple else Return None) no
+    ∙ ap (λ b. if b then inherited_member (file_classes t) (resolution.supers t left busy) text simple else Return None) fails
 
 -- ---- classes by their names
 
@@ -154,8 +186,13 @@ module _ (t : Tree) (left : ℕ) (busy : List ℕ) where
 
 -- ---- types that a loop gathers
 
-pub types-more : (types grown : List Ty) (ty : Ty) → grown ≡ types ++ ty ∷ [] → type_list grown ≡ type_list types ++ java_type ty ∷ []
-types-more types grown ty is = ap (λ (l : List Ty). type_list l) is ∙ map-append java_type types (ty ∷ [])
+pub types-turn : {K : Type 0} {m : Asking (List JavaType)} {t u w : Told K} (f : Node → Asking JavaType) (types grown : List Ty) (nodes : List Node) (i : ℕ) (d : Node) (ty : Ty)
+    → i < length nodes → grown ≡ types ++ ty ∷ [] → ComesTo m t (gather f (type_list types) (drop i nodes)) u → Asks (f (get_or nodes i d)) u w (Ok (java_type ty))
+    → ComesTo m t (gather f (type_list grown) (drop (i + 1) nodes)) w
+types-turn {m = m} {t = t} {u = u} {w = w} f types grown nodes i d ty below is so_far asked =
+    let here = subst (λ (l : List Node). ComesTo m t (gather f (type_list types) l) u) (left_from nodes i d below) so_far in
+    let further = comes-then {n = f (get_or nodes i d)} (λ (value : JavaType). gather f (type_list types ++ value ∷ []) (drop (i + 1) nodes)) here asked in
+    subst (λ (l : List JavaType). ComesTo m t (gather f l (drop (i + 1) nodes)) w) (sym (ap (λ (l : List Ty). type_list l) is ∙ map-append java_type types (ty ∷ []))) further
 
 -- ---- numbers
 

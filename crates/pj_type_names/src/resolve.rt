@@ -430,10 +430,11 @@ fn simple_name<O: Oracle>(
     requires inside { place.0 < length stage.now.file.now.nodes }
     ensures { Asks (resolution.simple_name stage.now.file.now stage.now.left stage.now.busy.now stage.now.bounds place simple.now) (O.tells oracle.old) (O.tells oracle.new) (seen java_type result) }
 {
-    let name = ClassName::of(alloc, simple)?;
-    let found = type_meant(stage.file, simple, place);
-    match name {
-        Some(_) => found_or(alloc, stage, oracle, entered, place, simple, found),
+    match ClassName::of(alloc, simple)? {
+        Some(_name) => {
+            let found = type_meant(stage.file, simple, place);
+            found_or(alloc, stage, oracle, entered, place, simple, found)
+        }
         None => Ok(Ty::Unknown),
     }
 }
@@ -864,7 +865,7 @@ pub fn type_name<O: Oracle>(
     ensures { Asks (type_name file.now place text.now) (O.tells oracle.old) (O.tells oracle.new) (seen java_type result) }
 {
     match ClassName::of(alloc, text)? {
-        Some(_) => class_at(alloc, file, oracle, place, text),
+        Some(_name) => class_at(alloc, file, oracle, place, text),
         None => Ok(Ty::Unknown),
     }
 }

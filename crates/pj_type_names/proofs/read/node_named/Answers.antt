@@ -7,4 +7,4 @@ pub returns-in-Some-clause-inside : goal.returns-in-Some-clause-inside
 returns-in-Some-clause-inside c =
     let t = c.args.file.now in
     let named = node_named_inside t c.args.name.now in
-    rw (← c.classes.ensures, ← c.class_named.ensures) at named
+    rw (← c.classes.ensures, ← c.class_named.ensures, c.in-Some.is) at named

@@ -1,19 +1,20 @@
 use Rattle.std.proofs.Common.{rules, arith, ◌≡◌, ◌<◌, ◌+◌, ◌-◌, List, ap, false, length, true, refl, subst, sym, ◌∙◌}
 use Rattle.std.specs.Prelude.{Ok, if◌then◌else◌, [], ◌∷◌, ◌++◌}
 use Rattle.pj_names.specs.Asking.{Return, each, first_hit}
-use Rattle.pj_names.specs.AskingLaws.{ComesTo, asks-refused, asks-return, asks-settled, asks-stop, asks-then, comes-begin, comes-ends, comes-then, left_from}
+use Rattle.pj_names.specs.AskingLaws.{ComesTo, asks-refused, asks-return, asks-settled, asks-stop, asks-then, comes-begin, comes-ends, comes-then}
 use Rattle.pj_names.specs.ClassName.{is_object}
-use Rattle.pj_names.specs.JavaType.{Variable, type_list}
+use Rattle.pj_names.specs.JavaType.{Variable, java_type, type_list}
 use Rattle.pj_names.specs.MeaningLaws.{each-gather, gather}
 use Rattle.pj_names.specs.Told.{longest, longest_is}
 use Rattle.pj_names.specs.declared.ty.Ty.{Ty}
 use Rattle.pj_imports.specs.Candidates.{file_classes}
 use Rattle.pj_inherited.specs.Inherited.{left_out, member_in}
 use Rattle.pj_inherited.specs.NameWalks.{Standing, names-begin, names-end, names-missed, names-turn, to_come}
+use Rattle.pj_written.specs.Fits.{fits, most_signs_is}
 use Rattle.pj_written.specs.Headers.{all_bounds, written_supertypes}
 use Rattle.pj_type_names.specs.Searching as resolution
 use Rattle.pj_type_names.specs.TypeName.{is_busy}
-use Rattle.pj_type_names.proofs.Turns.{along-none, along-some, argument-none, argument-some, asks-as, bound-none, bound-some, bounds-each, by-none, by-object, by-some, comes-as, direct-none, direct-some, inherited-named, inherited-none, length-none, length-some, simple-named, simple-none, types-each, types-more, variable-none, variable-some}
+use Rattle.pj_type_names.proofs.Turns.{along-none, along-some, argument-none, argument-some, asks-as, bound-none, bound-some, bounds-each, by-none, by-object, by-some, comes-as, direct-none, direct-some, inherited-named, inherited-none, length-none, length-some, rest-is, searched-end, searched-turn, simple-named, simple-none, types-each, types-turn, variable-none, variable-some, written-fits}
 use Rattle.pj_type_names.proofs.resolve.+resolving.Goals as goal
 
 -- ---- headers
@@ -194,7 +195,8 @@ class_along-returns g t c =
     let stage = c.args.stage.now in
     let some = length-some (length c.args.parts.now) c.is_empty.result c.is_empty.ensures c.if-is_empty.false in
     let asked = rw c.as_str.ensures at c.in_ok-ty.ensures in
-    asks-as (along-some stage.file.now stage.left stage.busy.now stage.bounds c.args.place c.args.parts.now c.index-parts-0.result some c.index-parts-0.is) (asks-then _ asked c.members_along.ensures)
+    asks-as (along-some stage.file.now stage.left stage.busy.now stage.bounds c.args.place c.args.parts.now c.index-parts-0.result some c.index-parts-0.is)
+    (asks-then _ asked (asks-as (ap (resolution.members_along stage.file.now stage.left stage.busy.now stage.bounds (java_type c.in_ok-ty.ty)) (sym (rest-is c.args.parts.now))) c.members_along.ensures))
 
 -- ---- simple names
 
@@ -210,8 +212,8 @@ simple_name-returns-in-Some g t c =
 pub simple_name-returns-in-None : goal.simple_name-returns-in-None
 simple_name-returns-in-None g t c =
     let stage = c.args.stage.now in
-    let no = rw c.in-None.is at c.in_ok-name.ensures in
-    asks-as (simple-none stage.file.now stage.left stage.busy.now stage.bounds c.args.place c.args.simple.now no) (asks-return refl)
+    let unnamed = rw c.in-None.is at c.in_ok-name.ensures in
+    asks-as (simple-none stage.file.now stage.left stage.busy.now stage.bounds c.args.place c.args.simple.now unnamed) (asks-return refl)
 
 pub inherited-returns-in_err-name : goal.inherited-returns-in_err-name
 inherited-returns-in_err-name g t c = asks-stop (search rules)
@@ -225,8 +227,8 @@ inherited-returns-in-Some g t c =
 pub inherited-returns-in-None : goal.inherited-returns-in-None
 inherited-returns-in-None g t c =
     let stage = c.args.stage.now in
-    let no = rw c.in-None.is at c.in_ok-name.ensures in
-    asks-as (inherited-none stage.file.now stage.left stage.busy.now c.args.simple.now c.args.class c.class_text.result.now c.class_text.ensures no) (asks-return refl)
+    let unnamed = rw c.in-None.is at c.in_ok-name.ensures in
+    asks-as (inherited-none stage.file.now stage.left stage.busy.now c.args.simple.now c.args.class c.class_text.result.now c.class_text.ensures unnamed) (asks-return refl)
 
 pub found_or-returns-in_err-hit : goal.found_or-returns-in_err-hit
 found_or-returns-in_err-hit g t c = asks-refused _ c.in_err-hit.ensures (search rules)
@@ -316,20 +318,14 @@ argument_types-loop-n-init g t c =
 pub types_of-loop-n-preserved : goal.types_of-loop-n-preserved
 types_of-loop-n-preserved g t c =
     let stage = c.args.stage.now in
-    let f = resolution.type_written stage.file.now stage.left stage.busy.now stage.bounds c.args.around 0 in
-    let so_far = comes-as (ap (gather f (type_list c.loop-n.types)) (left_from c.args.nodes.now c.loop-n.n-index _ c.loop-n-test.true)) c.loop-n.invariant in
-    let further = comes-then _ so_far c.in_ok-ty.ensures in
-    let grown = types-more c.loop-n.types c.push.new.self c.in_ok-ty.ty (search rules) in
-    rw grown further
+    types-turn (resolution.type_written stage.file.now stage.left stage.busy.now stage.bounds c.args.around 0) c.loop-n.types c.push.new.self c.args.nodes.now c.loop-n.n-index _ c.in_ok-ty.ty
+    c.loop-n-test.true c.in_ok-push.ensures.ok c.loop-n.invariant c.in_ok-ty.ensures
 
 pub argument_types-loop-n-preserved : goal.argument_types-loop-n-preserved
 argument_types-loop-n-preserved g t c =
     let stage = c.args.stage.now in
-    let f = resolution.argument stage.file.now stage.left stage.busy.now stage.bounds c.args.deep in
-    let so_far = comes-as (ap (gather f (type_list c.loop-n.types)) (left_from c.args.list.now c.loop-n.n-index _ c.loop-n-test.true)) c.loop-n.invariant in
-    let further = comes-then _ so_far c.in_ok-ty.ensures in
-    let grown = types-more c.loop-n.types c.push.new.self c.in_ok-ty.ty (search rules) in
-    rw grown further
+    types-turn (resolution.argument stage.file.now stage.left stage.busy.now stage.bounds c.args.deep) c.loop-n.types c.push.new.self c.args.list.now c.loop-n.n-index _ c.in_ok-ty.ty
+    c.loop-n-test.true c.in_ok-push.ensures.ok c.loop-n.invariant c.in_ok-ty.ensures
 
 -- ---- along supertypes
 
@@ -420,13 +416,13 @@ first_member-returns g t c = comes-ends c.loop-class.invariant (asks-stop refl)
 -- ---- classes around a place
 
 pub first_inherited-loop-class-init : goal.first_inherited-loop-class-init
-first_inherited-loop-class-init g t c = record { comes = comes-begin; inside = c.requires.inside }
+first_inherited-loop-class-init g t c = record { comes = comes-begin; inside = c.requires }
 
 pub first_inherited-returns-in_err-hit : goal.first_inherited-returns-in_err-hit
 first_inherited-returns-in_err-hit g t c =
     let stage = c.args.stage.now in
     let f = resolution.inherited stage.file.now stage.left stage.busy.now c.args.simple.now in
-    let given = rw (c.tree.ensures, c.in-Some.is) at c.next_searched.ensures.value in
+    let given = searched-turn stage.file.now c.tree.result.now c.loop-class.inside c.in-Some.class c.args.found c.next_searched.result c.tree.ensures c.next_searched.ensures.value c.in-Some.is in
     let so_far = comes-as (ap (first_hit f) given) c.loop-class.invariant.comes in
     comes-ends so_far (asks-refused _ c.in_err-hit.ensures (search rules))
 
@@ -434,7 +430,7 @@ pub first_inherited-returns-in-Some-hit : goal.first_inherited-returns-in-Some-h
 first_inherited-returns-in-Some-hit g t c =
     let stage = c.args.stage.now in
     let f = resolution.inherited stage.file.now stage.left stage.busy.now c.args.simple.now in
-    let given = rw (c.tree.ensures, c.in-Some.is) at c.next_searched.ensures.value in
+    let given = searched-turn stage.file.now c.tree.result.now c.loop-class.inside c.in-Some.class c.args.found c.next_searched.result c.tree.ensures c.next_searched.ensures.value c.in-Some.is in
     let so_far = comes-as (ap (first_hit f) given) c.loop-class.invariant.comes in
     let found = rw c.in-Some-hit.is at c.in_ok-hit.ensures in
     comes-ends (comes-then _ so_far found) (asks-return refl)
@@ -443,7 +439,7 @@ pub first_inherited-loop-class-preserved : goal.first_inherited-loop-class-prese
 first_inherited-loop-class-preserved g t c =
     let stage = c.args.stage.now in
     let f = resolution.inherited stage.file.now stage.left stage.busy.now c.args.simple.now in
-    let given = rw (c.tree.ensures, c.in-Some.is) at c.next_searched.ensures.value in
+    let given = searched-turn stage.file.now c.tree.result.now c.loop-class.inside c.in-Some.class c.args.found c.next_searched.result c.tree.ensures c.next_searched.ensures.value c.in-Some.is in
     let before = rw c.in-Some.is at c.next_searched.ensures.before in
     let so_far = comes-as (ap (first_hit f) given) c.loop-class.invariant.comes in
     let missed = rw c.in_default-hit.is at c.in_ok-hit.ensures in
@@ -453,5 +449,34 @@ pub first_inherited-returns : goal.first_inherited-returns
 first_inherited-returns g t c =
     let stage = c.args.stage.now in
     let f = resolution.inherited stage.file.now stage.left stage.busy.now c.args.simple.now in
-    let none = rw (c.tree.ensures, c.in_default.is) at c.next_searched.ensures.value in
+    let none = searched-end stage.file.now c.tree.result.now c.loop-class.inside c.args.found c.next_searched.result c.tree.ensures c.next_searched.ensures.value c.in_default.is in
     comes-ends (comes-as (ap (first_hit f) none) c.loop-class.invariant.comes) (asks-return refl)
+
+-- ---- written types
+
+pub member_of-returns-in-Class : goal.member_of-returns-in-Class
+member_of-returns-in-Class g t c =
+    let stage = c.args.stage.now in
+    asks-as (ap (λ (ty : Ty). resolution.member_of stage.file.now stage.left stage.busy.now stage.bounds (java_type ty) c.args.simple.now) c.in-Class.is) c.member_type.ensures
+
+pub class_type-returns : goal.class_type-returns
+class_type-returns g t c = asks-then _ c.in_ok-ty.ensures c.with_arguments.ensures
+
+pub type_written-returns-in_err-member : goal.type_written-returns-in_err-member
+type_written-returns-in_err-member g t c =
+    let stage = c.args.stage.now in
+    let is : fits stage.file.now (c.args.around + c.args.behind) c.args.n ≡ true = search rules in
+    asks-as (written-fits stage.file.now stage.left stage.busy.now stage.bounds c.args.around c.args.behind c.args.n 255 most_signs_is is) (asks-refused _ c.in_err-member.ensures (search rules))
+
+pub type_written-returns-in_err-ty : goal.type_written-returns-in_err-ty
+type_written-returns-in_err-ty g t c =
+    let stage = c.args.stage.now in
+    let is : fits stage.file.now (c.args.around + c.args.behind) c.args.n ≡ true = search rules in
+    asks-as (written-fits stage.file.now stage.left stage.busy.now stage.bounds c.args.around c.args.behind c.args.n 255 most_signs_is is) (asks-then _ c.in_ok-member.ensures (asks-stop (search rules)))
+
+pub type_written-returns : goal.type_written-returns
+type_written-returns g t c =
+    let stage = c.args.stage.now in
+    let is : fits stage.file.now (c.args.around + c.args.behind) c.args.n ≡ true = search rules in
+    asks-as (written-fits stage.file.now stage.left stage.busy.now stage.bounds c.args.around c.args.behind c.args.n 255 most_signs_is is)
+    (asks-then _ c.in_ok-member.ensures (asks-return (ap (λ ty. Ok ty) c.in_ok-ty.ensures)))
