@@ -200,19 +200,19 @@ class_along-returns g t c =
 
 -- ---- simple names
 
-pub simple_name-returns-in_err-name : goal.simple_name-returns-in_err-name
-simple_name-returns-in_err-name g t c = asks-stop (search rules)
+pub simple_name-returns-in_err-_name : goal.simple_name-returns-in_err-_name
+simple_name-returns-in_err-_name g t c = asks-stop (search rules)
 
 pub simple_name-returns-in-Some : goal.simple_name-returns-in-Some
 simple_name-returns-in-Some g t c =
     let stage = c.args.stage.now in
-    let made = rw c.in-Some.is at c.in_ok-name.ensures in
+    let made = rw c.in-Some.is at c.in_ok-_name.ensures in
     asks-as (simple-named stage.file.now stage.left stage.busy.now stage.bounds c.args.place c.args.simple.now c.type_meant-found.result made.0 c.type_meant-found.ensures.value) c.found_or.ensures
 
 pub simple_name-returns-in-None : goal.simple_name-returns-in-None
 simple_name-returns-in-None g t c =
     let stage = c.args.stage.now in
-    let unnamed = rw c.in-None.is at c.in_ok-name.ensures in
+    let unnamed = rw c.in-None.is at c.in_ok-_name.ensures in
     asks-as (simple-none stage.file.now stage.left stage.busy.now stage.bounds c.args.place c.args.simple.now unnamed) (asks-return refl)
 
 pub inherited-returns-in_err-name : goal.inherited-returns-in_err-name
@@ -416,7 +416,7 @@ first_member-returns g t c = comes-ends c.loop-class.invariant (asks-stop refl)
 -- ---- classes around a place
 
 pub first_inherited-loop-class-init : goal.first_inherited-loop-class-init
-first_inherited-loop-class-init g t c = record { comes = comes-begin; inside = c.requires }
+first_inherited-loop-class-init g t c = record { comes = comes-begin; inside = search rules }
 
 pub first_inherited-returns-in_err-hit : goal.first_inherited-returns-in_err-hit
 first_inherited-returns-in_err-hit g t c =
