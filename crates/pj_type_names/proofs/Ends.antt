@@ -1,5 +1,5 @@
 -- The number that bounds how deep headers lead into one another is never reached: each header that is entered has one class less to go.
-use Rattle.std.proofs.Common.{◌≡◌, ℕ, ◌<◌, ◌≤◌, ◌+◌, ◌==◌, ◌||◌, zero, suc, ap, arith, Bool, true, false, cond, List, [], ◌∷◌, ◌++◌, length, Option, None, Some, inl, inr, refl, sym, ◌∙◌}
+use Rattle.std.proofs.Common.{◌≡◌, ℕ, ◌<◌, ◌≤◌, ◌==◌, ◌||◌, zero, suc, ap, arith, Bool, true, false, cond, List, [], ◌∷◌, ◌++◌, length, Option, None, Some, inl, inr, refl, sym, ◌∙◌}
 use Rattle.std.specs.Prelude.{find, nat_eq, if◌then◌else◌}
 use Rattle.std.specs.Cmp.Lexicographic.{pointwise}
 use Rattle.std.specs.Option.{option_map}
@@ -82,7 +82,7 @@ entered busy p (one ∷ classes) class is free = at (p one) is (λ further. ente
         let few = no_more busy class.node.0 classes in
         let before : left_over busy (one ∷ classes) ≡ suc (left_over busy classes) = ap (λ b. cond b (left_over busy classes) (suc (left_over busy classes))) was in
         let behind : left_over (busy ++ class.node.0 ∷ []) (one ∷ classes) ≡ left_over (busy ++ class.node.0 ∷ []) classes =
-            ap (λ b. cond b (left_over (busy ++ class.node.0 ∷ []) classes) (suc (left_over (busy ++ class.node.0 ∷ []) classes))) now in
+        ap (λ b. cond b (left_over (busy ++ class.node.0 ∷ []) classes) (suc (left_over (busy ++ class.node.0 ∷ []) classes))) now in
         omega (arith, few, before, behind)
     at false further deeper =
         strictly (is_busy busy one.node) (is_busy (busy ++ class.node.0 ∷ []) one.node) (left_over (busy ++ class.node.0 ∷ []) classes) (left_over busy classes)

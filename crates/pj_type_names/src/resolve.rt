@@ -19,8 +19,8 @@ ghost use Rattle.pj_type_names.specs.TypeName.{enough, type_name, written_bound,
 ghost use Rattle.pj_written.specs.Written.{name_of_text};
 
 use crate::read::{
-    absent_member, enough, fits_behind, made_variable, name_written, names_type_parameter, node_named,
-    type_meant, with_implied,
+    absent_member, enough, fits_behind, made_variable, name_written, names_type_parameter,
+    node_named, type_meant, with_implied,
 };
 use crate::stage::{Entered, MOST_ENTERED, MOST_NESTED, Stage, is_busy};
 use pj_base::{Copied, Names, Numbers, Text};

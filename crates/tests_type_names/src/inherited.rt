@@ -101,7 +101,12 @@ static FROM_CLASSES_OUTSIDE: [Row; 18] = [
         "q.C$B",
         "A$B; q.E q.E$B",
     ),
-    ("class B extends q.C {} class B { /*?*/X f; }", "X", "q.C q.C$X", "q.C$X; q.C q.C$X"),
+    (
+        "class B extends q.C {} class B { /*?*/X f; }",
+        "X",
+        "q.C q.C$X",
+        "q.C$X; q.C q.C$X",
+    ),
 ];
 
 #[test]

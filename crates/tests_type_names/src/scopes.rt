@@ -85,7 +85,12 @@ static TYPE_PARAMETERS: [Row; 16] = [
         "",
         "T:?; B java.lang.B",
     ),
-    ("class A<T, T extends q.C> { /*?*/T f; }", "T", "", "T:java.lang.Object;"),
+    (
+        "class A<T, T extends q.C> { /*?*/T f; }",
+        "T",
+        "",
+        "T:java.lang.Object;",
+    ),
 ];
 
 #[test]

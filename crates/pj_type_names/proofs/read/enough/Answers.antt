@@ -1,4 +1,4 @@
-use Rattle.std.proofs.Common.{arith, ◌≡◌, ◌≤◌, length}
+use Rattle.std.proofs.Common.{arith, ◌≤◌, length}
 use Rattle.pj_imports.specs.Candidates.{file_classes}
 use Rattle.pj_type_names.proofs.Turns.{classes_few}
 use Rattle.pj_type_names.proofs.read.enough.Goals as goal

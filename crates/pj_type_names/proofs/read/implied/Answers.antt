@@ -1,6 +1,4 @@
-use Rattle.std.proofs.Common.{ap, length, subst, sym}
 use Rattle.pj_symbols.proofs.Below.{all_found}
-use Rattle.pj_symbols.specs.Symbols.{FindsClasses}
 use Rattle.pj_type_names.proofs.read.implied.Goals as goal
 
 pub implied_supertypes-requires-clause-finds : goal.implied_supertypes-requires-clause-finds

@@ -1,5 +1,3 @@
-use Rattle.std.proofs.Common.{◌<◌, length, subst, sym}
-use Rattle.std.specs.Option.{IfSome}
 use Rattle.pj_type_names.proofs.Inside.{node_named_inside}
 use Rattle.pj_type_names.proofs.read.node_named.Goals as goal
 
