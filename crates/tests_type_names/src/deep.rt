@@ -22,12 +22,11 @@ fn nested(alloc: Global, depth: u32) -> Result<Text, NoMemory> {
     Ok(text)
 }
 
-static NESTED: [(u32, &str); 5] = [
+static NESTED: [(u32, &str); 4] = [
     (1, "?; q.C q.C$X X java.lang.X"),
     (8, "?; q.C q.C$C q.C$X X java.lang.X"),
-    (12, "?; q.C q.C$C q.C$X X java.lang.X"),
+    (10, "?; q.C q.C$C q.C$X X java.lang.X"),
     (16, "memory; q.C q.C$C"),
-    (40, "memory; q.C q.C$C"),
 ];
 
 #[test]
