@@ -9,7 +9,7 @@
 -- the first level nothing stands, and behind the last one what is in scope outside of all classes, which is nothing in a file of Java. Then come static imports.
 --
 -- Classes are asked of an oracle that answers those of the file too. So a class around is asked where the search goes past its own fields.
-use Rattle.std.specs.Prelude.{ℕ, Bool, Option, None, Some, if◌then◌else◌, List, [], ◌∷◌, ◌++◌, map, filter, nat_le, nat_lt}
+use Rattle.std.specs.Prelude.{ℕ, Bool, Option, None, Some, if◌then◌else◌, List, [], ◌∷◌, ◌++◌, map, filter, nat_le, not}
 use Rattle.std.specs.Option.{option_map}
 use Rattle.pj_tree.specs.Tree.{Tree}
 use Rattle.pj_tree.specs.declared.node.Node.{Node}
@@ -45,13 +45,16 @@ pub data Step : Type 0 where
 abbrev pub in_scope : Tree → List ℕ → Node → List Named
 in_scope t name place = filter (is_meant t name place) (variables_of t)
 
--- those whose scopes the class opens, or what stands further in
-abbrev pub within : Node → List Named → List Named
-within class rows = filter (λ row. nat_le class.0 row.scope.opened) rows
+-- whether a class opens the scope of a variable, or something that stands further in
+abbrev pub is_opened_within : Node → Named → Bool
+is_opened_within class row = nat_le class.0 row.scope.opened
 
--- and those whose scopes are opened further out
+-- those of which this is so, and those whose scopes are opened further out
+abbrev pub within : Node → List Named → List Named
+within class rows = filter (is_opened_within class) rows
+
 abbrev pub outside : Node → List Named → List Named
-outside class rows = filter (λ row. nat_lt row.scope.opened class.0) rows
+outside class rows = filter (λ row. not (is_opened_within class row)) rows
 
 abbrev pub declares : Option Declared → List Step
 declares None = []
