@@ -47,11 +47,7 @@ fn imported_text(alloc: Global, tree: &SyntaxTree<'_>, import: Node) -> Result<T
 }
 
 /// The class whose static members are imported: what stands before the last dot.
-pub fn imported_class(
-    alloc: Global,
-    tree: &SyntaxTree<'_>,
-    import: Node,
-) -> Result<Text, NoMemory>
+pub fn imported_class(alloc: Global, tree: &SyntaxTree<'_>, import: Node) -> Result<Text, NoMemory>
     requires inside { import.0 < length tree.now.nodes }
     ensures { IfOk result (λ text. text ≡ imported_class tree.now import) }
 {
@@ -143,11 +139,7 @@ fn put_on_demand(nodes: &mut Nodes, tree: &SyntaxTree<'_>) -> Result<(), NoMemor
 }
 
 /// The static imports by which a name may be known: those of the name, and then those on demand.
-pub fn static_imports(
-    alloc: Global,
-    tree: &SyntaxTree<'_>,
-    name: &str,
-) -> Result<Nodes, NoMemory>
+pub fn static_imports(alloc: Global, tree: &SyntaxTree<'_>, name: &str) -> Result<Nodes, NoMemory>
     ensures value { IfOk result (λ nodes. nodes ≡ static_imports tree.now name.now) }
     ensures inside { IfOk result (λ nodes. All (λ (m : Node). m.0 < length tree.now.nodes) nodes) }
 {
