@@ -74,7 +74,7 @@ stays k one (Some other) here before =
     let above = leb-true k one.opened here in
     let below = leb-false k other.opened before in
     let apart : other.opened ≡ one.opened → ⊥ = λ same. omega (arith, same) in
-    ap (λ b. cond b other one) (or_from _ _ (le-ltb one.opened other.opened (omega arith)) (and_left _ _ (ne_eqb other.opened one.opened apart)))
+    ap (λ b. cond b other one) (or_from (nat_lt one.opened other.opened) (other.opened == one.opened && nat_lt other.node.0 one.node.0) (le-ltb one.opened other.opened (omega arith)) (and_left (other.opened == one.opened) (nat_lt other.node.0 one.node.0) (ne_eqb other.opened one.opened apart)))
 
 -- ---- rows by the numbers that open their scopes
 
