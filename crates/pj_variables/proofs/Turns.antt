@@ -1,14 +1,16 @@
 -- One meaning in the place of another, in a clause and at a point of a loop; and the meanings that these are wanted for.
-use Rattle.std.proofs.Common.{◌≡◌, ℕ, List, None, true, false, ap, subst, sym, ◌∙◌}
-use Rattle.std.specs.Prelude.{Result, if◌then◌else◌}
+use Rattle.std.proofs.Common.{◌≡◌, ℕ, ◌<◌, ◌+◌, List, [], ◌∷◌, length, get_or, drop, Option, None, Some, true, false, ap, subst, sym, ◌∙◌}
+use Rattle.std.specs.Prelude.{Result, MatchOption, if◌then◌else◌}
 use Rattle.pj_tree.specs.Tree.{Tree}
 use Rattle.pj_tree.specs.declared.node.Node.{Node}
 use Rattle.pj_names.specs.declared.oracle.AskFault.{AskFault}
 use Rattle.pj_names.specs.ClassName.{Name, is_class_name}
 use Rattle.pj_names.specs.Asking.{Asking, Return}
-use Rattle.pj_names.specs.AskingLaws.{ComesTo}
+use Rattle.pj_names.specs.AskingLaws.{ComesTo, left_from}
 use Rattle.pj_names.specs.Told.{Asks, Told}
 use Rattle.pj_members.specs.Fields.{find_field}
+use Rattle.pj_declared.specs.declared.nearest.Declared.{Declared}
+use Rattle.pj_inherited.specs.Around.{classes_around, further_in, searched}
 use Rattle.pj_written.specs.Headers.{class_text}
 use Rattle.pj_variables.specs.VariableName.{field_around}
 
@@ -26,3 +28,23 @@ around-named t name class own named is =
 -- or has none
 pub around-none : (t : Tree) (name : List ℕ) (class : Node) → is_class_name (class_text t class) ≡ false → field_around t name class ≡ Return None
 around-none t name class none = ap (λ b. if b then find_field (class_text t class) name else Return None) none
+
+-- one more class around that is searched
+pub searched-turn : (t u : Tree) (place class : Node) (found : Option Declared) (next : Option Node) → u ≡ t
+    → MatchOption next (further_in found (classes_around u place) ≡ []) (λ class. further_in found (classes_around u place) ≡ class ∷ further_in found (classes_around u class))
+    → next ≡ Some class → searched t place found ≡ class ∷ searched t class found
+searched-turn t u place class found next same given is =
+    subst (λ (x : Tree). searched x place found ≡ class ∷ searched x class found) same
+    (subst (λ (o : Option Node). MatchOption o (further_in found (classes_around u place) ≡ []) (λ class. further_in found (classes_around u place) ≡ class ∷ further_in found (classes_around u class))) is given)
+
+-- or none
+pub searched-end : (t u : Tree) (place : Node) (found : Option Declared) (next : Option Node) → u ≡ t
+    → MatchOption next (further_in found (classes_around u place) ≡ []) (λ class. further_in found (classes_around u place) ≡ class ∷ further_in found (classes_around u class))
+    → next ≡ None → searched t place found ≡ []
+searched-end t u place found next same given is =
+    subst (λ (x : Tree). searched x place found ≡ []) same
+    (subst (λ (o : Option Node). MatchOption o (further_in found (classes_around u place) ≡ []) (λ class. further_in found (classes_around u place) ≡ class ∷ further_in found (classes_around u class))) is given)
+
+-- what is left of a list at an index
+pub left_at : {X : Type 0} (xs : List X) (i : ℕ) (x : X) → i < length xs → x ≡ get_or xs i x → drop i xs ≡ x ∷ drop (i + 1) xs
+left_at xs i x below is = left_from xs i x below ∙ ap (λ y. y ∷ drop (i + 1) xs) (sym is)

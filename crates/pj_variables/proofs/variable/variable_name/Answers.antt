@@ -1,11 +1,12 @@
-use Rattle.std.proofs.Common.{subst}
-use Rattle.pj_names.specs.Told.{Asks, seen}
-use Rattle.pj_variables.specs.Seen.{seen_variable}
+use Rattle.std.proofs.Common.{◌∙◌, ap, sym}
+use Rattle.pj_variables.specs.Searched.{found_or}
 use Rattle.pj_variables.proofs.Levels.{inside-out}
+use Rattle.pj_variables.proofs.Turns.{asks-as}
 use Rattle.pj_variables.proofs.variable.variable_name.Goals as goal
 
 pub returns-clause-asks : goal.returns-clause-asks
 returns-clause-asks g c =
-    let asked = rw c.declaration_at-found.ensures.value at c.found_or_inherited.ensures.asks in
-    subst (λ m. Asks m (g.O.Oracle.tells c.args.oracle.now) (g.O.Oracle.tells c.found_or_inherited.new.oracle) (seen seen_variable c.found_or_inherited.result))
-    (inside-out c.args.file.now c.args.place c.args.name.now) asked
+    let t = c.args.file.now in
+    let name = c.args.name.now in
+    let place = c.args.place in
+    asks-as (sym (ap (λ found. found_or t name place found) c.declaration_at-found.ensures.value ∙ inside-out t place name)) c.found_or_inherited.ensures.asks
