@@ -1,12 +1,12 @@
 -- One meaning in the place of another, in a clause and at a point of a loop; and the meanings that these are wanted for.
 use Rattle.std.proofs.Common.{◌≡◌, ℕ, ◌<◌, ◌+◌, List, [], ◌∷◌, length, get_or, drop, Option, None, Some, true, false, ap, subst, sym, ◌∙◌}
-use Rattle.std.specs.Prelude.{Result, MatchOption, if◌then◌else◌}
+use Rattle.std.specs.Prelude.{Result, Err, MatchOption, if◌then◌else◌}
 use Rattle.pj_tree.specs.Tree.{Tree}
 use Rattle.pj_tree.specs.declared.node.Node.{Node}
 use Rattle.pj_names.specs.declared.oracle.AskFault.{AskFault}
 use Rattle.pj_names.specs.ClassName.{Name, is_class_name}
-use Rattle.pj_names.specs.Asking.{Asking, Return}
-use Rattle.pj_names.specs.AskingLaws.{ComesTo, left_from}
+use Rattle.pj_names.specs.Asking.{Asking, Return, first_hit, or_else}
+use Rattle.pj_names.specs.AskingLaws.{ComesTo, asks-refused, comes-ends, left_from}
 use Rattle.pj_names.specs.Told.{Asks, Told}
 use Rattle.pj_members.specs.Fields.{find_field}
 use Rattle.pj_declared.specs.declared.nearest.Declared.{Declared}
@@ -45,6 +45,8 @@ searched-end t u place found next same given is =
     subst (λ (x : Tree). searched x place found ≡ []) same
     (subst (λ (o : Option Node). MatchOption o (further_in found (classes_around u place) ≡ []) (λ class. further_in found (classes_around u place) ≡ class ∷ further_in found (classes_around u class))) is given)
 
--- what is left of a list at an index
-pub left_at : {X : Type 0} (xs : List X) (i : ℕ) (x : X) → i < length xs → x ≡ get_or xs i x → drop i xs ≡ x ∷ drop (i + 1) xs
-left_at xs i x below is = left_from xs i x below ∙ ap (λ y. y ∷ drop (i + 1) xs) (sym is)
+-- a refusal at a member of a list that is gone through
+pub refused-at : {K A B : Type 0} (test : A → Asking (Option B)) (xs : List A) (i : ℕ) (x : A) {m : Asking (Option B)} {t u last : Told K} {e : AskFault} {r : Result (Option B) AskFault} → i < length xs
+    → ComesTo m t (first_hit test (drop i xs)) u → Asks (test (get_or xs i x)) u last (Err e) → r ≡ Err e → Asks m t last r
+refused-at test xs i x {m = m} {t = t} {u = u} below so_far asked returned =
+    comes-ends (subst (λ l. ComesTo m t (first_hit test l) u) (left_from xs i x below) so_far) (asks-refused (λ hit. or_else hit (first_hit test (drop (i + 1) xs))) asked returned)
