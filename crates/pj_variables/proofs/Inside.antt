@@ -1,7 +1,7 @@
 -- What a name means in the file is a node of its tree.
 use Rattle.std.proofs.Common.{◌≡◌, ℕ, zero, suc, ◌<◌, ◌≤◌, ◌++◌, arith, Bool, true, false, cond, List, [], ◌∷◌, length, Option, None, Some, filter, refl}
 use Rattle.std.specs.Option.{IfSome, option_and_then, option_map, option_map_or}
-use Rattle.pj_tree.specs.Tree.{Tree, parent_of}
+use Rattle.pj_tree.specs.Tree.{Tree}
 use Rattle.pj_tree.specs.declared.kind.Kind.TheVariants as k
 use Rattle.pj_tree.specs.declared.node.Node.{Node}
 use Rattle.pj_nodes.specs.Children.{child_of, second_child}
@@ -15,7 +15,7 @@ use Rattle.pj_declared.specs.Bindings.{binding_end}
 use Rattle.pj_declared.specs.Bodies.{body_of, member_scopes}
 use Rattle.pj_declared.specs.Nearest.{declared_by, is_meant, is_nearer, nearer, nearest, variable_meant}
 use Rattle.pj_declared.specs.Rows.{in_scope, name_first, named, variables_at, variables_below, variables_of}
-use Rattle.pj_declared.specs.Scope.{no_scopes, one_scope, scope_from, scope_of_all}
+use Rattle.pj_declared.specs.Scope.{no_scopes, scope_from, scope_of_all}
 use Rattle.pj_declared.specs.VariableScopes.{above_declaration, around_declaration, block_of, pattern_scope, repeated_scope, scopes_by, try_block, variable_scopes}
 use Rattle.pj_declared.specs.declared.named.Named.{Named}
 use Rattle.pj_declared.specs.declared.nearest.Declared.{Declared}

@@ -12,7 +12,7 @@ use Rattle.pj_declared.specs.declared.named.Named.{Named}
 use Rattle.pj_declared.specs.declared.nearest.Declared.{Declared}
 use Rattle.pj_inherited.specs.Around.{classes_around, further_in, is_found_within}
 use Rattle.pj_variables.specs.StaticImports.{static_imports}
-use Rattle.pj_variables.specs.VariableName.{DeclaredAt, Imports, Inherited, Inherits, Meant, Step, declares, field_around, imported_field, in_scope, inherited, levels, meant_by, outside, variable_name}
+use Rattle.pj_variables.specs.VariableName.{Imports, Inherited, Inherits, Meant, Step, declares, field_around, imported_field, in_scope, inherited, levels, meant_by, outside, variable_name}
 use Rattle.pj_variables.specs.Searched.{declared_or, found_or, inherited_or}
 
 -- ---- the nearest of several, by the numbers that open their scopes

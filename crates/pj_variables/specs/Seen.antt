@@ -1,6 +1,5 @@
 -- What the code answers, as the definitions have it.
-use Rattle.std.specs.Prelude.{◌≡◌, ◌<◌, ℕ, Option, Some, None}
-use Rattle.std.specs.Option.{option_map}
+use Rattle.std.specs.Prelude.{◌<◌, ℕ, Option, Some, None}
 use Rattle.pj_types.specs.Members.{field_view}
 use Rattle.pj_variables.specs.declared.variable.Variable.{Variable}
 use Rattle.pj_variables.specs.declared.variable.Variable.TheVariants as code
