@@ -12,7 +12,7 @@ use Rattle.pj_declared.specs.declared.named.Named.{Named}
 use Rattle.pj_declared.specs.declared.nearest.Declared.{Declared}
 use Rattle.pj_inherited.specs.Around.{classes_around, further_in, is_found_within}
 use Rattle.pj_variables.specs.StaticImports.{static_imports}
-use Rattle.pj_variables.specs.VariableName.{Declared', Imports, Inherited, Inherits, Meant, Step, declares, field_around, imported_field, in_scope, inherited, levels, meant_by, outside, variable_name}
+use Rattle.pj_variables.specs.VariableName.{DeclaredAt, Imports, Inherited, Inherits, Meant, Step, declares, field_around, imported_field, in_scope, inherited, levels, meant_by, outside, variable_name}
 use Rattle.pj_variables.specs.Searched.{declared_or, found_or, inherited_or}
 
 -- ---- the nearest of several, by the numbers that open their scopes
@@ -74,7 +74,7 @@ stays k one (Some other) here before =
     let above = leb-true k one.opened here in
     let below = leb-false k other.opened before in
     let apart : other.opened ≡ one.opened → ⊥ = λ same. omega (arith, same) in
-    ap (λ b. cond b other one) (or_from _ _ (le-ltb one.opened other.opened (omega arith)) (and_left _ _ (ne_eqb other.opened one.opened apart)))
+    ap (λ b. cond b other one) (or_from (nat_lt one.opened other.opened) (other.opened == one.opened && nat_lt other.node.0 one.node.0) (le-ltb one.opened other.opened (omega arith)) (and_left (other.opened == one.opened) (nat_lt other.node.0 one.node.0) (ne_eqb other.opened one.opened apart)))
 
 -- ---- rows by the numbers that open their scopes
 

@@ -7,12 +7,12 @@ use Rattle.pj_types.specs.Members.{FoundField}
 use Rattle.pj_declared.specs.declared.nearest.Declared.{Declared}
 use Rattle.pj_inherited.specs.Around.{searched}
 use Rattle.pj_variables.specs.StaticImports.{static_imports}
-use Rattle.pj_variables.specs.VariableName.{Meant, Declared', Inherited, field_around, imported_field, inherited}
+use Rattle.pj_variables.specs.VariableName.{Meant, DeclaredAt, Inherited, field_around, imported_field, inherited}
 
 -- what the file declares, and else what a static import gives
 abbrev pub declared_or : Tree → List ℕ → Option Declared → Asking (Option Meant)
 declared_or t name None = inherited (first_hit (imported_field t name) (static_imports t name))
-declared_or t name (Some found) = Return (Some (Declared' found.node))
+declared_or t name (Some found) = Return (Some (DeclaredAt found.node))
 
 abbrev pub inherited_or : Option FoundField → Asking (Option Meant) → Asking (Option Meant)
 inherited_or None rest = rest

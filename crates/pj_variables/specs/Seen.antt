@@ -4,10 +4,10 @@ use Rattle.std.specs.Option.{option_map}
 use Rattle.pj_types.specs.Members.{field_view}
 use Rattle.pj_variables.specs.declared.variable.Variable.{Variable}
 use Rattle.pj_variables.specs.declared.variable.Variable.TheVariants as code
-use Rattle.pj_variables.specs.VariableName.{Meant, Declared', Inherited}
+use Rattle.pj_variables.specs.VariableName.{Meant, DeclaredAt, Inherited}
 
 abbrev pub variable_view : Variable → Meant
-variable_view (code.Declared node) = Declared' node
+variable_view (code.Declared node) = DeclaredAt node
 variable_view (code.Inherited field) = Inherited (field_view field)
 
 -- a variable, where there is one

@@ -30,7 +30,7 @@ use Rattle.pj_variables.specs.StaticImports.{imported_class, static_imports}
 
 -- A variable: one that the file declares, by the node of its name, or a field along the supertypes of a class.
 pub data Meant : Type 0 where
-  Declared' : Node → Meant
+  DeclaredAt : Node → Meant
   Inherited : FoundField → Meant
 
 -- One thing that is looked at: a variable of the name that is in scope, what a class around the place inherits, a static import.
@@ -86,7 +86,7 @@ abbrev pub inherited : Asking (Option FoundField) → Asking (Option Meant)
 inherited field = bind field (λ found. Return (option_map Inherited found))
 
 abbrev pub meant_by : Tree → List ℕ → Step → Asking (Option Meant)
-meant_by t name (Declares n) = Return (Some (Declared' n))
+meant_by t name (Declares n) = Return (Some (DeclaredAt n))
 meant_by t name (Inherits class) = inherited (field_around t name class)
 meant_by t name (Imports import) = inherited (imported_field t name import)
 

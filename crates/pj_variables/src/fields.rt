@@ -4,7 +4,6 @@ ghost use Rattle.std.specs.Prelude.{◌≡◌, ◌<◌, length};
 ghost use Rattle.std.specs.List.{All};
 ghost use Rattle.pj_names.specs.Asking.{first_hit};
 ghost use Rattle.pj_names.specs.Told.{Asks, seen};
-ghost use Rattle.pj_tree.specs.declared.node.Node.{Node};
 ghost use Rattle.pj_members.specs.Seen.{seen_field};
 ghost use Rattle.pj_inherited.specs.Around.{searched};
 ghost use Rattle.pj_variables.specs.StaticImports.{static_imports};

@@ -6,7 +6,6 @@ ghost use Rattle.std.specs.Option.{option_copied};
 ghost use Rattle.pj_declared.specs.Imports.{imported_name};
 ghost use Rattle.pj_imports.specs.Imports.{imported_text, is_on_demand, is_sign, joined};
 ghost use Rattle.pj_tree.specs.Tree.{children_of};
-ghost use Rattle.pj_tree.specs.declared.node.Node.{Node};
 ghost use Rattle.pj_variables.specs.StaticImports.{imported_class, imports_all, imports_name, is_named, static_imports};
 
 use pj_base::{NoMemory, Text};
@@ -47,11 +46,7 @@ fn imported_text(alloc: Global, tree: &SyntaxTree<'_>, import: Node) -> Result<T
 }
 
 /// The class whose static members are imported: what stands before the last dot.
-pub fn imported_class(
-    alloc: Global,
-    tree: &SyntaxTree<'_>,
-    import: Node,
-) -> Result<Text, NoMemory>
+pub fn imported_class(alloc: Global, tree: &SyntaxTree<'_>, import: Node) -> Result<Text, NoMemory>
     requires inside { import.0 < length tree.now.nodes }
     ensures { IfOk result (λ text. text ≡ imported_class tree.now import) }
 {
@@ -143,16 +138,20 @@ fn put_on_demand(nodes: &mut Nodes, tree: &SyntaxTree<'_>) -> Result<(), NoMemor
 }
 
 /// The static imports by which a name may be known: those of the name, and then those on demand.
-pub fn static_imports(
-    alloc: Global,
-    tree: &SyntaxTree<'_>,
-    name: &str,
-) -> Result<Nodes, NoMemory>
-    ensures value { IfOk result (λ nodes. nodes ≡ static_imports tree.now name.now) }
-    ensures inside { IfOk result (λ nodes. All (λ (m : Node). m.0 < length tree.now.nodes) nodes) }
+fn listed(alloc: Global, tree: &SyntaxTree<'_>, name: &str) -> Result<Nodes, NoMemory>
+    ensures { IfOk result (λ nodes. nodes ≡ static_imports tree.now name.now) }
 {
     let mut nodes = Nodes::new(alloc);
     put_named(&mut nodes, tree, name)?;
     put_on_demand(&mut nodes, tree)?;
+    Ok(nodes)
+}
+
+/// The same, with that each is a node of the tree.
+pub fn static_imports(alloc: Global, tree: &SyntaxTree<'_>, name: &str) -> Result<Nodes, NoMemory>
+    ensures value { IfOk result (λ nodes. nodes ≡ static_imports tree.now name.now) }
+    ensures inside { IfOk result (λ nodes. All (λ (m : Node). m.0 < length tree.now.nodes) nodes) }
+{
+    let nodes = listed(alloc, tree, name)?;
     Ok(nodes)
 }

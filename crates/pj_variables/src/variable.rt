@@ -1,11 +1,13 @@
 //! Names of variables at a place.
 
-ghost use Rattle.std.specs.Prelude.{◌≡◌, ◌<◌, length};
+ghost use Rattle.std.specs.Prelude.{◌≡◌, ◌<◌, length, IfOk, IfSome, ℕ};
+ghost use Rattle.std.specs.Option.{option_map};
 ghost use Rattle.pj_names.specs.Told.{Asks, seen};
+ghost use Rattle.pj_members.specs.Seen.{seen_field};
 ghost use Rattle.pj_declared.specs.Nearest.{variable_meant};
 ghost use Rattle.pj_variables.specs.Searched.{declared_or, found_or};
-ghost use Rattle.pj_variables.specs.Seen.{seen_variable};
-ghost use Rattle.pj_variables.specs.VariableName.{variable_name};
+ghost use Rattle.pj_variables.specs.Seen.{IsInside, seen_variable};
+ghost use Rattle.pj_variables.specs.VariableName.{Inherited, variable_name};
 
 use crate::fields::{by_static_imports, first_inherited};
 use pj_declared::Declared;
@@ -24,8 +26,20 @@ pub enum Variable {
     Inherited(Field),
 }
 
+/// The variable of the name that the file declares and that is in scope at the place.
+fn declaration_at(file: &File<'_>, name: &str, place: Node) -> Option<Declared>
+    requires inside { place.0 < length file.now.nodes }
+    ensures value { result ≡ variable_meant file.now name.now place }
+    ensures inside { IfSome result (λ found. found.node.0 < length file.now.nodes) }
+{
+    file.declarations().variable(name, place)
+}
+
 /// What a field is that was looked for along supertypes.
-fn of_field(field: Option<Field>) -> Option<Variable> {
+fn of_field(field: Option<Field>) -> Option<Variable>
+    ensures value { seen_variable result ≡ option_map Inherited (seen_field field) }
+    ensures inside { (count : ℕ) → IfSome result (IsInside count) }
+{
     match field {
         Some(field) => Some(Variable::Inherited(field)),
         None => None,
@@ -41,7 +55,9 @@ fn declared_or_imported<O: Oracle>(
     name: &str,
     found: Option<Declared>,
 ) -> Result<Option<Variable>, AskFault>
-    ensures { Asks (declared_or file.now name.now found) (O.tells oracle.old) (O.tells oracle.new) (seen seen_variable result) }
+    requires found { IfSome found (λ d. d.node.0 < length file.now.nodes) }
+    ensures inside { IfOk result (λ variable. IfSome variable (IsInside (length file.now.nodes))) }
+    ensures asks { Asks (declared_or file.now name.now found) (O.tells oracle.old) (O.tells oracle.new) (seen seen_variable result) }
 {
     if let Some(found) = found {
         return Ok(Some(Variable::Declared(found.node)));
@@ -61,7 +77,9 @@ fn found_or_inherited<O: Oracle>(
     found: Option<Declared>,
 ) -> Result<Option<Variable>, AskFault>
     requires inside { place.0 < length file.now.nodes }
-    ensures { Asks (found_or file.now name.now place found) (O.tells oracle.old) (O.tells oracle.new) (seen seen_variable result) }
+    requires found { IfSome found (λ d. d.node.0 < length file.now.nodes) }
+    ensures inside { IfOk result (λ variable. IfSome variable (IsInside (length file.now.nodes))) }
+    ensures asks { Asks (found_or file.now name.now place found) (O.tells oracle.old) (O.tells oracle.new) (seen seen_variable result) }
 {
     let hit = first_inherited(alloc, file, oracle, name, place, found)?;
     match hit {
@@ -83,8 +101,9 @@ pub fn variable_name<O: Oracle>(
     name: &str,
 ) -> Result<Option<Variable>, AskFault>
     requires inside { place.0 < length file.now.nodes }
-    ensures { Asks (variable_name file.now place name.now) (O.tells oracle.old) (O.tells oracle.new) (seen seen_variable result) }
+    ensures inside { IfOk result (λ variable. IfSome variable (IsInside (length file.now.nodes))) }
+    ensures asks { Asks (variable_name file.now place name.now) (O.tells oracle.old) (O.tells oracle.new) (seen seen_variable result) }
 {
-    let found = file.declarations().variable(name, place);
+    let found = declaration_at(file, name, place);
     found_or_inherited(alloc, file, oracle, name, place, found)
 }

@@ -1,4 +1,4 @@
-use Rattle.std.proofs.Common.{length}
+use Rattle.std.proofs.Common.{filter, length}
 use Rattle.pj_tree.specs.Tree.{children_of}
 use Rattle.pj_tree.specs.declared.node.Node.{Node}
 use Rattle.pj_written.proofs.Inside.{append_inside, children_inside, inside_by}
@@ -14,5 +14,5 @@ returns-clause-inside c =
     let count = length t.nodes in
     let children = children_of t root in
     let inside = children_inside t root in
-    inside_by count _ (static_imports t name) (search rules)
+    inside_by count _ (static_imports t name) c.in_ok-nodes.ensures
     (append_inside count (filter (imports_name t name) children) (filter (imports_all t) children) (filtered_inside count (imports_name t name) children inside) (filtered_inside count (imports_all t) children inside))
