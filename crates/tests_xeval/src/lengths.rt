@@ -20,55 +20,97 @@ fn integer(alloc: Global, value: i64) -> Result<Box<Expr>, NoMemory> {
     Ok(Box::new(alloc, Expr::Integer(Some(value)))?)
 }
 
-/// The first operand plus the second.
-fn sum_of_two(alloc: Global, first: Box<Expr>, second: Expr) -> Result<Expr, NoMemory> {
+/// What is added to a first operand: one expression.
+fn one_more(alloc: Global, expr: Expr) -> Result<Vec<(Additive, Expr)>, NoMemory> {
     let mut rest = Vec::new(alloc);
-    rest.push((Additive::Plus, second))?;
-    Ok(Expr::Additive(first, rest))
+    rest.push((Additive::Plus, expr))?;
+    Ok(rest)
+}
+
+/// The variable `x` plus 1.
+fn next_value(alloc: Global) -> Result<Expr, NoMemory> {
+    let rest = one_more(alloc, Expr::Integer(Some(1)))?;
+    Ok(Expr::Additive(variable(alloc)?, rest))
 }
 
 /// A binding of `x` to what stood before it plus 1.
 fn next_binding(alloc: Global) -> Result<(Text, Expr), NoMemory> {
     let name = Text::from_str(alloc, "x")?;
-    let value = sum_of_two(alloc, variable(alloc)?, Expr::Integer(Some(1)))?;
-    Ok((name, value))
+    Ok((name, next_value(alloc)?))
+}
+
+/// Puts a binding of `x` to 1.
+fn put_first(alloc: Global, all: &mut Vec<(Text, Expr)>) -> Result<(), NoMemory> {
+    let name = Text::from_str(alloc, "x")?;
+    all.push((name, Expr::Integer(Some(1))))?;
+    Ok(())
+}
+
+/// Puts a binding of `x` to what stood before it plus 1.
+fn put_next(alloc: Global, all: &mut Vec<(Text, Expr)>) -> Result<(), NoMemory> {
+    all.push(next_binding(alloc)?)?;
+    Ok(())
+}
+
+/// Puts many of these.
+fn put_many(alloc: Global, all: &mut Vec<(Text, Expr)>) -> Result<(), NoMemory> {
+    for _ in 0..MANY {
+        put_next(alloc, all)?;
+    }
+    Ok(())
 }
 
 /// The variables `x`, the first of which is 1 and each further one what stands before it plus 1.
 fn bindings(alloc: Global) -> Result<Vec<(Text, Expr)>, NoMemory> {
     let mut all = Vec::new(alloc);
-    all.push((Text::from_str(alloc, "x")?, Expr::Integer(Some(1))))?;
-    for _ in 0..MANY {
-        all.push(next_binding(alloc)?)?;
-    }
+    put_first(alloc, &mut all)?;
+    put_many(alloc, &mut all)?;
     Ok(all)
+}
+
+/// Puts many literals of one integer.
+fn put_integers(all: &mut Vec<Expr>, value: i64) -> Result<(), NoMemory> {
+    for _ in 0..MANY {
+        all.push(Expr::Integer(Some(value)))?;
+    }
+    Ok(())
 }
 
 /// Many literals of one integer.
 fn integers(alloc: Global, value: i64) -> Result<Vec<Expr>, NoMemory> {
     let mut all = Vec::new(alloc);
-    for _ in 0..MANY {
-        all.push(Expr::Integer(Some(value)))?;
-    }
+    put_integers(&mut all, value)?;
     Ok(all)
+}
+
+/// Puts many context items.
+fn put_contexts(all: &mut Vec<Expr>) -> Result<(), NoMemory> {
+    for _ in 0..MANY {
+        all.push(Expr::ContextItem)?;
+    }
+    Ok(())
 }
 
 /// An expression, and many context items behind it.
 fn contexts(alloc: Global, first: Expr) -> Result<Vec<Expr>, NoMemory> {
     let mut all = Vec::new(alloc);
     all.push(first)?;
-    for _ in 0..MANY {
-        all.push(Expr::ContextItem)?;
-    }
+    put_contexts(&mut all)?;
     Ok(all)
+}
+
+/// Puts many times plus 1.
+fn put_terms(rest: &mut Vec<(Additive, Expr)>) -> Result<(), NoMemory> {
+    for _ in 0..MANY {
+        rest.push((Additive::Plus, Expr::Integer(Some(1))))?;
+    }
+    Ok(())
 }
 
 /// Many times plus 1.
 fn many_more(alloc: Global) -> Result<Vec<(Additive, Expr)>, NoMemory> {
     let mut rest = Vec::new(alloc);
-    for _ in 0..MANY {
-        rest.push((Additive::Plus, Expr::Integer(Some(1))))?;
-    }
+    put_terms(&mut rest)?;
     Ok(rest)
 }
 
@@ -77,11 +119,17 @@ fn long_sum(alloc: Global) -> Result<Expr, NoMemory> {
     Ok(Expr::Additive(integer(alloc, 1)?, rest))
 }
 
+/// 1 plus an expression.
+fn deeper(alloc: Global, expr: Expr) -> Result<Expr, NoMemory> {
+    let rest = one_more(alloc, expr)?;
+    Ok(Expr::Additive(integer(alloc, 1)?, rest))
+}
+
 /// A sum as deep as an expression can be nested.
 fn deep_sum(alloc: Global) -> Result<Expr, NoMemory> {
     let mut sum = Expr::Integer(Some(1));
     for _ in 0..200 {
-        sum = sum_of_two(alloc, integer(alloc, 1)?, sum)?;
+        sum = deeper(alloc, sum)?;
     }
     Ok(sum)
 }
