@@ -5,7 +5,7 @@ ghost use Rattle.std.specs.Prelude.{◌≡◌, ◌<◌, ◌≤◌, Ok};
 ghost use Rattle.pj_parse.specs.Parses.{Parses, file_parsed};
 ghost use Rattle.pj_parse.specs.PoolText.{IsPoolOf};
 
-use crate::shown::{Row, expect, node_at, put};
+use crate::shown::{Row, expect, node_at, put, put_both};
 use pj_attrs::{Facts, effective_modifiers, explicit_modifiers, tokens_are_in_order};
 use pj_base::NoMemory;
 use pj_lex::Source;
@@ -53,7 +53,7 @@ fn put_set(out: &mut String, set: Modifiers) -> Result<(), NoMemory> {
 /// Puts two sets of modifiers, with a bar between them.
 fn put_sets(out: &mut String, written: Modifiers, effective: Modifiers) -> Result<(), NoMemory> {
     put_set(out, written)?;
-    put(out, &[" |"])?;
+    put(out, " |")?;
     put_set(out, effective)
 }
 
@@ -191,12 +191,12 @@ fn put_class(out: &mut String, class: &Class) -> Result<(), NoMemory> {
 /// Puts the number, the kind and the name of a variable.
 fn put_variable(out: &mut String, variable: &Variable) -> Result<(), NoMemory> {
     write!(out, " {} {:?}", variable.node.0, variable.kind)?;
-    put(out, &[" ", variable.name.as_str()])
+    put_both(out, " ", variable.name.as_str())
 }
 
 /// Puts what a file declares: its package, its classes and its variables.
 fn put_symbols(out: &mut String, symbols: &Symbols) -> Result<(), NoMemory> {
-    put(out, &[symbols.package_name()])?;
+    put(out, symbols.package_name())?;
     for class in symbols.classes().as_slice() {
         put_class(out, class)?;
     }
@@ -270,18 +270,18 @@ fn put_source(
 ) -> Result<(), NoMemory> {
     match parse(alloc, source) {
         Ok(parsed) => put_file(alloc, out, source, &parsed, offset),
-        Err(_) => put(out, &["no tree"]),
+        Err(_) => put(out, "no tree"),
     }
 }
 
 /// The same of a text.
 fn put_text(alloc: Global, out: &mut String, text: &str, offset: u32) -> Result<(), NoMemory> {
     if text.len() > 1_000_000 {
-        return put(out, &["long"]);
+        return put(out, "long");
     }
     match Source::read(alloc, text.as_bytes()) {
         Ok(source) => put_source(alloc, out, &source, offset),
-        Err(_) => put(out, &["no text"]),
+        Err(_) => put(out, "no text"),
     }
 }
 

@@ -45,18 +45,28 @@ pub fn node_at(tree: &SyntaxTree<'_>, kind: &str, place: u32) -> Option<Node>
     None
 }
 
-/// Puts pieces behind what there is.
-pub fn put(out: &mut String, pieces: &[&str]) -> Result<(), NoMemory> {
-    for piece in pieces {
-        out.push_str(piece)?;
-    }
+/// Puts a text behind what there is.
+pub fn put(out: &mut String, text: &str) -> Result<(), NoMemory> {
+    out.push_str(text)?;
     Ok(())
 }
 
-/// Puts an integer attribute.
+/// Puts a text and another one.
+pub fn put_both(out: &mut String, first: &str, second: &str) -> Result<(), NoMemory> {
+    put(out, first)?;
+    put(out, second)
+}
+
+/// Puts the name and the text of a string attribute.
+fn put_string(out: &mut String, name: &str, text: &str) -> Result<(), NoMemory> {
+    put_both(out, " ", name)?;
+    put_both(out, "=", text)
+}
+
+/// Puts the name and the number of an integer attribute.
 fn put_number(out: &mut String, name: &str, number: i64) -> Result<(), NoMemory> {
-    put(out, &[" ", name, "="])?;
-    write!(out, "{number}")?;
+    put_both(out, " ", name)?;
+    write!(out, "={number}")?;
     Ok(())
 }
 
@@ -64,10 +74,10 @@ fn put_number(out: &mut String, name: &str, number: i64) -> Result<(), NoMemory>
 /// with its value, or with `-` if it has none.
 fn put_attribute(out: &mut String, name: &str, value: Option<Value<'_>>) -> Result<(), NoMemory> {
     match value {
-        None => put(out, &[" ", name, "=-"]),
-        Some(Value::Str(text)) => put(out, &[" ", name, "=", text]),
+        None => put_string(out, name, "-"),
+        Some(Value::Str(text)) => put_string(out, name, text),
         Some(Value::Int(number)) => put_number(out, name, number),
-        Some(Value::Bool(true)) => put(out, &[" ", name]),
+        Some(Value::Bool(true)) => put_both(out, " ", name),
         Some(Value::Bool(false)) => Ok(()),
     }
 }
@@ -199,16 +209,16 @@ fn have_in_text(alloc: Global, text: &str, table: &Table) -> Result<bool, NoMemo
 /// Puts pieces of code, each with a sign behind it.
 fn put_pieces(out: &mut String, behind: &str, pieces: &[(&str, &str)]) -> Result<(), NoMemory> {
     for (piece, _) in pieces {
-        put(out, &[*piece, behind])?;
+        put_both(out, piece, behind)?;
     }
     Ok(())
 }
 
 /// Puts a text of pieces of code in their frame.
 fn put_text(out: &mut String, frame: &Frame, pieces: &[(&str, &str)]) -> Result<(), NoMemory> {
-    put(out, &[frame.0])?;
+    put(out, frame.0)?;
     put_pieces(out, frame.1, pieces)?;
-    put(out, &[frame.2])
+    put(out, frame.2)
 }
 
 /// Whether the nodes of a table with pieces in a frame have just their attributes.
