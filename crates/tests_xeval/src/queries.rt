@@ -21,7 +21,7 @@ use std::test::Fail;
 /// Writes twelve nodes: 0 the unit, with 1, 5 and 10; the class 1 has the identifier 2 and the block 3, which has the
 /// identifier 4; the class 5 has the block 6 with the identifier 7, the identifier 8 and the block 9; the method 10 has the
 /// block 11.
-fn write_nodes(builder: &mut Builder<'_>) -> Result<(), NoMemory>
+fn write_nodes(builder: &mut Builder<'static>) -> Result<(), NoMemory>
     requires { builder.old ≡ started [] }
     ensures { IfOk result (λ _. builder.new ≡ built [] (calls_of nodes)) }
 {
@@ -54,7 +54,7 @@ fn write_nodes(builder: &mut Builder<'_>) -> Result<(), NoMemory>
 
 /// The tree of those nodes.
 pub fn tree(alloc: Global) -> Result<SyntaxTree<'static>, ShapeFault> {
-    let mut builder = Builder::new(alloc, "");
+    let mut builder: Builder<'static> = Builder::new(alloc, "");
     write_nodes(&mut builder)?;
     builder.finish()
 }

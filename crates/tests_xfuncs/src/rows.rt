@@ -32,7 +32,8 @@ fn push_two(items: &mut Sequence<'static>) -> Result<(), NoMemory> {
 /// The strings of the variable `two`.
 fn two(alloc: Global) -> Result<Sequence<'static>, NoMemory> {
     let mut items = Sequence::new(alloc);
-    push_two(&mut items)?;
+    items.push(Item::Borrowed("a"))?;
+    items.push(Item::Borrowed("b"))?;
     Ok(items)
 }
 
@@ -72,7 +73,7 @@ fn bind_all(alloc: Global, variables: &mut BoundVars<'static>) -> Result<(), NoM
 
 /// The variables: `p` is a string that is a pattern, `n` an integer, and `two` two strings.
 fn variables(alloc: Global) -> Result<BoundVars<'static>, NoMemory> {
-    let mut variables = BoundVars::new(alloc);
+    let mut variables: BoundVars<'static> = BoundVars::new(alloc);
     bind_all(alloc, &mut variables)?;
     Ok(variables)
 }
@@ -142,7 +143,7 @@ fn push_items(alloc: Global, expr: &Expr, items: &mut Sequence<'static>) -> Resu
 
 /// The items of an argument.
 fn items_of(alloc: Global, argument: &Expr) -> Result<Sequence<'static>, NoMemory> {
-    let mut items = Sequence::new(alloc);
+    let mut items: Sequence<'static> = Sequence::new(alloc);
     push_items(alloc, argument, &mut items)?;
     Ok(items)
 }
