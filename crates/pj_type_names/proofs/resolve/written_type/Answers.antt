@@ -1,0 +1,10 @@
+use Rattle.std.proofs.Common.{ℕ, subst}
+use Rattle.pj_names.specs.JavaType.{java_type}
+use Rattle.pj_names.specs.Told.{Asks, seen}
+use Rattle.pj_type_names.specs.Searching as resolution
+use Rattle.pj_type_names.proofs.resolve.written_type.Goals as goal
+
+pub returns : goal.returns
+returns g c =
+    subst (λ (left : ℕ). Asks (resolution.type_written c.args.file.now left c.args.busy.now 1 0 c.args.behind c.args.n) (g.O.Oracle.tells c.args.oracle.now) (g.O.Oracle.tells c.type_written.new.oracle) (seen java_type c.type_written.result))
+    c.enough.ensures c.type_written.ensures

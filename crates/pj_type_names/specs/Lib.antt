@@ -1,0 +1,5 @@
+-- definitions
+pub mod Resolved
+pub mod TypeName
+-- for private clauses
+pub mod Searching

@@ -1,0 +1,11 @@
+//! Names of types at a place of a Java file, and the types that are written in it (JLS 6.5.5, 4.3): what a simple name means, by the scopes of
+//! the file and what its classes inherit, and behind them by imports and the package; as computations that ask an oracle for classes.
+#![tactic(auto)]
+
+mod laws;
+mod read;
+mod resolve;
+mod stage;
+
+pub use laws::{headers_end, sources_agree};
+pub use resolve::{type_name, written_bound, written_type};
