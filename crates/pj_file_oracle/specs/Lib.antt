@@ -1,0 +1,6 @@
+-- definitions
+pub mod Types
+pub mod Supertypes
+pub mod Members
+pub mod FileAnswer
+pub mod Seen

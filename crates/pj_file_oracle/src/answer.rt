@@ -1,0 +1,74 @@
+//! What a class of the file answers.
+
+ghost use Rattle.std.specs.Prelude.{◌≡◌, ◌<◌, length, IfOk};
+ghost use Rattle.pj_names.specs.Told.{Asks, seen, shared_answer};
+ghost use Rattle.pj_file_oracle.specs.FileAnswer.{class_answer, file_answer, found_with};
+
+use crate::headers::header_text;
+use crate::members::{MemberLists, members_of};
+use crate::nodes::node_named;
+use pj_base::{Copied, NoMemory, Text};
+use pj_imports::File;
+use pj_names::{Answer, AskFault, ClassInfo, ClassName, Oracle};
+use pj_tree::{Node, SyntaxTree};
+use pj_written::class_flags;
+use std::alloc::Global;
+use std::sync::Arc;
+
+/// A class that is found, by its signature and its members.
+fn found_with(
+    alloc: Global,
+    tree: &SyntaxTree<'_>,
+    name: &ClassName,
+    class: Node,
+    signature: Text,
+    members: MemberLists,
+) -> Result<Arc<Answer>, NoMemory>
+    requires inside { class.0 < length tree.now.nodes }
+    ensures { IfOk result (λ answer. shared_answer answer ≡ found_with tree.now name.now class signature members) }
+{
+    let name = name.copied()?;
+    let MemberLists { fields, methods } = members;
+    let answer = Answer::Found(ClassInfo {
+        name,
+        flags: class_flags(tree, class),
+        signature,
+        fields,
+        methods,
+    });
+    Ok(Arc::new(alloc, answer)?)
+}
+
+/// What a class of the file answers: first its header is resolved, and then its members.
+#[tactic(auto, using(pj_names::specs::AskingLaws::asking_steps))]
+fn class_answer<O: Oracle>(
+    alloc: Global,
+    file: &File<'_>,
+    oracle: &mut O,
+    name: &ClassName,
+    class: Node,
+) -> Result<Arc<Answer>, AskFault>
+    requires inside { class.0 < length file.now.nodes }
+    ensures { Asks (class_answer file.now name.now class) (O.tells oracle.old) (O.tells oracle.new) (seen shared_answer result) }
+{
+    let signature = header_text(alloc, file, oracle, class)?;
+    let members = members_of(alloc, file, oracle, class)?;
+    let answer = found_with(alloc, file.tree(), name, class, signature, members)?;
+    Ok(answer)
+}
+
+/// What the oracle of a file answers for a name: a class of the file by its declaration, and every other one is asked.
+#[tactic(auto, using(pj_names::specs::AskingLaws::asking_steps))]
+pub fn file_answer<O: Oracle>(
+    alloc: Global,
+    file: &File<'_>,
+    oracle: &mut O,
+    name: &ClassName,
+) -> Result<Arc<Answer>, AskFault>
+    ensures { Asks (file_answer file.now name.now) (O.tells oracle.old) (O.tells oracle.new) (seen shared_answer result) }
+{
+    match node_named(file, name.as_str()) {
+        Some(class) => class_answer(alloc, file, oracle, name, class),
+        None => oracle.ask(name),
+    }
+}
