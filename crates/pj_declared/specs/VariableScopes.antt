@@ -76,9 +76,10 @@ lambda_scope t id = option_map (scope_of_all id) (option_and_then (second_child 
 abbrev pub catch_scope : Tree → Node → Option Scope
 catch_scope t id = option_map (scope_of_all id) (option_and_then (λ clause. child_of t clause k.Block) (above_declaration t id))
 
--- a pattern variable (JLS 14.30.1): from the end of the pattern on
+-- A pattern variable (JLS 14.30.1): from its name on, which ends the pattern. What stands directly behind the pattern may be the body of a class, whose
+-- members are opened by that.
 abbrev pub pattern_scope : Tree → Node → Node → Option Scope
-pattern_scope t id pattern = option_map (scope_from id (behind t pattern)) (binding_end t pattern)
+pattern_scope t id pattern = option_map (scope_from id id.0) (binding_end t pattern)
 
 abbrev pub binding_scope : Tree → Node → Option Scope
 binding_scope t id = option_and_then (pattern_scope t id) (declaration_of t id)

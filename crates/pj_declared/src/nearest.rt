@@ -12,7 +12,7 @@ pub struct Declared {
     /// What declares it: the `VariableId` of a variable, the declaration of a class, or a `TypeParameter`.
     pub node: Node,
     /// The number of the node that opens its scope. A member is opened by its class; so where a class around the place has
-    /// a greater number, what that class inherits stands further in.
+    /// a greater number, what that class inherits stands further in. Nothing else is opened by the number of a class but its members.
     pub opened: u32,
 }
 

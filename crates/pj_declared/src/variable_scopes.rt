@@ -158,13 +158,14 @@ fn catch_scope(tree: &SyntaxTree<'_>, id: Node) -> Option<Scope>
     Some(scope_of_all(id, block))
 }
 
-/// The scope of the variable of the pattern.
+/// The scope of the variable of the pattern. It is opened by its name, which ends the pattern: what stands directly behind may be the body of a
+/// class, which opens scopes of its own.
 fn pattern_scope(tree: &SyntaxTree<'_>, id: Node, pattern: Node) -> Option<Scope>
     requires inside { pattern.0 < length tree.now.nodes }
     ensures { result ≡ pattern_scope tree.now id pattern }
 {
     let end = binding_end(tree, pattern)?;
-    Some(scope_from(id, behind(tree, pattern), end))
+    Some(scope_from(id, id.0, end))
 }
 
 /// The scope of a pattern variable (JLS 14.30.1).
