@@ -4,7 +4,9 @@
 mod bounds;
 mod fields;
 mod keys;
+mod laws;
 mod methods;
 
 pub use fields::find_field;
+pub use laws::sources_agree;
 pub use methods::methods_named;
