@@ -1,6 +1,6 @@
 -- The class of a dotted name. A name does not tell where its package ends and its member classes begin (JLS 6.5.2, 13.1).
 use Rattle.std.specs.Prelude.{ℕ, zero, suc, ◌+◌, ◌||◌, Bool, true, false, not, Option, None, Some, if◌then◌else◌, List, [], ◌∷◌, length, find, is_some, unwrap_or, nat_eq}
-use Rattle.std.specs.Option.{option_map_or}
+use Rattle.std.specs.Option.{option_map, option_map_or}
 use Rattle.std.specs.Cmp.Lexicographic.{pointwise}
 use Rattle.pj_names.specs.declared.answer.Answer.{Answer}
 use Rattle.pj_names.specs.declared.answer.Answer.TheVariants.{Found, Absent, Broken}
@@ -8,6 +8,7 @@ use Rattle.pj_names.specs.ClassName.{Name, is_class_name, is_object}
 use Rattle.pj_names.specs.JavaType.{JavaType, Class, Unknown, NoMore}
 use Rattle.pj_names.specs.Asking.{Asking, Return, ask, bind, first_hit}
 use Rattle.pj_tree.specs.Tree.{Tree}
+use Rattle.pj_tree.specs.declared.node.Node.{Node}
 use Rattle.pj_symbols.specs.Symbols.{classes_below}
 use Rattle.pj_symbols.specs.declared.class.Class.{Class as DeclaredClass}
 use Rattle.pj_written.specs.Names.{next_candidate}
@@ -36,6 +37,10 @@ is_there (Broken broken) = true
 -- the class of the file of a binary name: the first in the text
 abbrev pub class_named : List DeclaredClass → Name → Option DeclaredClass
 class_named classes name = find (λ class. pointwise nat_eq class.name name) classes
+
+-- the node of that class
+abbrev pub node_named : List DeclaredClass → Name → Option Node
+node_named classes name = option_map (λ class. class.node) (class_named classes name)
 
 -- a class that is known without asking
 abbrev pub is_known : List DeclaredClass → Name → Bool

@@ -4,7 +4,7 @@ ghost use Rattle.std.specs.Prelude.{◌≡◌};
 ghost use Rattle.pj_names.specs.Told.{Asks};
 ghost use Rattle.pj_imports.specs.Candidates.{asked_class, dotted_class, file_classes, first_candidate, found_class, is_known, is_there};
 
-use crate::file::{File, class_named};
+use crate::file::File;
 use pj_base::Text;
 use pj_names::{Answer, AskFault, ClassName, Oracle};
 use pj_written::next_candidate;
@@ -24,7 +24,7 @@ fn is_there(answer: &Answer) -> bool
 fn is_known(file: &File<'_>, name: &ClassName) -> bool
     ensures { result ≡ is_known (file_classes file.now) name.now }
 {
-    name.is_object() || class_named(file.classes(), name.as_str()).is_some()
+    name.is_object() || file.class_named(name.as_str()).is_some()
 }
 
 /// The class of a name outside the file, if it is there.

@@ -47,7 +47,7 @@ fn joined(alloc: Global, words: OwnTokens<'_>) -> Result<Text, NoMemory>
 }
 
 /// What an import writes without its signs: of one on demand it ends with a dot.
-fn imported_text(alloc: Global, tree: &SyntaxTree<'_>, import: Node) -> Result<Text, NoMemory>
+pub fn imported_text(alloc: Global, tree: &SyntaxTree<'_>, import: Node) -> Result<Text, NoMemory>
     requires inside { import.0 < length tree.now.nodes }
     ensures { IfOk result (λ text. text ≡ imported_text tree.now import) }
 {
@@ -55,7 +55,7 @@ fn imported_text(alloc: Global, tree: &SyntaxTree<'_>, import: Node) -> Result<T
 }
 
 /// Whether the node is an import on demand.
-fn is_on_demand(tree: &SyntaxTree<'_>, n: Node) -> bool
+pub fn is_on_demand(tree: &SyntaxTree<'_>, n: Node) -> bool
     requires inside { n.0 < length tree.now.nodes }
     ensures { result ≡ is_on_demand tree.now n }
 {

@@ -7,5 +7,5 @@ mod file;
 mod imports;
 
 pub use candidates::{dotted_class, first_candidate, found_class};
-pub use file::{File, class_named};
-pub use imports::outside;
+pub use file::File;
+pub use imports::{imported_text, is_on_demand, outside};

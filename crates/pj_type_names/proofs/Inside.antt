@@ -1,15 +1,12 @@
--- The node of a class of a file, of what a name means in it, and of the beginning of a name that is written, is a node of the tree.
+-- The node of what a name means in a file, and of the beginning of a name that is written, is a node of the tree.
 use Rattle.std.proofs.Common.{ℕ, zero, suc, ◌<◌, ◌≤◌, ◌++◌, arith, Bool, true, false, cond, List, [], ◌∷◌, length, Option, None, Some, filter}
-use Rattle.std.specs.Prelude.{find, nat_eq}
-use Rattle.std.specs.Cmp.Lexicographic.{pointwise}
+use Rattle.std.specs.Prelude.{find}
 use Rattle.std.specs.Option.{IfSome, option_and_then, option_map, option_map_or}
 use Rattle.pj_tree.specs.Tree.{Tree, children_of, parent_of}
 use Rattle.pj_tree.specs.declared.node.Node.{Node}
 use Rattle.pj_nodes.specs.Children.{child_of}
 use Rattle.pj_symbols.specs.Classes.{class_around, nesting_of}
 use Rattle.pj_symbols.specs.Kinds.{declares_class}
-use Rattle.pj_symbols.specs.Symbols.{class_at, class_of, classes_below, one_class}
-use Rattle.pj_symbols.specs.declared.class.Class.{Class as DeclaredClass}
 use Rattle.pj_symbols.specs.declared.class.Nesting.{Nesting}
 use Rattle.pj_symbols.specs.declared.class.Nesting.TheVariants.{TopLevel, Nested, Local, Anonymous}
 use Rattle.pj_tree.specs.declared.kind.Kind.TheVariants as k
@@ -24,49 +21,9 @@ use Rattle.pj_declared.specs.declared.scope.Scope.{Scope}
 use Rattle.pj_declared.specs.declared.scope.Scopes.{Scopes}
 use Rattle.pj_nodes.specs.Kinds.{is_kind}
 use Rattle.pj_nodes.proofs.Inside.{AreInside}
-use Rattle.pj_imports.specs.Candidates.{class_named, file_classes}
 use Rattle.pj_written.proofs.Inside.{children_inside}
 use Rattle.pj_written.specs.Written.{name_within, with_outer, written_name}
 use Rattle.pj_written.specs.declared.written.Written.{Written}
-use Rattle.pj_type_names.specs.TypeName.{node_named}
-
--- ---- classes of the file
-
-abbrev AreDeclared : ℕ → List DeclaredClass → Type 0
-AreDeclared count [] = Unit {0}
-AreDeclared count (class ∷ classes) = (class.node.0 < count) × AreDeclared count classes
-
-declared_append : (count : ℕ) (classes more : List DeclaredClass) → AreDeclared count classes → AreDeclared count more → AreDeclared count (classes ++ more)
-declared_append count [] more first second = second
-declared_append count (class ∷ classes) more first second = (first.0, declared_append count classes more first.1 second)
-
-declared_one : (count : ℕ) (b : Bool) (class : DeclaredClass) → class.node.0 < count → AreDeclared count (one_class (cond b (Some class) None))
-declared_one count true class inside = (inside, tt)
-declared_one count false class inside = tt
-
-declared_below : (t : Tree) (count n : ℕ) → n ≤ count → AreDeclared count (classes_below t n)
-declared_below t count zero few = tt
-declared_below t count (suc n) few =
-    let node : Node = record { 0 = n } in
-    declared_append count (classes_below t n) (one_class (class_at t node)) (declared_below t count n (omega (arith, few)))
-    (declared_one count (declares_class t node) (class_of t node) (omega (arith, few)))
-
-found_cond : (count : ℕ) (b : Bool) (class : DeclaredClass) (found : Option DeclaredClass) → class.node.0 < count → IfSome found (λ c. c.node.0 < count) → IfSome (cond b (Some class) found) (λ c. c.node.0 < count)
-found_cond count true class found first rest = first
-found_cond count false class found first rest = rest
-
-found_declared : (count : ℕ) (p : DeclaredClass → Bool) (classes : List DeclaredClass) → AreDeclared count classes → IfSome (find p classes) (λ c. c.node.0 < count)
-found_declared count p [] inside = tt
-found_declared count p (class ∷ classes) inside = found_cond count (p class) class (find p classes) inside.0 (found_declared count p classes inside.1)
-
-node_inside : (count : ℕ) (found : Option DeclaredClass) → IfSome found (λ c. c.node.0 < count) → IfSome (option_map (λ (class : DeclaredClass). class.node) found) (λ n. n.0 < count)
-node_inside count None inside = tt
-node_inside count (Some class) inside = inside
-
-pub node_named_inside : (t : Tree) (name : List ℕ) → IfSome (node_named (file_classes t) name) (λ n. n.0 < length t.nodes)
-node_named_inside t name =
-    node_inside (length t.nodes) (class_named (file_classes t) name)
-    (found_declared (length t.nodes) (λ class. pointwise nat_eq class.name name) (file_classes t) (declared_below t (length t.nodes) (length t.nodes) (omega arith)))
 
 -- ---- rows of types
 

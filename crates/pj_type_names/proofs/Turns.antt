@@ -27,9 +27,9 @@ use Rattle.pj_written.specs.Fits.{argument_by, bare, brackets, fits, fits_within
 use Rattle.pj_written.specs.Types.{arrays, object_type}
 use Rattle.pj_written.specs.Words.{below_child}
 use Rattle.pj_tree.specs.declared.kind.Kind.TheVariants as k
-use Rattle.pj_imports.specs.Candidates.{file_classes}
+use Rattle.pj_imports.specs.Candidates.{file_classes, node_named}
 use Rattle.pj_type_names.specs.Searching as resolution
-use Rattle.pj_type_names.specs.TypeName.{direct, node_named, supertypes_by}
+use Rattle.pj_type_names.specs.TypeName.{direct, supertypes_by}
 
 -- ---- asking
 

@@ -21,7 +21,6 @@
 -- Nothing is held here, and a header within a header is taken anew under the set of the search that needs it.
 use Rattle.std.specs.Prelude.{◌≡◌, ℕ, zero, suc, ◌+◌, ◌≤◌, ◌==◌, Bool, Option, None, Some, if◌then◌else◌, List, [], ◌∷◌, ◌++◌, length}
 use Rattle.std.specs.List.{list_any}
-use Rattle.std.specs.Option.{option_map}
 use Rattle.pj_tree.specs.Tree.{Tree}
 use Rattle.pj_tree.specs.declared.node.Node.{Node}
 use Rattle.pj_names.specs.ClassName.{Name, is_class_name, is_object}
@@ -34,7 +33,7 @@ use Rattle.pj_declared.specs.Rows.{names_type_parameter}
 use Rattle.pj_written.specs.Headers.{all_bounds, bounds_of, class_text, implied_supertypes, written_supertypes}
 use Rattle.pj_written.specs.Types.{class_of_text, object_type}
 use Rattle.pj_written.specs.Written.{name_of_text}
-use Rattle.pj_imports.specs.Candidates.{class_named, file_classes}
+use Rattle.pj_imports.specs.Candidates.{file_classes, node_named}
 use Rattle.pj_imports.specs.Imports.{outside}
 use Rattle.pj_inherited.specs.Around.{searched}
 use Rattle.pj_inherited.specs.Inherited.{class_names, inherited_member, member_along, outside_supertypes}
@@ -128,10 +127,6 @@ module _ (t : Tree) (classes : List DeclaredClass) (supers : Name → Asking (Li
 -- whether the header of a class is being resolved
 abbrev pub is_busy : List ℕ → Node → Bool
 is_busy busy n = list_any (λ m. m == n.0) busy
-
--- the node of the class of the file of a binary name
-abbrev pub node_named : List DeclaredClass → Name → Option Node
-node_named classes name = option_map (λ class. class.node) (class_named classes name)
 
 -- By what the direct supertypes of a class are where the headers of some classes are being resolved.
 module _ (t : Tree) (classes : List DeclaredClass) (deeper : List ℕ → Name → Asking (List Name)) where

@@ -4,16 +4,15 @@ ghost use Rattle.std.specs.Prelude.{◌≡◌, ◌<◌, ◌≤◌, ◌+◌, ◌+
 ghost use Rattle.pj_names.specs.JavaType.{Variable, java_type, type_list};
 ghost use Rattle.pj_declared.specs.Nearest.{type_meant};
 ghost use Rattle.pj_declared.specs.Rows.{is_type_parameter, names_type_parameter};
-ghost use Rattle.pj_imports.specs.Candidates.{file_classes};
 ghost use Rattle.pj_inherited.specs.Inherited.{class_names};
 ghost use Rattle.pj_written.specs.Fits.{fits};
 ghost use Rattle.pj_written.specs.Headers.{implied_supertypes};
 ghost use Rattle.pj_written.specs.Written.{written_name};
-ghost use Rattle.pj_type_names.specs.TypeName.{enough, member_found, node_named};
+ghost use Rattle.pj_type_names.specs.TypeName.{enough, member_found};
 
 use pj_base::{NoMemory, Text};
 use pj_declared::Declared;
-use pj_imports::{File, class_named};
+use pj_imports::File;
 use pj_inherited::with_classes;
 use pj_names::{ClassName, ClassNames, Ty, TyList};
 use pj_tree::{Kind, Node, SyntaxTree};
@@ -28,17 +27,6 @@ pub fn enough(file: &File<'_>) -> usize
 {
     let _nodes = file.tree().len();
     file.classes().len() + 1
-}
-
-/// The node of the class of the file that has the binary name.
-pub fn node_named(file: &File<'_>, name: &str) -> Option<Node>
-    ensures value { result ≡ node_named (file_classes file.now) name.now }
-    ensures inside { IfSome result (λ n. n.0 < length file.now.nodes) }
-{
-    match class_named(file.classes(), name) {
-        Some(class) => Some(class.node),
-        None => None,
-    }
 }
 
 /// The class or type parameter of the file that a simple name means at a place.

@@ -20,7 +20,7 @@ ghost use Rattle.pj_written.specs.Written.{name_of_text};
 
 use crate::read::{
     absent_member, enough, fits_behind, made_variable, name_written, names_type_parameter,
-    node_named, type_meant, with_implied,
+    type_meant, with_implied,
 };
 use crate::stage::{Entered, MOST_ENTERED, MOST_NESTED, Stage, is_busy};
 use pj_base::{Copied, Names, Numbers, Text};
@@ -45,7 +45,7 @@ const MOST_CLASSES: u64 = 4294967294;
 #[tactic(auto, using(pj_names::specs::AskingLaws::asking_steps))]
 fn direct_supertypes<O: Oracle>(
     alloc: Global,
-    stage: &Stage<'_>,
+    stage: &Stage<'_, '_>,
     oracle: &mut O,
     entered: &mut Entered,
     name: &ClassName,
@@ -63,7 +63,7 @@ fn direct_supertypes<O: Oracle>(
 #[tactic(auto, using(pj_names::specs::AskingLaws::asking_steps))]
 fn supertypes_by<O: Oracle>(
     alloc: Global,
-    stage: &Stage<'_>,
+    stage: &Stage<'_, '_>,
     oracle: &mut O,
     entered: &mut Entered,
     name: &ClassName,
@@ -74,7 +74,7 @@ fn supertypes_by<O: Oracle>(
     if name.is_object() {
         return Ok(ClassNames::new(alloc));
     }
-    match node_named(stage.file, name.as_str()) {
+    match stage.file.node_named(name.as_str()) {
         Some(class) => of_file(alloc, stage, oracle, entered, class),
         None => outside_supertypes(alloc, oracle, name),
     }
@@ -85,7 +85,7 @@ fn supertypes_by<O: Oracle>(
 #[tactic(auto, using(pj_names::specs::AskingLaws::asking_steps))]
 fn of_file<O: Oracle>(
     alloc: Global,
-    stage: &Stage<'_>,
+    stage: &Stage<'_, '_>,
     oracle: &mut O,
     entered: &mut Entered,
     class: Node,
@@ -118,7 +118,7 @@ fn of_file<O: Oracle>(
 #[tactic(auto, using(pj_names::specs::AskingLaws::asking_steps))]
 fn header_supertypes<O: Oracle>(
     alloc: Global,
-    stage: &Stage<'_>,
+    stage: &Stage<'_, '_>,
     oracle: &mut O,
     entered: &mut Entered,
     class: Node,
@@ -136,7 +136,7 @@ fn header_supertypes<O: Oracle>(
 #[tactic(auto, using(pj_names::specs::AskingLaws::asking_steps))]
 fn header_bounds<O: Oracle>(
     alloc: Global,
-    stage: &Stage<'_>,
+    stage: &Stage<'_, '_>,
     oracle: &mut O,
     entered: &mut Entered,
     class: Node,
@@ -155,7 +155,7 @@ fn header_bounds<O: Oracle>(
 #[tactic(auto, using(pj_names::specs::AskingLaws::asking_steps))]
 fn header_names<O: Oracle>(
     alloc: Global,
-    stage: &Stage<'_>,
+    stage: &Stage<'_, '_>,
     oracle: &mut O,
     entered: &mut Entered,
     class: Node,
@@ -174,7 +174,7 @@ fn header_names<O: Oracle>(
 #[tactic(auto, using(pj_names::specs::AskingLaws::asking_steps))]
 fn header_types<O: Oracle>(
     alloc: Global,
-    stage: &Stage<'_>,
+    stage: &Stage<'_, '_>,
     oracle: &mut O,
     entered: &mut Entered,
     class: Node,
@@ -192,7 +192,7 @@ fn header_types<O: Oracle>(
 #[tactic(auto, using(pj_names::specs::AskingLaws::asking_loops))]
 fn types_of<O: Oracle>(
     alloc: Global,
-    stage: &Stage<'_>,
+    stage: &Stage<'_, '_>,
     oracle: &mut O,
     entered: &mut Entered,
     around: u32,
@@ -217,7 +217,7 @@ fn types_of<O: Oracle>(
 #[tactic(auto, using(pj_names::specs::AskingLaws::asking_steps))]
 fn first_member<O: Oracle>(
     alloc: Global,
-    stage: &Stage<'_>,
+    stage: &Stage<'_, '_>,
     oracle: &mut O,
     entered: &mut Entered,
     class: &ClassName,
@@ -246,7 +246,7 @@ fn first_member<O: Oracle>(
 #[tactic(auto, using(pj_names::specs::AskingLaws::asking_steps))]
 fn member_type<O: Oracle>(
     alloc: Global,
-    stage: &Stage<'_>,
+    stage: &Stage<'_, '_>,
     oracle: &mut O,
     entered: &mut Entered,
     class: &ClassName,
@@ -268,7 +268,7 @@ fn member_type<O: Oracle>(
 #[tactic(auto, using(pj_names::specs::AskingLaws::asking_steps))]
 fn inherited<O: Oracle>(
     alloc: Global,
-    stage: &Stage<'_>,
+    stage: &Stage<'_, '_>,
     oracle: &mut O,
     entered: &mut Entered,
     class: Node,
@@ -287,7 +287,7 @@ fn inherited<O: Oracle>(
 #[tactic(auto, using(pj_names::specs::AskingLaws::asking_steps))]
 fn bound_type<O: Oracle>(
     alloc: Global,
-    stage: &Stage<'_>,
+    stage: &Stage<'_, '_>,
     oracle: &mut O,
     entered: &mut Entered,
     n: Node,
@@ -309,7 +309,7 @@ fn bound_type<O: Oracle>(
 #[tactic(auto, using(pj_names::specs::AskingLaws::asking_steps))]
 fn variable_by<O: Oracle>(
     alloc: Global,
-    stage: &Stage<'_>,
+    stage: &Stage<'_, '_>,
     oracle: &mut O,
     entered: &mut Entered,
     bounds: &[Node],
@@ -334,7 +334,7 @@ fn variable_by<O: Oracle>(
 #[tactic(auto, using(pj_names::specs::AskingLaws::asking_steps))]
 fn variable<O: Oracle>(
     alloc: Global,
-    stage: &Stage<'_>,
+    stage: &Stage<'_, '_>,
     oracle: &mut O,
     entered: &mut Entered,
     parameter: Node,
@@ -353,7 +353,7 @@ fn variable<O: Oracle>(
 #[tactic(auto, using(pj_names::specs::AskingLaws::asking_steps))]
 fn declared_type<O: Oracle>(
     alloc: Global,
-    stage: &Stage<'_>,
+    stage: &Stage<'_, '_>,
     oracle: &mut O,
     entered: &mut Entered,
     n: Node,
@@ -375,7 +375,7 @@ fn declared_type<O: Oracle>(
 #[tactic(auto, using(pj_names::specs::AskingLaws::asking_steps))]
 fn declared_or<O: Oracle>(
     alloc: Global,
-    stage: &Stage<'_>,
+    stage: &Stage<'_, '_>,
     oracle: &mut O,
     entered: &mut Entered,
     simple: &str,
@@ -396,7 +396,7 @@ fn declared_or<O: Oracle>(
 #[tactic(auto, using(pj_names::specs::AskingLaws::asking_steps))]
 fn found_or<O: Oracle>(
     alloc: Global,
-    stage: &Stage<'_>,
+    stage: &Stage<'_, '_>,
     oracle: &mut O,
     entered: &mut Entered,
     place: Node,
@@ -420,7 +420,7 @@ fn found_or<O: Oracle>(
 #[tactic(auto, using(pj_names::specs::AskingLaws::asking_steps))]
 fn simple_name<O: Oracle>(
     alloc: Global,
-    stage: &Stage<'_>,
+    stage: &Stage<'_, '_>,
     oracle: &mut O,
     entered: &mut Entered,
     place: Node,
@@ -444,7 +444,7 @@ fn simple_name<O: Oracle>(
 #[tactic(auto, using(pj_names::specs::AskingLaws::asking_steps))]
 fn first_inherited<O: Oracle>(
     alloc: Global,
-    stage: &Stage<'_>,
+    stage: &Stage<'_, '_>,
     oracle: &mut O,
     entered: &mut Entered,
     place: Node,
@@ -487,7 +487,7 @@ fn packaged_class<O: Oracle>(
 #[tactic(auto, using(pj_names::specs::AskingLaws::asking_steps))]
 fn class_of<O: Oracle>(
     alloc: Global,
-    stage: &Stage<'_>,
+    stage: &Stage<'_, '_>,
     oracle: &mut O,
     entered: &mut Entered,
     name: &Written,
@@ -514,7 +514,7 @@ fn class_of<O: Oracle>(
 #[tactic(auto, using(pj_names::specs::AskingLaws::asking_steps))]
 fn class_along<O: Oracle>(
     alloc: Global,
-    stage: &Stage<'_>,
+    stage: &Stage<'_, '_>,
     oracle: &mut O,
     entered: &mut Entered,
     place: Node,
@@ -536,7 +536,7 @@ fn class_along<O: Oracle>(
 #[tactic(auto, using(pj_names::specs::AskingLaws::asking_loops))]
 fn members_along<O: Oracle>(
     alloc: Global,
-    stage: &Stage<'_>,
+    stage: &Stage<'_, '_>,
     oracle: &mut O,
     entered: &mut Entered,
     ty: Ty,
@@ -556,7 +556,7 @@ fn members_along<O: Oracle>(
 #[tactic(auto, using(pj_names::specs::AskingLaws::asking_steps))]
 fn member_of<O: Oracle>(
     alloc: Global,
-    stage: &Stage<'_>,
+    stage: &Stage<'_, '_>,
     oracle: &mut O,
     entered: &mut Entered,
     ty: Ty,
@@ -575,7 +575,7 @@ fn member_of<O: Oracle>(
 #[tactic(auto, using(pj_names::specs::AskingLaws::asking_loops))]
 fn argument_types<O: Oracle>(
     alloc: Global,
-    stage: &Stage<'_>,
+    stage: &Stage<'_, '_>,
     oracle: &mut O,
     entered: &mut Entered,
     deep: u32,
@@ -599,7 +599,7 @@ fn argument_types<O: Oracle>(
 #[tactic(auto, using(pj_names::specs::AskingLaws::asking_steps))]
 fn listed_arguments<O: Oracle>(
     alloc: Global,
-    stage: &Stage<'_>,
+    stage: &Stage<'_, '_>,
     oracle: &mut O,
     entered: &mut Entered,
     deep: u32,
@@ -624,7 +624,7 @@ fn listed_arguments<O: Oracle>(
 #[tactic(auto, using(pj_names::specs::AskingLaws::asking_steps))]
 fn arguments<O: Oracle>(
     alloc: Global,
-    stage: &Stage<'_>,
+    stage: &Stage<'_, '_>,
     oracle: &mut O,
     entered: &mut Entered,
     deep: u32,
@@ -644,7 +644,7 @@ fn arguments<O: Oracle>(
 #[tactic(auto, using(pj_names::specs::AskingLaws::asking_steps))]
 fn argument<O: Oracle>(
     alloc: Global,
-    stage: &Stage<'_>,
+    stage: &Stage<'_, '_>,
     oracle: &mut O,
     entered: &mut Entered,
     deep: u32,
@@ -666,7 +666,7 @@ fn argument<O: Oracle>(
 #[tactic(auto, using(pj_names::specs::AskingLaws::asking_steps))]
 fn argument_by<O: Oracle>(
     alloc: Global,
-    stage: &Stage<'_>,
+    stage: &Stage<'_, '_>,
     oracle: &mut O,
     entered: &mut Entered,
     deep: u32,
@@ -696,7 +696,7 @@ fn argument_by<O: Oracle>(
 #[tactic(auto, using(pj_names::specs::AskingLaws::asking_steps))]
 fn class_written<O: Oracle>(
     alloc: Global,
-    stage: &Stage<'_>,
+    stage: &Stage<'_, '_>,
     oracle: &mut O,
     entered: &mut Entered,
     n: Node,
@@ -714,7 +714,7 @@ fn class_written<O: Oracle>(
 #[tactic(auto, using(pj_names::specs::AskingLaws::asking_steps))]
 fn with_arguments<O: Oracle>(
     alloc: Global,
-    stage: &Stage<'_>,
+    stage: &Stage<'_, '_>,
     oracle: &mut O,
     entered: &mut Entered,
     deep: u32,
@@ -740,7 +740,7 @@ fn with_arguments<O: Oracle>(
 #[tactic(auto, using(pj_names::specs::AskingLaws::asking_steps))]
 fn class_type<O: Oracle>(
     alloc: Global,
-    stage: &Stage<'_>,
+    stage: &Stage<'_, '_>,
     oracle: &mut O,
     entered: &mut Entered,
     deep: u32,
@@ -760,7 +760,7 @@ fn class_type<O: Oracle>(
 #[tactic(auto, using(pj_names::specs::AskingLaws::asking_steps))]
 fn bare_type<O: Oracle>(
     alloc: Global,
-    stage: &Stage<'_>,
+    stage: &Stage<'_, '_>,
     oracle: &mut O,
     entered: &mut Entered,
     deep: u32,
@@ -785,7 +785,7 @@ fn bare_type<O: Oracle>(
 #[tactic(auto, using(pj_names::specs::AskingLaws::asking_steps))]
 fn type_by<O: Oracle>(
     alloc: Global,
-    stage: &Stage<'_>,
+    stage: &Stage<'_, '_>,
     oracle: &mut O,
     entered: &mut Entered,
     deep: u32,
@@ -808,7 +808,7 @@ fn type_by<O: Oracle>(
 #[tactic(auto, using(pj_names::specs::AskingLaws::asking_steps))]
 fn type_written<O: Oracle>(
     alloc: Global,
-    stage: &Stage<'_>,
+    stage: &Stage<'_, '_>,
     oracle: &mut O,
     entered: &mut Entered,
     around: u32,

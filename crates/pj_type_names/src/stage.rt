@@ -12,14 +12,14 @@ pub const MOST_NESTED: u32 = 300;
 
 /// The most headers that one call enters. A file has at most 200,000 tokens, and a class that another one has as a supertype costs
 /// it 6 of them: `class`, its name, two braces, and its name in a header behind a word or a comma. So no list of supertypes has more
-/// than 33,334 classes of the file, and each of them can be entered for one.
+/// than 33,334 classes of the file, and each of them can be entered for one, unless their headers lead to others.
 pub const MOST_ENTERED: u32 = 33_334;
 
 /// How far a resolution has come.
 #[derive(Drop)]
-pub struct Stage<'s> {
+pub struct Stage<'s, 'f> {
     /// The file.
-    pub file: &'s File<'s>,
+    pub file: &'s File<'f>,
     /// How many more headers may be entered within one another: the classes of the file are fewer.
     pub left: usize,
     /// The classes whose headers are being resolved.
@@ -30,9 +30,9 @@ pub struct Stage<'s> {
     pub nested: u32,
 }
 
-impl<'s> Stage<'s> {
+impl<'s, 'f> Stage<'s, 'f> {
     /// The same within one bound more.
-    pub fn within_bound(&self) -> Stage<'s>
+    pub fn within_bound(&self) -> Stage<'s, 'f>
         requires bounds { 0 < self.now.bounds }
         ensures file { result.file.now ≡ self.now.file.now }
         ensures left { result.left ≡ self.now.left }
@@ -49,7 +49,7 @@ impl<'s> Stage<'s> {
     }
 
     /// The same within one list of type arguments more.
-    pub fn within_list(&self) -> Stage<'s>
+    pub fn within_list(&self) -> Stage<'s, 'f>
         requires nested { self.now.nested < 300 }
         ensures file { result.file.now ≡ self.now.file.now }
         ensures left { result.left ≡ self.now.left }

@@ -70,7 +70,7 @@ fn holds_of(alloc: Global, file: &File<'_>, sort: Sort, row: &Row) -> Result<boo
 fn holds_in(alloc: Global, tree: &SyntaxTree<'_>, sort: Sort, row: &Row) -> Result<bool, NoMemory> {
     let symbols = Symbols::of(alloc, tree)?;
     let declarations = Declarations::of(alloc, tree)?;
-    let file = File::new(tree, &symbols, &declarations);
+    let file = File::new(alloc, tree, &symbols, &declarations)?;
     holds_of(alloc, &file, sort, row)
 }
 

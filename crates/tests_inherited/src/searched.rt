@@ -3,7 +3,7 @@
 use crate::texts::{Sought, wrong};
 use crate::world::{World, written};
 use pj_base::NoMemory;
-use pj_imports::{File, class_named};
+use pj_imports::File;
 use pj_inherited::{NameWalk, member_in, outside_supertypes, with_classes};
 use pj_names::{AskFault, ClassName, ClassNames, Oracle, TyList};
 use pj_signatures::{ClassSig, class_signature};
@@ -59,7 +59,7 @@ fn supertypes(
     if name.is_object() {
         return Ok(ClassNames::new(alloc));
     }
-    if class_named(file.classes(), name.as_str()).is_some() {
+    if file.class_named(name.as_str()).is_some() {
         return Ok(of_file(alloc, &*world, name)?);
     }
     outside_supertypes(alloc, world, name)

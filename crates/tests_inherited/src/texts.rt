@@ -51,7 +51,7 @@ fn wrong_with(
     requires finds { FindsClasses tree.now symbols.now.classes }
 {
     let declarations = Declarations::of(alloc, tree)?;
-    let file = File::new(tree, symbols, &declarations);
+    let file = File::new(alloc, tree, symbols, &declarations)?;
     wrong_of(alloc, &file, text, sought)
 }
 

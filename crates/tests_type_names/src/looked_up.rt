@@ -166,7 +166,7 @@ fn found_of(
     };
     let symbols = Symbols::of(alloc, tree)?;
     let declarations = Declarations::of(alloc, tree)?;
-    let file = File::new(tree, &symbols, &declarations);
+    let file = File::new(alloc, tree, &symbols, &declarations)?;
     found_in(alloc, &file, sort, place, name, classes)
 }
 
