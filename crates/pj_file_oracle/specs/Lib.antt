@@ -3,4 +3,5 @@ pub mod Types
 pub mod Supertypes
 pub mod Members
 pub mod FileAnswer
+pub mod Answered
 pub mod Seen

@@ -19,8 +19,8 @@ use Rattle.pj_symbols.specs.Classes.{class_around}
 use Rattle.pj_written.specs.Headers.{class_text, created, extended, implemented, is_constant_body}
 use Rattle.pj_written.specs.Types.{class_of_text, object_type}
 use Rattle.pj_written.specs.Words.{is_interface, is_plain_interface}
-use Rattle.pj_imports.specs.Candidates.{file_classes}
-use Rattle.pj_type_names.specs.TypeName.{node_named, written_type}
+use Rattle.pj_imports.specs.Candidates.{file_classes, node_named}
+use Rattle.pj_type_names.specs.TypeName.{written_type}
 
 -- the superclass and the interfaces
 pub record Supertypes : Type 0 where

@@ -9,7 +9,6 @@ ghost use Rattle.pj_signatures.specs.Reading.{class_signature_of};
 ghost use Rattle.pj_written.specs.Headers.{created};
 ghost use Rattle.pj_written.specs.Types.{object_type};
 
-use crate::nodes::node_named;
 use crate::supertypes::{Supertypes, as_interface, as_superclass, supertype};
 use pj_base::{NoMemory, Numbers};
 use pj_imports::File;
@@ -86,7 +85,7 @@ fn interface_named<O: Oracle>(
 ) -> Result<bool, AskFault>
     ensures { Asks (interface_named file.now name.now) (O.tells oracle.old) (O.tells oracle.new) result }
 {
-    match node_named(file, name.as_str()) {
+    match file.node_named(name.as_str()) {
         Some(class) => Ok(is_interface(file.tree(), class)),
         None => asked_interface(alloc, oracle, name),
     }

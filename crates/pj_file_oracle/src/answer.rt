@@ -1,19 +1,24 @@
 //! What a class of the file answers.
 
-ghost use Rattle.std.specs.Prelude.{◌≡◌, ◌<◌, length, IfOk};
+ghost use Rattle.std.specs.Prelude.{◌≡◌, ◌<◌, length, IfOk, Some};
+ghost use Rattle.pj_imports.specs.Candidates.{file_classes, node_named};
 ghost use Rattle.pj_names.specs.Told.{Asks, seen, shared_answer};
+ghost use Rattle.pj_file_oracle.specs.Answered.{AreAnswered};
 ghost use Rattle.pj_file_oracle.specs.FileAnswer.{class_answer, file_answer, found_with};
 
 use crate::headers::header_text;
 use crate::members::{MemberLists, members_of};
-use crate::nodes::node_named;
 use pj_base::{Copied, NoMemory, Text};
 use pj_imports::File;
 use pj_names::{Answer, AskFault, ClassInfo, ClassName, Oracle};
 use pj_tree::{Node, SyntaxTree};
 use pj_written::class_flags;
 use std::alloc::Global;
+use std::collections::BTreeMap;
 use std::sync::Arc;
+
+/// What was answered for classes of the file, by their names.
+pub type Answered = BTreeMap<ClassName, Arc<Answer>>;
 
 /// A class that is found, by its signature and its members.
 fn found_with(
@@ -57,18 +62,43 @@ fn class_answer<O: Oracle>(
     Ok(answer)
 }
 
+/// What is answered for a class of the file by its name: what was answered before, without asking, or else a new answer, which is put among those.
+fn answer_again<O: Oracle>(
+    alloc: Global,
+    file: &File<'_>,
+    oracle: &mut O,
+    answered: &mut Answered,
+    name: &ClassName,
+    class: Node,
+) -> Result<Arc<Answer>, AskFault>
+    requires inside { class.0 < length file.now.nodes }
+    requires named { node_named (file_classes file.now) name.now ≡ Some class }
+    requires answered { AreAnswered (file_answer file.now) (O.tells oracle.old) answered.old.entries }
+    ensures asks { Asks (file_answer file.now name.now) (O.tells oracle.old) (O.tells oracle.new) (seen shared_answer result) }
+    ensures answered { AreAnswered (file_answer file.now) (O.tells oracle.new) answered.new.entries }
+{
+    if let Some(answer) = answered.get(name) {
+        return Ok(answer.clone()?);
+    }
+    let answer = class_answer(alloc, file, oracle, name, class)?;
+    answered.insert(name.copied()?, answer.clone()?)?;
+    Ok(answer)
+}
+
 /// What the oracle of a file answers for a name: a class of the file by its declaration, and every other one is asked.
-#[tactic(auto, using(pj_names::specs::AskingLaws::asking_steps))]
 pub fn file_answer<O: Oracle>(
     alloc: Global,
     file: &File<'_>,
     oracle: &mut O,
+    answered: &mut Answered,
     name: &ClassName,
 ) -> Result<Arc<Answer>, AskFault>
-    ensures { Asks (file_answer file.now name.now) (O.tells oracle.old) (O.tells oracle.new) (seen shared_answer result) }
+    requires answered { AreAnswered (file_answer file.now) (O.tells oracle.old) answered.old.entries }
+    ensures asks { Asks (file_answer file.now name.now) (O.tells oracle.old) (O.tells oracle.new) (seen shared_answer result) }
+    ensures answered { AreAnswered (file_answer file.now) (O.tells oracle.new) answered.new.entries }
 {
-    match node_named(file, name.as_str()) {
-        Some(class) => class_answer(alloc, file, oracle, name, class),
+    match file.node_named(name.as_str()) {
+        Some(class) => answer_again(alloc, file, oracle, answered, name, class),
         None => oracle.ask(name),
     }
 }

@@ -7,9 +7,10 @@ ghost use Rattle.pj_names.specs.Told.{Asks, Over, seen};
 ghost use Rattle.pj_symbols.specs.Symbols.{symbols_of};
 ghost use Rattle.pj_tree.specs.Tree.{Tree};
 ghost use Rattle.pj_type_names.specs.TypeName.{type_name};
+ghost use Rattle.pj_file_oracle.specs.Answered.{AreAnswered, all_answered_prop};
 ghost use Rattle.pj_file_oracle.specs.FileAnswer.{file_answer};
 
-use crate::answer::file_answer;
+use crate::answer::{Answered, file_answer};
 use pj_imports::File;
 use pj_names::{Answer, AskFault, ClassName, Oracle, Ty};
 use pj_symbols::Symbols;
@@ -20,56 +21,66 @@ use std::sync::Arc;
 
 /// It answers the classes of a file from their declarations, and asks every other name of the oracle beneath.
 ///
-/// The names that a class of the file needs are those of the classes that its declaration writes, first in its header and then in its members. After a
-/// refusal it is as before, and of the oracle beneath none but these names was asked.
+/// The names that a class of the file needs are those of the classes that its declaration writes, first in its header and then in its members. Also after a
+/// refusal none but these names was asked of the oracle beneath.
+///
+/// A class of the file is resolved once: its answer is held, and given again without asking.
 #[derive(Drop)]
-pub struct FileOracle<'a, O> {
+pub struct FileOracle<'a, 'f, O: Oracle> {
     /// What answers are made with.
     pub alloc: Global,
     /// The file.
-    pub file: &'a File<'a>,
+    pub file: &'a File<'f>,
     /// The oracle beneath.
     pub inner: &'a mut O,
+    /// What it answered for classes of the file.
+    answered: Answered,
+    ghost stands: { AreAnswered (file_answer file.now) (O.tells inner.now) answered.entries } by { all_answered_prop (file_answer file.now) (O.tells inner.now) answered.entries },
 }
 
-impl<'a, O> FileOracle<'a, O> {
+impl<'a, 'f, O: Oracle> FileOracle<'a, 'f, O> {
     /// The oracle of a file over another oracle. It takes no memory.
-    pub fn new(alloc: Global, file: &'a File<'a>, inner: &'a mut O) -> FileOracle<'a, O>
+    pub fn new(alloc: Global, file: &'a File<'f>, inner: &'a mut O) -> FileOracle<'a, 'f, O>
         ensures file { result.file.now ≡ file.now }
         ensures inner { result.inner.now ≡ inner.old }
         ensures held { result.inner.ghost_name ≡ inner.entry.ghost_name }
     {
-        FileOracle { alloc, file, inner }
+        FileOracle {
+            alloc,
+            file,
+            inner,
+            answered: Answered::new(alloc),
+        }
     }
 
     /// The tree of the file.
-    pub fn tree(&self) -> &'a SyntaxTree<'a>
+    pub fn tree(&self) -> &'f SyntaxTree<'f>
         ensures { result.now ≡ self.now.file.now }
     {
         self.file.tree()
     }
 
     /// The classes and variables of the file.
-    pub fn symbols(&self) -> &'a Symbols
+    pub fn symbols(&self) -> &'f Symbols
         ensures { result.now ≡ symbols_of self.now.file.now }
     {
         self.file.symbols()
     }
 }
 
-impl<'a, O: Oracle> Oracle for FileOracle<'a, O> {
+impl<'a, 'f, O: Oracle> Oracle for FileOracle<'a, 'f, O> {
     ghost Kept = { Over Tree O.Kept };
 
     ghost tells = { λ oracle. tells_by oracle.inner.ghost_name oracle.file.now file_answer (O.tells oracle.inner.now) };
 
     fn ask(&mut self, name: &ClassName) -> Result<Arc<Answer>, AskFault> {
-        file_answer(self.alloc, self.file, self.inner, name)
+        file_answer(self.alloc, self.file, self.inner, &mut self.answered, name)
     }
 }
 
 /// The type that a name means at a place of the file: a simple name or one with dots (JLS 6.5.5).
 pub fn resolve_type<O: Oracle>(
-    oracle: &mut FileOracle<'_, O>,
+    oracle: &mut FileOracle<'_, '_, O>,
     at: Node,
     name: &str,
 ) -> Result<Ty, AskFault>

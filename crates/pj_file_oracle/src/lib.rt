@@ -1,7 +1,7 @@
 //! The oracle of a Java file: it answers the classes of the file from their declarations, and asks every other name of the oracle beneath.
 //!
 //! A class is answered with its flags, its signature, and its members as they are written, whose types are resolved at their places (JVMS 4.1, 4.5,
-//! 4.6, 4.7.9.1). Each answer is made anew, and asks for the classes of these types.
+//! 4.6, 4.7.9.1), for which the classes of these types are asked. An answer is made once, and held.
 #![tactic(auto)]
 
 mod anonymous;

@@ -1,33 +1,19 @@
 //! Nodes of a class of the file: its declaration, its members, and what declares their names.
 
-ghost use Rattle.std.specs.Prelude.{◌≡◌, ◌<◌, ◌≤◌, length, filter, IfOk, IfSome};
+ghost use Rattle.std.specs.Prelude.{◌≡◌, ◌<◌, ◌≤◌, length, filter, IfOk};
 ghost use Rattle.std.specs.List.{All};
 ghost use Rattle.pj_declared.specs.Bodies.{body_kind};
-ghost use Rattle.pj_imports.specs.Candidates.{file_classes};
 ghost use Rattle.pj_nodes.specs.Kinds.{is_kind};
 ghost use Rattle.pj_tree.specs.Tree.{children_of};
 ghost use Rattle.pj_tree.specs.declared.node.Node.{Node};
-ghost use Rattle.pj_type_names.specs.TypeName.{node_named};
 ghost use Rattle.pj_written.specs.Flags.{formal_parameters};
 ghost use Rattle.pj_file_oracle.specs.Members.{body_nodes, variable_brackets, variable_text};
 
 use pj_base::NoMemory;
-use pj_imports::{File, class_named};
 use pj_nodes::{child_of, first_word, is_kind};
 use pj_tree::{Kind, Node, SyntaxTree};
 use pj_written::{Nodes, below_child, bracket_count};
 use std::alloc::Global;
-
-/// The node of the class of the file that has the binary name: the first of the text.
-pub fn node_named(file: &File<'_>, name: &str) -> Option<Node>
-    ensures value { result ≡ node_named (file_classes file.now) name.now }
-    ensures inside { IfSome result (λ n. n.0 < length file.now.nodes) }
-{
-    match class_named(file.classes(), name) {
-        Some(class) => Some(class.node),
-        None => None,
-    }
-}
 
 /// The children of a kind, in a list.
 fn listed_of_kind(
