@@ -1,13 +1,11 @@
 //! Files, packages, imports and classes (JLS 7, 8.1, 8.5, 8.9, 8.10, 9.1, 9.6, 13.1, 14.3, 15.9.5).
 
-use crate::shown::check;
+use crate::shown::{Table, check};
 use std::test::Fail;
 
-#[test]
-fn packages_and_imports(rt: HostRuntime) -> Result<(), Fail> {
-    check(
-        &rt,
-        rt.alloc(),
+static CLASSES: [Table; 9] = [
+    // packages and imports
+    Table::Nodes(
         "package a.b ; import c.D; import static c.D.m; import c.*; import static c.D.*; import X;",
         &[
             ("CompilationUnit", 0, " PackageName=a.b"),
@@ -38,23 +36,16 @@ fn packages_and_imports(rt: HostRuntime) -> Result<(), Fail> {
                 " ImportedName=X ImportedSimpleName=X PackageName=",
             ),
         ],
-    )?;
-    check(
-        &rt,
-        rt.alloc(),
+    ),
+    Table::Nodes(
         "@Deprecated package p /* c */ . q; class A {}",
         &[
             ("PackageDeclaration", 0, " Name=p.q"),
             ("Annotation", 0, " SimpleName=Deprecated"),
         ],
-    )
-}
-
-#[test]
-fn classes_and_interfaces(rt: HostRuntime) -> Result<(), Fail> {
-    check(
-        &rt,
-        rt.alloc(),
+    ),
+    // classes and interfaces
+    Table::Nodes(
         "class A {}",
         &[
             ("CompilationUnit", 0, " PackageName="),
@@ -66,10 +57,8 @@ fn classes_and_interfaces(rt: HostRuntime) -> Result<(), Fail> {
             ("ModifierList", 0, ""),
             ("ClassBody", 0, ""),
         ],
-    )?;
-    check(
-        &rt,
-        rt.alloc(),
+    ),
+    Table::Nodes(
         "public abstract class A { protected static final class B {} private interface C {} }",
         &[
             (
@@ -88,14 +77,9 @@ fn classes_and_interfaces(rt: HostRuntime) -> Result<(), Fail> {
                 " Abstract BinaryName=A$C Interface Nested PackageName= RegularInterface SimpleName=C Static Visibility=private",
             ),
         ],
-    )
-}
-
-#[test]
-fn members_of_interfaces(rt: HostRuntime) -> Result<(), Fail> {
-    check(
-        &rt,
-        rt.alloc(),
+    ),
+    // members of interfaces
+    Table::Nodes(
         "package p; interface I { class M {} enum E { X } record R() {} interface J {} @interface K {} private class Q {} }",
         &[
             (
@@ -134,14 +118,9 @@ fn members_of_interfaces(rt: HostRuntime) -> Result<(), Fail> {
                 " BinaryName=p.I$Q Nested PackageName=p RegularClass SimpleName=Q Static Visibility=private",
             ),
         ],
-    )
-}
-
-#[test]
-fn enums_and_records(rt: HostRuntime) -> Result<(), Fail> {
-    check(
-        &rt,
-        rt.alloc(),
+    ),
+    // enums and records
+    Table::Nodes(
         "enum E { A { }, B; enum F { } }",
         &[
             (
@@ -162,10 +141,8 @@ fn enums_and_records(rt: HostRuntime) -> Result<(), Fail> {
             ("EnumConstant", 0, " Name=A"),
             ("EnumConstant", 1, " Name=B"),
         ],
-    )?;
-    check(
-        &rt,
-        rt.alloc(),
+    ),
+    Table::Nodes(
         "record R(int a) { record S() {} } @interface K { }",
         &[
             (
@@ -184,14 +161,9 @@ fn enums_and_records(rt: HostRuntime) -> Result<(), Fail> {
                 " Abstract Annotation BinaryName=K Interface PackageName= SimpleName=K TopLevel Visibility=package",
             ),
         ],
-    )
-}
-
-#[test]
-fn local_classes(rt: HostRuntime) -> Result<(), Fail> {
-    check(
-        &rt,
-        rt.alloc(),
+    ),
+    // local classes
+    Table::Nodes(
         "class A { void m() { class L { class M {} } record P() {} enum Q { Z } interface O { } } }",
         &[
             (
@@ -220,10 +192,8 @@ fn local_classes(rt: HostRuntime) -> Result<(), Fail> {
                 " Abstract BinaryName=A$$29 Interface Local PackageName= RegularInterface SimpleName=O Static Visibility=local",
             ),
         ],
-    )?;
-    check(
-        &rt,
-        rt.alloc(),
+    ),
+    Table::Nodes(
         "package p; class A { Object o = new Object() { class I {} }; { final class F {} abstract class G {} } }",
         &[
             (
@@ -247,5 +217,10 @@ fn local_classes(rt: HostRuntime) -> Result<(), Fail> {
                 " Abstract BinaryName=p.A$$27 Local PackageName=p RegularClass SimpleName=G Visibility=local",
             ),
         ],
-    )
+    ),
+];
+
+#[test]
+fn classes(rt: HostRuntime) -> Result<(), Fail> {
+    check(rt.alloc(), &CLASSES)
 }

@@ -1,13 +1,11 @@
 //! Expressions (JLS 15): operators, accesses, calls, instance creation, lambda expressions and method references.
 
-use crate::shown::{check, check_each};
+use crate::shown::{Table, check};
 use std::test::Fail;
 
-#[test]
-fn logical_operators_and_comparisons(rt: HostRuntime) -> Result<(), Fail> {
-    check_each(
-        &rt,
-        rt.alloc(),
+static EXPRESSIONS: [Table; 11] = [
+    // logical operators and comparisons
+    Table::Pieces(
         "InfixExpression",
         ("class A { Object[] o = { (a) ", ", (a) ", "++ }; }"),
         &[
@@ -21,14 +19,9 @@ fn logical_operators_and_comparisons(rt: HostRuntime) -> Result<(), Fail> {
             (">= b", " ParenthesisDepth=0 Operator=>="),
             ("instanceof B", " ParenthesisDepth=0 Operator=instanceof"),
         ],
-    )
-}
-
-#[test]
-fn arithmetic_operators(rt: HostRuntime) -> Result<(), Fail> {
-    check_each(
-        &rt,
-        rt.alloc(),
+    ),
+    // arithmetic operators
+    Table::Pieces(
         "InfixExpression",
         ("class A { Object[] o = { a ", " (b), a ", "++ }; }"),
         &[
@@ -41,14 +34,9 @@ fn arithmetic_operators(rt: HostRuntime) -> Result<(), Fail> {
             ("+", " ParenthesisDepth=0 Operator=+"),
             ("%", " ParenthesisDepth=0 Operator=%"),
         ],
-    )
-}
-
-#[test]
-fn assignments(rt: HostRuntime) -> Result<(), Fail> {
-    check_each(
-        &rt,
-        rt.alloc(),
+    ),
+    // assignments
+    Table::Pieces(
         "AssignmentExpression",
         ("class A { { a ", " (b); a ", "++; } }"),
         &[
@@ -59,14 +47,9 @@ fn assignments(rt: HostRuntime) -> Result<(), Fail> {
             (">>=", " ParenthesisDepth=0 Compound Operator=>>="),
             (">>>=", " ParenthesisDepth=0 Compound Operator=>>>="),
         ],
-    )
-}
-
-#[test]
-fn unary_operators(rt: HostRuntime) -> Result<(), Fail> {
-    check_each(
-        &rt,
-        rt.alloc(),
+    ),
+    // unary operators
+    Table::Pieces(
         "UnaryExpression",
         ("class A { Object[] o = { ", ", ", "}; }"),
         &[
@@ -79,14 +62,9 @@ fn unary_operators(rt: HostRuntime) -> Result<(), Fail> {
             ("!a", " ParenthesisDepth=0 Operator=! Prefix"),
             ("~a", " ParenthesisDepth=0 Operator=~ Prefix"),
         ],
-    )
-}
-
-#[test]
-fn reads_and_writes(rt: HostRuntime) -> Result<(), Fail> {
-    check_each(
-        &rt,
-        rt.alloc(),
+    ),
+    // reads and writes
+    Table::Pieces(
         "VariableAccess",
         ("class A { { ", "; ", "} }"),
         &[
@@ -102,10 +80,8 @@ fn reads_and_writes(rt: HostRuntime) -> Result<(), Fail> {
             ("a[1] = 2", " ParenthesisDepth=0 AccessType=READ Name=a"),
             ("a.b = 1", " ParenthesisDepth=0 AccessType=READ Name=a"),
         ],
-    )?;
-    check_each(
-        &rt,
-        rt.alloc(),
+    ),
+    Table::Pieces(
         "FieldAccess",
         ("class A { { ", "; ", "} }"),
         &[
@@ -113,14 +89,9 @@ fn reads_and_writes(rt: HostRuntime) -> Result<(), Fail> {
             ("this.b++", " ParenthesisDepth=0 AccessType=WRITE Name=b"),
             ("c = a.b", " ParenthesisDepth=0 AccessType=READ Name=b"),
         ],
-    )
-}
-
-#[test]
-fn calls(rt: HostRuntime) -> Result<(), Fail> {
-    check(
-        &rt,
-        rt.alloc(),
+    ),
+    // calls
+    Table::Nodes(
         "class A { Object a = (f(1)).<T>g(x, (y)), b = new B() { }, c = o.new <U>I<V>(1), d = new J<>(); }",
         &[
             ("MethodCall", 0, " ParenthesisDepth=0 MethodName=g"),
@@ -135,14 +106,9 @@ fn calls(rt: HostRuntime) -> Result<(), Fail> {
             ("ConstructorCall", 1, " ParenthesisDepth=0"),
             ("ConstructorCall", 2, " ParenthesisDepth=0 DiamondTypeArgs"),
         ],
-    )
-}
-
-#[test]
-fn functions(rt: HostRuntime) -> Result<(), Fail> {
-    check_each(
-        &rt,
-        rt.alloc(),
+    ),
+    // functions
+    Table::Pieces(
         "MethodReference",
         ("class A { Object[] o = { ", ", ", "}; }"),
         &[
@@ -153,10 +119,8 @@ fn functions(rt: HostRuntime) -> Result<(), Fail> {
             ),
             ("(a)::<T>k", " ParenthesisDepth=0 MethodName=k"),
         ],
-    )?;
-    check_each(
-        &rt,
-        rt.alloc(),
+    ),
+    Table::Pieces(
         "LambdaExpression",
         ("class A { Object[] o = { ", ", ", "}; }"),
         &[
@@ -168,14 +132,9 @@ fn functions(rt: HostRuntime) -> Result<(), Fail> {
                 " Parenthesized ParenthesisDepth=1 Arity=1 ExpressionBody",
             ),
         ],
-    )
-}
-
-#[test]
-fn expressions_with_parentheses_alone(rt: HostRuntime) -> Result<(), Fail> {
-    check(
-        &rt,
-        rt.alloc(),
+    ),
+    // expressions with parentheses alone
+    Table::Nodes(
         "class A { Object o = (int) (a ? this.b : A.class), p = ((c instanceof D d)), q = (e)[0], r = super.f; }",
         &[
             ("CastExpression", 0, " ParenthesisDepth=0"),
@@ -190,11 +149,14 @@ fn expressions_with_parentheses_alone(rt: HostRuntime) -> Result<(), Fail> {
             ("ArrayAccess", 0, " ParenthesisDepth=0"),
             ("SuperExpression", 0, " ParenthesisDepth=0"),
         ],
-    )?;
-    check(
-        &rt,
-        rt.alloc(),
+    ),
+    Table::Nodes(
         "class A { boolean b = c instanceof D; }",
         &[("TypeExpression", 0, " ParenthesisDepth=0")],
-    )
+    ),
+];
+
+#[test]
+fn expressions(rt: HostRuntime) -> Result<(), Fail> {
+    check(rt.alloc(), &EXPRESSIONS)
 }

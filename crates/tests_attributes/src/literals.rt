@@ -1,32 +1,16 @@
 //! Literals (JLS 3.10). Each row is a literal with its attributes behind that of parentheses.
 
-use crate::shown::check_each;
-use std::alloc::Global;
-use std::process::Abort;
+use crate::shown::{Frame, Table, check};
 use std::test::Fail;
 
-/// That each literal, in the place of an initializer, has just these attributes.
-fn check_literals(
-    rt: &impl Abort,
-    alloc: Global,
-    kind: &str,
-    rows: &[(&str, &str)],
-) -> Result<(), Fail> {
-    check_each(
-        rt,
-        alloc,
-        kind,
-        ("class A { Object[] a = { ", ", ", "}; }"),
-        rows,
-    )
-}
+/// Literals in the place of initializers.
+const FRAME: Frame = ("class A { Object[] a = { ", ", ", "}; }");
 
-#[test]
-fn decimal_integers(rt: HostRuntime) -> Result<(), Fail> {
-    check_literals(
-        &rt,
-        rt.alloc(),
+static LITERALS: [Table; 8] = [
+    // decimal integers
+    Table::Pieces(
         "NumericLiteral",
+        FRAME,
         &[
             (
                 "0",
@@ -57,15 +41,11 @@ fn decimal_integers(rt: HostRuntime) -> Result<(), Fail> {
                 " ParenthesisDepth=0 Base=10 ConstValue=1000 Image=1_000 IntLiteral",
             ),
         ],
-    )
-}
-
-#[test]
-fn hexadecimal_integers(rt: HostRuntime) -> Result<(), Fail> {
-    check_literals(
-        &rt,
-        rt.alloc(),
+    ),
+    // hexadecimal integers
+    Table::Pieces(
         "NumericLiteral",
+        FRAME,
         &[
             (
                 "0x7fffffff",
@@ -96,15 +76,11 @@ fn hexadecimal_integers(rt: HostRuntime) -> Result<(), Fail> {
                 " ParenthesisDepth=0 Base=16 ConstValue=-9223372036854775808 Image=0x8000000000000000L LongLiteral",
             ),
         ],
-    )
-}
-
-#[test]
-fn octal_and_binary_integers(rt: HostRuntime) -> Result<(), Fail> {
-    check_literals(
-        &rt,
-        rt.alloc(),
+    ),
+    // octal and binary integers
+    Table::Pieces(
         "NumericLiteral",
+        FRAME,
         &[
             (
                 "017",
@@ -131,15 +107,11 @@ fn octal_and_binary_integers(rt: HostRuntime) -> Result<(), Fail> {
                 " ParenthesisDepth=0 Base=2 ConstValue=1 Image=0B1L LongLiteral",
             ),
         ],
-    )
-}
-
-#[test]
-fn floating_point_numbers(rt: HostRuntime) -> Result<(), Fail> {
-    check_literals(
-        &rt,
-        rt.alloc(),
+    ),
+    // floating point numbers
+    Table::Pieces(
         "NumericLiteral",
+        FRAME,
         &[
             (
                 "1.0",
@@ -174,15 +146,11 @@ fn floating_point_numbers(rt: HostRuntime) -> Result<(), Fail> {
                 " ParenthesisDepth=0 Base=16 ConstValue=- FloatLiteral Image=0x1.8P3f",
             ),
         ],
-    )
-}
-
-#[test]
-fn strings(rt: HostRuntime) -> Result<(), Fail> {
-    check_literals(
-        &rt,
-        rt.alloc(),
+    ),
+    // strings
+    Table::Pieces(
         "StringLiteral",
+        FRAME,
         &[
             (
                 "\"\"",
@@ -205,33 +173,32 @@ fn strings(rt: HostRuntime) -> Result<(), Fail> {
                 " ParenthesisDepth=0 ConstValue= Empty Image=\"\"\"\n\"\"\" Length=0 TextBlock",
             ),
         ],
-    )
-}
-
-#[test]
-fn characters_and_booleans(rt: HostRuntime) -> Result<(), Fail> {
-    check_literals(
-        &rt,
-        rt.alloc(),
+    ),
+    // characters and booleans
+    Table::Pieces(
         "CharLiteral",
+        FRAME,
         &[
             ("'c'", " ParenthesisDepth=0 ConstValue=c Image='c'"),
             ("'\\n'", " ParenthesisDepth=0 ConstValue=\n Image='\\n'"),
         ],
-    )?;
-    check_literals(
-        &rt,
-        rt.alloc(),
+    ),
+    Table::Pieces(
         "BooleanLiteral",
+        FRAME,
         &[
             ("true", " ParenthesisDepth=0 ConstValue True"),
             ("false", " ParenthesisDepth=0"),
         ],
-    )?;
-    check_literals(
-        &rt,
-        rt.alloc(),
+    ),
+    Table::Pieces(
         "NullLiteral",
+        FRAME,
         &[("(null)", " Parenthesized ParenthesisDepth=1")],
-    )
+    ),
+];
+
+#[test]
+fn literals(rt: HostRuntime) -> Result<(), Fail> {
+    check(rt.alloc(), &LITERALS)
 }

@@ -1,13 +1,11 @@
 //! Methods, constructors, fields, initializers and parameters (JLS 8.3, 8.4, 8.6, 8.7, 8.8, 8.10.4, 9.3, 9.4).
 
-use crate::shown::check;
+use crate::shown::{Table, check};
 use std::test::Fail;
 
-#[test]
-fn methods(rt: HostRuntime) -> Result<(), Fail> {
-    check(
-        &rt,
-        rt.alloc(),
+static MEMBERS: [Table; 9] = [
+    // methods
+    Table::Nodes(
         "class A { public static final void m(int a, String... b) {} protected abstract int n(A this, long x); <@B T extends C> T g() {} }",
         &[
             (
@@ -26,10 +24,8 @@ fn methods(rt: HostRuntime) -> Result<(), Fail> {
             ("FormalParameters", 1, " Size=1"),
             ("FormalParameters", 2, " Size=0"),
         ],
-    )?;
-    check(
-        &rt,
-        rt.alloc(),
+    ),
+    Table::Nodes(
         "class A { void m(final int a, String @B ... b, int[] c, int[]... d) {} }",
         &[
             ("FormalParameter", 0, " Final"),
@@ -40,14 +36,9 @@ fn methods(rt: HostRuntime) -> Result<(), Fail> {
             ("ArrayTypeDim", 0, " Varargs"),
             ("ArrayTypeDim", 1, ""),
         ],
-    )
-}
-
-#[test]
-fn constructors(rt: HostRuntime) -> Result<(), Fail> {
-    check(
-        &rt,
-        rt.alloc(),
+    ),
+    // constructors
+    Table::Nodes(
         "class A { private A() { super(); } A(int... y) { this(1, 2); } public A(B b) { (b).super(); } }",
         &[
             (
@@ -73,10 +64,8 @@ fn constructors(rt: HostRuntime) -> Result<(), Fail> {
                 " ArgumentCount=0 Qualified Super",
             ),
         ],
-    )?;
-    check(
-        &rt,
-        rt.alloc(),
+    ),
+    Table::Nodes(
         "record R(int a, String... b) { R { } public R(int x) { this(x); } record S() { public S { } } }",
         &[
             ("RecordComponent", 0, ""),
@@ -97,14 +86,9 @@ fn constructors(rt: HostRuntime) -> Result<(), Fail> {
                 " Arity=1 Name=R Visibility=public",
             ),
         ],
-    )
-}
-
-#[test]
-fn members_of_enums(rt: HostRuntime) -> Result<(), Fail> {
-    check(
-        &rt,
-        rt.alloc(),
+    ),
+    // members of enums
+    Table::Nodes(
         "enum E { A(1); E(int x) {} class N { N() {} } static { } { } }",
         &[
             (
@@ -126,14 +110,9 @@ fn members_of_enums(rt: HostRuntime) -> Result<(), Fail> {
             ),
             ("ArgumentList", 0, " Size=1"),
         ],
-    )
-}
-
-#[test]
-fn members_of_interfaces(rt: HostRuntime) -> Result<(), Fail> {
-    check(
-        &rt,
-        rt.alloc(),
+    ),
+    // members of interfaces
+    Table::Nodes(
         "interface I { void a(); default void b() {} static void c() {} private void d() {} int X = 1; }",
         &[
             (
@@ -159,10 +138,8 @@ fn members_of_interfaces(rt: HostRuntime) -> Result<(), Fail> {
             ("FieldDeclaration", 0, " Final Static Visibility=public"),
             ("VariableId", 0, " Field Final Name=X Visibility=public"),
         ],
-    )?;
-    check(
-        &rt,
-        rt.alloc(),
+    ),
+    Table::Nodes(
         "@interface K { int v() default 1; class N {} int C = 2; }",
         &[
             (
@@ -177,14 +154,9 @@ fn members_of_interfaces(rt: HostRuntime) -> Result<(), Fail> {
             ),
             ("FieldDeclaration", 0, " Final Static Visibility=public"),
         ],
-    )
-}
-
-#[test]
-fn what_is_no_member_of_the_interface(rt: HostRuntime) -> Result<(), Fail> {
-    check(
-        &rt,
-        rt.alloc(),
+    ),
+    // what is no member of the interface
+    Table::Nodes(
         "interface I { class M { int f; void m() {} } Object r = new R() { public void run() {} int g; }; }",
         &[
             ("FieldDeclaration", 0, " Visibility=package"),
@@ -201,14 +173,9 @@ fn what_is_no_member_of_the_interface(rt: HostRuntime) -> Result<(), Fail> {
             ),
             ("FieldDeclaration", 2, " Visibility=package"),
         ],
-    )
-}
-
-#[test]
-fn annotations(rt: HostRuntime) -> Result<(), Fail> {
-    check(
-        &rt,
-        rt.alloc(),
+    ),
+    // annotations
+    Table::Nodes(
         "@X((1)) @Y(v = (2), w = {(3)}) @a.b.Z class A { }",
         &[
             ("Annotation", 0, " SimpleName=X"),
@@ -221,5 +188,10 @@ fn annotations(rt: HostRuntime) -> Result<(), Fail> {
                 " FullyQualified PackageQualifier=a.b SimpleName=Z",
             ),
         ],
-    )
+    ),
+];
+
+#[test]
+fn members(rt: HostRuntime) -> Result<(), Fail> {
+    check(rt.alloc(), &MEMBERS)
 }

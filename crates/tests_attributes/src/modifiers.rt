@@ -5,107 +5,114 @@ ghost use Rattle.std.specs.Prelude.{◌≡◌, ◌<◌, ◌≤◌, Ok};
 ghost use Rattle.pj_parse.specs.Parses.{Parses, file_parsed};
 ghost use Rattle.pj_parse.specs.PoolText.{IsPoolOf};
 
-use crate::shown::{node_at, wanted_lines};
+use crate::shown::{Row, expect, node_at, put, put_both};
 use pj_attrs::{Facts, effective_modifiers, explicit_modifiers, tokens_are_in_order};
+use pj_base::NoMemory;
 use pj_lex::Source;
 use pj_parse::{Parsed, parse};
-use pj_symbols::Symbols;
-use pj_tree::Node;
+use pj_symbols::{Class, Symbols, Variable};
+use pj_tree::{Node, SyntaxTree};
 use pj_xvalue::{Attributes, Modifier, Modifiers};
-use std::alloc::{AllocError, Global};
-use std::fmt::Write;
-use std::process::Abort;
+use std::alloc::Global;
 use std::test::Fail;
 
-/// The modifiers of a set, in their order, each with a space before it.
-fn words_of(alloc: Global, set: Modifiers) -> Result<String, AllocError> {
-    let mut words = String::new(alloc);
-    for modifier in [
-        Modifier::Abstract,
-        Modifier::Default,
-        Modifier::Final,
-        Modifier::Native,
-        Modifier::NonSealed,
-        Modifier::Private,
-        Modifier::Protected,
-        Modifier::Public,
-        Modifier::Sealed,
-        Modifier::Static,
-        Modifier::Strictfp,
-        Modifier::Synchronized,
-        Modifier::Transient,
-        Modifier::Volatile,
-    ] {
-        if set.contains(modifier) {
-            write!(words, " {modifier:?}")?;
-        }
-    }
-    Ok(words)
+/// The modifiers, in the order of their names.
+static MODIFIERS: [Modifier; 14] = [
+    Modifier::Abstract,
+    Modifier::Default,
+    Modifier::Final,
+    Modifier::Native,
+    Modifier::NonSealed,
+    Modifier::Private,
+    Modifier::Protected,
+    Modifier::Public,
+    Modifier::Sealed,
+    Modifier::Static,
+    Modifier::Strictfp,
+    Modifier::Synchronized,
+    Modifier::Transient,
+    Modifier::Volatile,
+];
+
+/// Puts a modifier, with a space before it.
+fn put_modifier(out: &mut String, modifier: Modifier) -> Result<(), NoMemory> {
+    write!(out, " {modifier:?}")?;
+    Ok(())
 }
 
-/// The modifiers of nodes of a file, each by its kind and its place among the nodes of the kind, with a line for each node: the
-/// written ones, and behind a bar the effective ones.
-fn modifiers_in_file(
-    alloc: Global,
-    parsed: &Parsed<'_>,
-    rows: &[(&str, u32, &str)],
-) -> Result<String, AllocError> {
-    let mut lines = String::new(alloc);
-    for (kind, place, _) in rows {
-        if let Some(n) = node_at(&parsed.tree, kind, *place) {
-            let written = words_of(alloc, explicit_modifiers(parsed, n))?;
-            let effective = words_of(alloc, effective_modifiers(parsed, n))?;
-            write!(lines, "{kind} {place}{written} |{effective}\n")?;
+/// Puts the modifiers of a set, in their order.
+fn put_set(out: &mut String, set: Modifiers) -> Result<(), NoMemory> {
+    for modifier in &MODIFIERS {
+        if set.contains(*modifier) {
+            put_modifier(out, *modifier)?;
         }
     }
-    Ok(lines)
+    Ok(())
+}
+
+/// Puts two sets of modifiers, with a bar between them.
+fn put_sets(out: &mut String, written: Modifiers, effective: Modifiers) -> Result<(), NoMemory> {
+    put_set(out, written)?;
+    put(out, " |")?;
+    put_set(out, effective)
+}
+
+/// Whether these are the written and the effective modifiers.
+fn are(
+    alloc: Global,
+    written: Modifiers,
+    effective: Modifiers,
+    wanted: &str,
+) -> Result<bool, NoMemory> {
+    let mut out = String::new(alloc);
+    put_sets(&mut out, written, effective)?;
+    Ok(out.as_str() == wanted)
+}
+
+/// Whether the node of a row has just these modifiers: the written ones, and behind a bar the effective ones.
+fn has(alloc: Global, parsed: &Parsed<'_>, row: &Row) -> Result<bool, NoMemory> {
+    match node_at(&parsed.tree, row.0, row.1) {
+        Some(n) => {
+            let written = explicit_modifiers(parsed, n);
+            are(alloc, written, effective_modifiers(parsed, n), row.2)
+        }
+        None => Ok(false),
+    }
+}
+
+/// Whether the nodes of a file have just their modifiers.
+fn have(alloc: Global, parsed: &Parsed<'_>, rows: &[Row]) -> Result<bool, NoMemory> {
+    for row in rows {
+        if !has(alloc, parsed, row)? {
+            return Ok(false);
+        }
+    }
+    Ok(true)
 }
 
 /// The same of a source.
-fn modifiers_in_source(
-    alloc: Global,
-    source: &Source,
-    rows: &[(&str, u32, &str)],
-) -> Result<String, AllocError> {
+fn have_in_source(alloc: Global, source: &Source, rows: &[Row]) -> Result<bool, NoMemory> {
     match parse(alloc, source) {
-        Ok(parsed) => modifiers_in_file(alloc, &parsed, rows),
-        Err(_) => String::from_str(alloc, "no tree"),
+        Ok(parsed) => have(alloc, &parsed, rows),
+        Err(_) => Ok(false),
     }
 }
 
 /// The same of a text.
-fn modifiers_in_text(
-    alloc: Global,
-    text: &str,
-    rows: &[(&str, u32, &str)],
-) -> Result<String, AllocError> {
+fn have_in_text(alloc: Global, text: &str, rows: &[Row]) -> Result<bool, NoMemory> {
     if text.len() > 1_000_000 {
-        return String::from_str(alloc, "long");
+        return Ok(false);
     }
     match Source::read(alloc, text.as_bytes()) {
-        Ok(source) => modifiers_in_source(alloc, &source, rows),
-        Err(_) => String::from_str(alloc, "no text"),
+        Ok(source) => have_in_source(alloc, &source, rows),
+        Err(_) => Ok(false),
     }
 }
 
-/// That nodes of a text have just these modifiers.
-fn check_modifiers(
-    rt: &impl Abort,
-    alloc: Global,
-    text: &str,
-    rows: &[(&str, u32, &str)],
-) -> Result<(), Fail> {
-    let found = modifiers_in_text(alloc, text, rows)?;
-    let wanted = wanted_lines(alloc, rows)?;
-    assert_eq!(rt; found.as_str(), wanted.as_str(), "of {text}");
-    Ok(())
-}
-
-#[test]
-fn written_modifiers(rt: HostRuntime) -> Result<(), Fail> {
-    check_modifiers(
-        &rt,
-        rt.alloc(),
+/// Texts, and nodes of each with just these modifiers.
+static NODES: [(&str, &[Row]); 4] = [
+    // written modifiers
+    (
         "public sealed class A permits B { private transient volatile int f; protected native strictfp synchronized void m(); } non-sealed class B { }",
         &[
             ("ClassDeclaration", 0, " Public Sealed | Public Sealed"),
@@ -127,14 +134,9 @@ fn written_modifiers(rt: HostRuntime) -> Result<(), Fail> {
             ("ClassDeclaration", 1, " NonSealed | NonSealed"),
             ("ClassBody", 0, " |"),
         ],
-    )
-}
-
-#[test]
-fn modifiers_in_interfaces(rt: HostRuntime) -> Result<(), Fail> {
-    check_modifiers(
-        &rt,
-        rt.alloc(),
+    ),
+    // modifiers in interfaces
+    (
         "interface I { int X = 1; void a(); default void b() {} static void c() {} private void d() {} class M {} private enum E { } }",
         &[
             ("ClassDeclaration", 0, " | Abstract"),
@@ -146,14 +148,9 @@ fn modifiers_in_interfaces(rt: HostRuntime) -> Result<(), Fail> {
             ("ClassDeclaration", 1, " | Public Static"),
             ("EnumDeclaration", 0, " Private | Final Private Static"),
         ],
-    )
-}
-
-#[test]
-fn modifiers_of_enums_and_records(rt: HostRuntime) -> Result<(), Fail> {
-    check_modifiers(
-        &rt,
-        rt.alloc(),
+    ),
+    // modifiers of enums and records
+    (
         "enum E { A { }, B; E() { } interface J { } } record R(int x) { record S() { } }",
         &[
             ("EnumDeclaration", 0, " |"),
@@ -165,10 +162,8 @@ fn modifiers_of_enums_and_records(rt: HostRuntime) -> Result<(), Fail> {
             ("RecordDeclaration", 1, " | Final Static"),
             ("AnonymousClassDeclaration", 0, " |"),
         ],
-    )?;
-    check_modifiers(
-        &rt,
-        rt.alloc(),
+    ),
+    (
         "class A { { try (var r = x()) { } catch (B | C e) { } catch (D f) { } } }",
         &[
             ("LocalVariableDeclaration", 0, " | Final"),
@@ -176,91 +171,145 @@ fn modifiers_of_enums_and_records(rt: HostRuntime) -> Result<(), Fail> {
             ("VariableId", 1, " | Final"),
             ("CatchParameter", 1, " |"),
         ],
-    )
+    ),
+];
+
+#[test]
+fn modifiers(rt: HostRuntime) -> Result<(), Fail> {
+    for (text, rows) in &NODES {
+        expect(have_in_text(rt.alloc(), text, rows)?, text)?;
+    }
+    Ok(())
 }
 
-/// What a file declares: its package, its classes and its variables.
-fn declared(alloc: Global, symbols: &Symbols) -> Result<String, AllocError> {
-    let mut found = String::from_str(alloc, symbols.package_name())?;
+/// Puts the number and the name of a class.
+fn put_class(out: &mut String, class: &Class) -> Result<(), NoMemory> {
+    write!(out, " {} {}", class.node.0, class.name.as_str())?;
+    Ok(())
+}
+
+/// Puts the number, the kind and the name of a variable.
+fn put_variable(out: &mut String, variable: &Variable) -> Result<(), NoMemory> {
+    write!(out, " {} {:?}", variable.node.0, variable.kind)?;
+    put_both(out, " ", variable.name.as_str())
+}
+
+/// Puts what a file declares: its package, its classes and its variables.
+fn put_symbols(out: &mut String, symbols: &Symbols) -> Result<(), NoMemory> {
+    put(out, symbols.package_name())?;
     for class in symbols.classes().as_slice() {
-        write!(found, " {} {}", class.node.0, class.name.as_str())?;
+        put_class(out, class)?;
     }
     for variable in symbols.variables().as_slice() {
-        write!(
-            found,
-            " {} {:?} {}",
-            variable.node.0,
-            variable.kind,
-            variable.name.as_str()
-        )?;
+        put_variable(out, variable)?;
     }
-    Ok(found)
+    Ok(())
 }
 
-/// The line and column of an offset into the text of a file, and the modifiers of its root.
-fn placed<A: Attributes>(alloc: Global, facts: &A, offset: u32) -> Result<String, AllocError>
+/// Puts what the file of a tree declares.
+fn put_declared(alloc: Global, out: &mut String, tree: &SyntaxTree<'_>) -> Result<(), NoMemory> {
+    let symbols = Symbols::of(alloc, tree)?;
+    put_symbols(out, &symbols)
+}
+
+/// Puts the line and column of an offset into the text of a file, and the modifiers of its root.
+fn put_place<A: Attributes>(out: &mut String, facts: &A, offset: u32) -> Result<(), NoMemory>
     requires some { 0 < A.nodes facts.now }
     requires inside { offset ≤ A.text_length facts.now }
 {
     let place = facts.place(offset);
-    let written = words_of(alloc, facts.modifiers(Node(0), false))?;
-    let effective = words_of(alloc, facts.modifiers(Node(0), true))?;
-    format!(in alloc; "{}:{}{written} |{effective}", place.line, place.column)
+    let written = facts.modifiers(Node(0), false);
+    let effective = facts.modifiers(Node(0), true);
+    write!(out, ", {}:{}", place.line, place.column)?;
+    put_sets(out, written, effective)
 }
 
-/// What a file declares, and the place of an offset into its text.
-fn shown_of_file(
+/// Puts the place of an offset into the text of a file.
+fn put_placed(
     alloc: Global,
+    out: &mut String,
     source: &Source,
     parsed: &Parsed<'_>,
     offset: u32,
-) -> Result<String, Fail>
+) -> Result<(), NoMemory>
     requires parses { Parses source.now.text (Ok (file_parsed parsed.now)) }
     requires text { parsed.now.tree.text ≡ source.now.text }
     requires pool { IsPoolOf parsed.now.tree parsed.now.pool }
 {
     tokens_are_in_order(source.text(), parsed);
     let symbols = Symbols::of(alloc, &parsed.tree)?;
-    let mut found = declared(alloc, &symbols)?;
     let facts = Facts::new(source, parsed, &symbols);
     if parsed.tree.len() > 0 && offset as usize <= source.text().len() {
-        found.push_str(", ")?;
-        found.push_str(placed(alloc, &facts, offset)?.as_str())?;
+        return put_place(out, &facts, offset);
     }
-    Ok(found)
+    Ok(())
+}
+
+/// Puts what a file declares, and the place of an offset into its text.
+fn put_file(
+    alloc: Global,
+    out: &mut String,
+    source: &Source,
+    parsed: &Parsed<'_>,
+    offset: u32,
+) -> Result<(), NoMemory>
+    requires parses { Parses source.now.text (Ok (file_parsed parsed.now)) }
+    requires text { parsed.now.tree.text ≡ source.now.text }
+    requires pool { IsPoolOf parsed.now.tree parsed.now.pool }
+{
+    put_declared(alloc, out, &parsed.tree)?;
+    put_placed(alloc, out, source, parsed, offset)
 }
 
 /// The same of a source.
-fn shown_of_source(alloc: Global, source: &Source, offset: u32) -> Result<String, Fail> {
+fn put_source(
+    alloc: Global,
+    out: &mut String,
+    source: &Source,
+    offset: u32,
+) -> Result<(), NoMemory> {
     match parse(alloc, source) {
-        Ok(parsed) => shown_of_file(alloc, source, &parsed, offset),
-        Err(_) => Ok(String::from_str(alloc, "no tree")?),
+        Ok(parsed) => put_file(alloc, out, source, &parsed, offset),
+        Err(_) => put(out, "no tree"),
     }
 }
 
 /// The same of a text.
-fn shown_of(alloc: Global, text: &str, offset: u32) -> Result<String, Fail> {
+fn put_text(alloc: Global, out: &mut String, text: &str, offset: u32) -> Result<(), NoMemory> {
     if text.len() > 1_000_000 {
-        return Ok(String::from_str(alloc, "long")?);
+        return put(out, "long");
     }
     match Source::read(alloc, text.as_bytes()) {
-        Ok(source) => shown_of_source(alloc, &source, offset),
-        Err(_) => Ok(String::from_str(alloc, "no text")?),
+        Ok(source) => put_source(alloc, out, &source, offset),
+        Err(_) => put(out, "no text"),
     }
 }
 
-#[test]
-fn declarations_and_places(rt: HostRuntime) -> Result<(), Fail> {
-    let found = shown_of(
-        rt.alloc(),
+/// Whether this is declared, and the place of the offset.
+fn is_declared(alloc: Global, text: &str, offset: u32, wanted: &str) -> Result<bool, NoMemory> {
+    let mut out = String::new(alloc);
+    put_text(alloc, &mut out, text, offset)?;
+    Ok(out.as_str() == wanted)
+}
+
+/// Texts and offsets into them; what each text declares, the place of the offset and the modifiers of the root.
+static DECLARED: [(&str, u32, &str); 2] = [
+    (
         "package p.q; class A { int f; class B { } void m(int g) { } }",
         0,
-    )?;
-    assert_eq!(rt;
-        found.as_str(),
-        "p.q 3 p.q.A 11 p.q.A$B 10 Field f 21 FormalParameter g, 1:1 |"
-    );
-    let found = shown_of(rt.alloc(), "class A {\n interface \\u0042 { } }", 22)?;
-    assert_eq!(rt; found.as_str(), " 1 A 4 A$B, 2:18 |");
+        "p.q 3 p.q.A 11 p.q.A$B 10 Field f 21 FormalParameter g, 1:1 |",
+    ),
+    (
+        "class A {\n interface \\u0042 { } }",
+        22,
+        " 1 A 4 A$B, 2:18 |",
+    ),
+];
+
+#[test]
+fn declarations_and_places(rt: HostRuntime) -> Result<(), Fail> {
+    for (text, offset, wanted) in &DECLARED {
+        expect(is_declared(rt.alloc(), text, *offset, wanted)?, wanted)?;
+    }
     Ok(())
 }

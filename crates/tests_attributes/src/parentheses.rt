@@ -1,13 +1,11 @@
 //! Parentheses around expressions (JLS 15.8.5), apart from those that belong to statements and argument lists.
 
-use crate::shown::check;
+use crate::shown::{Table, check};
 use std::test::Fail;
 
-#[test]
-fn in_statements(rt: HostRuntime) -> Result<(), Fail> {
-    check(
-        &rt,
-        rt.alloc(),
+static PARENTHESES: [Table; 4] = [
+    // in statements
+    Table::Nodes(
         "class A { { if (a) ; if ((b)) ; while (c) ; do ; while (((d))); switch (e) { } switch ((f)) { } } }",
         &[
             (
@@ -41,10 +39,8 @@ fn in_statements(rt: HostRuntime) -> Result<(), Fail> {
                 " Parenthesized ParenthesisDepth=1 AccessType=READ Name=f",
             ),
         ],
-    )?;
-    check(
-        &rt,
-        rt.alloc(),
+    ),
+    Table::Nodes(
         "class A { { synchronized (a) { } synchronized ((b)) { } try ((c)) { } for (int i = (d); (e); (f)++) ; for (var v : (g)) ; } }",
         &[
             (
@@ -83,14 +79,9 @@ fn in_statements(rt: HostRuntime) -> Result<(), Fail> {
                 " Parenthesized ParenthesisDepth=1 AccessType=READ Name=g",
             ),
         ],
-    )
-}
-
-#[test]
-fn in_arguments(rt: HostRuntime) -> Result<(), Fail> {
-    check(
-        &rt,
-        rt.alloc(),
+    ),
+    // in arguments
+    Table::Nodes(
         "class A { { f(a); f((b)); f(((c)), (d), e); f((g) + 1); ((h).n()).o(); } }",
         &[
             (
@@ -129,14 +120,9 @@ fn in_arguments(rt: HostRuntime) -> Result<(), Fail> {
                 " Parenthesized ParenthesisDepth=1 AccessType=READ Name=h",
             ),
         ],
-    )
-}
-
-#[test]
-fn around_operands(rt: HostRuntime) -> Result<(), Fail> {
-    check(
-        &rt,
-        rt.alloc(),
+    ),
+    // around operands
+    Table::Nodes(
         "class A { Object o = ( /* x */ ( a /* y */ ) ) + (b + c), p = x -> (d), q[] = { (e), g }; }",
         &[
             (
@@ -176,5 +162,10 @@ fn around_operands(rt: HostRuntime) -> Result<(), Fail> {
                 " ParenthesisDepth=0 AccessType=READ Name=g",
             ),
         ],
-    )
+    ),
+];
+
+#[test]
+fn parentheses(rt: HostRuntime) -> Result<(), Fail> {
+    check(rt.alloc(), &PARENTHESES)
 }

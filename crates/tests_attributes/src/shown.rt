@@ -5,15 +5,29 @@ ghost use Rattle.pj_parse.specs.Parses.{Parses, file_parsed};
 ghost use Rattle.pj_parse.specs.PoolText.{IsPoolOf};
 
 use pj_attrs::{Facts, tokens_are_in_order};
+use pj_base::NoMemory;
 use pj_lex::Source;
 use pj_parse::{Parsed, parse};
 use pj_symbols::Symbols;
 use pj_tree::{Node, SyntaxTree};
 use pj_xvalue::{Attributes, Value};
-use std::alloc::{AllocError, Global};
-use std::fmt::Write;
-use std::process::Abort;
+use std::alloc::Global;
 use std::test::Fail;
+
+/// A kind of nodes, a place among the nodes of the kind, counted from 0, and what the node there has: each attribute with a space before
+/// it.
+pub type Row = (&'static str, u32, &'static str);
+
+/// What stands before pieces of code, what stands behind each, and what stands behind all.
+pub type Frame = (&'static str, &'static str, &'static str);
+
+/// Nodes with just these attributes.
+pub enum Table {
+    /// Nodes of a text.
+    Nodes(&'static str, &'static [Row]),
+    /// Nodes of a kind, one in each of some pieces of code.
+    Pieces(&'static str, Frame, &'static [(&'static str, &'static str)]),
+}
 
 /// The node of the kind at a place among the nodes of the kind, counted from 0.
 pub fn node_at(tree: &SyntaxTree<'_>, kind: &str, place: u32) -> Option<Node>
@@ -31,55 +45,138 @@ pub fn node_at(tree: &SyntaxTree<'_>, kind: &str, place: u32) -> Option<Node>
     None
 }
 
-/// An attribute with a space before it: a boolean one by its name if it is true, and by nothing if it is false; any other one
+/// Puts a text behind what there is.
+pub fn put(out: &mut String, text: &str) -> Result<(), NoMemory> {
+    out.push_str(text)?;
+    Ok(())
+}
+
+/// Puts a text and another one.
+pub fn put_both(out: &mut String, first: &str, second: &str) -> Result<(), NoMemory> {
+    put(out, first)?;
+    put(out, second)
+}
+
+/// Puts the name and the text of a string attribute.
+fn put_string(out: &mut String, name: &str, text: &str) -> Result<(), NoMemory> {
+    put_both(out, " ", name)?;
+    put_both(out, "=", text)
+}
+
+/// Puts the name and the number of an integer attribute.
+fn put_number(out: &mut String, name: &str, number: i64) -> Result<(), NoMemory> {
+    put_both(out, " ", name)?;
+    write!(out, "={number}")?;
+    Ok(())
+}
+
+/// Puts an attribute with a space before it: a boolean one by its name if it is true, and by nothing if it is false; any other one
 /// with its value, or with `-` if it has none.
-fn put(found: &mut String, name: &str, value: Option<Value<'_>>) -> Result<(), AllocError> {
+fn put_attribute(out: &mut String, name: &str, value: Option<Value<'_>>) -> Result<(), NoMemory> {
     match value {
-        None => write!(found, " {name}=-"),
-        Some(Value::Str(text)) => write!(found, " {name}={text}"),
-        Some(Value::Int(number)) => write!(found, " {name}={number}"),
-        Some(Value::Bool(true)) => write!(found, " {name}"),
+        None => put_string(out, name, "-"),
+        Some(Value::Str(text)) => put_string(out, name, text),
+        Some(Value::Int(number)) => put_number(out, name, number),
+        Some(Value::Bool(true)) => put_both(out, " ", name),
         Some(Value::Bool(false)) => Ok(()),
     }
 }
 
-/// The attributes of a node, in order.
-fn attributes_of<A: Attributes>(alloc: Global, facts: &A, n: Node) -> Result<String, AllocError>
+/// Puts the attributes of a node, in order.
+fn put_attributes<A: Attributes>(out: &mut String, facts: &A, n: Node) -> Result<(), NoMemory>
     requires { n.0 < A.nodes facts.now }
 {
-    let mut found = String::new(alloc);
     for name in facts.names(n) {
-        put(&mut found, name, facts.attribute(n, name))?;
+        put_attribute(out, name, facts.attribute(n, name))?;
     }
-    Ok(found)
+    Ok(())
 }
 
-/// The attributes of nodes, each by its kind and its place among the nodes of the kind, with a line for each node.
-fn lines_of<A: Attributes>(
+/// Whether a node has just these attributes.
+fn has<A: Attributes>(alloc: Global, facts: &A, n: Node, wanted: &str) -> Result<bool, NoMemory>
+    requires { n.0 < A.nodes facts.now }
+{
+    let mut out = String::new(alloc);
+    put_attributes(&mut out, facts, n)?;
+    Ok(out.as_str() == wanted)
+}
+
+/// Whether the node of a kind at a place has just these attributes.
+fn has_at<A: Attributes>(
     alloc: Global,
     tree: &SyntaxTree<'_>,
     facts: &A,
-    rows: &[(&str, u32, &str)],
-) -> Result<String, AllocError>
+    kind: &str,
+    place: u32,
+    wanted: &str,
+) -> Result<bool, NoMemory>
     requires { A.nodes facts.now ≡ length tree.now.nodes }
 {
-    let mut lines = String::new(alloc);
-    for (kind, place, _) in rows {
-        if let Some(n) = node_at(tree, kind, *place) {
-            let found = attributes_of(alloc, facts, n)?;
-            write!(lines, "{kind} {place}{found}\n")?;
-        }
+    match node_at(tree, kind, place) {
+        Some(n) => has(alloc, facts, n, wanted),
+        None => Ok(false),
     }
-    Ok(lines)
 }
 
-/// The same of a file that was parsed.
-fn lines_of_file(
+/// Whether nodes have just these attributes.
+fn have_rows<A: Attributes>(
+    alloc: Global,
+    tree: &SyntaxTree<'_>,
+    facts: &A,
+    rows: &[Row],
+) -> Result<bool, NoMemory>
+    requires { A.nodes facts.now ≡ length tree.now.nodes }
+{
+    for (kind, place, wanted) in rows {
+        if !has_at(alloc, tree, facts, kind, *place, wanted)? {
+            return Ok(false);
+        }
+    }
+    Ok(true)
+}
+
+/// Whether the nodes of a kind, one in each piece, have just these attributes.
+fn have_pieces<A: Attributes>(
+    alloc: Global,
+    tree: &SyntaxTree<'_>,
+    facts: &A,
+    kind: &str,
+    pieces: &[(&str, &str)],
+) -> Result<bool, NoMemory>
+    requires { A.nodes facts.now ≡ length tree.now.nodes }
+{
+    let mut place = 0u32;
+    for (_, wanted) in pieces {
+        if !has_at(alloc, tree, facts, kind, place, wanted)? {
+            return Ok(false);
+        }
+        place = place.saturating_add(1);
+    }
+    Ok(true)
+}
+
+/// Whether the nodes of a table have just their attributes.
+fn have<A: Attributes>(
+    alloc: Global,
+    tree: &SyntaxTree<'_>,
+    facts: &A,
+    table: &Table,
+) -> Result<bool, NoMemory>
+    requires { A.nodes facts.now ≡ length tree.now.nodes }
+{
+    match table {
+        Table::Nodes(_, rows) => have_rows(alloc, tree, facts, rows),
+        Table::Pieces(kind, _, pieces) => have_pieces(alloc, tree, facts, kind, pieces),
+    }
+}
+
+/// The same of a file.
+fn have_in_file(
     alloc: Global,
     source: &Source,
     parsed: &Parsed<'_>,
-    rows: &[(&str, u32, &str)],
-) -> Result<String, Fail>
+    table: &Table,
+) -> Result<bool, NoMemory>
     requires parses { Parses source.now.text (Ok (file_parsed parsed.now)) }
     requires text { parsed.now.tree.text ≡ source.now.text }
     requires pool { IsPoolOf parsed.now.tree parsed.now.pool }
@@ -87,72 +184,80 @@ fn lines_of_file(
     tokens_are_in_order(source.text(), parsed);
     let symbols = Symbols::of(alloc, &parsed.tree)?;
     let facts = Facts::new(source, parsed, &symbols);
-    Ok(lines_of(alloc, &parsed.tree, &facts, rows)?)
+    have(alloc, &parsed.tree, &facts, table)
 }
 
 /// The same of a source.
-fn lines_of_source(
-    alloc: Global,
-    source: &Source,
-    rows: &[(&str, u32, &str)],
-) -> Result<String, Fail> {
+fn have_in_source(alloc: Global, source: &Source, table: &Table) -> Result<bool, NoMemory> {
     match parse(alloc, source) {
-        Ok(parsed) => lines_of_file(alloc, source, &parsed, rows),
-        Err(_) => Ok(String::from_str(alloc, "no tree")?),
+        Ok(parsed) => have_in_file(alloc, source, &parsed, table),
+        Err(_) => Ok(false),
     }
 }
 
 /// The same of a text.
-fn lines_of_text(alloc: Global, text: &str, rows: &[(&str, u32, &str)]) -> Result<String, Fail> {
+fn have_in_text(alloc: Global, text: &str, table: &Table) -> Result<bool, NoMemory> {
     if text.len() > 1_000_000 {
-        return Ok(String::from_str(alloc, "long")?);
+        return Ok(false);
     }
     match Source::read(alloc, text.as_bytes()) {
-        Ok(source) => lines_of_source(alloc, &source, rows),
-        Err(_) => Ok(String::from_str(alloc, "no text")?),
+        Ok(source) => have_in_source(alloc, &source, table),
+        Err(_) => Ok(false),
     }
 }
 
-/// The lines that are wanted of nodes.
-pub fn wanted_lines(alloc: Global, rows: &[(&str, u32, &str)]) -> Result<String, AllocError> {
-    let mut lines = String::new(alloc);
-    for (kind, place, wanted) in rows {
-        write!(lines, "{kind} {place}{wanted}\n")?;
+/// Puts pieces of code, each with a sign behind it.
+fn put_pieces(out: &mut String, behind: &str, pieces: &[(&str, &str)]) -> Result<(), NoMemory> {
+    for (piece, _) in pieces {
+        put_both(out, piece, behind)?;
     }
-    Ok(lines)
-}
-
-/// That nodes of a text, each by its kind and its place among the nodes of the kind, have just these attributes.
-pub fn check(
-    rt: &impl Abort,
-    alloc: Global,
-    text: &str,
-    rows: &[(&str, u32, &str)],
-) -> Result<(), Fail> {
-    let found = lines_of_text(alloc, text, rows)?;
-    let wanted = wanted_lines(alloc, rows)?;
-    assert_eq!(rt; found.as_str(), wanted.as_str(), "of {text}");
     Ok(())
 }
 
-/// That nodes of a kind, which stand in pieces of code, have just these attributes: one in each piece. The pieces stand behind
-/// a front, each with a sign behind it, and before an end.
-pub fn check_each(
-    rt: &impl Abort,
+/// Puts a text of pieces of code in their frame.
+fn put_text(out: &mut String, frame: &Frame, pieces: &[(&str, &str)]) -> Result<(), NoMemory> {
+    put(out, frame.0)?;
+    put_pieces(out, frame.1, pieces)?;
+    put(out, frame.2)
+}
+
+/// Whether the nodes of a table with pieces in a frame have just their attributes.
+fn have_in_frame(
     alloc: Global,
-    kind: &str,
-    frame: (&str, &str, &str),
+    frame: &Frame,
     pieces: &[(&str, &str)],
-) -> Result<(), Fail> {
-    let mut text = String::from_str(alloc, frame.0)?;
-    let mut rows: Vec<(&str, u32, &str)> = Vec::new(alloc);
-    let mut place = 0u32;
-    for (piece, wanted) in pieces {
-        text.push_str(piece)?;
-        text.push_str(frame.1)?;
-        rows.push((kind, place, wanted))?;
-        place = place.saturating_add(1);
+    table: &Table,
+) -> Result<bool, NoMemory> {
+    let mut text = String::new(alloc);
+    put_text(&mut text, frame, pieces)?;
+    have_in_text(alloc, text.as_str(), table)
+}
+
+/// Whether the nodes of a table have just their attributes.
+fn is_right(alloc: Global, table: &Table) -> Result<bool, NoMemory> {
+    match table {
+        Table::Nodes(text, _) => have_in_text(alloc, text, table),
+        Table::Pieces(_, frame, pieces) => have_in_frame(alloc, frame, pieces, table),
     }
-    text.push_str(frame.2)?;
-    check(rt, alloc, text.as_str(), rows.as_slice())
+}
+
+/// A text by which a table is found again.
+fn name_of(table: &'static Table) -> &'static str {
+    match table {
+        Table::Nodes(text, _) => *text,
+        Table::Pieces(kind, _, _) => *kind,
+    }
+}
+
+/// Fails with a text of a row where what it says does not hold.
+pub fn expect(holds: bool, row: &'static str) -> Result<(), Fail> {
+    if holds { Ok(()) } else { Err(Fail::new(row)) }
+}
+
+/// That the nodes of the tables have just their attributes.
+pub fn check(alloc: Global, tables: &'static [Table]) -> Result<(), Fail> {
+    for table in tables {
+        expect(is_right(alloc, table)?, name_of(table))?;
+    }
+    Ok(())
 }

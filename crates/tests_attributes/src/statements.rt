@@ -1,13 +1,11 @@
 //! Statements (JLS 14).
 
-use crate::shown::check;
+use crate::shown::{Table, check};
 use std::test::Fail;
 
-#[test]
-fn jumps_and_blocks(rt: HostRuntime) -> Result<(), Fail> {
-    check(
-        &rt,
-        rt.alloc(),
+static STATEMENTS: [Table; 4] = [
+    // jumps and blocks
+    Table::Nodes(
         "class A { { if (a) { } else { } if (b) ; l: for (;;) { break l; } for (;;) break; k: for (;;) continue k; for (;;) continue; } }",
         &[
             ("IfStatement", 0, " Else"),
@@ -19,24 +17,17 @@ fn jumps_and_blocks(rt: HostRuntime) -> Result<(), Fail> {
             ("ContinueStatement", 1, " Label=-"),
             ("Block", 0, " Size=6"),
         ],
-    )?;
-    check(
-        &rt,
-        rt.alloc(),
+    ),
+    Table::Nodes(
         "class A { { { } { ; } } }",
         &[
             ("Block", 0, " Size=2"),
             ("Block", 1, " Empty Size=0"),
             ("Block", 2, " Size=1"),
         ],
-    )
-}
-
-#[test]
-fn switches(rt: HostRuntime) -> Result<(), Fail> {
-    check(
-        &rt,
-        rt.alloc(),
+    ),
+    // switches
+    Table::Nodes(
         "class A { { switch (a) { case 1: b(); default: c(); } switch (d) { case 2 -> e(); } switch (f) { } } }",
         &[
             ("SwitchStatement", 0, " DefaultCase FallthroughSwitch"),
@@ -45,10 +36,8 @@ fn switches(rt: HostRuntime) -> Result<(), Fail> {
             ("SwitchLabel", 0, ""),
             ("SwitchLabel", 1, " Default"),
         ],
-    )?;
-    check(
-        &rt,
-        rt.alloc(),
+    ),
+    Table::Nodes(
         "class A { int g = switch (h) { default -> 1; }, i = (switch (j) { case 3: yield 1; case 4, 5: yield 2; }); }",
         &[
             ("SwitchExpression", 0, " ParenthesisDepth=0 DefaultCase"),
@@ -58,5 +47,10 @@ fn switches(rt: HostRuntime) -> Result<(), Fail> {
                 " Parenthesized ParenthesisDepth=1 FallthroughSwitch",
             ),
         ],
-    )
+    ),
+];
+
+#[test]
+fn statements(rt: HostRuntime) -> Result<(), Fail> {
+    check(rt.alloc(), &STATEMENTS)
 }

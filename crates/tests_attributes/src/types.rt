@@ -1,13 +1,11 @@
 //! Types (JLS 4): names of classes, type arguments, wildcards, primitive types, arrays.
 
-use crate::shown::{check, check_each};
+use crate::shown::{Table, check};
 use std::test::Fail;
 
-#[test]
-fn class_types(rt: HostRuntime) -> Result<(), Fail> {
-    check(
-        &rt,
-        rt.alloc(),
+static TYPES: [Table; 3] = [
+    // class types
+    Table::Nodes(
         "class A { java.util.Map.Entry<String, ? extends B> a; List<? super C> b; D<?> c; E d = new F<>(); }",
         &[
             ("ClassType", 0, " PackageQualifier=- SimpleName=Entry"),
@@ -22,14 +20,9 @@ fn class_types(rt: HostRuntime) -> Result<(), Fail> {
             ("WildcardType", 1, " LowerBound"),
             ("WildcardType", 2, ""),
         ],
-    )
-}
-
-#[test]
-fn primitive_types(rt: HostRuntime) -> Result<(), Fail> {
-    check_each(
-        &rt,
-        rt.alloc(),
+    ),
+    // primitive types
+    Table::Pieces(
         "PrimitiveType",
         ("class A { ", " x; ", "}"),
         &[
@@ -42,14 +35,9 @@ fn primitive_types(rt: HostRuntime) -> Result<(), Fail> {
             ("float", " Kind=float"),
             ("double", " Kind=double"),
         ],
-    )
-}
-
-#[test]
-fn arrays(rt: HostRuntime) -> Result<(), Fail> {
-    check(
-        &rt,
-        rt.alloc(),
+    ),
+    // arrays
+    Table::Nodes(
         "class A { long[][] k = new long[3][]; Object o = new int[] { 1 }; }",
         &[
             ("ArrayDimensions", 0, " Size=2"),
@@ -59,5 +47,10 @@ fn arrays(rt: HostRuntime) -> Result<(), Fail> {
             ("ArrayAllocation", 1, " ParenthesisDepth=0 ArrayDepth=1"),
             ("ArrayInitializer", 0, " ParenthesisDepth=0"),
         ],
-    )
+    ),
+];
+
+#[test]
+fn types(rt: HostRuntime) -> Result<(), Fail> {
+    check(rt.alloc(), &TYPES)
 }

@@ -1,13 +1,11 @@
 //! Variables (JLS 4.12.3): fields, local variables, parameters, patterns, resources.
 
-use crate::shown::check;
+use crate::shown::{Table, check};
 use std::test::Fail;
 
-#[test]
-fn fields_and_locals(rt: HostRuntime) -> Result<(), Fail> {
-    check(
-        &rt,
-        rt.alloc(),
+static VARIABLES: [Table; 7] = [
+    // fields and locals
+    Table::Nodes(
         "class A { private static final int F = 1, G[] = {}; protected int[] h; }",
         &[
             ("FieldDeclaration", 0, " Final Static Visibility=private"),
@@ -24,10 +22,8 @@ fn fields_and_locals(rt: HostRuntime) -> Result<(), Fail> {
                 " ArrayType Field Name=h Visibility=protected",
             ),
         ],
-    )?;
-    check(
-        &rt,
-        rt.alloc(),
+    ),
+    Table::Nodes(
         "class A { void m(final int p, int q[]) { final int a = 1; var b = 2; int[] c = {}; } }",
         &[
             (
@@ -59,14 +55,9 @@ fn fields_and_locals(rt: HostRuntime) -> Result<(), Fail> {
             ("LocalVariableDeclaration", 1, " TypeInferred"),
             ("LocalVariableDeclaration", 2, ""),
         ],
-    )
-}
-
-#[test]
-fn variables_of_loops_and_patterns(rt: HostRuntime) -> Result<(), Fail> {
-    check(
-        &rt,
-        rt.alloc(),
+    ),
+    // variables of loops and patterns
+    Table::Nodes(
         "class A { { for (int i = 0; ; ) ; for (final var e : c) ; if (a instanceof final B n) ; if (a instanceof C k) ; } }",
         &[
             ("VariableId", 0, " ForLoopVariable Name=i Visibility=local"),
@@ -84,14 +75,9 @@ fn variables_of_loops_and_patterns(rt: HostRuntime) -> Result<(), Fail> {
             ("LocalVariableDeclaration", 0, ""),
             ("LocalVariableDeclaration", 1, " Final TypeInferred"),
         ],
-    )
-}
-
-#[test]
-fn resources_and_exceptions(rt: HostRuntime) -> Result<(), Fail> {
-    check(
-        &rt,
-        rt.alloc(),
+    ),
+    // resources and exceptions
+    Table::Nodes(
         "class A { { try (var r = x(); y) { } catch (E1 | E2 z) { } catch (E3 w) { } try { } catch (final E4 v) { } } }",
         &[
             ("TryStatement", 0, " TryWithResources"),
@@ -115,24 +101,17 @@ fn resources_and_exceptions(rt: HostRuntime) -> Result<(), Fail> {
                 " ExceptionBlockParameter Name=w Visibility=local",
             ),
         ],
-    )?;
-    check(
-        &rt,
-        rt.alloc(),
+    ),
+    Table::Nodes(
         "class A { { try { } catch (E1 | E2 z) { } catch (E3 w) { } catch (final E4 v) { } } }",
         &[
             ("CatchParameter", 0, " Final Multicatch"),
             ("CatchParameter", 1, ""),
             ("CatchParameter", 2, " Final"),
         ],
-    )
-}
-
-#[test]
-fn components_and_lambda_parameters(rt: HostRuntime) -> Result<(), Fail> {
-    check(
-        &rt,
-        rt.alloc(),
+    ),
+    // components and lambda parameters
+    Table::Nodes(
         "record R(int a, String... b) { }",
         &[
             (
@@ -146,10 +125,8 @@ fn components_and_lambda_parameters(rt: HostRuntime) -> Result<(), Fail> {
                 " ArrayType Final Name=b RecordComponent Visibility=private",
             ),
         ],
-    )?;
-    check(
-        &rt,
-        rt.alloc(),
+    ),
+    Table::Nodes(
         "class A { { f((a, b) -> a, (int c, var d) -> { }, (final String... s) -> 1); } }",
         &[
             (
@@ -173,5 +150,10 @@ fn components_and_lambda_parameters(rt: HostRuntime) -> Result<(), Fail> {
             ("LambdaParameter", 3, " TypeInferred"),
             ("LambdaParameter", 4, " Final"),
         ],
-    )
+    ),
+];
+
+#[test]
+fn variables(rt: HostRuntime) -> Result<(), Fail> {
+    check(rt.alloc(), &VARIABLES)
 }

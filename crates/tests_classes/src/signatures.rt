@@ -291,75 +291,27 @@ fn types_of_texts(rt: HostRuntime) -> Result<(), Fail> {
     Ok(())
 }
 
-/// A text with a middle so many times, and whether it is a descriptor and a signature of a field: at most 255 brackets, 255
-/// open brackets and classes, and 255 type arguments.
-struct Long {
-    front: &'static str,
-    middle: &'static str,
-    count: u32,
-    end: &'static str,
-    is_descriptor: bool,
-    is_field: bool,
-}
+/// The front, the middle and the end of a text, how often the middle stands, and whether the text is a descriptor and a signature of a
+/// field: at most 255 brackets, 255 open brackets and classes, and 255 type arguments.
+type Long = ((&'static str, &'static str, &'static str), u32, bool, bool);
 
 static LONG: [Long; 6] = [
-    Long {
-        front: "",
-        middle: "[",
-        count: 255,
-        end: "I",
-        is_descriptor: true,
-        is_field: true,
-    },
-    Long {
-        front: "",
-        middle: "[",
-        count: 256,
-        end: "I",
-        is_descriptor: false,
-        is_field: false,
-    },
-    Long {
-        front: "",
-        middle: "[",
-        count: 254,
-        end: "LA<*>;",
-        is_descriptor: true,
-        is_field: true,
-    },
-    Long {
-        front: "",
-        middle: "[",
-        count: 255,
-        end: "LA<*>;",
-        is_descriptor: true,
-        is_field: false,
-    },
-    Long {
-        front: "LA<",
-        middle: "*",
-        count: 255,
-        end: ">;",
-        is_descriptor: true,
-        is_field: true,
-    },
-    Long {
-        front: "LA<",
-        middle: "*",
-        count: 256,
-        end: ">;",
-        is_descriptor: true,
-        is_field: false,
-    },
+    (("", "[", "I"), 255, true, true),
+    (("", "[", "I"), 256, false, false),
+    (("", "[", "LA<*>;"), 254, true, true),
+    (("", "[", "LA<*>;"), 255, true, false),
+    (("LA<", "*", ">;"), 255, true, true),
+    (("LA<", "*", ">;"), 256, true, false),
 ];
 
 /// The text.
 fn text_of(alloc: Global, long: &Long) -> Result<String, NoMemory> {
-    let mut text = String::from_str(alloc, long.front)?;
-    for _ in 0..long.count {
-        text.push_str(long.middle)?;
+    let (front, middle, end) = long.0;
+    let mut text = String::from_str(alloc, front)?;
+    for _ in 0..long.1 {
+        text.push_str(middle)?;
     }
-    text.push_str(long.end)?;
+    text.push_str(end)?;
     Ok(text)
 }
 
@@ -367,7 +319,7 @@ fn text_of(alloc: Global, long: &Long) -> Result<String, NoMemory> {
 fn is_judged(alloc: Global, text: &str, long: &Long) -> Result<bool, NoMemory> {
     let is_descriptor = descriptor(alloc, text)?.is_some();
     let is_field = field_signature(alloc, text)?.is_some();
-    Ok(is_descriptor == long.is_descriptor && is_field == long.is_field)
+    Ok(is_descriptor == long.2 && is_field == long.3)
 }
 
 /// Whether the text is judged so.
@@ -376,19 +328,11 @@ fn is_long(alloc: Global, long: &Long) -> Result<bool, NoMemory> {
     is_judged(alloc, text.as_str(), long)
 }
 
-/// The first number of a text that is not judged as it is to.
-fn wrong_long(alloc: Global) -> Result<Option<usize>, NoMemory> {
-    for (number, long) in LONG.iter().enumerate() {
-        if !is_long(alloc, long)? {
-            return Ok(Some(number));
-        }
-    }
-    Ok(None)
-}
-
 #[test]
 fn limits(rt: HostRuntime) -> Result<(), Fail> {
-    assert_eq!(rt; wrong_long(rt.alloc())?, None);
+    for long in &LONG {
+        expect(is_long(rt.alloc(), long)?, long.0.2)?;
+    }
     Ok(())
 }
 

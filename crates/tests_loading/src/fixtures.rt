@@ -9,13 +9,16 @@ use std::test::Fail;
 /// A path and the text of its file. In the text, `~` stands for the class of XPath rules and `#` for properties with a query.
 pub type File<'a> = (&'a str, &'a str);
 
-/// Files; the paths of a load; the minimum; and what is answered.
+/// Files, each as its path, a space and its text; the paths of a load; the minimum; and what is answered.
 pub struct Row {
-    pub files: &'static [File<'static>],
+    pub files: &'static [&'static str],
     pub paths: &'static [&'static str],
     pub minimum: u8,
     pub wanted: &'static str,
 }
+
+/// The text of the file `r.xml`, and what a load of it answers.
+pub type OneFile = (&'static str, &'static str);
 
 /// The class of XPath rules.
 const CLASS: &str = " class=\"net.sourceforge.pmd.lang.rule.xpath.XPathRule\"";
@@ -288,9 +291,24 @@ pub fn expect(holds: bool, row: &'static str) -> Result<(), Fail> {
     if holds { Ok(()) } else { Err(Fail::new(row)) }
 }
 
+/// The path and the text of a file of a row.
+fn file_of(file: &str) -> File<'_> {
+    file.split_once(' ').unwrap_or((file, ""))
+}
+
+/// Files of a row.
+fn files_of_row(alloc: Global, all: &[&str]) -> Result<Files, NoMemory> {
+    let mut files = Files::new(alloc);
+    for file in all {
+        put_file(alloc, &mut files, file_of(file))?;
+    }
+    Ok(files)
+}
+
 /// Whether a load answers what a row wants.
 fn is_answered(alloc: Global, row: &Row) -> Result<bool, NoMemory> {
-    let mut tree = tree_of(alloc, row.files, &[])?;
+    let files = files_of_row(alloc, row.files)?;
+    let mut tree = MemTree::new(alloc, files, Numbers::new(alloc));
     is_told(alloc, &mut tree, row.paths, row.minimum, row.wanted)
 }
 
@@ -298,6 +316,20 @@ fn is_answered(alloc: Global, row: &Row) -> Result<bool, NoMemory> {
 pub fn answers(alloc: Global, rows: &'static [Row]) -> Result<(), Fail> {
     for row in rows {
         expect(is_answered(alloc, row)?, row.wanted)?;
+    }
+    Ok(())
+}
+
+/// Whether a load of the file `r.xml` of this text answers this.
+pub fn is_told_of(alloc: Global, text: &str, wanted: &str) -> Result<bool, NoMemory> {
+    let mut tree = tree_of(alloc, &[("r.xml", text)], &[])?;
+    is_told(alloc, &mut tree, &["r.xml"], 5, wanted)
+}
+
+/// The files answer what is wanted.
+pub fn each_answers(alloc: Global, rows: &'static [OneFile]) -> Result<(), Fail> {
+    for (text, wanted) in rows {
+        expect(is_told_of(alloc, text, wanted)?, wanted)?;
     }
     Ok(())
 }

@@ -1,5 +1,5 @@
 //! Large rulesets.
-use crate::fixtures::{expect, is_counted, is_told, put_file};
+use crate::fixtures::{expect, is_counted, is_told, put_file, tree_of};
 use pj_base::{NoMemory, Numbers};
 use pj_outside::{Files, MemTree};
 use std::alloc::Global;
@@ -37,16 +37,9 @@ static COUNTS: [(u32, &[&str], &str); 3] = [
     (1991, &["r.xml", "r.xml"], "TooManyRules 4002"),
 ];
 
-/// A tree with this file.
-fn tree_of(alloc: Global, path: &str, text: &str) -> Result<MemTree, NoMemory> {
-    let mut files = Files::new(alloc);
-    put_file(alloc, &mut files, (path, text))?;
-    Ok(MemTree::new(alloc, files, Numbers::new(alloc)))
-}
-
 /// Whether a load of these paths over this ruleset gives so many.
 fn gives(alloc: Global, text: &str, paths: &[&str], wanted: &str) -> Result<bool, NoMemory> {
-    let mut tree = tree_of(alloc, "r.xml", text)?;
+    let mut tree = tree_of(alloc, &[("r.xml", text)], &[])?;
     is_counted(alloc, &mut tree, paths, wanted)
 }
 

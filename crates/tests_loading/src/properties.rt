@@ -1,5 +1,5 @@
 //! Properties of each type, with values of it and others.
-use crate::fixtures::{is_told, joined, tree_of};
+use crate::fixtures::{is_told_of, joined};
 use pj_base::NoMemory;
 use std::alloc::Global;
 use std::test::Fail;
@@ -54,12 +54,6 @@ static PIECES: [&str; 3] = [
     "\" value=\"",
     "\"/></properties></rule></ruleset>",
 ];
-
-/// Whether a load of a ruleset of this text answers this.
-fn is_told_of(alloc: Global, text: &str, wanted: &str) -> Result<bool, NoMemory> {
-    let mut tree = tree_of(alloc, &[("r.xml", text)], &[])?;
-    is_told(alloc, &mut tree, &["r.xml"], 5, wanted)
-}
 
 /// Whether a load of a rule that has a property `p` of this type and value answers this.
 fn is_property_told(

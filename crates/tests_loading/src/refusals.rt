@@ -1,144 +1,97 @@
 //! Refusals, each with its place.
-use crate::fixtures::{Row, answers, expect, is_told, put_bytes};
+use crate::fixtures::{OneFile, Row, answers, each_answers, expect, is_told, put_bytes};
 use pj_base::{NoMemory, Numbers, Text};
 use pj_outside::{Files, MemTree};
 use std::alloc::Global;
 use std::test::Fail;
 
-static REFUSALS: [Row; 33] = [
-    Row {
-        files: &[("r.xml", "<ruleset>")],
-        paths: &["r.xml"],
-        minimum: 5,
-        wanted: "r.xml Markup 9",
-    },
-    Row {
-        files: &[("r.xml", "<!-- x --><rules/>")],
-        paths: &["r.xml"],
-        minimum: 5,
-        wanted: "r.xml Markup 10",
-    },
-    Row {
-        files: &[(
-            "r.xml",
-            "<ruleset><rule name=\"N\"~>#</rule><rule~>#</rule></ruleset>",
-        )],
-        paths: &["r.xml"],
-        minimum: 5,
-        wanted: "r.xml NoName 146",
-    },
-    Row {
-        files: &[("r.xml", "<ruleset><rule class=\"x.J\"/></ruleset>")],
-        paths: &["r.xml"],
-        minimum: 5,
-        wanted: "r.xml NoName 9",
-    },
-    Row {
-        files: &[("r.xml", "<ruleset><rule name=\"N\"~/></ruleset>")],
-        paths: &["r.xml"],
-        minimum: 5,
-        wanted: "r.xml NoXPath N",
-    },
-    Row {
-        files: &[(
-            "r.xml",
-            "<ruleset><rule name=\"N\"~><properties><property name=\"xpath\" value=\"//\"/></properties></rule></ruleset>",
-        )],
-        paths: &["r.xml"],
-        minimum: 5,
-        wanted: "r.xml XPath N: what stands at offset 2 is not expected there",
-    },
-    Row {
-        files: &[(
-            "r.xml",
-            "<ruleset><rule name=\"N\"~><properties><property name=\"xpath\"><value/></property></properties></rule></ruleset>",
-        )],
-        paths: &["r.xml"],
-        minimum: 5,
-        wanted: "r.xml XPath N: what stands at offset 0 is not expected there",
-    },
-    Row {
-        files: &[(
-            "r.xml",
-            "<ruleset><rule name=\"N\"~><properties><property name=\"violationSuppressXPath\" value=\"$x\"/><property name=\"xpath\" value=\"//A\"/></properties></rule></ruleset>",
-        )],
-        paths: &["r.xml"],
-        minimum: 5,
-        wanted: "r.xml XPath N: no variable $x is bound",
-    },
-    Row {
-        files: &[(
-            "r.xml",
-            "<ruleset><rule name=\"N\"~><priority>6</priority>#</rule></ruleset>",
-        )],
-        paths: &["r.xml"],
-        minimum: 5,
-        wanted: "r.xml BadPriority N",
-    },
-    Row {
-        files: &[(
-            "r.xml",
-            "<ruleset><rule name=\"N\"~><priority/>#</rule></ruleset>",
-        )],
-        paths: &["r.xml"],
-        minimum: 5,
-        wanted: "r.xml BadPriority N",
-    },
-    Row {
-        files: &[(
-            "r.xml",
-            "<ruleset><rule name=\"N\"~><properties><property name=\"n\" type=\"Integer\" value=\"x\"/></properties></rule></ruleset>",
-        )],
-        paths: &["r.xml"],
-        minimum: 5,
-        wanted: "r.xml BadProperty N",
-    },
-    Row {
-        files: &[(
-            "r.xml",
-            "<ruleset><rule name=\"N\"~><properties><property name=\"xpath\"/></properties></rule></ruleset>",
-        )],
-        paths: &["r.xml"],
-        minimum: 5,
-        wanted: "r.xml BadProperty N",
-    },
-    Row {
-        files: &[(
-            "r.xml",
-            "<ruleset><rule name=\"N\"~><properties><property name=\"n\" type=\"Integer\" value=\"x\"/></properties><priority>6</priority></rule></ruleset>",
-        )],
-        paths: &["r.xml"],
-        minimum: 5,
-        wanted: "r.xml BadProperty N",
-    },
-    Row {
-        files: &[("r.xml", "<ruleset><rule ref=\"N\"/></ruleset>")],
-        paths: &["r.xml"],
-        minimum: 5,
-        wanted: "r.xml MissingRef N",
-    },
-    Row {
-        files: &[("r.xml", "<ruleset><rule ref=\"\"/></ruleset>")],
-        paths: &["r.xml"],
-        minimum: 5,
-        wanted: "r.xml MissingRef ",
-    },
-    Row {
-        files: &[("r.xml", "<ruleset><rule ref=\"/N\"/></ruleset>")],
-        paths: &["r.xml"],
-        minimum: 5,
-        wanted: "r.xml MissingRef /N",
-    },
-    Row {
-        files: &[("r.xml", "<ruleset><rule ref=\"s.xml\"/></ruleset>")],
-        paths: &["r.xml"],
-        minimum: 5,
-        wanted: "r.xml MissingRef s.xml",
-    },
+/// Refusals of one file.
+static OF_ONE_FILE: [OneFile; 24] = [
+    ("<ruleset>", "r.xml Markup 9"),
+    ("<!-- x --><rules/>", "r.xml Markup 10"),
+    (
+        "<ruleset><rule name=\"N\"~>#</rule><rule~>#</rule></ruleset>",
+        "r.xml NoName 146",
+    ),
+    ("<ruleset><rule class=\"x.J\"/></ruleset>", "r.xml NoName 9"),
+    ("<ruleset><rule name=\"N\"~/></ruleset>", "r.xml NoXPath N"),
+    (
+        "<ruleset><rule name=\"N\"~><properties><property name=\"xpath\" value=\"//\"/></properties></rule></ruleset>",
+        "r.xml XPath N: what stands at offset 2 is not expected there",
+    ),
+    (
+        "<ruleset><rule name=\"N\"~><properties><property name=\"xpath\"><value/></property></properties></rule></ruleset>",
+        "r.xml XPath N: what stands at offset 0 is not expected there",
+    ),
+    (
+        "<ruleset><rule name=\"N\"~><properties><property name=\"violationSuppressXPath\" value=\"$x\"/><property name=\"xpath\" value=\"//A\"/></properties></rule></ruleset>",
+        "r.xml XPath N: no variable $x is bound",
+    ),
+    (
+        "<ruleset><rule name=\"N\"~><priority>6</priority>#</rule></ruleset>",
+        "r.xml BadPriority N",
+    ),
+    (
+        "<ruleset><rule name=\"N\"~><priority/>#</rule></ruleset>",
+        "r.xml BadPriority N",
+    ),
+    (
+        "<ruleset><rule name=\"N\"~><properties><property name=\"n\" type=\"Integer\" value=\"x\"/></properties></rule></ruleset>",
+        "r.xml BadProperty N",
+    ),
+    (
+        "<ruleset><rule name=\"N\"~><properties><property name=\"xpath\"/></properties></rule></ruleset>",
+        "r.xml BadProperty N",
+    ),
+    (
+        "<ruleset><rule name=\"N\"~><properties><property name=\"n\" type=\"Integer\" value=\"x\"/></properties><priority>6</priority></rule></ruleset>",
+        "r.xml BadProperty N",
+    ),
+    ("<ruleset><rule ref=\"N\"/></ruleset>", "r.xml MissingRef N"),
+    ("<ruleset><rule ref=\"\"/></ruleset>", "r.xml MissingRef "),
+    (
+        "<ruleset><rule ref=\"/N\"/></ruleset>",
+        "r.xml MissingRef /N",
+    ),
+    (
+        "<ruleset><rule ref=\"s.xml\"/></ruleset>",
+        "r.xml MissingRef s.xml",
+    ),
+    (
+        "<ruleset><rule name=\"N\"~>#</rule><rule name=\"N\" class=\"x.J\"/></ruleset>",
+        "r.xml SameName N",
+    ),
+    (
+        "<ruleset><rule name=\"N\" class=\"x.J\"/><rule name=\"N\"/></ruleset>",
+        "r.xml SameName N",
+    ),
+    (
+        "<ruleset><exclude-pattern>(</exclude-pattern></ruleset>",
+        "r.xml PatternRefused (",
+    ),
+    (
+        "<ruleset><rule/><include-pattern>(</include-pattern></ruleset>",
+        "r.xml NoName 9",
+    ),
+    (
+        "<ruleset><include-pattern>[</include-pattern><rule/></ruleset>",
+        "r.xml PatternRefused [",
+    ),
+    (
+        "<ruleset><rule name=\"N\"~><properties><property name=\"p\" type=\"Regex\" value=\"(\"/><property name=\"xpath\" value=\"//A\"/></properties></rule></ruleset>",
+        "r.xml PatternRefused N",
+    ),
+    (
+        "<ruleset><rule name=\"N\"~><properties><property name=\"violationSuppressRegex\" value=\"(\"/><property name=\"xpath\" value=\"//A\"/></properties></rule></ruleset>",
+        "r.xml PatternRefused N",
+    ),
+];
+
+static REFUSALS: [Row; 9] = [
     Row {
         files: &[
-            ("r.xml", "<ruleset><rule ref=\"s.xml/N\"/></ruleset>"),
-            ("s.xml", "<ruleset><rule name=\"M\"~>#</rule></ruleset>"),
+            "r.xml <ruleset><rule ref=\"s.xml/N\"/></ruleset>",
+            "s.xml <ruleset><rule name=\"M\"~>#</rule></ruleset>",
         ],
         paths: &["r.xml"],
         minimum: 5,
@@ -146,23 +99,23 @@ static REFUSALS: [Row; 33] = [
     },
     Row {
         files: &[
-            ("r.xml", "<ruleset><rule ref=\"s.xml/\"/></ruleset>"),
-            ("s.xml", "<ruleset><rule name=\"M\"~>#</rule></ruleset>"),
+            "r.xml <ruleset><rule ref=\"s.xml/\"/></ruleset>",
+            "s.xml <ruleset><rule name=\"M\"~>#</rule></ruleset>",
         ],
         paths: &["r.xml"],
         minimum: 5,
         wanted: "r.xml MissingRef s.xml/",
     },
     Row {
-        files: &[("r.xml", "<ruleset/>")],
+        files: &["r.xml <ruleset/>"],
         paths: &["r.xml", "no.xml"],
         minimum: 5,
         wanted: "no.xml MissingRef no.xml",
     },
     Row {
         files: &[
-            ("a.xml", "<ruleset><rule ref=\"b.xml\"/></ruleset>"),
-            ("b.xml", "<ruleset><rule ref=\"a.xml\"/></ruleset>"),
+            "a.xml <ruleset><rule ref=\"b.xml\"/></ruleset>",
+            "b.xml <ruleset><rule ref=\"a.xml\"/></ruleset>",
         ],
         paths: &["a.xml"],
         minimum: 5,
@@ -170,96 +123,24 @@ static REFUSALS: [Row; 33] = [
     },
     Row {
         files: &[
-            ("a.xml", "<ruleset><rule ref=\"b.xml/N\"/></ruleset>"),
-            (
-                "b.xml",
-                "<ruleset><rule ref=\"c.xml\"><exclude name=\"M\"/></rule></ruleset>",
-            ),
-            (
-                "c.xml",
-                "<ruleset><rule name=\"M\"~>#</rule><rule ref=\"b.xml/N\"/></ruleset>",
-            ),
+            "a.xml <ruleset><rule ref=\"b.xml/N\"/></ruleset>",
+            "b.xml <ruleset><rule ref=\"c.xml\"><exclude name=\"M\"/></rule></ruleset>",
+            "c.xml <ruleset><rule name=\"M\"~>#</rule><rule ref=\"b.xml/N\"/></ruleset>",
         ],
         paths: &["a.xml"],
         minimum: 5,
         wanted: "c.xml RefCycle b.xml/N",
     },
     Row {
-        files: &[("a.xml", "<ruleset><rule ref=\"a.xml/N\"/></ruleset>")],
+        files: &["a.xml <ruleset><rule ref=\"a.xml/N\"/></ruleset>"],
         paths: &["a.xml"],
         minimum: 5,
         wanted: "a.xml RefCycle a.xml/N",
     },
     Row {
-        files: &[(
-            "r.xml",
-            "<ruleset><rule name=\"N\"~>#</rule><rule name=\"N\" class=\"x.J\"/></ruleset>",
-        )],
-        paths: &["r.xml"],
-        minimum: 5,
-        wanted: "r.xml SameName N",
-    },
-    Row {
-        files: &[(
-            "r.xml",
-            "<ruleset><rule name=\"N\" class=\"x.J\"/><rule name=\"N\"/></ruleset>",
-        )],
-        paths: &["r.xml"],
-        minimum: 5,
-        wanted: "r.xml SameName N",
-    },
-    Row {
-        files: &[(
-            "r.xml",
-            "<ruleset><exclude-pattern>(</exclude-pattern></ruleset>",
-        )],
-        paths: &["r.xml"],
-        minimum: 5,
-        wanted: "r.xml PatternRefused (",
-    },
-    Row {
-        files: &[(
-            "r.xml",
-            "<ruleset><rule/><include-pattern>(</include-pattern></ruleset>",
-        )],
-        paths: &["r.xml"],
-        minimum: 5,
-        wanted: "r.xml NoName 9",
-    },
-    Row {
-        files: &[(
-            "r.xml",
-            "<ruleset><include-pattern>[</include-pattern><rule/></ruleset>",
-        )],
-        paths: &["r.xml"],
-        minimum: 5,
-        wanted: "r.xml PatternRefused [",
-    },
-    Row {
-        files: &[(
-            "r.xml",
-            "<ruleset><rule name=\"N\"~><properties><property name=\"p\" type=\"Regex\" value=\"(\"/><property name=\"xpath\" value=\"//A\"/></properties></rule></ruleset>",
-        )],
-        paths: &["r.xml"],
-        minimum: 5,
-        wanted: "r.xml PatternRefused N",
-    },
-    Row {
-        files: &[(
-            "r.xml",
-            "<ruleset><rule name=\"N\"~><properties><property name=\"violationSuppressRegex\" value=\"(\"/><property name=\"xpath\" value=\"//A\"/></properties></rule></ruleset>",
-        )],
-        paths: &["r.xml"],
-        minimum: 5,
-        wanted: "r.xml PatternRefused N",
-    },
-    Row {
         files: &[
-            (
-                "r.xml",
-                "<ruleset><rule ref=\"s.xml/N\" name=\"M\"><priority>0</priority></rule></ruleset>",
-            ),
-            ("s.xml", "<ruleset><rule name=\"N\"~>#</rule></ruleset>"),
+            "r.xml <ruleset><rule ref=\"s.xml/N\" name=\"M\"><priority>0</priority></rule></ruleset>",
+            "s.xml <ruleset><rule name=\"N\"~>#</rule></ruleset>",
         ],
         paths: &["r.xml"],
         minimum: 5,
@@ -267,11 +148,8 @@ static REFUSALS: [Row; 33] = [
     },
     Row {
         files: &[
-            (
-                "r.xml",
-                "<ruleset><rule ref=\"s.xml/N\"><properties><property name=\"q\" type=\"String\" value=\"x\"/></properties></rule></ruleset>",
-            ),
-            ("s.xml", "<ruleset><rule name=\"N\"~>#</rule></ruleset>"),
+            "r.xml <ruleset><rule ref=\"s.xml/N\"><properties><property name=\"q\" type=\"String\" value=\"x\"/></properties></rule></ruleset>",
+            "s.xml <ruleset><rule name=\"N\"~>#</rule></ruleset>",
         ],
         paths: &["r.xml"],
         minimum: 5,
@@ -279,14 +157,8 @@ static REFUSALS: [Row; 33] = [
     },
     Row {
         files: &[
-            (
-                "r.xml",
-                "<ruleset><rule ref=\"s.xml\"><exclude name=\"N\"/></rule></ruleset>",
-            ),
-            (
-                "s.xml",
-                "<ruleset><rule name=\"N\"~><priority>9</priority>#</rule></ruleset>",
-            ),
+            "r.xml <ruleset><rule ref=\"s.xml\"><exclude name=\"N\"/></rule></ruleset>",
+            "s.xml <ruleset><rule name=\"N\"~><priority>9</priority>#</rule></ruleset>",
         ],
         paths: &["r.xml"],
         minimum: 5,
@@ -296,6 +168,7 @@ static REFUSALS: [Row; 33] = [
 
 #[test]
 fn refusals(rt: HostRuntime) -> Result<(), Fail> {
+    each_answers(rt.alloc(), &OF_ONE_FILE)?;
     answers(rt.alloc(), &REFUSALS)
 }
 

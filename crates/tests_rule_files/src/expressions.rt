@@ -1,107 +1,193 @@
 //! The expressions of rules that stand in a file, and why there are none.
-use crate::rulesets::first_rule;
+use crate::fixtures::{expect, put, put_both, put_number};
+use crate::rulesets::rule_of;
 use pj_base::{NoMemory, Text};
 use pj_rule_expressions::{ExpressionFault, RuleExpressions, UsableRule, expressions_of};
-use pj_rule_texts::{RuleTexts, defined};
+use pj_rule_texts::{RuleTexts, WrittenRule, defined};
 use pj_xparse::XSyntax;
 use std::alloc::Global;
-use std::process::Abort;
 use std::test::Fail;
 
-/// The variables of the expressions, whether there is one that suppresses findings, and whether the message is covered.
-fn shown(alloc: Global, expressions: &RuleExpressions) -> Result<String, NoMemory> {
-    let mut line = String::from_str(alloc, "query")?;
+/// Puts the variables.
+fn put_variables(out: &mut String, expressions: &RuleExpressions) -> Result<(), NoMemory> {
     for (name, _) in expressions.variables.as_slice() {
-        let name = name.as_str();
-        write!(line, " ${name}")?;
+        put_both(out, " $", name.as_str())?;
     }
-    if expressions.suppression.is_some() {
-        line.push_str(", suppression")?;
-    }
-    if expressions.is_covered {
-        line.push_str(", covered")?;
-    }
-    Ok(line)
+    Ok(())
 }
 
-fn shown_syntax(alloc: Global, fault: XSyntax) -> Result<String, NoMemory> {
+/// Puts a text where something holds.
+fn put_if(out: &mut String, holds: bool, text: &str) -> Result<(), NoMemory> {
+    if holds { put(out, text) } else { Ok(()) }
+}
+
+/// Puts the variables of the expressions, whether there is one that suppresses findings, and whether the message is covered.
+fn put_expressions(out: &mut String, expressions: &RuleExpressions) -> Result<(), NoMemory> {
+    put(out, "query")?;
+    put_variables(out, expressions)?;
+    put_if(out, expressions.suppression.is_some(), ", suppression")?;
+    put_if(out, expressions.is_covered, ", covered")
+}
+
+/// Puts a function that is not known.
+fn put_unknown(out: &mut String, name: &str, offset: u32) -> Result<(), NoMemory> {
+    put_both(out, "UnknownFunction ", name)?;
+    put(out, " ")?;
+    put_number(out, offset)
+}
+
+/// Puts the place of what is not expected there.
+fn put_unexpected(out: &mut String, offset: u32) -> Result<(), NoMemory> {
+    put(out, "Expected ")?;
+    put_number(out, offset)
+}
+
+/// Puts why a text is no expression.
+fn put_syntax(out: &mut String, fault: &XSyntax) -> Result<(), NoMemory> {
     match fault {
-        XSyntax::UnknownVariable(name) => {
-            let name = name.as_str();
-            Ok(format!(in alloc; "UnknownVariable {name}")?)
-        }
-        XSyntax::UnknownFunction(name, offset) => {
-            let name = name.as_str();
-            Ok(format!(in alloc; "UnknownFunction {name} {offset}")?)
-        }
-        XSyntax::Expected(offset) => Ok(format!(in alloc; "Expected {offset}")?),
-        _ => Ok(String::from_str(alloc, "another fault")?),
+        XSyntax::UnknownVariable(name) => put_both(out, "UnknownVariable ", name.as_str()),
+        XSyntax::UnknownFunction(name, offset) => put_unknown(out, name.as_str(), *offset),
+        XSyntax::Expected(offset) => put_unexpected(out, *offset),
+        _ => put(out, "another fault"),
     }
 }
 
-fn shown_fault(alloc: Global, fault: ExpressionFault) -> Result<String, NoMemory> {
+/// Puts why there are no expressions.
+fn put_fault(out: &mut String, fault: &ExpressionFault) -> Result<(), NoMemory> {
     match fault {
-        ExpressionFault::XPath(fault) => shown_syntax(alloc, fault),
-        ExpressionFault::Pattern => Ok(String::from_str(alloc, "Pattern")?),
+        ExpressionFault::XPath(fault) => put_syntax(out, fault),
+        ExpressionFault::Pattern => put(out, "Pattern"),
         ExpressionFault::Memory => Err(NoMemory),
     }
 }
 
-/// What the texts of a rule spell.
-fn spelled(alloc: Global, texts: &RuleTexts) -> Result<String, NoMemory> {
+/// Puts what the texts of a rule spell.
+fn put_spelled(alloc: Global, out: &mut String, texts: &RuleTexts) -> Result<(), NoMemory> {
     match expressions_of(alloc, texts) {
-        Ok(expressions) => shown(alloc, &expressions),
-        Err(fault) => shown_fault(alloc, fault),
+        Ok(expressions) => put_expressions(out, &expressions),
+        Err(fault) => put_fault(out, &fault),
     }
 }
 
-/// The number of a rule, which is its priority, and what it has that can be used.
-fn shown_rule(alloc: Global, rule: UsableRule) -> Result<String, NoMemory> {
+/// Puts the number of a rule, which is its priority, and its expressions.
+fn put_parts(
+    out: &mut String,
+    texts: &RuleTexts,
+    expressions: &RuleExpressions,
+) -> Result<(), NoMemory> {
+    put_number(out, u32::from(texts.row.priority))?;
+    put(out, " ")?;
+    put_expressions(out, expressions)
+}
+
+/// Puts what a rule has that can be used.
+fn put_rule(out: &mut String, rule: UsableRule) -> Result<(), NoMemory> {
     let (texts, expressions) = rule.into_parts();
-    let number = texts.row.priority;
-    let kept = shown(alloc, &expressions)?;
-    let kept = kept.as_str();
-    Ok(format!(in alloc; "{number} {kept}")?)
+    put_parts(out, &texts, &expressions)
+}
+
+/// Puts the text of a file of one rule with these properties.
+fn put_file(out: &mut String, properties: &str) -> Result<(), NoMemory> {
+    put(
+        out,
+        "<ruleset><rule name='N' message='one two'><properties>",
+    )?;
+    put_both(out, properties, "</properties></rule></ruleset>")
+}
+
+/// The texts of a rule.
+fn texts_of(alloc: Global, name: Text, rule: WrittenRule) -> Option<RuleTexts> {
+    defined(alloc, Text::new(alloc), name, rule).ok()
+}
+
+/// The texts of the one rule of a file.
+fn texts_in(alloc: Global, file: &str) -> Result<Option<RuleTexts>, NoMemory> {
+    let name = Text::from_str(alloc, "N")?;
+    match rule_of(alloc, file)? {
+        Some(rule) => Ok(texts_of(alloc, name, rule)),
+        None => Ok(None),
+    }
 }
 
 /// The texts of a rule with these properties.
-fn rule(alloc: Global, properties: &str) -> Result<Option<RuleTexts>, NoMemory> {
-    let text = format!(in alloc;
-        "<ruleset><rule name='N' message='one two'><properties>{properties}</properties></rule></ruleset>"
-    )?;
-    let Some(written) = first_rule(alloc, text.as_str())? else {
-        return Ok(None);
-    };
-    Ok(defined(
-        alloc,
-        Text::new(alloc),
-        Text::from_str(alloc, "N")?,
-        written,
-    )
-    .ok())
+fn texts(alloc: Global, properties: &str) -> Result<Option<RuleTexts>, NoMemory> {
+    let mut file = String::new(alloc);
+    put_file(&mut file, properties)?;
+    texts_in(alloc, file.as_str())
 }
 
-/// What a rule with these properties spells.
-fn read(alloc: Global, properties: &str) -> Result<String, NoMemory> {
-    match rule(alloc, properties)? {
-        Some(texts) => spelled(alloc, &texts),
-        None => Ok(String::from_str(alloc, "no rule")?),
+/// Puts what a rule with these properties spells.
+fn put_read(alloc: Global, out: &mut String, properties: &str) -> Result<(), NoMemory> {
+    match texts(alloc, properties)? {
+        Some(texts) => put_spelled(alloc, out, &texts),
+        None => put(out, "no rule"),
     }
 }
 
-/// What a rule with the first properties spells that has the second ones in their place.
-fn changed(alloc: Global, before: &str, behind: &str) -> Result<String, NoMemory> {
-    let (Some(before), Some(behind)) = (rule(alloc, before)?, rule(alloc, behind)?) else {
-        return Ok(String::from_str(alloc, "no rule")?);
-    };
-    let old = match UsableRule::of(alloc, before) {
-        Ok(old) => old,
-        Err(fault) => return shown_fault(alloc, fault),
-    };
-    match old.changed(alloc, behind) {
-        Ok(new) => shown_rule(alloc, new),
-        Err(fault) => shown_fault(alloc, fault),
+/// Whether a rule with these properties spells this.
+fn spells(alloc: Global, properties: &str, wanted: &str) -> Result<bool, NoMemory> {
+    let mut out = String::new(alloc);
+    put_read(alloc, &mut out, properties)?;
+    Ok(out.as_str() == wanted)
+}
+
+/// Puts what a rule spells that has these texts in the place of its own.
+fn put_changed_to(
+    alloc: Global,
+    out: &mut String,
+    old: &UsableRule,
+    texts: RuleTexts,
+) -> Result<(), NoMemory> {
+    match old.changed(alloc, texts) {
+        Ok(new) => put_rule(out, new),
+        Err(fault) => put_fault(out, &fault),
     }
+}
+
+/// Puts what a rule spells that has these properties in the place of its own.
+fn put_changed(
+    alloc: Global,
+    out: &mut String,
+    old: &UsableRule,
+    properties: &str,
+) -> Result<(), NoMemory> {
+    match texts(alloc, properties)? {
+        Some(texts) => put_changed_to(alloc, out, old, texts),
+        None => put(out, "no rule"),
+    }
+}
+
+/// The same of a rule of these texts.
+fn put_changed_of(
+    alloc: Global,
+    out: &mut String,
+    old: RuleTexts,
+    properties: &str,
+) -> Result<(), NoMemory> {
+    match UsableRule::of(alloc, old) {
+        Ok(old) => put_changed(alloc, out, &old, properties),
+        Err(fault) => put_fault(out, &fault),
+    }
+}
+
+/// The same of a rule with the first properties.
+fn put_change(alloc: Global, out: &mut String, before: &str, behind: &str) -> Result<(), NoMemory> {
+    match texts(alloc, before)? {
+        Some(old) => put_changed_of(alloc, out, old, behind),
+        None => put(out, "no rule"),
+    }
+}
+
+/// Whether a rule with the first properties spells this that has the second ones in their place.
+fn spells_changed(
+    alloc: Global,
+    before: &str,
+    behind: &str,
+    wanted: &str,
+) -> Result<bool, NoMemory> {
+    let mut out = String::new(alloc);
+    put_change(alloc, &mut out, before, behind)?;
+    Ok(out.as_str() == wanted)
 }
 
 /// The properties of a rule, those that take their place, and what the changed rule spells.
@@ -302,39 +388,42 @@ static CALLS: [(&str, &str); 16] = [
     ),
 ];
 
-fn check(rt: &impl Abort, alloc: Global, table: &[(&str, &str)]) -> Result<(), Fail> {
+/// Properties of rules, each with what they spell.
+type Table = &'static [(&'static str, &'static str)];
+
+/// That each rule of a table spells what is wanted.
+fn check(alloc: Global, table: Table) -> Result<(), Fail> {
     for (properties, wanted) in table {
-        let found = read(alloc, properties)?;
-        assert_eq!(rt; found.as_str(), *wanted, "of {properties}");
+        expect(spells(alloc, properties, wanted)?, properties)?;
     }
     Ok(())
 }
 
 #[test]
 fn rules_spell_expressions(rt: HostRuntime) -> Result<(), Fail> {
-    check(&rt, rt.alloc(), &SOUND)
+    check(rt.alloc(), &SOUND)
 }
 
 #[test]
 fn other_rules_are_refused(rt: HostRuntime) -> Result<(), Fail> {
-    check(&rt, rt.alloc(), &REFUSED)
+    check(rt.alloc(), &REFUSED)
 }
 
 #[test]
 fn names_of_functions_are_not_calls(rt: HostRuntime) -> Result<(), Fail> {
-    check(&rt, rt.alloc(), &WITHOUT_CALLS)
+    check(rt.alloc(), &WITHOUT_CALLS)
 }
 
 #[test]
 fn calls_of_pmd_are_refused(rt: HostRuntime) -> Result<(), Fail> {
-    check(&rt, rt.alloc(), &CALLS)
+    check(rt.alloc(), &CALLS)
 }
 
 #[test]
 fn changed_rules_spell_their_own_texts(rt: HostRuntime) -> Result<(), Fail> {
     for (before, behind, wanted) in &CHANGED {
-        let found = changed(rt.alloc(), before, behind)?;
-        assert_eq!(rt; found.as_str(), *wanted, "of {before} and {behind}");
+        let holds = spells_changed(rt.alloc(), before, behind, wanted)?;
+        expect(holds, behind)?;
     }
     Ok(())
 }

@@ -1,8 +1,8 @@
 //! Files that are read as rulesets, and why others are none.
-use crate::rulesets::{read, read_bytes, tree};
+use crate::fixtures::expect;
+use crate::rulesets::{are_read, is_read, tree};
 use pj_base::NoMemory;
 use std::alloc::Global;
-use std::process::Abort;
 use std::test::Fail;
 
 /// Rulesets: the name, and the parts in the order of the text.
@@ -47,22 +47,22 @@ static REFUSED: [(&str, &str); 11] = [
     ("<ruleset>&nbsp;</ruleset>", "Markup 10"),
 ];
 
-fn check_texts(rt: &impl Abort, alloc: Global, table: &[(&str, &str)]) -> Result<(), Fail> {
+/// That reading each text gives what is wanted.
+fn check(alloc: Global, table: &'static [(&'static str, &'static str)]) -> Result<(), Fail> {
     for (text, wanted) in table {
-        let found = read_bytes(alloc, text.as_bytes())?;
-        assert_eq!(rt; found.as_str(), *wanted, "of {text:?}");
+        expect(are_read(alloc, text.as_bytes(), wanted)?, text)?;
     }
     Ok(())
 }
 
 #[test]
 fn rulesets_are_read(rt: HostRuntime) -> Result<(), Fail> {
-    check_texts(&rt, rt.alloc(), &RULESETS)
+    check(rt.alloc(), &RULESETS)
 }
 
 #[test]
 fn other_texts_are_refused(rt: HostRuntime) -> Result<(), Fail> {
-    check_texts(&rt, rt.alloc(), &REFUSED)
+    check(rt.alloc(), &REFUSED)
 }
 
 /// Bytes that are not UTF-8, which is told before any fault of the markup.
@@ -76,28 +76,27 @@ static BYTES: [(&[u8], &str); 5] = [
 
 #[test]
 fn bytes_that_are_no_text_are_refused(rt: HostRuntime) -> Result<(), Fail> {
-    let alloc = rt.alloc();
     for (bytes, wanted) in &BYTES {
-        let found = read_bytes(alloc, bytes)?;
-        assert_eq!(rt; found.as_str(), *wanted);
+        expect(are_read(rt.alloc(), bytes, wanted)?, wanted)?;
     }
     Ok(())
 }
 
-/// What reading a ruleset with white space behind it gives, of so many bytes in all.
-fn read_long(alloc: Global, len: usize) -> Result<String, NoMemory> {
+/// Numbers of bytes, and what reading a ruleset with white space behind it gives, of so many bytes in all.
+static LENGTHS: [(usize, &str); 2] = [(1_048_576, ""), (1_048_577, "TooLong")];
+
+/// Whether reading so many bytes gives this.
+fn is_long_read(alloc: Global, len: usize, wanted: &str) -> Result<bool, NoMemory> {
     let mut bytes = Vec::from_slice(alloc, b"<ruleset/>")?;
     bytes.resize(len, b' ')?;
-    read_bytes(alloc, bytes.as_slice())
+    are_read(alloc, bytes.as_slice(), wanted)
 }
 
 #[test]
 fn a_ruleset_has_at_most_a_mebibyte(rt: HostRuntime) -> Result<(), Fail> {
-    let alloc = rt.alloc();
-    let most = read_long(alloc, 1_048_576)?;
-    let more = read_long(alloc, 1_048_577)?;
-    assert_eq!(rt; most.as_str(), "");
-    assert_eq!(rt; more.as_str(), "TooLong");
+    for (len, wanted) in &LENGTHS {
+        expect(is_long_read(rt.alloc(), *len, wanted)?, wanted)?;
+    }
     Ok(())
 }
 
@@ -110,16 +109,16 @@ static PATHS: [(&str, u32, &str); 5] = [
     ("", 2, "Absent"),
 ];
 
-fn read_at(alloc: Global, path: &str, call: u32) -> Result<String, NoMemory> {
+/// Whether reading the path gives this, where the call of a number fails.
+fn is_read_at(alloc: Global, path: &str, call: u32, wanted: &str) -> Result<bool, NoMemory> {
     let mut tree = tree(alloc, b"<ruleset name='q'/>", &[call])?;
-    read(alloc, &mut tree, path)
+    is_read(alloc, &mut tree, path, wanted)
 }
 
 #[test]
 fn a_path_has_a_ruleset_or_none(rt: HostRuntime) -> Result<(), Fail> {
     for (path, call, wanted) in &PATHS {
-        let found = read_at(rt.alloc(), path, *call)?;
-        assert_eq!(rt; found.as_str(), *wanted, "of {path:?}");
+        expect(is_read_at(rt.alloc(), path, *call, wanted)?, wanted)?;
     }
     Ok(())
 }

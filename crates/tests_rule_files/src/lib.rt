@@ -6,6 +6,8 @@ mod expressions;
 #[cfg(test)]
 mod files;
 #[cfg(test)]
+mod fixtures;
+#[cfg(test)]
 mod lists;
 #[cfg(test)]
 mod patterns;

@@ -1,17 +1,21 @@
 //! Patterns that match a whole text.
+use crate::fixtures::expect;
 use pj_base::NoMemory;
 use pj_rule_expressions::whole;
-use pj_xpatterns::PatternFault;
+use pj_xpatterns::{CompiledPattern, PatternFault};
 use std::alloc::Global;
 use std::test::Fail;
 
 /// Whether the pattern matches the whole text, in a word.
-fn matched(alloc: Global, pattern: &str, text: &str) -> Result<&'static str, NoMemory> {
+fn matched(alloc: Global, pattern: &CompiledPattern, text: &str) -> Result<&'static str, NoMemory> {
+    let is_found = pattern.is_found(alloc, text)?;
+    Ok(if is_found { "matches" } else { "differs" })
+}
+
+/// The same of a pattern that may be refused.
+fn judged(alloc: Global, pattern: &str, text: &str) -> Result<&'static str, NoMemory> {
     match whole(alloc, pattern) {
-        Ok(compiled) => {
-            let is_found = compiled.is_found(alloc, text)?;
-            Ok(if is_found { "matches" } else { "differs" })
-        }
+        Ok(pattern) => matched(alloc, &pattern, text),
         Err(PatternFault::Refused(_)) => Ok("refused"),
         Err(PatternFault::Memory) => Err(NoMemory),
     }
@@ -36,8 +40,7 @@ static PATTERNS: [(&str, &str, &str); 12] = [
 #[test]
 fn a_pattern_matches_a_whole_text(rt: HostRuntime) -> Result<(), Fail> {
     for (pattern, text, wanted) in &PATTERNS {
-        let found = matched(rt.alloc(), pattern, text)?;
-        assert_eq!(rt; found, *wanted, "of {pattern:?} and {text:?}");
+        expect(judged(rt.alloc(), pattern, text)? == *wanted, pattern)?;
     }
     Ok(())
 }

@@ -1,17 +1,14 @@
 //! Access flags, by the tables of JVMS 4.1, 4.5 and 4.6.
 
-use crate::read::{Sort, check};
+use crate::read::{Sort, Table, check};
 use pj_tree::Kind;
 use std::test::Fail;
 
-#[test]
-fn of_classes(rt: HostRuntime) -> Result<(), Fail> {
-    check(
-        &rt,
-        rt.alloc(),
-        Sort::ClassFlags,
-        Kind::ClassDeclaration,
-        &[
+static OF_CLASSES: [Table; 4] = [
+    Table {
+        sort: Sort::ClassFlags,
+        kind: Kind::ClassDeclaration,
+        rows: &[
             ("class A { }", "32"),
             ("public class A { }", "33"),
             ("public final class A { }", "49"),
@@ -21,66 +18,62 @@ fn of_classes(rt: HostRuntime) -> Result<(), Fail> {
             ("abstract interface I { }", "1536"),
             ("public interface I { }", "1537"),
         ],
-    )?;
-    check(
-        &rt,
-        rt.alloc(),
-        Sort::ClassFlags,
-        Kind::AnnotationTypeDeclaration,
-        &[
+    },
+    Table {
+        sort: Sort::ClassFlags,
+        kind: Kind::AnnotationTypeDeclaration,
+        rows: &[
             ("@interface N { }", "9728"),
             ("public abstract @interface N { }", "9729"),
         ],
-    )?;
-    check(
-        &rt,
-        rt.alloc(),
-        Sort::ClassFlags,
-        Kind::EnumDeclaration,
-        &[
+    },
+    Table {
+        sort: Sort::ClassFlags,
+        kind: Kind::EnumDeclaration,
+        rows: &[
             ("enum E { X }", "16416"),
             ("public enum E { X { } }", "16417"),
         ],
-    )?;
-    check(
-        &rt,
-        rt.alloc(),
-        Sort::ClassFlags,
-        Kind::RecordDeclaration,
-        &[
+    },
+    Table {
+        sort: Sort::ClassFlags,
+        kind: Kind::RecordDeclaration,
+        rows: &[
             ("record R() { }", "32"),
             ("final record R(int a) { }", "48"),
         ],
-    )
+    },
+];
+
+#[test]
+fn of_classes(rt: HostRuntime) -> Result<(), Fail> {
+    check(rt.alloc(), &OF_CLASSES)
 }
+
+static OF_FIELDS: [Table; 1] = [Table {
+    sort: Sort::FieldFlags,
+    kind: Kind::FieldDeclaration,
+    rows: &[
+        ("class A { int f; }", "0"),
+        ("class A { private static final int f = 1; }", "26"),
+        ("class A { public int f; }", "1"),
+        ("class A { protected volatile int f; }", "68"),
+        ("class A { transient int f; }", "128"),
+        ("class A { final @N int f = 1; }", "16"),
+        ("interface I { int F = 1; }", "0"),
+    ],
+}];
 
 #[test]
 fn of_fields(rt: HostRuntime) -> Result<(), Fail> {
-    check(
-        &rt,
-        rt.alloc(),
-        Sort::FieldFlags,
-        Kind::FieldDeclaration,
-        &[
-            ("class A { int f; }", "0"),
-            ("class A { private static final int f = 1; }", "26"),
-            ("class A { public int f; }", "1"),
-            ("class A { protected volatile int f; }", "68"),
-            ("class A { transient int f; }", "128"),
-            ("class A { final @N int f = 1; }", "16"),
-            ("interface I { int F = 1; }", "0"),
-        ],
-    )
+    check(rt.alloc(), &OF_FIELDS)
 }
 
-#[test]
-fn of_methods(rt: HostRuntime) -> Result<(), Fail> {
-    check(
-        &rt,
-        rt.alloc(),
-        Sort::MethodFlags,
-        Kind::MethodDeclaration,
-        &[
+static OF_METHODS: [Table; 2] = [
+    Table {
+        sort: Sort::MethodFlags,
+        kind: Kind::MethodDeclaration,
+        rows: &[
             ("class A { void f() { } }", "0"),
             ("class A { public synchronized native void f(); }", "289"),
             ("class A { void f(int... a) { } }", "128"),
@@ -94,15 +87,18 @@ fn of_methods(rt: HostRuntime) -> Result<(), Fail> {
             ("class A { static final strictfp void f() { } }", "24"),
             ("interface I { default void f() { } }", "0"),
         ],
-    )?;
-    check(
-        &rt,
-        rt.alloc(),
-        Sort::MethodFlags,
-        Kind::ConstructorDeclaration,
-        &[
+    },
+    Table {
+        sort: Sort::MethodFlags,
+        kind: Kind::ConstructorDeclaration,
+        rows: &[
             ("class A { private A(int... a) { } }", "130"),
             ("class A { A() { } }", "0"),
         ],
-    )
+    },
+];
+
+#[test]
+fn of_methods(rt: HostRuntime) -> Result<(), Fail> {
+    check(rt.alloc(), &OF_METHODS)
 }

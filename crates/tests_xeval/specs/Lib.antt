@@ -1,3 +1,4 @@
+pub mod Nodes
 pub mod Table
 pub mod TableLaws
 pub mod Untold

@@ -1,6 +1,6 @@
 //! Positions on each axis: from the context node outwards within a step, in document order in parentheses. By hand from the standard.
 
-use crate::queries::check;
+use crate::queries::{Table, check_all};
 use std::test::Fail;
 
 static DOWNWARDS: [(&str, &str); 20] = [
@@ -32,11 +32,6 @@ static DOWNWARDS: [(&str, &str); 20] = [
     ("/descendant::Block[last()]", "11 "),
 ];
 
-#[test]
-fn downwards(rt: HostRuntime) -> Result<(), Fail> {
-    check(&rt, rt.alloc(), &DOWNWARDS)
-}
-
 static TO_WHAT_FOLLOWS: [(&str, &str); 13] = [
     ("//ClassDeclaration[1]/following-sibling::*[1]", "5 "),
     ("//ClassDeclaration[1]/following-sibling::*[last()]", "10 "),
@@ -52,11 +47,6 @@ static TO_WHAT_FOLLOWS: [(&str, &str); 13] = [
     ("(//VariableId/following::*)[1]", "3 "),
     ("//Block/following::*[position() = 2]", "6 9 11 "),
 ];
-
-#[test]
-fn to_what_follows(rt: HostRuntime) -> Result<(), Fail> {
-    check(&rt, rt.alloc(), &TO_WHAT_FOLLOWS)
-}
 
 static UPWARDS: [(&str, &str); 26] = [
     ("//VariableId/parent::*[1]", "1 3 5 6 "),
@@ -87,11 +77,6 @@ static UPWARDS: [(&str, &str); 26] = [
     ("//Block/ancestor-or-self::Block[1]", "3 6 9 11 "),
 ];
 
-#[test]
-fn upwards(rt: HostRuntime) -> Result<(), Fail> {
-    check(&rt, rt.alloc(), &UPWARDS)
-}
-
 static TO_WHAT_PRECEDES: [(&str, &str); 15] = [
     ("(//Block)[3]/preceding-sibling::*[1]", "8 "),
     ("(//Block)[3]/preceding-sibling::*[last()]", "6 "),
@@ -112,11 +97,6 @@ static TO_WHAT_PRECEDES: [(&str, &str); 15] = [
     ("//Block/preceding::*[1]", "2 4 8 9 "),
     ("(//Block/preceding::*)[1]", "1 "),
 ];
-
-#[test]
-fn to_what_precedes(rt: HostRuntime) -> Result<(), Fail> {
-    check(&rt, rt.alloc(), &TO_WHAT_PRECEDES)
-}
 
 static OF_ATTRIBUTES: [(&str, &str); 20] = [
     ("//VariableId/@*[1]", "2@0 4@0 7@0 8@0 "),
@@ -141,11 +121,6 @@ static OF_ATTRIBUTES: [(&str, &str); 20] = [
     ("//@Name/..[@Name = 'x']", "2 7 "),
 ];
 
-#[test]
-fn of_attributes(rt: HostRuntime) -> Result<(), Fail> {
-    check(&rt, rt.alloc(), &OF_ATTRIBUTES)
-}
-
 static OF_THE_DOCUMENT: [(&str, &str); 15] = [
     ("/child::node()[1]", "0 "),
     ("/child::node()[2]", ""),
@@ -163,11 +138,6 @@ static OF_THE_DOCUMENT: [(&str, &str); 15] = [
     ("/preceding::node()", ""),
     ("/descendant::*[position() = last()]", "11 "),
 ];
-
-#[test]
-fn of_the_document(rt: HostRuntime) -> Result<(), Fail> {
-    check(&rt, rt.alloc(), &OF_THE_DOCUMENT)
-}
 
 static AMONG_STEPS: [(&str, &str); 23] = [
     ("//*[position() = last()]", "0 3 4 7 9 10 11 "),
@@ -196,6 +166,15 @@ static AMONG_STEPS: [(&str, &str); 23] = [
 ];
 
 #[test]
-fn among_steps(rt: HostRuntime) -> Result<(), Fail> {
-    check(&rt, rt.alloc(), &AMONG_STEPS)
+fn positions_on_axes(rt: HostRuntime) -> Result<(), Fail> {
+    let tables: [Table; 7] = [
+        &DOWNWARDS,
+        &TO_WHAT_FOLLOWS,
+        &UPWARDS,
+        &TO_WHAT_PRECEDES,
+        &OF_ATTRIBUTES,
+        &OF_THE_DOCUMENT,
+        &AMONG_STEPS,
+    ];
+    check_all(rt.alloc(), &tables)
 }

@@ -1,6 +1,6 @@
 //! Calls of functions at a context, by hand from the standard.
 
-use crate::queries::check;
+use crate::queries::{Table, check_all};
 use std::test::Fail;
 
 static OF_THE_CONTEXT: [(&str, &str); 13] = [
@@ -19,11 +19,6 @@ static OF_THE_CONTEXT: [(&str, &str); 13] = [
     ("//Block[position() = last()]", "3 9 11 "),
 ];
 
-#[test]
-fn of_the_context(rt: HostRuntime) -> Result<(), Fail> {
-    check(&rt, rt.alloc(), &OF_THE_CONTEXT)
-}
-
 static OF_ROOTS_AND_STRINGS: [(&str, &str); 12] = [
     ("//Block/root()", "/ "),
     ("root(()), 1", "i1 "),
@@ -38,11 +33,6 @@ static OF_ROOTS_AND_STRINGS: [(&str, &str); 12] = [
     ("string((1, 2))", "XPTY0004"),
     ("true() ! string()", "'true' "),
 ];
-
-#[test]
-fn of_roots_and_strings(rt: HostRuntime) -> Result<(), Fail> {
-    check(&rt, rt.alloc(), &OF_ROOTS_AND_STRINGS)
-}
 
 static WITH_ATTRIBUTES: [(&str, &str); 14] = [
     ("sum(//@Size)", "i29 "),
@@ -61,11 +51,6 @@ static WITH_ATTRIBUTES: [(&str, &str); 14] = [
     ("concat((//@Name)[1], (//@Size)[1])", "'x3' "),
 ];
 
-#[test]
-fn with_attributes(rt: HostRuntime) -> Result<(), Fail> {
-    check(&rt, rt.alloc(), &WITH_ATTRIBUTES)
-}
-
 static WITH_PATTERNS: [(&str, &str); 5] = [
     ("//@Name[matches(., '[xy]')]", "2@0 4@0 7@0 "),
     ("replace('a1b22', '[0-9]+', '-')", "'a-b-' "),
@@ -74,22 +59,12 @@ static WITH_PATTERNS: [(&str, &str); 5] = [
     ("replace('a', 'a*', 'b'), 1", "FORX0003"),
 ];
 
-#[test]
-fn with_patterns(rt: HostRuntime) -> Result<(), Fail> {
-    check(&rt, rt.alloc(), &WITH_PATTERNS)
-}
-
 static ORDER_OF_ARGUMENTS: [(&str, &str); 4] = [
     ("concat(1 idiv 0, 'a' + 1)", "FOAR0001"),
     ("contains('a' + 1, 1 idiv 0)", "XPTY0004"),
     ("contains(1, 1 idiv 0)", "FOAR0001"),
     ("count((1 idiv 0, 2))", "FOAR0001"),
 ];
-
-#[test]
-fn order_of_arguments(rt: HostRuntime) -> Result<(), Fail> {
-    check(&rt, rt.alloc(), &ORDER_OF_ARGUMENTS)
-}
 
 static OF_PMD: [(&str, &str); 9] = [
     ("pmd:fileName()", "i-1 i0 "),
@@ -102,11 +77,6 @@ static OF_PMD: [(&str, &str); 9] = [
     ("//Block[pmd-java:typeIs('a')]", "3 6 9 11 "),
     ("true() or pmd-java:nodeIs(1 idiv 0)", "true "),
 ];
-
-#[test]
-fn of_pmd(rt: HostRuntime) -> Result<(), Fail> {
-    check(&rt, rt.alloc(), &OF_PMD)
-}
 
 static REFUSED_BY_PMD: [(&str, &str); 17] = [
     ("pmd-java:matchesSig('a')", "FORX0003"),
@@ -141,6 +111,15 @@ static REFUSED_BY_PMD: [(&str, &str); 17] = [
 ];
 
 #[test]
-fn refused_by_pmd(rt: HostRuntime) -> Result<(), Fail> {
-    check(&rt, rt.alloc(), &REFUSED_BY_PMD)
+fn calls(rt: HostRuntime) -> Result<(), Fail> {
+    let tables: [Table; 7] = [
+        &OF_THE_CONTEXT,
+        &OF_ROOTS_AND_STRINGS,
+        &WITH_ATTRIBUTES,
+        &WITH_PATTERNS,
+        &ORDER_OF_ARGUMENTS,
+        &OF_PMD,
+        &REFUSED_BY_PMD,
+    ];
+    check_all(rt.alloc(), &tables)
 }

@@ -1,6 +1,6 @@
 //! Each code from each place where it can come, by hand from the standard.
 
-use crate::queries::check;
+use crate::queries::{Table, check_all};
 use std::test::Fail;
 
 /// FORG0006: a sequence without an effective boolean value.
@@ -17,11 +17,6 @@ static NO_EFFECTIVE_BOOLEAN_VALUE: [(&str, &str); 11] = [
     ("boolean(('a', 'b'))", "FORG0006"),
     ("//ClassDeclaration[data(@Final)]", "5 "),
 ];
-
-#[test]
-fn no_effective_boolean_value(rt: HostRuntime) -> Result<(), Fail> {
-    check(&rt, rt.alloc(), &NO_EFFECTIVE_BOOLEAN_VALUE)
-}
 
 /// XPTY0004: a value of a wrong type or number.
 static WRONG_TYPES: [(&str, &str); 27] = [
@@ -54,11 +49,6 @@ static WRONG_TYPES: [(&str, &str); 27] = [
     ("matches('7', $given)", "XPTY0004"),
 ];
 
-#[test]
-fn wrong_types(rt: HostRuntime) -> Result<(), Fail> {
-    check(&rt, rt.alloc(), &WRONG_TYPES)
-}
-
 /// XPTY0018: nodes and other items from one step of a path.
 static MIXTURES: [(&str, &str); 7] = [
     ("//Block/(1, .)", "XPTY0018"),
@@ -69,11 +59,6 @@ static MIXTURES: [(&str, &str); 7] = [
     ("//Block ! (., 1)", "3 i1 6 i1 9 i1 11 i1 "),
     ("(//Block, 1)[2]", "6 "),
 ];
-
-#[test]
-fn mixtures(rt: HostRuntime) -> Result<(), Fail> {
-    check(&rt, rt.alloc(), &MIXTURES)
-}
 
 /// XPTY0019: a step over what is no node.
 static STEPS_OVER_VALUES: [(&str, &str); 9] = [
@@ -88,11 +73,6 @@ static STEPS_OVER_VALUES: [(&str, &str); 9] = [
     ("for $x in (1, 2) return $x/Block", "XPTY0019"),
 ];
 
-#[test]
-fn steps_over_values(rt: HostRuntime) -> Result<(), Fail> {
-    check(&rt, rt.alloc(), &STEPS_OVER_VALUES)
-}
-
 /// XPTY0020: a step, or a `/`, from a context item that is no node.
 static STEPS_FROM_VALUES: [(&str, &str); 10] = [
     ("1 ! //Block", "XPTY0020"),
@@ -106,11 +86,6 @@ static STEPS_FROM_VALUES: [(&str, &str); 10] = [
     ("1 ! Block['a' + 1]", "XPTY0020"),
     ("() ! /", ""),
 ];
-
-#[test]
-fn steps_from_values(rt: HostRuntime) -> Result<(), Fail> {
-    check(&rt, rt.alloc(), &STEPS_FROM_VALUES)
-}
 
 /// FOAR0001 and FOAR0002: a zero divisor, and integers outside 64 bits.
 static OUTSIDE_INTEGERS: [(&str, &str); 22] = [
@@ -144,11 +119,6 @@ static OUTSIDE_INTEGERS: [(&str, &str); 22] = [
     ("9223372036854775807 = 9223372036854775806", "false "),
 ];
 
-#[test]
-fn outside_integers(rt: HostRuntime) -> Result<(), Fail> {
-    check(&rt, rt.alloc(), &OUTSIDE_INTEGERS)
-}
-
 /// FOTY0012: the typed value of an element or of the document.
 static NO_TYPED_VALUE: [(&str, &str); 24] = [
     ("1 + .", "FOTY0012"),
@@ -177,11 +147,6 @@ static NO_TYPED_VALUE: [(&str, &str); 24] = [
     ("subsequence((1, 2), .)", "FOTY0012"),
 ];
 
-#[test]
-fn no_typed_value(rt: HostRuntime) -> Result<(), Fail> {
-    check(&rt, rt.alloc(), &NO_TYPED_VALUE)
-}
-
 /// FORX0003: a pattern that is found in the empty string.
 static PATTERNS_OF_NOTHING: [(&str, &str); 8] = [
     ("replace('', 'a*', 'b')", "FORX0003"),
@@ -195,6 +160,16 @@ static PATTERNS_OF_NOTHING: [(&str, &str); 8] = [
 ];
 
 #[test]
-fn patterns_of_nothing(rt: HostRuntime) -> Result<(), Fail> {
-    check(&rt, rt.alloc(), &PATTERNS_OF_NOTHING)
+fn codes(rt: HostRuntime) -> Result<(), Fail> {
+    let tables: [Table; 8] = [
+        &NO_EFFECTIVE_BOOLEAN_VALUE,
+        &WRONG_TYPES,
+        &MIXTURES,
+        &STEPS_OVER_VALUES,
+        &STEPS_FROM_VALUES,
+        &OUTSIDE_INTEGERS,
+        &NO_TYPED_VALUE,
+        &PATTERNS_OF_NOTHING,
+    ];
+    check_all(rt.alloc(), &tables)
 }

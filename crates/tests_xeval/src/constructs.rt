@@ -1,6 +1,6 @@
 //! Literals, sequences, variables, conditions and bindings, by hand from the standard.
 
-use crate::queries::check;
+use crate::queries::{Table, check_all};
 use std::test::Fail;
 
 static LITERALS_AND_SEQUENCES: [(&str, &str); 10] = [
@@ -16,11 +16,6 @@ static LITERALS_AND_SEQUENCES: [(&str, &str); 10] = [
     ("('a' + 1, 1 idiv 0)", "XPTY0004"),
 ];
 
-#[test]
-fn literals_and_sequences(rt: HostRuntime) -> Result<(), Fail> {
-    check(&rt, rt.alloc(), &LITERALS_AND_SEQUENCES)
-}
-
 static VARIABLES: [(&str, &str); 10] = [
     ("$given", "i7 i8 "),
     ("let $given := 1 return $given, $given", "i1 i7 i8 "),
@@ -34,11 +29,6 @@ static VARIABLES: [(&str, &str); 10] = [
     ("for $given in (1, 2) return $given", "i1 i2 "),
 ];
 
-#[test]
-fn variables(rt: HostRuntime) -> Result<(), Fail> {
-    check(&rt, rt.alloc(), &VARIABLES)
-}
-
 static CONDITIONS: [(&str, &str); 9] = [
     ("if (()) then 1 else 2", "i2 "),
     ("if ((1, 2)) then 1 else 2", "FORG0006"),
@@ -50,11 +40,6 @@ static CONDITIONS: [(&str, &str); 9] = [
     ("if (false()) then (1 idiv 0) else 2", "i2 "),
     ("if (1 idiv 0) then 1 else 2", "FOAR0001"),
 ];
-
-#[test]
-fn conditions(rt: HostRuntime) -> Result<(), Fail> {
-    check(&rt, rt.alloc(), &CONDITIONS)
-}
 
 static LOOPS: [(&str, &str); 10] = [
     (
@@ -77,11 +62,6 @@ static LOOPS: [(&str, &str); 10] = [
     ),
     ("for $x in (1, 2), $x in ($x, $x) return $x", "i1 i1 i2 i2 "),
 ];
-
-#[test]
-fn loops(rt: HostRuntime) -> Result<(), Fail> {
-    check(&rt, rt.alloc(), &LOOPS)
-}
 
 static QUANTIFIERS: [(&str, &str); 12] = [
     ("some $x in (1, 2, 3) satisfies $x = 2", "true "),
@@ -107,11 +87,6 @@ static QUANTIFIERS: [(&str, &str); 12] = [
     ),
 ];
 
-#[test]
-fn quantifiers(rt: HostRuntime) -> Result<(), Fail> {
-    check(&rt, rt.alloc(), &QUANTIFIERS)
-}
-
 static TRUTHS: [(&str, &str); 10] = [
     ("1 or (1 idiv 0)", "true "),
     ("0 or (1 idiv 0)", "FOAR0001"),
@@ -126,6 +101,14 @@ static TRUTHS: [(&str, &str); 10] = [
 ];
 
 #[test]
-fn truths(rt: HostRuntime) -> Result<(), Fail> {
-    check(&rt, rt.alloc(), &TRUTHS)
+fn constructs(rt: HostRuntime) -> Result<(), Fail> {
+    let tables: [Table; 6] = [
+        &LITERALS_AND_SEQUENCES,
+        &VARIABLES,
+        &CONDITIONS,
+        &LOOPS,
+        &QUANTIFIERS,
+        &TRUTHS,
+    ];
+    check_all(rt.alloc(), &tables)
 }

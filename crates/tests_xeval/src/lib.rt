@@ -9,6 +9,7 @@ mod calls;
 mod codes;
 #[cfg(test)]
 mod constructs;
+#[cfg(test)]
 mod facts;
 #[cfg(test)]
 mod lengths;
@@ -20,6 +21,7 @@ mod order;
 mod paths;
 #[cfg(test)]
 mod queries;
+#[cfg(test)]
 mod replies;
 #[cfg(test)]
 mod scopes;

@@ -1,6 +1,6 @@
 //! Comparisons, arithmetic, ranges and texts, by hand from the standard.
 
-use crate::queries::check;
+use crate::queries::{Table, check_all};
 use std::test::Fail;
 
 static COMPARISONS: [(&str, &str); 14] = [
@@ -20,11 +20,6 @@ static COMPARISONS: [(&str, &str); 14] = [
     ("(1, 2) >= 3", "false "),
 ];
 
-#[test]
-fn comparisons(rt: HostRuntime) -> Result<(), Fail> {
-    check(&rt, rt.alloc(), &COMPARISONS)
-}
-
 static TEXTS: [(&str, &str); 9] = [
     ("'a' || 1 || () || true()", "'a1true' "),
     ("'a' || -12", "'a-12' "),
@@ -36,11 +31,6 @@ static TEXTS: [(&str, &str); 9] = [
     ("(1 idiv 0) || (1, 2)", "FOAR0001"),
     ("//VariableId/(@Name || '!')", "'x!' 'y!' 'x!' 'z!' "),
 ];
-
-#[test]
-fn texts(rt: HostRuntime) -> Result<(), Fail> {
-    check(&rt, rt.alloc(), &TEXTS)
-}
 
 static RANGES: [(&str, &str); 11] = [
     ("2 to 4", "i2 i3 i4 "),
@@ -59,11 +49,6 @@ static RANGES: [(&str, &str); 11] = [
     (". to 3", "FOTY0012"),
 ];
 
-#[test]
-fn ranges(rt: HostRuntime) -> Result<(), Fail> {
-    check(&rt, rt.alloc(), &RANGES)
-}
-
 static SUMS: [(&str, &str); 14] = [
     ("1 + 2 - 4", "i-1 "),
     ("10 - 2 - 3", "i5 "),
@@ -81,11 +66,6 @@ static SUMS: [(&str, &str); 14] = [
     ("(//Block)[1]/@Size + 1", "i4 "),
 ];
 
-#[test]
-fn sums(rt: HostRuntime) -> Result<(), Fail> {
-    check(&rt, rt.alloc(), &SUMS)
-}
-
 static PRODUCTS: [(&str, &str); 13] = [
     ("2 * 3 idiv 4 mod 5", "i1 "),
     ("-7 idiv 2, -7 mod 2, 7 mod -2", "i-3 i-1 i1 "),
@@ -102,11 +82,6 @@ static PRODUCTS: [(&str, &str); 13] = [
     ("2 * 'a'", "XPTY0004"),
 ];
 
-#[test]
-fn products(rt: HostRuntime) -> Result<(), Fail> {
-    check(&rt, rt.alloc(), &PRODUCTS)
-}
-
 static SIGNS: [(&str, &str); 9] = [
     ("-(-9223372036854775807 - 1)", "FOAR0002"),
     ("-()", ""),
@@ -118,11 +93,6 @@ static SIGNS: [(&str, &str); 9] = [
     ("-.", "FOTY0012"),
     ("-2 * 3", "i-6 "),
 ];
-
-#[test]
-fn signs(rt: HostRuntime) -> Result<(), Fail> {
-    check(&rt, rt.alloc(), &SIGNS)
-}
 
 static SETS: [(&str, &str); 15] = [
     ("1 | (1 idiv 0)", "XPTY0004"),
@@ -141,11 +111,6 @@ static SETS: [(&str, &str); 15] = [
     ("(//Block, //Block) intersect //*", "3 6 9 11 "),
     ("//@* intersect //VariableId/@*", "2@0 4@0 7@0 8@0 "),
 ];
-
-#[test]
-fn sets(rt: HostRuntime) -> Result<(), Fail> {
-    check(&rt, rt.alloc(), &SETS)
-}
 
 static ALL_COMPARISONS: [(&str, &str); 8] = [
     (
@@ -169,11 +134,6 @@ static ALL_COMPARISONS: [(&str, &str); 8] = [
     ("(1, 2, 3) > 2, (1, 2, 3) > 3", "true false "),
     ("('a', 'b') = ('b', 'c'), ('a', 'b') = 'c'", "true false "),
 ];
-
-#[test]
-fn all_comparisons(rt: HostRuntime) -> Result<(), Fail> {
-    check(&rt, rt.alloc(), &ALL_COMPARISONS)
-}
 
 static SETS_OF_PLACES: [(&str, &str); 14] = [
     ("//Block union //VariableId", "2 3 4 6 7 8 9 11 "),
@@ -199,6 +159,17 @@ static SETS_OF_PLACES: [(&str, &str); 14] = [
 ];
 
 #[test]
-fn sets_of_places(rt: HostRuntime) -> Result<(), Fail> {
-    check(&rt, rt.alloc(), &SETS_OF_PLACES)
+fn operators(rt: HostRuntime) -> Result<(), Fail> {
+    let tables: [Table; 9] = [
+        &COMPARISONS,
+        &TEXTS,
+        &RANGES,
+        &SUMS,
+        &PRODUCTS,
+        &SIGNS,
+        &SETS,
+        &ALL_COMPARISONS,
+        &SETS_OF_PLACES,
+    ];
+    check_all(rt.alloc(), &tables)
 }

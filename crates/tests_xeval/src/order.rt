@@ -1,6 +1,6 @@
 //! Which of two errors comes first, and that nothing is evaluated behind what decides, by hand from the standard.
 
-use crate::queries::check;
+use crate::queries::{Table, check_all};
 use std::test::Fail;
 
 static OF_OPERANDS: [(&str, &str); 18] = [
@@ -24,11 +24,6 @@ static OF_OPERANDS: [(&str, &str); 18] = [
     ("-('a' + (1 idiv 0))", "XPTY0004"),
 ];
 
-#[test]
-fn of_operands(rt: HostRuntime) -> Result<(), Fail> {
-    check(&rt, rt.alloc(), &OF_OPERANDS)
-}
-
 static OF_SETS_AND_SEQUENCES: [(&str, &str); 11] = [
     ("//Block | 1 | (1 idiv 0)", "XPTY0004"),
     ("//Block | (1 idiv 0) | 1", "FOAR0001"),
@@ -42,11 +37,6 @@ static OF_SETS_AND_SEQUENCES: [(&str, &str); 11] = [
     ("concat('a', 'b' + 1, 1 idiv 0)", "XPTY0004"),
     ("not(1 idiv 0)", "FOAR0001"),
 ];
-
-#[test]
-fn of_sets_and_sequences(rt: HostRuntime) -> Result<(), Fail> {
-    check(&rt, rt.alloc(), &OF_SETS_AND_SEQUENCES)
-}
 
 static OF_TURNS: [(&str, &str); 17] = [
     ("(//Block, 1 idiv 0)/('a' + 1)", "FOAR0001"),
@@ -71,11 +61,6 @@ static OF_TURNS: [(&str, &str); 17] = [
     ("(1, 2) ! () ! (1 idiv 0)", ""),
 ];
 
-#[test]
-fn of_turns(rt: HostRuntime) -> Result<(), Fail> {
-    check(&rt, rt.alloc(), &OF_TURNS)
-}
-
 static OF_BINDINGS: [(&str, &str); 10] = [
     ("let $x := 'a' + 1, $y := 1 idiv 0 return 1", "XPTY0004"),
     ("let $x := 1, $y := 1 idiv 0 return 'a' + 1", "FOAR0001"),
@@ -97,11 +82,6 @@ static OF_BINDINGS: [(&str, &str); 10] = [
         "FOAR0001",
     ),
 ];
-
-#[test]
-fn of_bindings(rt: HostRuntime) -> Result<(), Fail> {
-    check(&rt, rt.alloc(), &OF_BINDINGS)
-}
 
 static OF_WHAT_DECIDES: [(&str, &str); 19] = [
     ("'a' or (1 idiv 0)", "true "),
@@ -129,6 +109,13 @@ static OF_WHAT_DECIDES: [(&str, &str); 19] = [
 ];
 
 #[test]
-fn of_what_decides(rt: HostRuntime) -> Result<(), Fail> {
-    check(&rt, rt.alloc(), &OF_WHAT_DECIDES)
+fn which_error_comes_first(rt: HostRuntime) -> Result<(), Fail> {
+    let tables: [Table; 5] = [
+        &OF_OPERANDS,
+        &OF_SETS_AND_SEQUENCES,
+        &OF_TURNS,
+        &OF_BINDINGS,
+        &OF_WHAT_DECIDES,
+    ];
+    check_all(rt.alloc(), &tables)
 }

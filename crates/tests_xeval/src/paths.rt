@@ -1,6 +1,6 @@
 //! Paths, predicates, axes and maps, by hand from the standard.
 
-use crate::queries::check;
+use crate::queries::{Table, check_all};
 use std::test::Fail;
 
 static MAPS: [(&str, &str); 8] = [
@@ -13,11 +13,6 @@ static MAPS: [(&str, &str); 8] = [
     ("(//Block, 1) ! 2", "i2 i2 i2 i2 i2 "),
     ("('a', 'b') ! string-length()", "i1 i1 "),
 ];
-
-#[test]
-fn maps(rt: HostRuntime) -> Result<(), Fail> {
-    check(&rt, rt.alloc(), &MAPS)
-}
 
 static FILTERS: [(&str, &str); 13] = [
     ("(5, 6, 7)[2]", "i6 "),
@@ -35,11 +30,6 @@ static FILTERS: [(&str, &str); 13] = [
     ("$given[2]", "i8 "),
 ];
 
-#[test]
-fn filters(rt: HostRuntime) -> Result<(), Fail> {
-    check(&rt, rt.alloc(), &FILTERS)
-}
-
 static ROOTS: [(&str, &str); 13] = [
     ("/", "/ "),
     ("(1)/2", "XPTY0019"),
@@ -56,11 +46,6 @@ static ROOTS: [(&str, &str); 13] = [
     ("//VariableId/../..", "0 1 5 "),
 ];
 
-#[test]
-fn roots(rt: HostRuntime) -> Result<(), Fail> {
-    check(&rt, rt.alloc(), &ROOTS)
-}
-
 static CHILDREN: [(&str, &str); 12] = [
     ("*", "0 "),
     ("//ClassDeclaration/*", "2 3 6 8 9 "),
@@ -75,11 +60,6 @@ static CHILDREN: [(&str, &str); 12] = [
     ("//ClassDeclaration/Block[1]", "3 6 "),
     ("/CompilationUnit/*[3]/Block", "11 "),
 ];
-
-#[test]
-fn children(rt: HostRuntime) -> Result<(), Fail> {
-    check(&rt, rt.alloc(), &CHILDREN)
-}
 
 static REVERSE_AXES: [(&str, &str); 14] = [
     ("//VariableId/ancestor::*[1]", "1 3 5 6 "),
@@ -101,11 +81,6 @@ static REVERSE_AXES: [(&str, &str); 14] = [
     ("(//VariableId)[1]/parent::Block", ""),
 ];
 
-#[test]
-fn reverse_axes(rt: HostRuntime) -> Result<(), Fail> {
-    check(&rt, rt.alloc(), &REVERSE_AXES)
-}
-
 static FORWARD_AXES: [(&str, &str); 12] = [
     ("//Block/following-sibling::node()", "8 9 "),
     ("//VariableId/following::Block", "3 6 9 11 "),
@@ -121,11 +96,6 @@ static FORWARD_AXES: [(&str, &str); 12] = [
     ("child::node()/child::*", "1 5 10 "),
 ];
 
-#[test]
-fn forward_axes(rt: HostRuntime) -> Result<(), Fail> {
-    check(&rt, rt.alloc(), &FORWARD_AXES)
-}
-
 static THE_DOCUMENT: [(&str, &str); 10] = [
     ("/..", ""),
     ("/CompilationUnit/..", "/ "),
@@ -138,11 +108,6 @@ static THE_DOCUMENT: [(&str, &str); 10] = [
     ("/CompilationUnit/preceding::node()", ""),
     ("/@*", ""),
 ];
-
-#[test]
-fn the_document(rt: HostRuntime) -> Result<(), Fail> {
-    check(&rt, rt.alloc(), &THE_DOCUMENT)
-}
 
 static ATTRIBUTES: [(&str, &str); 15] = [
     ("//@Name", "2@0 4@0 7@0 8@0 "),
@@ -161,11 +126,6 @@ static ATTRIBUTES: [(&str, &str); 15] = [
     ("//Block[@Size]", "3 6 9 11 "),
     ("//Block[@Size = 'a']", "XPTY0004"),
 ];
-
-#[test]
-fn attributes(rt: HostRuntime) -> Result<(), Fail> {
-    check(&rt, rt.alloc(), &ATTRIBUTES)
-}
 
 static AXES_OF_ATTRIBUTES: [(&str, &str); 11] = [
     ("//@Size/..", "3 6 9 11 "),
@@ -188,6 +148,17 @@ static AXES_OF_ATTRIBUTES: [(&str, &str); 11] = [
 ];
 
 #[test]
-fn axes_of_attributes(rt: HostRuntime) -> Result<(), Fail> {
-    check(&rt, rt.alloc(), &AXES_OF_ATTRIBUTES)
+fn paths(rt: HostRuntime) -> Result<(), Fail> {
+    let tables: [Table; 9] = [
+        &MAPS,
+        &FILTERS,
+        &ROOTS,
+        &CHILDREN,
+        &REVERSE_AXES,
+        &FORWARD_AXES,
+        &THE_DOCUMENT,
+        &ATTRIBUTES,
+        &AXES_OF_ATTRIBUTES,
+    ];
+    check_all(rt.alloc(), &tables)
 }

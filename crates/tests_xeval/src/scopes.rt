@@ -1,6 +1,6 @@
 //! Variables under one name, the context within bindings, and empty sequences everywhere, by hand from the standard.
 
-use crate::queries::check;
+use crate::queries::{Table, check_all};
 use std::test::Fail;
 
 static SHADOWED_VARIABLES: [(&str, &str); 14] = [
@@ -44,11 +44,6 @@ static SHADOWED_VARIABLES: [(&str, &str); 14] = [
     ("let $x := (let $x := 1 return $x + 1) return $x + 1", "i3 "),
 ];
 
-#[test]
-fn shadowed_variables(rt: HostRuntime) -> Result<(), Fail> {
-    check(&rt, rt.alloc(), &SHADOWED_VARIABLES)
-}
-
 static CONTEXTS: [(&str, &str); 20] = [
     (".", "/ "),
     ("//Block/.", "3 6 9 11 "),
@@ -75,11 +70,6 @@ static CONTEXTS: [(&str, &str); 20] = [
     ("/root(), /local-name()", "/ '' "),
 ];
 
-#[test]
-fn contexts(rt: HostRuntime) -> Result<(), Fail> {
-    check(&rt, rt.alloc(), &CONTEXTS)
-}
-
 static TRUTHS_OF_NODES: [(&str, &str); 10] = [
     ("if (//Unknown) then 1 else 2", "i2 "),
     ("if (//ClassDeclaration[1]/@Final) then 1 else 2", "i1 "),
@@ -95,11 +85,6 @@ static TRUTHS_OF_NODES: [(&str, &str); 10] = [
     ("//ClassDeclaration[not(@Final = false())]", "5 "),
     ("//Block[not(*)]", "9 11 "),
 ];
-
-#[test]
-fn truths_of_nodes(rt: HostRuntime) -> Result<(), Fail> {
-    check(&rt, rt.alloc(), &TRUTHS_OF_NODES)
-}
 
 static EMPTY_OPERANDS: [(&str, &str); 21] = [
     ("() = ()", "false "),
@@ -125,11 +110,6 @@ static EMPTY_OPERANDS: [(&str, &str); 21] = [
     ("//Unknown[1], //@Unknown[1]", ""),
 ];
 
-#[test]
-fn empty_operands(rt: HostRuntime) -> Result<(), Fail> {
-    check(&rt, rt.alloc(), &EMPTY_OPERANDS)
-}
-
 static EMPTY_ARGUMENTS: [(&str, &str); 11] = [
     ("count(((), ()))", "i0 "),
     ("string(()), string-length(())", "'' i0 "),
@@ -151,6 +131,13 @@ static EMPTY_ARGUMENTS: [(&str, &str); 11] = [
 ];
 
 #[test]
-fn empty_arguments(rt: HostRuntime) -> Result<(), Fail> {
-    check(&rt, rt.alloc(), &EMPTY_ARGUMENTS)
+fn scopes(rt: HostRuntime) -> Result<(), Fail> {
+    let tables: [Table; 5] = [
+        &SHADOWED_VARIABLES,
+        &CONTEXTS,
+        &TRUTHS_OF_NODES,
+        &EMPTY_OPERANDS,
+        &EMPTY_ARGUMENTS,
+    ];
+    check_all(rt.alloc(), &tables)
 }
