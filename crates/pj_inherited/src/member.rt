@@ -4,7 +4,8 @@ ghost use Rattle.std.specs.Prelude.{◌≡◌, ◌||◌};
 ghost use Rattle.pj_names.specs.ClassName.{is_object};
 ghost use Rattle.pj_names.specs.Told.{Asks};
 ghost use Rattle.pj_imports.specs.Candidates.{file_classes};
-ghost use Rattle.pj_inherited.specs.Inherited.{left_out, member_in};
+ghost use Rattle.pj_inherited.specs.Inherited.{member_in};
+ghost use Rattle.pj_inherited.specs.NameWalks.{left_out};
 
 use pj_imports::{File, found_class};
 use pj_names::{AskFault, ClassName, Oracle};

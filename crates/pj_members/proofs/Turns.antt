@@ -1,6 +1,6 @@
 -- The turns of the loops over members, their types and their names.
 use Rattle.std.proofs.Common.{◌≡◌, ℕ, ◌<◌, ◌+◌, List, [], ◌∷◌, ◌++◌, length, get_or, drop, ap, refl, reverse, sym, ◌∙◌, append_assoc}
-use Rattle.std.specs.Prelude.{Bool, true, false, not, Option, Some, None, if◌then◌else◌, nat_eq}
+use Rattle.std.specs.Prelude.{Bool, true, false, not, Some, None, if◌then◌else◌, nat_eq}
 use Rattle.std.specs.Cmp.Lexicographic.{pointwise}
 use Rattle.std.specs.FinSet as set
 use Rattle.std.proofs.lemmas.List.{map-append, reverse-append}

@@ -138,7 +138,7 @@ const MOST_CLASSES: u64 = 4294967294;
 ///
 /// Its type is written with the type parameters of the class: in a further class of the list, its type arguments stand in
 /// the place of its type parameters, and where it is raw (JLS 4.8), their erased bounds.
-#[tactic(auto, using(pj_types::specs::Along::along_loops))]
+#[tactic(auto, using(pj_types::proofs::AlongTurns::along_loops))]
 pub fn find_field<O: Oracle>(
     alloc: Global,
     oracle: &mut O,
