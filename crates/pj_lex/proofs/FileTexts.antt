@@ -1,5 +1,5 @@
 -- The text of a file is UTF-8, and has a place for each of its bytes and for its end.
-use Rattle.std.proofs.Common.{ℕ, nat_eq, ◌≡◌, ◌+◌, ◌<◌, ◌≤◌, ◌||◌, ◌&&◌, Bool, true, false, if◌then◌else◌, List, [], ◌∷◌, ◌++◌, length, Result, Ok, Err, refl, ap, sym, ◌∙◌, arith, subst, inl, inr, length-append}
+use Rattle.std.proofs.Common.{ℕ, nat_eq, ◌≡◌, ◌+◌, ◌<◌, ◌≤◌, ◌||◌, Bool, true, false, if◌then◌else◌, List, [], ◌∷◌, ◌++◌, length, Result, Ok, Err, refl, ap, sym, ◌∙◌, arith, inl, inr, length-append}
 use Rattle.std.specs.Char.{IsScalar, encode_utf8, len_utf8}
 use Rattle.std.specs.Char.Utf16.{is_high_surrogate, is_low_surrogate, surrogate_pair_char}
 use Rattle.std.specs.Str.{chars, IsUtf8}
@@ -9,7 +9,7 @@ use Rattle.std.proofs.lemmas.List.{length-replicate}
 use Rattle.std.proofs.lemmas.Str.{IsUtf8-nil, IsUtf8-append, IsUtf8-encode, length-encode, scalars-chars}
 use Rattle.pj_tree.specs.Places.{first_place}
 use Rattle.pj_tree.specs.declared.node.Place.{Place}
-use Rattle.pj_lex.specs.Escapes.{AreDigits, IsEscape, Piece, IsWritten, character_alone, is_eligible, place_behind_all, text_of, places_of_bytes}
+use Rattle.pj_lex.specs.Escapes.{IsEscape, Piece, IsWritten, character_alone, is_eligible, place_behind_all, text_of, places_of_bytes}
 use Rattle.pj_lex.specs.Escapes.IsWritten.{plain, alone, pair}
 use Rattle.pj_lex.specs.SourceText.{SourceText, Translates, IsRead, IsPlaced, source_of, byte_order_mark, behind_byte_order_mark}
 use Rattle.pj_lex.specs.SourceText.Translates.{ended, sub, next, bad}

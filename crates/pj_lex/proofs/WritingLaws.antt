@@ -8,7 +8,7 @@ use Rattle.std.proofs.lemmas.Str.{length-encode}
 use lib.Utf8.{encode, encodes}
 use Rattle.pj_tree.specs.Places.{place_past, place_behind, first_place, ends_line, line_ends, on_line, size}
 use Rattle.pj_tree.specs.declared.node.Place.{Place}
-use Rattle.pj_lex.specs.Escapes.{Piece, IsWritten, IsBadEscape, BeginsWithNoEscape, begins_escape, is_eligible, place_behind_all, text_of, places_of_bytes}
+use Rattle.pj_lex.specs.Escapes.{Piece, IsWritten, BeginsWithNoEscape, begins_escape, is_eligible, place_behind_all, text_of, places_of_bytes}
 use Rattle.pj_lex.specs.Escapes.IsWritten.{plain, alone, pair}
 use Rattle.pj_lex.specs.SourceText.{SourceText, Translates, IsRead, byte_order_mark, behind_byte_order_mark}
 use Rattle.pj_lex.specs.SourceText.Translates.{ended, sub, next, bad}

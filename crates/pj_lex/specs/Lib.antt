@@ -1,8 +1,8 @@
--- the text of a source file
+-- definitions: the text of a source file
 pub mod Escapes
 pub mod SourceText
 pub mod SourceWritings
--- the definition of tokens
+-- definitions: tokens
 pub mod Answer
 pub mod Characters
 pub mod Comments
@@ -13,7 +13,7 @@ pub mod Rules
 pub mod Size
 pub mod Tokens
 pub mod Words
--- private clauses alone cite these: what the translation and the scanner compute
+-- for private clauses: what the translation and the scanner compute
 pub mod SourceRuns
 pub mod Translating
 pub mod Scanning

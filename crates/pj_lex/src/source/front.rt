@@ -22,12 +22,14 @@ pub struct Front<'s> {
     pub behind: &'s str,
 }
 
+/// Whether the unit of UTF-16 is the first one of a pair.
 fn is_high(unit: u32) -> bool
     ensures { result ≡ is_high_surrogate unit }
 {
     0xD800 <= unit && unit < 0xDC00
 }
 
+/// Whether it is the second one of a pair.
 fn is_low(unit: u32) -> bool
     ensures { result ≡ is_low_surrogate unit }
 {
