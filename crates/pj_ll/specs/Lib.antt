@@ -1,8 +1,10 @@
+-- definitions
 pub mod Grammar
-pub mod Entries
 pub mod Leads
 pub mod Outcome
 pub mod Predictive
+-- for private clauses
+pub mod Entries
 pub mod Table
 pub mod Stack
 pub mod Parsing
