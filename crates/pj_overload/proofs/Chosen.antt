@@ -15,7 +15,7 @@ use Rattle.pj_overload.specs.Passed.{Argument, arguments_of}
 use Rattle.pj_overload.specs.Candidates.{Candidate, candidates_from, candidates_of}
 use Rattle.pj_overload.specs.Phases.{applicable, is_applicable}
 use Rattle.pj_overload.specs.Specific.{best_of, is_most_specific, most_specific, most_specific_at, number_if, one_or_tie}
-use Rattle.pj_overload.specs.Choosing.{choice_among, choice_by_phases, choice_in, choose, or_no_method, phases}
+use Rattle.pj_overload.specs.Choosing.{choice_among, choice_in, choose, or_no_method, phases}
 
 -- the numbers of candidates are all below one
 abbrev AllBelow : ℕ → List Candidate → Type 0
