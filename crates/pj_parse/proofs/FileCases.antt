@@ -5,7 +5,6 @@ use Rattle.std.specs.Option.{option_map}
 use Rattle.pj_lex.specs.SourceText.{SourceText, IsRead}
 use Rattle.pj_lex.specs.declared.source.fault.SourceFault.{SourceFault}
 use Rattle.pj_lex.specs.declared.source.fault.SourceFault.TheVariants as unread
-use Rattle.pj_lex.specs.declared.token.LexFault.{LexFault}
 use Rattle.pj_lex.proofs.SourceLaws.{same_reading}
 use Rattle.pj_tree.specs.declared.node.Place.{Place}
 use Rattle.pj_parse.specs.Laws.{HasOneOutcome}
