@@ -1,5 +1,5 @@
 -- Where a form ends, part by part.
-use Rattle.std.proofs.Common.{◌≡◌, ℕ, ◌+◌, ◌<◌, ◌≤◌, List, length, Option, Some, None, refl, ◌∙◌, subst, ap, inl, inr, ⊎_elim, arith, get_or}
+use Rattle.std.proofs.Common.{◌≡◌, ℕ, ◌<◌, ◌≤◌, List, length, Option, Some, None, refl, ◌∙◌, subst, ap, inl, inr, ⊎_elim, arith, get_or}
 use Rattle.std.specs.Prelude.{slice_get}
 use Rattle.pj_peg.specs.declared.program.Program.{Program}
 use Rattle.pj_peg.specs.Form.{Form, seq, choice, star, maybe, ahead, not_ahead}

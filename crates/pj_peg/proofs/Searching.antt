@@ -7,7 +7,7 @@ use Rattle.std.proofs.lemmas.Option.{slice_get_within}
 use Rattle.pj_peg.specs.declared.plan.Plan.{Plan}
 use Rattle.pj_peg.specs.declared.plan.Memo.{Memo}
 use Rattle.pj_peg.specs.declared.plan.Question.{Question}
-use Rattle.pj_peg.specs.Form.{Form, rule, star}
+use Rattle.pj_peg.specs.Form.{Form, star}
 use Rattle.pj_peg.specs.Program.{form_at, forms_in, rules_of}
 use Rattle.pj_peg.specs.Table.{cell_at, end_of_code, code_of_end}
 use Rattle.pj_peg.specs.Ends.{Ends, IsSafe}

@@ -1,7 +1,9 @@
+-- definitions
 pub mod Form
 pub mod Derivation
 pub mod Derives
 pub mod WellFormed
+-- for private clauses
 pub mod Program
 pub mod Table
 pub mod Analysis

@@ -58,6 +58,7 @@ fn facts_of_node(node: Node, facts: &[Facts], empty: &[bool]) -> Facts
 }
 
 impl Facts {
+    /// What is to be known of a sequence, by its first part and by the rest.
     fn followed_by(self, rest: Facts) -> Facts
         ensures { result ≡ record { nullable = self.nullable && rest.nullable; known = self.known && rest.known; repeats = self.repeats && rest.repeats } }
     {
@@ -68,6 +69,7 @@ impl Facts {
         }
     }
 
+    /// What is to be known of a choice, by its first alternative and by the others.
     fn or(self, other: Facts) -> Facts
         ensures { result ≡ record { nullable = self.nullable || other.nullable; known = self.known && other.known; repeats = self.repeats && other.repeats } }
     {
@@ -78,6 +80,7 @@ impl Facts {
         }
     }
 
+    /// What is to be known of a repetition.
     fn repeated(self) -> Facts
         ensures { result ≡ record { nullable = true; known = self.known; repeats = not self.nullable && self.repeats } }
     {

@@ -25,6 +25,7 @@ pub struct Beginning {
 }
 
 impl Beginning {
+    /// With which tokens a sequence can begin, by its first part and by the rest.
     fn followed_by(self, rest: Beginning) -> Beginning
         ensures { result ≡ record { nullable = self.nullable && rest.nullable; firsts = (if self.nullable then bit_or self.firsts rest.firsts else self.firsts) } }
     {
@@ -38,6 +39,7 @@ impl Beginning {
         }
     }
 
+    /// With which tokens a choice can begin, by its first alternative and by the others.
     fn or(self, other: Beginning) -> Beginning
         ensures { result ≡ record { nullable = self.nullable || other.nullable; firsts = bit_or self.firsts other.firsts } }
     {

@@ -1,5 +1,6 @@
 //! A grammar's items as a flat list of nodes.
-// A node names its parts by their indices, which are below its own.
+
+/// A node, which names its parts by their indices; these are below its own.
 #[derive(Clone, Copy)]
 pub enum Node {
     Token(u16),
@@ -7,11 +8,11 @@ pub enum Node {
     Rule(u16),
     Nothing,
     Never,
-    // the first part, and the sequence of the others
+    /// The first part, and the sequence of the others.
     Seq(usize, usize),
-    // the first alternative, and the choice among the others
+    /// The first alternative, and the choice among the others.
     Choice(usize, usize),
-    // the part, and the number of this repetition among all of the grammar
+    /// The part, and the number of this repetition among all of the grammar.
     Star(usize, usize),
     Maybe(usize),
     And(usize),

@@ -1,4 +1,4 @@
-use Rattle.std.proofs.Common.{◌∙◌, ◌+◌, ◌-◌, ◌<◌, length, sym, refl, arith, Some, None}
+use Rattle.std.proofs.Common.{◌∙◌, sym, refl, arith, Some, None}
 use Rattle.std.proofs.lemmas.Result.{IfOk-weaker}
 use Rattle.pj_peg.specs.declared.program.Node.TheVariants.{Rule, Seq, Choice, Star, Maybe}
 use Rattle.pj_peg.specs.Program.{form_at, forms_in, rules_of}

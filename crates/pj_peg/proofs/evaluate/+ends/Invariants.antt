@@ -1,4 +1,4 @@
-use Rattle.std.proofs.Common.{◌*◌, ◌+◌, ◌-◌, ◌<◌, ◌≤◌, length}
+use Rattle.std.proofs.Common.{◌*◌, ◌+◌, ◌<◌, ◌≤◌, length}
 use Rattle.pj_peg.specs.Form.{star}
 use Rattle.pj_peg.specs.Program.{form_at, forms_in}
 use Rattle.pj_peg.specs.Plan.{IsSound}

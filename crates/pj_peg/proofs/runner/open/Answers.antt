@@ -1,8 +1,6 @@
-use Rattle.std.proofs.Common.{◌∙◌, subst, refl, length, arith}
+use Rattle.std.proofs.Common.{◌∙◌, refl, length, arith}
 use Rattle.std.proofs.lemmas.Option.{slice_get_within, slice_get_read}
-use Rattle.pj_peg.specs.Derives.{Derives, To}
 use Rattle.pj_peg.specs.Program.{form_at, forms_in, rules_of}
-use Rattle.pj_peg.proofs.Lists.{some_same}
 use Rattle.pj_peg.proofs.FactsLemmas.{root_form}
 use Rattle.pj_peg.proofs.Safe.{rule_safe, roots_length}
 use Rattle.pj_peg.proofs.Emitting.{inverted, opening}

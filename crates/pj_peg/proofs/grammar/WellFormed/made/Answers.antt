@@ -1,4 +1,4 @@
-use Rattle.std.proofs.Common.{◌∙◌, ◌<◌, ◌≤◌, ◌^◌, sym, subst, ap, length, arith}
+use Rattle.std.proofs.Common.{◌∙◌, ◌<◌, ◌≤◌, ◌^◌, sym, subst, ap, length}
 use Rattle.std.proofs.lemmas.List.{length-map}
 use Rattle.pj_peg.specs.Form.{form_of}
 use Rattle.pj_peg.specs.WellFormed.{IsWellFormed}
