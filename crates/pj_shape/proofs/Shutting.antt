@@ -1,6 +1,6 @@
 -- A node that takes no token is none of the last things that the rule around it takes: a token of that rule follows it.
 -- By tests of the rules, which hold of a table once and for all.
-use Rattle.std.proofs.Common.{◌≡◌, ℕ, zero, suc, ◌+◌, ◌<◌, ◌≤◌, ◌&&◌, ◌||◌, ◌⊎◌, inl, inr, Bool, true, false, not, List, [], ◌∷◌, Some, slice_get, refl, sym, ◌∙◌, ap, subst, arith}
+use Rattle.std.proofs.Common.{◌≡◌, ℕ, zero, suc, ◌+◌, ◌<◌, ◌≤◌, ◌&&◌, ◌||◌, ◌⊎◌, inl, inr, Bool, true, false, not, List, [], ◌∷◌, Some, slice_get, refl, sym, ◌∙◌, subst, arith}
 use Rattle.std.proofs.lemmas.Bool.{and_parts, cases_Bool}
 use Rattle.pj_tree.specs.declared.kind.Kind.{Kind}
 use Rattle.pj_peg.specs.Analysis.{nullable_by}
@@ -10,7 +10,6 @@ use Rattle.pj_peg.specs.Derives.{Outcome, To, Fails, Derives, token_is, token_no
 use Rattle.pj_shape.specs.declared.shape.Shape.{Shape}
 use Rattle.pj_shape.specs.declared.shape.Shape.TheVariants.{Pass, Node, Joined, Turn, Segment}
 use Rattle.pj_shape.specs.Shaped.{shape_of}
-use Rattle.pj_shape.proofs.Laying.{Laid, laid_le, lies}
 
 -- ---- the tests
 

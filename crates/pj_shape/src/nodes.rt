@@ -14,6 +14,7 @@ use pj_peg::Derivation;
 use pj_tree::Span;
 use std::alloc::Global;
 
+/// Sets the count at a place.
 fn set_count(counts: &mut Vec<usize>, at: u32, count: usize)
     requires { at < length counts.old.items }
     ensures len { length counts.new.items ≡ length counts.old.items }
