@@ -10,7 +10,7 @@ use Rattle.pj_xvalue.specs.Boolean.{effective_boolean}
 use Rattle.pj_xaxes.specs.Order.{ordered}
 use Rattle.pj_xfuncs.specs.Arguments.{and_then}
 use Rattle.pj_xdenotes.specs.Means.{Means, give, fail, judged, ◌>>=◌, chain}
-use Rattle.pj_xdenotes.specs.Context.{Context, Variables, Denotation, at}
+use Rattle.pj_xdenotes.specs.Context.{Variables, Denotation, at}
 
 -- the items with their positions, from one on
 abbrev pub numbered : ℕ → List ItemValue → List (ℕ × ItemValue)
