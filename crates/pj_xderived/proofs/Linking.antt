@@ -16,7 +16,7 @@ use Rattle.pj_xmeaning.specs.Meaning.{first_text}
 use Rattle.pj_xmeaning.specs.Trees as tree
 use Rattle.pj_xmeaning.specs.Trees.{Tree, node}
 use Rattle.pj_xmeaning.specs.Parts as value
-use Rattle.pj_xmeaning.specs.Parts.{RuleValue, expression, expressions, empty_sequence}
+use Rattle.pj_xmeaning.specs.Parts.{RuleValue, expressions}
 use Rattle.pj_xmeaning.specs.Values as made
 use Rattle.pj_xmeaning.specs.Values.{chain_construct, binder_construct}
 use Rattle.pj_xmeaning.specs.declared.action.Kind.TheVariants as kind
@@ -29,10 +29,10 @@ use Rattle.pj_xmeaning.specs.declared.action.Binder.{Binder}
 use Rattle.pj_xmeaning.specs.declared.action.Step.TheVariants as step
 use Rattle.pj_xnames.specs.Mentions.{Mention, Call, Argument, roles_named}
 use Rattle.pj_xnames.specs.Namings as naming
-use Rattle.pj_xnames.specs.Namings.{Naming, first_from, mentions_in, mentions_of, leaf_naming, change_naming, single_naming, rest_naming, step_naming, with_rest, scoped, bound_of}
+use Rattle.pj_xnames.specs.Namings.{Naming, first_from, mentions_in, mentions_of, change_naming, single_naming, rest_naming, step_naming, with_rest, scoped, bound_of}
 use Rattle.pj_xnames.specs.declared.role.Role.{Role}
 use Rattle.pj_xderived.specs.Operands as o
-use Rattle.pj_xderived.specs.Operands.{Operand, Binding, Given, Behind, Test, Called, Predicates, other, trees_of, names_of, names_behind, operations, values_of, chain, mixed, compared, ranging, signed, bound, chosen, variable, integer_literal, string_literal, rooted, descendants, path, filtered, kind_test, given, named}
+use Rattle.pj_xderived.specs.Operands.{Operand, Binding, Given, Behind, Test, Called, other, trees_of, names_of, names_behind, chain, mixed, compared, ranging, signed, bound, chosen, variable, rooted, descendants, path, filtered, kind_test, given, named}
 use Rattle.pj_xderived.proofs.Links.{said, said_given, AreSaid, none, more, IsOne, one, IsInner, inner, IsPrimary, plain, enclosed, IsList, IsGiven, IsMixed, IsCompared, IsRanged, IsNothing, IsBound, bindings, IsSteps, steps, IsPath, only, IsBehind, IsNameBehind, called, predicates, test, as_name, IsTest, IsParentheses, there, missing, IsWord, word}
 use Rattle.pj_xderived.proofs.Links as links
 

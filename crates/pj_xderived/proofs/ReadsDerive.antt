@@ -17,7 +17,7 @@ use Rattle.pj_xgrammar.specs.Expressions.{greatest_nesting}
 use Rattle.pj_xgrammar.specs.Notation.{R, rule_number}
 use Rattle.pj_xgrammar.specs.XPath.{xpath, line}
 use Rattle.pj_xmeaning.specs.Actions as action
-use Rattle.pj_xmeaning.specs.Actions.{actions_of, actions_by, actions}
+use Rattle.pj_xmeaning.specs.Actions.{actions_of}
 use Rattle.pj_xmeaning.specs.Meaning.{action_of, first_text}
 use Rattle.pj_xmeaning.specs.Parts.{RuleValue}
 use Rattle.pj_xmeaning.specs.Values as value

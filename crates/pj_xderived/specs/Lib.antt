@@ -1,5 +1,4 @@
--- what the rules read
+-- definitions
 pub mod Reads
 pub mod Operands
--- derivations as trees, with what the rules make
 pub mod Derived
