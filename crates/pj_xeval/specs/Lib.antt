@@ -1,3 +1,4 @@
+-- for private clauses
 pub mod Frames
 pub mod Going
 pub mod Scopes
