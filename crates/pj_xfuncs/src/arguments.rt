@@ -18,6 +18,7 @@ pub(crate) fn optional_string<'a>(items: &'a Sequence<'_>) -> Result<&'a str, XC
     string_or_nothing(items.as_slice())
 }
 
+/// The string among the items, of which there is one at most; no text where there is none.
 fn string_or_nothing<'a>(items: &'a [Item<'_>]) -> Result<&'a str, XCode>
     ensures { seen_as (λ text. text.now) result ≡ string_or_nothing (values_of items.now) }
 {
@@ -37,6 +38,7 @@ pub(crate) fn string<'a>(items: &'a Sequence<'_>) -> Result<&'a str, XCode>
     one_string(items.as_slice())
 }
 
+/// The string that is the only item.
 fn one_string<'a>(items: &'a [Item<'_>]) -> Result<&'a str, XCode>
     ensures { seen_as (λ text. text.now) result ≡ one_string (values_of items.now) }
 {
@@ -60,6 +62,7 @@ pub(crate) fn integer(items: &Sequence<'_>) -> Result<i64, XCode>
     one_integer(items.as_slice())
 }
 
+/// The integer that is the only item.
 fn one_integer(items: &[Item<'_>]) -> Result<i64, XCode>
     ensures { result ≡ one_integer (values_of items.now) }
 {
@@ -82,6 +85,7 @@ pub(crate) fn optional_integer(items: &Sequence<'_>) -> Result<Option<i64>, XCod
     integer_or_nothing(items.as_slice())
 }
 
+/// The integer among the items, of which there is one at most.
 fn integer_or_nothing(items: &[Item<'_>]) -> Result<Option<i64>, XCode>
     ensures { result ≡ integer_or_nothing (values_of items.now) }
 {
@@ -105,6 +109,7 @@ pub(crate) fn all_integers(alloc: Global, items: &Sequence<'_>) -> Result<Vec<i6
     integers(alloc, items.as_slice())
 }
 
+/// The integers that the items are.
 fn integers(alloc: Global, items: &[Item<'_>]) -> Result<Vec<i64>, XFault>
     ensures { IsGiven (integers_of (values_of items.now)) (outcome (λ numbers. numbers.items) result) }
 {

@@ -57,6 +57,7 @@ fn given<'t>(
     by_number(alloc, function, arguments, patterns)
 }
 
+/// Whether the function is `concat`, which takes any number of arguments.
 fn is_concat(function: Function) -> bool
     ensures { result ≡ is_concat function }
 {

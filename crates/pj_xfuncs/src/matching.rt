@@ -123,12 +123,14 @@ fn plain(text: &str) -> Result<&str, XCode>
     Ok(text)
 }
 
+/// Whether such a byte is among some.
 fn has_mark(bytes: &[u8]) -> bool
     ensures { result ≡ list_any is_mark bytes.now }
 {
     bytes.iter().any(|byte| is_mark(*byte))
 }
 
+/// Whether a byte means something in what matches are replaced by.
 fn is_mark(byte: u8) -> bool
     ensures { result ≡ is_mark byte }
 {

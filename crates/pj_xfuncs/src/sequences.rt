@@ -28,6 +28,7 @@ fn items_reversed<'t>(alloc: Global, items: &[Item<'t>]) -> Result<Sequence<'t>,
     Ok(all)
 }
 
+/// The items in reverse order.
 fn slice_reversed<'t>(alloc: Global, items: &[Item<'t>]) -> Result<Sequence<'t>, NoMemory>
     ensures { IfOk result (λ all. all ≡ reverse items.now) }
 {

@@ -72,6 +72,7 @@ impl Between {
     }
 }
 
+/// Whether a character is white space (XML 1.0, 2.3).
 fn is_space(c: char) -> bool
     ensures { result ≡ is_space_of c }
 {

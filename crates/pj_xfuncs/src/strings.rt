@@ -25,6 +25,7 @@ pub(crate) fn contains<'t>(
     Ok(truth(alloc, has_part(whole, sought))?)
 }
 
+/// Whether a text has another one as a part.
 fn has_part(text: &str, part: &str) -> bool
     ensures { result ≡ is_some (place_of (chars part.now) (chars text.now)) }
 {
@@ -44,6 +45,7 @@ pub(crate) fn starts<'t>(
     Ok(truth(alloc, starts_with(whole, sought))?)
 }
 
+/// Whether a text begins with another one.
 fn starts_with(text: &str, part: &str) -> bool
     ensures { result ≡ starts_with_part nat_eq (chars text.now) (chars part.now) }
 {
@@ -63,6 +65,7 @@ pub(crate) fn ends<'t>(
     Ok(truth(alloc, ends_with(whole, sought))?)
 }
 
+/// Whether a text ends with another one.
 fn ends_with(text: &str, part: &str) -> bool
     ensures { result ≡ ends_with_part nat_eq (chars text.now) (chars part.now) }
 {
@@ -95,6 +98,7 @@ pub(crate) fn substring_after<'t>(
     Ok(copied(alloc, part_behind(whole, sought))?)
 }
 
+/// The text before the first place at which the part stands, or no text where it stands nowhere.
 fn part_before<'a>(text: &'a str, part: &str) -> &'a str
     ensures { result.now ≡ encode_utf8_all (before_of (chars text.now) (chars part.now)) }
 {
@@ -104,6 +108,7 @@ fn part_before<'a>(text: &'a str, part: &str) -> &'a str
     }
 }
 
+/// The text behind that place, likewise.
 fn part_behind<'a>(text: &'a str, part: &str) -> &'a str
     ensures { result.now ≡ encode_utf8_all (behind_of (chars text.now) (chars part.now)) }
 {
@@ -160,6 +165,7 @@ pub(crate) fn string_length<'t>(alloc: Global, text: &Sequence<'_>) -> Result<Se
     Ok(counted(alloc, count_characters(whole))?)
 }
 
+/// How many characters a text has.
 fn count_characters(text: &str) -> usize
     ensures { result ≡ length (chars text.now) }
 {
