@@ -1,8 +1,8 @@
--- the terminals, the grammar, and what tokens are an expression
+-- definitions
 pub mod Words
 pub mod Terminals
 pub mod Notation
 pub mod XPath
 pub mod Expressions
--- private clauses alone cite this
+-- for private clauses
 pub mod Following
