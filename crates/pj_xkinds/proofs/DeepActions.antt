@@ -14,9 +14,9 @@ use Rattle.pj_xvalue.specs.declared.expr.Sign.{Sign}
 use Rattle.pj_xvalue.specs.declared.operator.Compare.{Compare}
 use Rattle.pj_xmeaning.specs.Names.{axis_of, callee_of}
 use Rattle.pj_xmeaning.specs.Parts as part
-use Rattle.pj_xmeaning.specs.Parts.{RuleValue, expressions, expression, empty_sequence}
+use Rattle.pj_xmeaning.specs.Parts.{RuleValue, expressions, expression}
 use Rattle.pj_xmeaning.specs.Trees as tree
-use Rattle.pj_xmeaning.specs.Trees.{Tree, Construct, node, alone, binder, operated}
+use Rattle.pj_xmeaning.specs.Trees.{Tree, Construct, node, alone}
 use Rattle.pj_xmeaning.specs.Values as value
 use Rattle.pj_xmeaning.specs.Values.{chain_construct, binder_construct, descendants, along, axis_step, named, called, filtered, child_step}
 use Rattle.pj_xmeaning.specs.declared.name.Callee.{Callee}
@@ -32,7 +32,7 @@ use Rattle.pj_xshape.specs.Shapes.{level_by}
 use Rattle.pj_xshape.specs.Nesting.{Nested, operand_before, chain_before, clauses_before, enclosed, nested_by, nested_of}
 use Rattle.pj_xderived.specs.Derived.{IsRead}
 use Rattle.pj_xkinds.proofs.RuleKinds as kind
-use Rattle.pj_xkinds.proofs.RuleKinds.{Kind, Piece}
+use Rattle.pj_xkinds.proofs.RuleKinds.{Kind}
 use Rattle.pj_xkinds.proofs.Typed.{own, least, mark, may_be_nothing, is_marked}
 use Rattle.pj_xkinds.proofs.Read.{marked_read}
 use Rattle.pj_xkinds.proofs.Gentle.{lower_operand, least_operand, marked_operand, enclosed_operand, node_operand, least_chain, open_operand}

@@ -15,7 +15,6 @@ use Rattle.pj_xmeaning.specs.Trees.{Tree}
 use Rattle.pj_xmeaning.specs.Values as value
 use Rattle.pj_xnames.specs.Namings as naming
 use Rattle.pj_xkinds.proofs.Typed as typed
-use Rattle.pj_xkinds.proofs.Typed.{Typed, least, mark}
 use Rattle.pj_xkinds.proofs.Induction.{none, token, value_of, close, IsKept}
 use Rattle.pj_xkinds.proofs.Read.{alone_read}
 use Rattle.pj_xkinds.proofs.DeepKinds as k

@@ -11,7 +11,6 @@ use Rattle.pj_xmeaning.specs.Parts as value
 use Rattle.pj_xmeaning.specs.Parts.{RuleValue, empty_sequence}
 use Rattle.pj_xshape.specs.Nesting.{Nested, operand_before, chain_before, enclosed, nested_of}
 use Rattle.pj_xkinds.proofs.RuleKinds as kind
-use Rattle.pj_xkinds.proofs.RuleKinds.{Kind}
 use Rattle.pj_xkinds.proofs.Induction.{Claim}
 
 -- whether the first of the tokens begins a step where one may begin

@@ -7,7 +7,7 @@ use Rattle.pj_xvalue.specs.declared.function.Function.TheVariants as f
 use Rattle.pj_xvalue.specs.Expressions.{Part, Scope, Written, Other, all_fit, arguments_fit, is_pattern, are_flags, is_replacement}
 use Rattle.pj_xvalue.specs.Functions.{takes, pmd_takes}
 use Rattle.pj_xmeaning.specs.Trees as tree
-use Rattle.pj_xmeaning.specs.Trees.{Tree, node}
+use Rattle.pj_xmeaning.specs.Trees.{Tree}
 use Rattle.pj_xmeaning.specs.Names.{callee_of}
 use Rattle.pj_xmeaning.specs.Values.{called, filtered}
 use Rattle.pj_xmeaning.specs.declared.name.Callee.{Callee}
@@ -17,7 +17,7 @@ use Rattle.pj_xnames.specs.declared.role.Role.TheVariants as role
 use Rattle.pj_xnames.specs.Mentions.{Mention, Call, Argument, roles_of, roles_in, roles_named}
 use Rattle.pj_xnames.specs.Namings.{Operand, in_roles}
 use Rattle.pj_xnames.specs.Faults as fault
-use Rattle.pj_xnames.specs.Faults.{Fault, Form, unless, fault_in, fits_role, callee_takes, first_fault_from}
+use Rattle.pj_xnames.specs.Faults.{Fault, Form, unless, fits_role, callee_takes, first_fault_from}
 use Rattle.pj_xshape.specs.Shapes.{part_of_tree}
 use Rattle.pj_xshape.proofs.Nodes.{part_of_node}
 use Rattle.pj_xkinds.proofs.Faultless.{AreBalanced, none_balanced, both_balanced, one_balanced, both_none, first_none}

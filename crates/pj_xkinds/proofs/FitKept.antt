@@ -18,7 +18,7 @@ use Rattle.pj_xmeaning.specs.Names.{axis_of}
 use Rattle.pj_xmeaning.specs.Parts as part
 use Rattle.pj_xmeaning.specs.Parts.{RuleValue, expressions, expression}
 use Rattle.pj_xmeaning.specs.Trees as tree
-use Rattle.pj_xmeaning.specs.Trees.{Tree, Construct, node, alone, operated}
+use Rattle.pj_xmeaning.specs.Trees.{Tree, Construct, alone, operated}
 use Rattle.pj_xmeaning.specs.Values as value
 use Rattle.pj_xmeaning.specs.Values.{chain_construct, descendants, along, axis_step, named, filtered}
 use Rattle.pj_xmeaning.specs.declared.action.Chain.{Chain}
@@ -32,14 +32,14 @@ use Rattle.pj_xvalue.specs.declared.operator.Compare.{Compare}
 use Rattle.pj_xvalue.specs.declared.expr.Sign.{Sign}
 use Rattle.pj_xnames.specs.Mentions.{Mention, Variable}
 use Rattle.pj_xnames.specs.Namings as naming
-use Rattle.pj_xnames.specs.Namings.{Naming, Operand, mentions_in, mentions_of, first_from, with_rest}
+use Rattle.pj_xnames.specs.Namings.{Naming, Operand, mentions_of, first_from, with_rest}
 use Rattle.pj_xnames.specs.Faults as fault
-use Rattle.pj_xnames.specs.Faults.{first_fault_from, is_bound}
+use Rattle.pj_xnames.specs.Faults.{is_bound}
 use Rattle.pj_xshape.specs.Shapes.{part_of_tree, operators_fit, fits_by}
-use Rattle.pj_xkinds.proofs.RuleKinds.{Kind, Piece}
+use Rattle.pj_xkinds.proofs.RuleKinds.{Kind}
 use Rattle.pj_xkinds.proofs.RuleKinds as kind
 use Rattle.pj_xkinds.proofs.Typed as typed
-use Rattle.pj_xkinds.proofs.Typed.{Typed, may_be_nothing}
+use Rattle.pj_xkinds.proofs.Typed.{may_be_nothing}
 use Rattle.pj_xkinds.proofs.Induction.{none, token, value_of, close, IsKept}
 use Rattle.pj_xshape.proofs.Nodes.{part_of_node}
 use Rattle.pj_xkinds.proofs.Faultless.{none_balanced, one_balanced, first_none}

@@ -11,7 +11,6 @@ use Rattle.pj_xnames.specs.Mentions.{Mention}
 use Rattle.pj_xnames.specs.Namings as naming
 use Rattle.pj_xnames.specs.Namings.{Naming, Operand, mentions_in}
 use Rattle.pj_xkinds.proofs.RuleKinds as kind
-use Rattle.pj_xkinds.proofs.RuleKinds.{Kind}
 use Rattle.pj_xkinds.proofs.Induction.{Claim}
 use Rattle.pj_xkinds.proofs.Fit.{IsFit, AreFit, ArePaired}
 

@@ -3,7 +3,7 @@ use Rattle.std.proofs.Common.{◌≡◌, ℕ, suc, ◌+◌, ◌<◌, ◌≤◌, 
 use Rattle.std.specs.Prelude.{⊤, cond, nat_lt, nat_eq}
 use Rattle.std.proofs.lemmas.Bool.Decides.{leb_tells}
 use Rattle.pj_xmeaning.specs.Trees as tree
-use Rattle.pj_xmeaning.specs.Trees.{Tree, Trees, Construct, Node, NoMore, More, trees, node}
+use Rattle.pj_xmeaning.specs.Trees.{Tree, Trees, Construct, Node, NoMore, More, node}
 use Rattle.pj_xshape.specs.Shapes.{level_by}
 use Rattle.pj_xshape.proofs.Nodes.{nested_as, nested_of_node}
 use Rattle.pj_xshape.specs.Nesting.{Nested, operand_before, chain_before, clauses_before, choice_before, enclosed, filter_inside, steps_before, nested_by, nested_of, nested_each}

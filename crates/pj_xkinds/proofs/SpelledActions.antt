@@ -11,7 +11,7 @@ use Rattle.pj_xmeaning.specs.Parts.{RuleValue, expression, expressions, bindings
 use Rattle.pj_xmeaning.specs.Trees as tree
 use Rattle.pj_xmeaning.specs.Trees.{Tree, Construct, node, alone}
 use Rattle.pj_xmeaning.specs.Values as value
-use Rattle.pj_xmeaning.specs.Values.{chained, chain_construct, comparison, range, mixed, descendants, relative, filtered, called, along, axis_step, named, child_step, binder_construct}
+use Rattle.pj_xmeaning.specs.Values.{chained, chain_construct, comparison, range, mixed, descendants, relative, filtered, called, along, axis_step, named, binder_construct}
 use Rattle.pj_xmeaning.specs.declared.action.Binder.{Binder}
 use Rattle.pj_xmeaning.specs.declared.action.Binder.TheVariants as binders
 use Rattle.pj_xmeaning.specs.declared.action.Chain.{Chain}

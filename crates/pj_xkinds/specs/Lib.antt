@@ -1,2 +1,2 @@
--- what derived expressions want of their tokens
+-- definitions
 pub mod WellSpelled
