@@ -29,6 +29,7 @@ pub enum NameFault<'t> {
     Variable(&'t str, u32),
 }
 
+/// Whether there is such a function, and it takes so many arguments.
 fn takes(callee: Option<Callee>, count: usize) -> bool
     ensures { result ≡ callee_takes callee count }
 {
