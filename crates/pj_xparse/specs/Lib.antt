@@ -1,3 +1,3 @@
--- what a text spells, and its first fault
+-- definitions
 pub mod Spells
 pub mod Faults
