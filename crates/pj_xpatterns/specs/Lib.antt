@@ -1,6 +1,7 @@
-pub mod Forms
-pub mod Keys
+-- definitions
 pub mod Meaning
-pub mod Pieces
 pub mod Refusing
 pub mod Written
+-- for private clauses
+pub mod Forms
+pub mod Keys
