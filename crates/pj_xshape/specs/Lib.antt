@@ -1,4 +1,4 @@
--- what the trees of expressions look like
+-- definitions
 pub mod Shapes
 pub mod Nesting
 pub mod Spelled
