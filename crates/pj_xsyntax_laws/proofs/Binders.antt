@@ -15,7 +15,7 @@ use Rattle.pj_xvalue.specs.declared.expr.Quantifier.{Quantifier}
 use Rattle.pj_xvalue.specs.declared.expr.Quantifier.TheVariants as quantifier
 use Rattle.pj_xvalue.specs.Expressions.{Scope, Other, with_variable}
 use Rattle.pj_xmeaning.specs.Trees as tree
-use Rattle.pj_xmeaning.specs.Trees.{Tree, Trees, Construct, Node, NoMore, More, trees}
+use Rattle.pj_xmeaning.specs.Trees.{Tree, Trees, Node, NoMore, More, trees}
 use Rattle.pj_xmeaning.specs.Parts as part
 use Rattle.pj_xmeaning.specs.Parts.{One}
 use Rattle.pj_xmeaning.specs.Values.{binder_construct}

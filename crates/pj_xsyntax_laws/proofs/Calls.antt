@@ -16,14 +16,14 @@ use Rattle.pj_xvalue.specs.Functions.{takes, pmd_takes}
 use Rattle.pj_xvalue.specs.Expressions.{Scope, Other, arguments_fit}
 use Rattle.pj_xmeaning.specs.Names.{callee_of}
 use Rattle.pj_xmeaning.specs.Trees as tree
-use Rattle.pj_xmeaning.specs.Trees.{Tree, Trees, Node, NoMore, More, trees}
+use Rattle.pj_xmeaning.specs.Trees.{Tree, Trees, Node}
 use Rattle.pj_xmeaning.specs.Parts.{One, expressions}
 use Rattle.pj_xmeaning.specs.Values.{filtered, called}
 use Rattle.pj_xmeaning.specs.declared.name.Callee.{Callee}
 use Rattle.pj_xnames.specs.Faults.{callee_takes, is_function}
 use Rattle.pj_xnames.specs.Mentions.{Mention, roles_in, roles_named}
 use Rattle.pj_xnames.specs.Namings as naming
-use Rattle.pj_xnames.specs.Namings.{Operand, first_from, mentions_of, operands_of, is_whole, in_roles, call}
+use Rattle.pj_xnames.specs.Namings.{Operand, mentions_of, operands_of, is_whole, in_roles, call}
 use Rattle.pj_xderived.specs.Derived.{IsRead}
 use Rattle.pj_xshape.specs.Shapes.{part_of_tree}
 use Rattle.pj_xshape.specs.Nesting.{nested_of, nested_each, chain_before}

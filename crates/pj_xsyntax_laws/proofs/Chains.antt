@@ -10,7 +10,7 @@ use Rattle.pj_xgrammar.specs.Terminals.{behind_of}
 use Rattle.pj_xsyntax_laws.specs.Spaced.{Word, placed}
 use Rattle.pj_xvalue.specs.Expressions.{Scope, Other}
 use Rattle.pj_xmeaning.specs.Trees as tree
-use Rattle.pj_xmeaning.specs.Trees.{Tree, Trees, Construct, Node, NoMore, More}
+use Rattle.pj_xmeaning.specs.Trees.{Tree, Trees, Node, More}
 use Rattle.pj_xmeaning.specs.Values.{chain_construct}
 use Rattle.pj_xmeaning.specs.declared.action.Action.TheVariants as action
 use Rattle.pj_xmeaning.specs.declared.action.Leaf.TheVariants as leaf

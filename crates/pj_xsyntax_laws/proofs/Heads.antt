@@ -15,7 +15,7 @@ use Rattle.pj_xmeaning.specs.declared.action.Leaf.TheVariants as leaf
 use Rattle.pj_xmeaning.specs.declared.action.Rest.TheVariants as rest
 use Rattle.pj_xmeaning.specs.declared.action.Operation.{Operation}
 use Rattle.pj_xnames.specs.Namings as naming
-use Rattle.pj_xnames.specs.Namings.{Naming, Operand, first_from, mentions_of, with_rest, operands_of, is_whole}
+use Rattle.pj_xnames.specs.Namings.{Operand, first_from, mentions_of, with_rest, operands_of, is_whole}
 use Rattle.pj_xderived.specs.Derived.{IsRead}
 use Rattle.pj_xshape.specs.Nesting.{operand_before, nested_of, nested_each, chain_before}
 use Rattle.pj_xsyntax_laws.specs.Printed.{operand, chain, printed_of, printed_each, Printed}

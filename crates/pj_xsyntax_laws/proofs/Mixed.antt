@@ -15,7 +15,7 @@ use Rattle.pj_xvalue.specs.declared.expr.SetOperator.{SetOperator}
 use Rattle.pj_xvalue.specs.declared.expr.SetOperator.TheVariants as set
 use Rattle.pj_xvalue.specs.Expressions.{Scope}
 use Rattle.pj_xmeaning.specs.Trees as tree
-use Rattle.pj_xmeaning.specs.Trees.{Tree, Trees, Node, NoMore, More}
+use Rattle.pj_xmeaning.specs.Trees.{Tree, Trees, Node, More}
 use Rattle.pj_xmeaning.specs.Parts.{RuleValue, Nothing, Sums, Products, Sets, sums, products, sets}
 use Rattle.pj_xmeaning.specs.declared.action.Action.TheVariants as action
 use Rattle.pj_xmeaning.specs.declared.action.Rest.TheVariants as rest

@@ -11,7 +11,7 @@ use Rattle.pj_xgrammar.specs.Terminals.{first_behind, terminal_number}
 use Rattle.pj_xsyntax_laws.specs.Spaced.{Word, placed}
 use Rattle.pj_xvalue.specs.Expressions.{Scope, Other}
 use Rattle.pj_xmeaning.specs.Trees as tree
-use Rattle.pj_xmeaning.specs.Trees.{Tree, Trees, Node, NoMore, More, trees}
+use Rattle.pj_xmeaning.specs.Trees.{Tree, Trees, Node, NoMore, More}
 use Rattle.pj_xmeaning.specs.Parts.{One}
 use Rattle.pj_xnames.specs.Namings as naming
 use Rattle.pj_xnames.specs.Namings.{Operand, first_from, mentions_of, written_of}

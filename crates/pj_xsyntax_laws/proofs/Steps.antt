@@ -18,11 +18,11 @@ use Rattle.pj_xvalue.specs.declared.expr.NodeTest.{NodeTest}
 use Rattle.pj_xvalue.specs.Expressions.{Scope, Other}
 use Rattle.pj_xmeaning.specs.Names.{axis_of}
 use Rattle.pj_xmeaning.specs.Trees as tree
-use Rattle.pj_xmeaning.specs.Trees.{Tree, Trees, Construct, Node, NoMore, More, trees, node}
+use Rattle.pj_xmeaning.specs.Trees.{Tree, Trees, Node, NoMore, More}
 use Rattle.pj_xmeaning.specs.Parts.{One, Many, expressions}
 use Rattle.pj_xmeaning.specs.Values.{along}
 use Rattle.pj_xnames.specs.Namings as naming
-use Rattle.pj_xnames.specs.Namings.{Operand, first_from, mentions_of}
+use Rattle.pj_xnames.specs.Namings.{mentions_of}
 use Rattle.pj_xderived.specs.Derived.{IsRead}
 use Rattle.pj_xshape.specs.Shapes.{part_of_tree}
 use Rattle.pj_xshape.specs.Spelled.{IsTestSpelled}

@@ -15,7 +15,7 @@ use Rattle.pj_xmeaning.specs.declared.action.Action.TheVariants as action
 use Rattle.pj_xmeaning.specs.declared.action.Leaf.TheVariants as leaf
 use Rattle.pj_xmeaning.specs.declared.action.Rest.{Rest}
 use Rattle.pj_xnames.specs.Namings as naming
-use Rattle.pj_xnames.specs.Namings.{Naming, Operand, rest_naming}
+use Rattle.pj_xnames.specs.Namings.{Operand, rest_naming}
 use Rattle.pj_xderived.specs.Derived.{IsRead}
 use Rattle.pj_xshape.specs.Shapes.{part_of_tree}
 use Rattle.pj_xshape.specs.Nesting.{operand_before, nested_of, nested_each, chain_before}
