@@ -12,7 +12,7 @@ mod expr;
 mod fault;
 mod function;
 mod item;
-mod law;
+mod laws;
 mod modifiers;
 mod operator;
 mod pmd_function;
@@ -27,7 +27,7 @@ pub use expr::{Additive, Expr, Multiplicative, NodeTest, Quantifier, SetOperator
 pub use fault::{XCode, XFault};
 pub use function::Function;
 pub use item::{Arguments, BoundVars, Item, Sequence};
-pub use law::pairs_decide;
+pub use laws::pairs_decide;
 pub use modifiers::{Modifier, Modifiers};
 pub use operator::Compare;
 pub use pmd_function::PmdFunction;
