@@ -9,9 +9,10 @@ ghost use Rattle.pj_shape.specs.ShapedTree.{shaped_tree};
 
 use crate::grammar::java_shapes;
 use crate::words::word_spans;
-use pj_lex::{Source, Tokens};
+use pj_lex::Tokens;
 use pj_peg::Derivation;
 use pj_shape::shape_derivation;
+use pj_source::Source;
 use pj_tree::{ShapeFault, SyntaxTree};
 use std::alloc::Global;
 

@@ -9,7 +9,7 @@ use Rattle.pj_lex.specs.Rules.{Spells}
 use Rattle.pj_lex.specs.Size.{size}
 use Rattle.pj_lex.specs.Tokens.{Lexed, Begins, Tokens, longest, nothing, ended, token, fault}
 use Rattle.pj_lex.specs.declared.token.TokenKind.{TokenKind}
-use Rattle.pj_lex.proofs.FileTexts.{text_placed}
+use Rattle.pj_source.proofs.FileTexts.{text_placed}
 use Rattle.pj_lex.proofs.Unique.{spells_empty}
 use Rattle.pj_grammar.specs.Java17.{java_17_forms, java_17_shapes}
 use Rattle.pj_grammar.specs.Terminal.{terminal_of, terminal_number}

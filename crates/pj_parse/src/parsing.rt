@@ -11,8 +11,9 @@ use crate::fault::ParseFault;
 use crate::pool::Pool;
 use crate::tokens::collect_tokens;
 use pj_grammar::{java_17, shape, word_terminals};
-use pj_lex::{Source, Tokens};
+use pj_lex::Tokens;
 use pj_peg::{Derivation, WellFormed, run};
+use pj_source::Source;
 use pj_tree::SyntaxTree;
 use std::alloc::Global;
 

@@ -6,7 +6,8 @@ ghost use Rattle.pj_suppress.specs.Marks.{is_comment, is_mark, is_marked, line_o
 
 use crate::words::contains;
 use pj_base::{ListOf, NoMemory, Text};
-use pj_lex::{Source, Token, TokenKind, Tokens};
+use pj_lex::{Token, TokenKind, Tokens};
+use pj_source::Source;
 use std::alloc::Global;
 
 /// Lines of a file, from 1, in ascending order.
