@@ -3,7 +3,7 @@ use Rattle.std.proofs.Common.{◌≡◌, ℕ, ℤ, List, [], ◌∷◌, Option, 
 use Rattle.pj_xvalue.specs.declared.fault.XFault.{XFault}
 use Rattle.pj_xvalue.specs.Items.{ItemValue, Integer}
 use Rattle.pj_xvalue.specs.OfTree.{OfTree}
-use Rattle.pj_xvalue.specs.OfTreeLaws.{of_tree-one}
+use Rattle.pj_xvalue.proofs.OfTreeLaws.{of_tree-one}
 use Rattle.pj_xdenotes.specs.Arithmetic.{literal}
 use Rattle.pj_xdenotes.specs.Context.{Around, Context}
 use Rattle.pj_xeval.specs.declared.frame.Binder.{Binder}

@@ -9,7 +9,7 @@ use Rattle.pj_xvalue.specs.declared.fault.XFault.{XFault}
 use Rattle.pj_xvalue.specs.Boolean.{effective_boolean}
 use Rattle.pj_xvalue.specs.Items.{ItemValue, Integer, are_atomic}
 use Rattle.pj_xvalue.specs.OfTree.{OfTree}
-use Rattle.pj_xvalue.specs.OfTreeLaws.{of_tree-nil, of_tree-one, of_tree-atomic}
+use Rattle.pj_xvalue.proofs.OfTreeLaws.{of_tree-nil, of_tree-one, of_tree-atomic}
 use Rattle.pj_xfuncs.specs.Arguments.{and_then}
 use Rattle.pj_xdenotes.specs.Arithmetic.{integers, natural, number_items, range}
 use Rattle.pj_xdenotes.specs.Context.{Around, Context}

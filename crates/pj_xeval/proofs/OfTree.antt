@@ -9,7 +9,7 @@ use Rattle.pj_xvalue.specs.declared.item.Item.{Item}
 use Rattle.pj_xvalue.specs.declared.pmd_function.PmdFunction.{PmdFunction}
 use Rattle.pj_xvalue.specs.Items.{ItemValue, Document, Element, Attribute, String, Integer, Boolean, value_of_item, values_of, are_atomic, IsOfTree, AreOfTree}
 use Rattle.pj_xvalue.specs.OfTree.{OfTree, ArgumentsOfTree, VariablesOfTree}
-use Rattle.pj_xvalue.specs.OfTreeLaws.{of_tree-nil, of_tree-one, of_tree-append, of_tree-atomic, of_tree-each, each-of_tree, arguments-nil, arguments-more, variables-more}
+use Rattle.pj_xvalue.proofs.OfTreeLaws.{of_tree-nil, of_tree-one, of_tree-append, of_tree-atomic, of_tree-each, each-of_tree, arguments-nil, arguments-more, variables-more}
 use Rattle.pj_xvalue.specs.Replies.{is_one_boolean, is_type_test, may_give}
 use Rattle.pj_xdenotes.specs.Context.{Variables, value_of_variable}
 use Rattle.pj_xeval.specs.declared.frame.Frame.{Frame}

@@ -11,4 +11,3 @@ pub mod OfTree
 pub mod Replies
 -- laws
 pub mod Deciding
-pub mod OfTreeLaws

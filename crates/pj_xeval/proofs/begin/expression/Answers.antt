@@ -6,7 +6,7 @@ use Rattle.pj_xvalue.specs.Comparison.{general_comparison}
 use Rattle.pj_xvalue.specs.declared.item.Item.{Item}
 use Rattle.pj_xvalue.specs.Items.{ItemValue, String, value_of_item, values_of}
 use Rattle.pj_xvalue.specs.OfTree.{OfTree, ArgumentsOfTree}
-use Rattle.pj_xvalue.specs.OfTreeLaws.{arguments-nil, of_tree-one}
+use Rattle.pj_xvalue.proofs.OfTreeLaws.{arguments-nil, of_tree-one}
 use Rattle.pj_xaxes.specs.Axes.{is_reverse}
 use Rattle.pj_xaxes.specs.Order.{ordered}
 use Rattle.pj_xdenotes.specs.Arithmetic.{number_items, range, signed}
