@@ -8,8 +8,8 @@ use Rattle.std.proofs.lemmas.List.{map-append}
 use Rattle.pj_names.specs.ClassName.{Name, NameSet}
 use Rattle.pj_names.specs.Asking.{Asking, Return, Unbounded, bind, has_name, or_else, unvisited, walk}
 use Rattle.pj_names.specs.Asking as asking
-use Rattle.pj_names.specs.AskingLaws.{ComesTo, comes-deeper}
-use Rattle.pj_names.specs.MeaningLaws.{bind-bind}
+use Rattle.pj_names.proofs.AskingLaws.{ComesTo, comes-deeper}
+use Rattle.pj_names.proofs.MeaningLaws.{bind-bind}
 use Rattle.pj_names.specs.Told.{Told, longest}
 use Rattle.pj_types.specs.DepthFirst.{visit}
 use Rattle.pj_types.proofs.DepthFirstLaws.{visits-walk}

@@ -28,7 +28,7 @@ fn is_passed_over(own_counts: bool, class: &ClassName, next: &ClassName) -> bool
 
 /// The member class `next$simple`, if it is there, where a walk that began with `class` gave `next`. Of `java.lang.Object` none is
 /// looked for, nor of the class that the walk began with where its own members do not count.
-#[tactic(auto, using(pj_names::specs::AskingLaws::asking_steps))]
+#[tactic(auto, using(pj_names::proofs::AskingLaws::asking_steps))]
 pub fn member_in<O: Oracle>(
     alloc: Global,
     file: &File<'_>,

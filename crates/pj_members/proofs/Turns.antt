@@ -8,8 +8,8 @@ use Rattle.pj_names.specs.declared.answer.Member.{Member}
 use Rattle.pj_names.specs.declared.ty.Ty.{Ty}
 use Rattle.pj_names.specs.ClassName.{Name, NameSet}
 use Rattle.pj_names.specs.JavaType.{JavaType, java_type, bound_types, type_list}
-use Rattle.pj_names.specs.AskingLaws.{left_from}
-use Rattle.pj_names.specs.Noting.{insert-there}
+use Rattle.pj_names.proofs.AskingLaws.{left_from}
+use Rattle.pj_names.proofs.NotingLaws.{insert-there}
 use Rattle.pj_signatures.specs.Types.{MethodTypes}
 use Rattle.pj_signatures.specs.Reading.{method_signature_of}
 use Rattle.pj_types.specs.declared.members.Method.{Method}

@@ -6,8 +6,4 @@ pub mod Meaning
 pub mod Told
 pub mod AnswerList
 pub mod Noting
--- laws
-pub mod MeaningLaws
-pub mod AskingLaws
 pub mod Expand
-pub mod Held

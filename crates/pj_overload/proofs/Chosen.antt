@@ -5,7 +5,7 @@ use Rattle.pj_names.specs.declared.answer.Answer.{Answer}
 use Rattle.pj_names.specs.ClassName.{Name}
 use Rattle.pj_names.specs.JavaType.{JavaType}
 use Rattle.pj_names.specs.Asking.{Asking, Return, bind, first_hit, or_else, value_of}
-use Rattle.pj_names.specs.MeaningLaws.{value_of-bind}
+use Rattle.pj_names.proofs.MeaningLaws.{value_of-bind}
 use Rattle.pj_types.specs.Members.{FoundMethod}
 use Rattle.pj_overload.specs.declared.phase.Phase.{Phase}
 use Rattle.pj_overload.specs.declared.choice.Choice.{Choice}

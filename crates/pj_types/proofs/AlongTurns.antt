@@ -4,8 +4,8 @@ use Rattle.std.proofs.Common.{ap, sym, ◌∙◌, arith}
 use Rattle.pj_names.specs.ClassName.{Name}
 use Rattle.pj_names.specs.JavaType.{JavaType}
 use Rattle.pj_names.specs.Asking.{Asking, Return, Unbounded, bind, or_else}
-use Rattle.pj_names.specs.AskingLaws.{ComesTo, comes-deeper, within-self, within-trans, within-insert, within-names, within-after, asked_after-bind}
-use Rattle.pj_names.specs.MeaningLaws.{bind-bind, value_of-bind}
+use Rattle.pj_names.proofs.AskingLaws.{ComesTo, comes-deeper, within-self, within-trans, within-insert, within-names, within-after, asked_after-bind}
+use Rattle.pj_names.proofs.MeaningLaws.{bind-bind, value_of-bind}
 use Rattle.pj_names.specs.Told.{Told, longest}
 use Rattle.pj_types.specs.Supertypes.{Listed, Standing, begin, search_within, step}
 use Rattle.pj_types.proofs.WalkLaws.{onward, as_types, tested, unless_hit, onward-step, search-onward}

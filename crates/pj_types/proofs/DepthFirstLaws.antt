@@ -6,7 +6,7 @@ use Rattle.pj_names.specs.declared.answer.Answer.{Answer}
 use Rattle.pj_names.specs.ClassName.{Name}
 use Rattle.pj_names.specs.Asking.{Asking, Return, Ask, Unbounded, bind, has_name, unvisited, hit_or, walk}
 use Rattle.pj_names.specs.Asking as asking
-use Rattle.pj_names.specs.MeaningLaws.{bind-bind}
+use Rattle.pj_names.proofs.MeaningLaws.{bind-bind}
 use Rattle.pj_types.specs.DepthFirst.{in_turn, visit}
 
 -- A fact of each value that a meaning may have, whatever is answered.

@@ -12,7 +12,7 @@ use Rattle.pj_names.specs.JavaType.{JavaType}
 use Rattle.pj_names.specs.Asking.{Asking, Return, bind, walk, value_of, names_of, has_name, unvisited}
 use Rattle.pj_names.specs.Asking as asking
 use Rattle.pj_names.specs.Meaning.{Meaning, Done, over, Means, whole, also, in_front, after}
-use Rattle.pj_names.specs.MeaningLaws.{value_of-bind, over-bind, over-whole, over-whole-bind}
+use Rattle.pj_names.proofs.MeaningLaws.{value_of-bind, over-bind, over-whole, over-whole-bind}
 use Rattle.pj_types.specs.Supertypes.{Listed, first_listed, given_type, name_of, on_listed, direct, search_within, no_hit, supertypes_within, supertype_list, class_name, begin, of_known}
 use Rattle.pj_types.proofs.WalkLaws.{onward, as_types, search-onward}
 use Rattle.pj_types.specs.Listing.{LeadTo, none, skipped, visited_now, AreSupertypes, direct_in, asked_names}

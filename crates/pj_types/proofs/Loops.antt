@@ -4,9 +4,9 @@ use Rattle.std.specs.Prelude.{map, Option, Some, None, if◌then◌else◌}
 use Rattle.pj_names.specs.ClassName.{Name}
 use Rattle.pj_names.specs.JavaType.{JavaType}
 use Rattle.pj_names.specs.Asking.{Asking, Return, Unbounded, bind}
-use Rattle.pj_names.specs.MeaningLaws.{bind-bind}
+use Rattle.pj_names.proofs.MeaningLaws.{bind-bind}
 use Rattle.pj_names.specs.Told.{Told, longest}
-use Rattle.pj_names.specs.AskingLaws.{ComesTo, comes-deeper}
+use Rattle.pj_names.proofs.AskingLaws.{ComesTo, comes-deeper}
 use Rattle.pj_types.specs.Supertypes.{Listed, Standing, begin, given_type, no_hit, search_within, supertypes_within, supertype_list, step}
 use Rattle.pj_types.specs.Subtyping.{is_class_of, is_named, is_hit, is_on_list}
 use Rattle.pj_types.proofs.WalkLaws.{onward, as_types, tested, unless_hit, onward-step, search-onward}

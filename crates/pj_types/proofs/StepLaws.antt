@@ -4,7 +4,7 @@ use Rattle.std.proofs.Common.{sym, ◌∙◌, ap}
 use Rattle.pj_names.specs.declared.answer.Answer.{Answer}
 use Rattle.pj_names.specs.ClassName.{Name, is_object}
 use Rattle.pj_names.specs.Asking.{Asking, Return, ask, bind}
-use Rattle.pj_names.specs.MeaningLaws.{bind-bind}
+use Rattle.pj_names.proofs.MeaningLaws.{bind-bind}
 use Rattle.pj_names.specs.Expand.{expand}
 use Rattle.pj_types.specs.Stepped.{after_known, stepped}
 use Rattle.pj_types.specs.Supertypes.{Listed, Standing, after_last, direct, given_next, last_asked, of_known, step, still_left}

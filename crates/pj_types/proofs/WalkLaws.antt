@@ -7,7 +7,7 @@ use Rattle.pj_names.specs.ClassName.{Name, is_object}
 use Rattle.pj_names.specs.JavaType.{JavaType}
 use Rattle.pj_names.specs.Asking.{Asking, Return, ask, bind, walk, value_of, names_of}
 use Rattle.pj_names.specs.Asking as asking
-use Rattle.pj_names.specs.MeaningLaws.{bind-bind, value_of-bind, names_of-bind}
+use Rattle.pj_names.proofs.MeaningLaws.{bind-bind, value_of-bind, names_of-bind}
 use Rattle.pj_types.proofs.DepthFirstLaws.{visits-walk}
 use Rattle.pj_types.specs.WalkAnswers.{and_more, answers}
 use Rattle.pj_types.specs.Supertypes.{Listed, first_listed, given_type, name_of, on_listed, direct, search_within, no_hit, supertypes_within, Standing, begin, after_last, last_asked, given_next, of_known, still_left, step}

@@ -2,7 +2,7 @@
 use Rattle.std.proofs.Common.{◌≡◌, List, Ok, Err, refl, sym, subst}
 use Rattle.pj_names.specs.declared.oracle.AskFault.TheVariants.{Failed, Memory}
 use Rattle.pj_names.specs.Told.{Told, Asks}
-use Rattle.pj_names.specs.AskingLaws.{ComesTo, asks-return, asks-stop, asks-refused, comes-then, comes-ends}
+use Rattle.pj_names.proofs.AskingLaws.{ComesTo, asks-return, asks-stop, asks-refused, comes-then, comes-ends}
 use Rattle.pj_xvalue.specs.declared.fault.XFault.{XFault}
 use Rattle.pj_xvalue.specs.declared.fault.XFault.TheVariants.{Code, Ask}
 use Rattle.pj_xvalue.specs.Items.{ItemValue}

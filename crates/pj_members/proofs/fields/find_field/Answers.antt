@@ -1,5 +1,5 @@
 use Rattle.std.proofs.Common.{rules, ◌+◌, ◌<◌, refl, subst}
-use Rattle.pj_names.specs.AskingLaws.{ComesTo, comes-begin, comes-then, comes-ends, asks-refused, asks-settled, asks-stop}
+use Rattle.pj_names.proofs.AskingLaws.{ComesTo, comes-begin, comes-then, comes-ends, asks-refused, asks-settled, asks-stop}
 use Rattle.pj_names.specs.JavaType.{java_type}
 use Rattle.pj_names.specs.Told.{longest, longest_is}
 use Rattle.pj_types.proofs.AlongTurns.{first-begin, first-turn, first-tested}

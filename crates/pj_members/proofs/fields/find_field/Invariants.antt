@@ -1,4 +1,4 @@
-use Rattle.pj_names.specs.AskingLaws.{ComesTo}
+use Rattle.pj_names.proofs.AskingLaws.{ComesTo}
 use Rattle.pj_types.proofs.AlongTurns.{first_rest}
 use Rattle.pj_types.specs.Standing.{standing}
 use Rattle.pj_members.specs.Fields.{field_in, find_field}

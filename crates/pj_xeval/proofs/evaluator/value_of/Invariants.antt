@@ -1,5 +1,5 @@
 use Rattle.std.proofs.Common.{◌≡◌, length}
-use Rattle.pj_names.specs.AskingLaws.{ComesTo}
+use Rattle.pj_names.proofs.AskingLaws.{ComesTo}
 use Rattle.pj_xvalue.specs.Items.{IsOfTree}
 use Rattle.pj_xvalue.specs.OfTree.{VariablesOfTree}
 use Rattle.pj_xdenotes.specs.Context.{around, given_of}

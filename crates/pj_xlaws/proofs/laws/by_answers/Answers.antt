@@ -1,4 +1,4 @@
-use Rattle.pj_names.specs.MeaningLaws.{agreement}
+use Rattle.pj_names.proofs.MeaningLaws.{agreement}
 use Rattle.pj_xdenotes.specs.Denotes.{denotes}
 use Rattle.pj_xlaws.proofs.laws.by_answers.Goals as goal
 

@@ -1,4 +1,4 @@
-use Rattle.pj_names.specs.MeaningLaws.{means-one}
+use Rattle.pj_names.proofs.MeaningLaws.{means-one}
 use Rattle.pj_xdenotes.specs.Denotes.{denotes}
 use Rattle.pj_xlaws.proofs.laws.one_thing.Goals as goal
 
