@@ -6,8 +6,8 @@ use Rattle.std.specs.List.{slice_get}
 use Rattle.pj_names.specs.JavaType.{JavaType, java_type, type_list}
 use Rattle.pj_names.specs.declared.ty.Ty.{Ty}
 use Rattle.pj_names.specs.Asking.{Asking, Return, bind, each}
-use Rattle.pj_names.specs.AskingLaws.{ComesTo, comes-then, left_from}
-use Rattle.pj_names.specs.MeaningLaws.{bind-bind, gather}
+use Rattle.pj_names.proofs.AskingLaws.{ComesTo, comes-then, left_from}
+use Rattle.pj_names.proofs.MeaningLaws.{bind-bind, gather}
 use Rattle.pj_names.specs.Told.{Asks, Told}
 use Rattle.pj_file_oracle.specs.declared.members.MemberLists.{MemberLists}
 use Rattle.pj_file_oracle.specs.Members.{all_members, both_lists, no_members}
