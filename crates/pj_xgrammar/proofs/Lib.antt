@@ -1,5 +1,8 @@
+pub mod Apart
 pub mod Completing
+pub mod Deeper
 pub mod Endings
+pub mod LeftOutNumbers
 pub mod Lifting
 pub mod Numbers
 pub mod OneOutcome

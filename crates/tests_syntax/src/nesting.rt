@@ -75,11 +75,18 @@ fn nesting(rt: HostRuntime) -> Result<(), Fail> {
     check_nesting(rt.alloc(), &variables)
 }
 
-/// Of faults at one place, what is left out comes before the nesting, and that before a token that cannot follow; what is named
-/// comes before them.
-static AT_ONE_PLACE: [(&str, &str, &str); 7] = [
+/// Of faults at one offset, what is left out comes before the nesting, and that before a token that cannot follow; what is named
+/// comes before them. A place nests too deep from the end of the token before it on, so before white space and comments.
+static AT_ONE_PLACE: [(&str, &str, &str); 14] = [
     ("(", "1.5", "Outside(201)"),
+    ("(", " 1.5", "Deep(201)"),
+    ("( ", "1.5", "Deep(201)"),
+    ("(", "(: :)1.5", "Deep(201)"),
     ("(", "map { }", "Outside(201)"),
+    ("(", " map { }", "Deep(201)"),
+    ("-", "[1]", "Outside(201)"),
+    ("- ", "[1]", "Deep(201)"),
+    ("a[", " ?b", "Deep(201)"),
     ("(", "= 1", "Deep(201)"),
     ("(", "", "Deep(201)"),
     ("(", "&", "Deep(201)"),
