@@ -31,6 +31,7 @@ use Rattle.pj_xnames.specs.Mentions.{Mention, Call, Argument, roles_named}
 use Rattle.pj_xnames.specs.Namings as naming
 use Rattle.pj_xnames.specs.Namings.{Naming, first_from, mentions_in, mentions_of, leaf_naming, change_naming, single_naming, rest_naming, step_naming, with_rest, scoped, bound_of}
 use Rattle.pj_xnames.specs.declared.role.Role.{Role}
+use Rattle.pj_xnames.specs.declared.part.Extent.TheVariants as extent
 use Rattle.pj_xderived.specs.Operands as o
 use Rattle.pj_xderived.specs.Operands.{Operand, Binding, Given, Behind, Test, Called, Predicates, other, trees_of, names_of, names_behind, operations, values_of, chain, mixed, compared, ranging, signed, bound, chosen, variable, integer_literal, string_literal, rooted, descendants, path, filtered, kind_test, given, named}
 use Rattle.pj_xderived.proofs.Links.{said, said_given, AreSaid, none, more, IsOne, one, IsInner, inner, IsPrimary, plain, enclosed, IsList, IsGiven, IsMixed, IsCompared, IsRanged, IsNothing, IsBound, bindings, IsSteps, steps, IsPath, only, IsBehind, IsNameBehind, called, predicates, test, as_name, IsTest, IsParentheses, there, missing, IsWord, word}
@@ -236,7 +237,7 @@ count_same [] = refl
 count_same (g ∷ gs) = let e = count_same gs in omega arith
 
 call_same : (name : List ℕ) (from : ℕ) (gs : List Given) (ps : List Operand) (ms : List Mention) → ms ≡ names_of ps →
-    naming.call name from (map said_given gs) true ms ≡ Call name (length gs) from ∷ (o.in_roles (roles_named name) gs ++ names_of ps)
+    naming.call name from (map said_given gs) extent.Whole ms ≡ Call name (length gs) from ∷ (o.in_roles (roles_named name) gs ++ names_of ps)
 call_same name from gs ps ms e =
     ap (λ k. Call name k from ∷ (naming.in_roles (roles_named name) (map said_given gs) ++ ms)) (count_same gs)
     ∙ ap (λ l. Call name (length gs) from ∷ (l ++ ms)) (roles_same (roles_named name) gs)

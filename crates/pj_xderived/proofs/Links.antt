@@ -13,6 +13,7 @@ use Rattle.pj_xmeaning.specs.Parts.{RuleValue}
 use Rattle.pj_xnames.specs.Mentions.{Mention}
 use Rattle.pj_xnames.specs.Namings as naming
 use Rattle.pj_xnames.specs.Namings.{Naming, first_from, mentions_in}
+use Rattle.pj_xnames.specs.declared.part.Extent.TheVariants as extent
 use Rattle.pj_xderived.specs.Operands.{Operand, Binding, Given, Behind, Test, Called, Predicates, Value, trees_of, names_of, operations, bindings_of, scopes_of, values_of}
 
 -- an operand as names are told of it, which begins at this offset
@@ -45,18 +46,18 @@ pub data IsPrimary (xs : List Lexed) : Operand → RuleValue → Naming → Type
 pub data IsList : List Operand → RuleValue → Naming → Type 0 where
   nothing : IsList [] value.Nothing naming.Nothing
   list : {a : Operand} {many : List Operand} {os : List naming.Operand} (from : ℕ) → AreSaid many os →
-      IsList (a ∷ many) (value.Many (a.tree ∷ trees_of many)) (naming.Many (said from a ∷ os) true)
+      IsList (a ∷ many) (value.Many (a.tree ∷ trees_of many)) (naming.Many (said from a ∷ os) extent.Whole)
 
 -- arguments
 pub data IsGiven : List Given → RuleValue → Naming → Type 0 where
   nothing : IsGiven [] value.Nothing naming.Nothing
-  list : {g : Given} {gs : List Given} → IsGiven (g ∷ gs) (value.Many (g.value.tree ∷ trees_of (values_of gs))) (naming.Many (said_given g ∷ map said_given gs) true)
+  list : {g : Given} {gs : List Given} → IsGiven (g ∷ gs) (value.Many (g.value.tree ∷ trees_of (values_of gs))) (naming.Many (said_given g ∷ map said_given gs) extent.Whole)
 
 -- operands behind operators
 pub data IsMixed (Operator : Type 0) (wrap : List (Operator × Tree) → RuleValue) : List (Operator × Operand) → RuleValue → Naming → Type 0 where
   nothing : IsMixed Operator wrap [] value.Nothing naming.Nothing
   list : {op : Operator} {a : Operand} {many : List (Operator × Operand)} {os : List naming.Operand} (from : ℕ) → AreSaid (map (λ (x : Operator × Operand). x.1) many) os →
-      IsMixed Operator wrap ((op, a) ∷ many) (wrap ((op, a.tree) ∷ operations many)) (naming.Many (said from a ∷ os) true)
+      IsMixed Operator wrap ((op, a) ∷ many) (wrap ((op, a.tree) ∷ operations many)) (naming.Many (said from a ∷ os) extent.Whole)
 
 pub data IsCompared : Option (Compare × Operand) → RuleValue → Naming → Type 0 where
   nothing : IsCompared None value.Nothing naming.Nothing
@@ -77,17 +78,17 @@ pub data IsBound : List Binding → RuleValue → Naming → Type 0 where
 pub data IsSteps : List Operand → RuleValue → Naming → Type 0 where
   nothing : IsSteps [] value.Nothing naming.Nothing
   steps : {a : Operand} {many : List Operand} {o : naming.Operand} {os : List naming.Operand} → mentions_in (o ∷ os) ≡ names_of (a ∷ many) →
-      IsSteps (a ∷ many) (value.Many (a.tree ∷ trees_of many)) (naming.Many (o ∷ os) true)
+      IsSteps (a ∷ many) (value.Many (a.tree ∷ trees_of many)) (naming.Many (o ∷ os) extent.Whole)
 
 pub data IsPath : List Operand → RuleValue → Naming → Type 0 where
-  only : {a : Operand} (from : ℕ) → IsPath (a ∷ []) (value.Many (a.tree ∷ [])) (naming.Many (said from a ∷ []) true)
+  only : {a : Operand} (from : ℕ) → IsPath (a ∷ []) (value.Many (a.tree ∷ [])) (naming.Many (said from a ∷ []) extent.Whole)
   path : {a b : Operand} {many : List Operand} {o p : naming.Operand} {os : List naming.Operand} → mentions_in (o ∷ p ∷ os) ≡ names_of (a ∷ b ∷ many) →
-      IsPath (a ∷ b ∷ many) (value.Many (a.tree ∷ b.tree ∷ trees_of many)) (naming.Many (o ∷ p ∷ os) true)
+      IsPath (a ∷ b ∷ many) (value.Many (a.tree ∷ b.tree ∷ trees_of many)) (naming.Many (o ∷ p ∷ os) extent.Whole)
 
 -- what stands behind a name in a step that is no axis
 pub data IsNameBehind : Behind → RuleValue → Naming → Type 0 where
   called : {gs : List Given} {ps : List Operand} {ms : List Mention} → ms ≡ names_of ps →
-      IsNameBehind (Called gs ps) (value.Called (trees_of (values_of gs)) (trees_of ps)) (naming.Called (map said_given gs) true ms)
+      IsNameBehind (Called gs ps) (value.Called (trees_of (values_of gs)) (trees_of ps)) (naming.Called (map said_given gs) extent.Whole ms)
   predicates : {ps : List Operand} {v : RuleValue} {w : Naming} → IsList ps v w → IsNameBehind (Predicates ps) v w
 
 -- and behind the name of an axis

@@ -1,5 +1,5 @@
 -- What is said of each kind of value.
-use Rattle.std.proofs.Common.{ℕ, true, List, [], ◌∷◌, map}
+use Rattle.std.proofs.Common.{ℕ, List, [], ◌∷◌, map}
 use Rattle.std.specs.Prelude.{⊤}
 use Rattle.pj_xvalue.specs.declared.operator.Compare.{Compare}
 use Rattle.pj_xvalue.specs.declared.expr.NodeTest.{NodeTest}
@@ -10,6 +10,7 @@ use Rattle.pj_xmeaning.specs.Parts.{RuleValue}
 use Rattle.pj_xnames.specs.Mentions.{Mention}
 use Rattle.pj_xnames.specs.Namings as naming
 use Rattle.pj_xnames.specs.Namings.{Naming, Operand, mentions_in}
+use Rattle.pj_xnames.specs.declared.part.Extent.TheVariants as extent
 use Rattle.pj_xkinds.proofs.RuleKinds as kind
 use Rattle.pj_xkinds.proofs.RuleKinds.{Kind}
 use Rattle.pj_xkinds.proofs.Induction.{Claim}
@@ -21,13 +22,13 @@ pub data FitOne : RuleValue → Naming → Type 0 where
 pub data FitList : RuleValue → Naming → Type 0 where
   nothing : FitList value.Nothing naming.Nothing
   list : {t : Tree} {o : Operand} {ts : List Tree} {os : List Operand} → IsFit t o.written o.mentions → ArePaired ts os →
-      FitList (value.Many (t ∷ ts)) (naming.Many (o ∷ os) true)
+      FitList (value.Many (t ∷ ts)) (naming.Many (o ∷ os) extent.Whole)
 
 -- operands with their operators, in a value of one kind
 pub data FitOperands (Operator : Type 0) (wrap : List (Operator × Tree) → RuleValue) : RuleValue → Naming → Type 0 where
   nothing : FitOperands Operator wrap value.Nothing naming.Nothing
   operands : {op : Operator} {t : Tree} {o : Operand} {xs : List (Operator × Tree)} {os : List Operand} → IsFit t o.written o.mentions →
-      ArePaired (map (λ (x : Operator × Tree). x.1) xs) os → FitOperands Operator wrap (wrap ((op, t) ∷ xs)) (naming.Many (o ∷ os) true)
+      ArePaired (map (λ (x : Operator × Tree). x.1) xs) os → FitOperands Operator wrap (wrap ((op, t) ∷ xs)) (naming.Many (o ∷ os) extent.Whole)
 
 pub data FitCompared : RuleValue → Naming → Type 0 where
   nothing : FitCompared value.Nothing naming.Nothing
@@ -60,19 +61,19 @@ pub data FitWord : RuleValue → Naming → Type 0 where
 pub data FitSteps : RuleValue → Naming → Type 0 where
   nothing : FitSteps value.Nothing naming.Nothing
   steps : {t : Tree} {o : Operand} {ts : List Tree} {os : List Operand} → AreFit (t ∷ ts) (mentions_in (o ∷ os)) →
-      FitSteps (value.Many (t ∷ ts)) (naming.Many (o ∷ os) true)
+      FitSteps (value.Many (t ∷ ts)) (naming.Many (o ∷ os) extent.Whole)
 
 pub data FitPath : RuleValue → Naming → Type 0 where
-  only : {t : Tree} {o : Operand} → IsFit t o.written o.mentions → FitPath (value.Many (t ∷ [])) (naming.Many (o ∷ []) true)
+  only : {t : Tree} {o : Operand} → IsFit t o.written o.mentions → FitPath (value.Many (t ∷ [])) (naming.Many (o ∷ []) extent.Whole)
   path : {t u : Tree} {o p : Operand} {ts : List Tree} {os : List Operand} → AreFit (t ∷ u ∷ ts) (mentions_in (o ∷ p ∷ os)) →
-      FitPath (value.Many (t ∷ u ∷ ts)) (naming.Many (o ∷ p ∷ os) true)
+      FitPath (value.Many (t ∷ u ∷ ts)) (naming.Many (o ∷ p ∷ os) extent.Whole)
 
 pub data FitBehind : RuleValue → Naming → Type 0 where
   nothing : FitBehind value.Nothing naming.Nothing
-  predicates : {ts : List Tree} {os : List Operand} → AreFit ts (mentions_in os) → FitBehind (value.Many ts) (naming.Many os true)
+  predicates : {ts : List Tree} {os : List Operand} → AreFit ts (mentions_in os) → FitBehind (value.Many ts) (naming.Many os extent.Whole)
   test : {n : NodeTest} {ts : List Tree} {o : Operand} → AreFit ts o.mentions → FitBehind (value.AxisTest n ts) (naming.One o)
   called : {arguments predicates : List Tree} {os : List Operand} {ms : List Mention} → ArePaired arguments os → AreFit predicates ms →
-      FitBehind (value.Called arguments predicates) (naming.Called os true ms)
+      FitBehind (value.Called arguments predicates) (naming.Called os extent.Whole ms)
 
 abbrev pub Fits : Claim
 Fits around behind (kind.Expression least) ts v w = FitOne v w

@@ -59,8 +59,8 @@ predicates_read _ (more_parts {t = t} {ts = ts} r rs) around from behind h =
     let derived = ruled p.predicates_more (f-token opening 8 refl (omega (arith, i)) (f-rule inside.derived (f-close (f-token closing 9 refl (omega (arith, i)) (f-rule rest.derived f-none (sym (append-nil us))))) refl)) in
     record {
       operands = inside.operand ∷ rest.operands;
-      derived = subst (λ w. Ruled around behind 45 from (opening ∷ (ws ++ closing ∷ us)) (Many (t ∷ list_of ts)) w) {x = naming.Many (inside.operand ∷ naming.operands_of (whole rest.operands)) (naming.is_whole (whole rest.operands))} (further-whole inside.operand rest.operands)
-          (subst (λ l. Ruled around behind 45 from (opening ∷ (ws ++ closing ∷ us)) (Many (t ∷ l)) (naming.Many (inside.operand ∷ naming.operands_of (whole rest.operands)) (naming.is_whole (whole rest.operands)))) (expressions-many (list_of ts)) derived);
+      derived = subst (λ w. Ruled around behind 45 from (opening ∷ (ws ++ closing ∷ us)) (Many (t ∷ list_of ts)) w) {x = naming.Many (inside.operand ∷ naming.operands_of (whole rest.operands)) (naming.extent_from (naming.One inside.operand) (whole rest.operands))} (further-whole inside.operand rest.operands)
+          (subst (λ l. Ruled around behind 45 from (opening ∷ (ws ++ closing ∷ us)) (Many (t ∷ l)) (naming.Many (inside.operand ∷ naming.operands_of (whole rest.operands)) (naming.extent_from (naming.One inside.operand) (whole rest.operands)))) (expressions-many (list_of ts)) derived);
       names = more_names inside.names rest.names;
     }
 
