@@ -55,3 +55,4 @@ pub mod Looks
 pub mod Expanding
 pub mod Prefixes
 pub mod Gapping
+pub mod Axes

@@ -17,6 +17,10 @@ sign s text from = lexed (kind.Sign s) (codes text) from
 abbrev pub word : String → ℕ → Lexed
 word text from = lexed kind.Name (codes text) from
 
+-- the tokens behind `child::`
+abbrev pub along_child : ℕ → ℕ → List Lexed → List Lexed
+along_child from to xs = word "child" from ∷ sign s.ColonColon "::" to ∷ xs
+
 -- The second tokens are the first ones, where abbreviations are written out, and these tokens behind them. Their offsets are those of another text.
 pub data WrittenOut (behind : List Lexed) : List Lexed → List Lexed → Type 0 where
   done : WrittenOut behind [] behind

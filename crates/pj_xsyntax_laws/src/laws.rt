@@ -21,19 +21,20 @@ ghost use Rattle.pj_xnames.specs.Mentions.{Mention};
 ghost use Rattle.pj_xsyntax_laws.specs.Every.{HasFault, given, position_of};
 ghost use Rattle.pj_xsyntax_laws.specs.Order.{AreBelow, Ascend, IsBefore, offset_at, place_of, positions};
 ghost use Rattle.std.specs.Str.{all_scalars};
+ghost use Rattle.pj_xvalue.specs.declared.expr.NodeTest.{NodeTest};
 ghost use Rattle.pj_xvalue.specs.declared.function.Function.{Function};
 ghost use Rattle.pj_xgrammar.specs.Notation.{t};
 ghost use Rattle.pj_xgrammar.specs.declared.rule.Rule.TheVariants as r;
 ghost use Rattle.pj_xmeaning.specs.Names.{callee_of};
 ghost use Rattle.pj_xmeaning.specs.Trees.{Tree};
 ghost use Rattle.pj_xmeaning.specs.declared.name.Callee.TheVariants as callee;
-ghost use Rattle.pj_xderived.specs.Operands.{Operand, other};
+ghost use Rattle.pj_xderived.specs.Operands.{Operand, child_step, other};
 ghost use Rattle.pj_xderived.specs.Reads.{Reads, Takes};
 ghost use Rattle.pj_xparse.specs.Spells.{Spells};
 ghost use Rattle.pj_xshape.specs.Nesting.{nesting_of_tree};
 ghost use Rattle.pj_xshape.specs.Shapes.{part_of_tree};
 ghost use Rattle.pj_xshape.specs.Spelled.{IsSpelled};
-ghost use Rattle.pj_xsyntax_laws.specs.Abbreviations.{WrittenOut, sign};
+ghost use Rattle.pj_xsyntax_laws.specs.Abbreviations.{WrittenOut, along_child, sign};
 ghost use Rattle.pj_xsyntax_laws.specs.Gapped.{ArePieces, IsGap, Piece, gapped, located, words_in};
 ghost use Rattle.pj_xsyntax_laws.specs.Printed.{function_name, printed};
 
@@ -98,6 +99,14 @@ pub fn spelled_expressions_are_printed()
 pub fn abbreviations_stand_for_longer_forms()
     ensures { (variables : List (List ℕ)) (text other : List ℕ) (tokens others : List Lexed) (tree : Tree) → Tokens (size text) text tokens (ends.Text (size text)) →
         Tokens (size other) other others (ends.Text (size other)) → WrittenOut [] tokens others → Spells variables text tree → Spells variables other tree }
+{}
+
+/// A step without an axis is one along `child`: a test with its predicates is read as the same step with `child::` before it and without (XPath 2.0, 3.2.4).
+pub fn steps_without_axis_are_children()
+    ensures without_axis { (depth : ℕ) (xs ys zs : List Lexed) (test : NodeTest) (predicates : List Operand) → Reads r.NodeTest depth xs ys test → Reads r.PredicateList depth ys zs predicates →
+        Reads r.StepExpr depth xs zs (child_step test predicates) }
+    ensures with_axis { (depth from to : ℕ) (xs ys zs : List Lexed) (test : NodeTest) (predicates : List Operand) → Reads r.NodeTest depth xs ys test → Reads r.PredicateList depth ys zs predicates →
+        Reads r.StepExpr depth (along_child from to xs) zs (child_step test predicates) }
 {}
 
 /// Comments change nothing, and neither does white space: of words that each spell a token, with white space and comments before the first one, and
