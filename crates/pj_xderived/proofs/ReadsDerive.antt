@@ -251,7 +251,7 @@ reads_derive (axis_name_test {xs = xs} k0) = got r.NodeTest 1 refl refl (tok k0 
 reads_derive (any_name_test {xs = xs} k0) = got r.NodeTest 2 refl refl (tok k0 end) links.test
 reads_derive (node_test {xs = xs} k0 a1) = got r.NodeTest 3 refl refl (tok k0 (rul r.KindTail (reads_derive a1) end)) (node_test_links (first_text xs) (reads_derive a1).links)
 reads_derive (element_test {xs = xs} k0 a1) = got r.NodeTest 4 refl refl (tok k0 (rul r.KindTail (reads_derive a1) end)) (element_test_links (first_text xs) (reads_derive a1).links)
-reads_derive (kind_parentheses {xs = xs} k0 k1) = got r.KindTail 0 refl refl (tok k0 (tok k1 end)) there
+reads_derive (kind_parentheses {xs = xs} k0 k1) = got r.KindTail 0 refl refl (tok k0 (clo (tok k1 end))) there
 reads_derive (no_parentheses {xs = xs}) = got r.KindTail 1 refl refl end missing
 reads_derive (predicate {xs = xs} k0 a1 k2 a3) = got r.PredicateList 0 refl refl (tok k0 (rul r.Expr (reads_derive a1) (clo (tok k2 (rul r.PredicateList (reads_derive a3) end))))) (further_links xs (reads_derive a1).links (reads_derive a3).links)
 reads_derive (no_predicate {xs = xs}) = got r.PredicateList 1 refl refl end links.nothing

@@ -254,7 +254,7 @@ pub data Reads : (rule : Rule) → ℕ → List Lexed → List Lexed → Value r
   element_test : {d : ℕ} {xs ys zs : List Lexed} {parentheses : Bool} →
       Takes d (t "element") xs ys → Reads r.KindTail d ys zs parentheses → Reads r.NodeTest d xs zs (kind_test AnyElement (first_text xs) parentheses)
   kind_parentheses : {d : ℕ} {xs ys zs : List Lexed} →
-      Takes d (t "(") xs ys → Takes d (t ")") ys zs → Reads r.KindTail d xs zs true
+      Takes (suc d) (t "(") xs ys → Takes d (t ")") ys zs → Reads r.KindTail d xs zs true
   no_parentheses : {d : ℕ} {xs : List Lexed} →
       Reads r.KindTail d xs xs false
   -- 39, 40: PredicateList

@@ -1,6 +1,7 @@
 -- What is made of values that nest no deeper than they may.
-use Rattle.std.proofs.Common.{◌≡◌, ℕ, suc, ◌+◌, ◌≤◌, ◌≢◌, ⊎_elim, Bool, true, false, List, [], ◌∷◌, ◌++◌, map, length, max, Option, Some, None, refl, sym, ap, subst, arith}
+use Rattle.std.proofs.Common.{◌≡◌, ℕ, suc, ◌+◌, ◌≤◌, ◌≢◌, ⊎_elim, Bool, true, false, List, [], ◌∷◌, ◌++◌, map, length, max, Option, Some, None, refl, sym, ap, subst, le_refl, arith}
 use Rattle.std.specs.Prelude.{IsTrue, cond, nat_eq}
+use Rattle.std.proofs.lemmas.Bool.{cases_Bool, eqb-true, false≢true}
 use Rattle.std.proofs.lemmas.Bool.Decides.{eqb_tells}
 use Rattle.pj_xtokens.specs.Tokens.{Lexed}
 use Rattle.pj_xvalue.specs.declared.axis.Axis.{Axis}
@@ -16,7 +17,7 @@ use Rattle.pj_xmeaning.specs.Names.{axis_of, callee_of}
 use Rattle.pj_xmeaning.specs.Parts as part
 use Rattle.pj_xmeaning.specs.Parts.{RuleValue, expressions, expression, empty_sequence}
 use Rattle.pj_xmeaning.specs.Trees as tree
-use Rattle.pj_xmeaning.specs.Trees.{Tree, Construct, node, alone, binder, operated}
+use Rattle.pj_xmeaning.specs.Trees.{Tree, Construct, Node, NoMore, More, node, alone, binder, operated}
 use Rattle.pj_xmeaning.specs.Values as value
 use Rattle.pj_xmeaning.specs.Values.{chain_construct, binder_construct, descendants, along, axis_step, named, called, filtered, child_step}
 use Rattle.pj_xmeaning.specs.declared.name.Callee.{Callee}
@@ -25,19 +26,22 @@ use Rattle.pj_xmeaning.specs.declared.action.Binder.{Binder}
 use Rattle.pj_xmeaning.specs.declared.action.Binder.TheVariants as binders
 use Rattle.pj_xmeaning.specs.declared.action.Chain.{Chain}
 use Rattle.pj_xmeaning.specs.declared.action.Chain.TheVariants as chains
+use Rattle.pj_xmeaning.specs.declared.action.Kind as test
+use Rattle.pj_xmeaning.specs.declared.action.Kind.TheVariants as kinds
 use Rattle.pj_xmeaning.specs.declared.action.Operation.TheVariants as operation
 use Rattle.pj_xmeaning.specs.declared.action.Single.TheVariants as single
 use Rattle.pj_xnames.specs.Namings.{Naming}
 use Rattle.pj_xshape.specs.Shapes.{level_by}
-use Rattle.pj_xshape.specs.Nesting.{Nested, operand_before, chain_before, clauses_before, enclosed, nested_by, nested_of}
+use Rattle.pj_xshape.specs.Nesting.{Nested, operand_before, chain_before, clauses_before, step_before, further_before, enclosed, axis_nesting, test_nesting, nested_by, nested_of, nested_each}
+use Rattle.pj_xshape.proofs.Nodes.{nested_of_node}
 use Rattle.pj_xderived.specs.Derived.{IsRead}
 use Rattle.pj_xkinds.proofs.RuleKinds as kind
 use Rattle.pj_xkinds.proofs.RuleKinds.{Kind, Piece}
 use Rattle.pj_xkinds.proofs.Typed.{own, least, mark, may_be_nothing, is_marked}
 use Rattle.pj_xkinds.proofs.Read.{marked_read}
-use Rattle.pj_xkinds.proofs.Gentle.{lower_operand, least_operand, marked_operand, enclosed_operand, node_operand, least_chain, open_operand}
+use Rattle.pj_xkinds.proofs.Gentle.{lower_operand, least_operand, marked_operand, enclosed_operand, node_operand, plain_operand, least_chain, open_operand}
 use Rattle.pj_xkinds.proofs.DeepKinds as k
-use Rattle.pj_xkinds.proofs.DeepKinds.{Nests, flag, IsMarked, DeepOne, DeepList, DeepOperands, DeepCompared, DeepRanged, DeepNothing, DeepClause, DeepTested, DeepBindings, DeepMore, DeepWord, DeepPredicates, DeepPath, DeepBehind, DeepInside, values_before}
+use Rattle.pj_xkinds.proofs.DeepKinds.{Nests, flag, IsMarked, DeepOne, DeepList, DeepOperands, DeepCompared, DeepRanged, DeepNothing, DeepClause, DeepTested, DeepBindings, DeepMore, DeepWord, DeepPredicates, DeepSteps, DeepPath, DeepTest, DeepParentheses, DeepBehind, DeepInside, values_before}
 
 -- nothing stands behind nothing
 pub same_flag : {us : List Lexed} (behind : List Lexed) → us ≡ [] → flag (us ++ behind) ≡ flag behind
@@ -174,33 +178,84 @@ signed_kept {around} f c text (k.one {t} h) = deep_node around f 11 (tree.Unary 
 
 -- ---- paths
 
-pub path_kept : {around : ℕ} {us behind : List Lexed} {v u : RuleValue} → DeepOne around (flag (us ++ behind)) 15 v → DeepList around behind 15 false us u →
+-- ---- the step that `//` stands for
+
+-- it nests as deep as the parentheses of its test
+descendants_operand : (f : Bool) (n : ℕ) (t : Tree) → n ≤ 15 → (nested_of t).is_descendants ≡ true → operand_before f n (nested_of t) ≡ 1
+unfolding nested_of nested_each
+descendants_operand f n (Node (tree.Step axis.DescendantOrSelf tests.AnyNode) NoMore) le d = plain_operand f n (nested_of (Node (tree.Step axis.DescendantOrSelf tests.AnyNode) NoMore)) le
+descendants_operand f n (Node (tree.Step axis.DescendantOrSelf tests.AnyNode) (More first rest)) le d =
+    let none : length (nested_of first ∷ nested_each rest) ≡ 0 = eqb-true (length (nested_of first ∷ nested_each rest)) 0 d in absurd (omega arith)
+descendants_operand f n (Node _ parts) le d = absurd (false≢true d)
+
+descendants_are : (nested_of descendants).is_descendants ≡ true
+descendants_are = ap (λ (n : Nested). n.is_descendants) (nested_of_node (tree.Step axis.DescendantOrSelf tests.AnyNode) [])
+
+module _ (f : Bool) (t u : Tree) (us : List Tree) where
+  -- before another step `//` stands for it
+  skipped : (nested_of t).is_descendants ≡ true → further_before f (nested_of t) (map nested_of (u ∷ us)) ≡ step_before f (nested_of u) (map nested_of us)
+  skipped d = ap (λ (b : Bool). cond b (step_before f (nested_of u) (map nested_of us)) (max (operand_before false 15 (nested_of t)) (further_before f (nested_of u) (map nested_of us)))) d
+
+  written_out : (nested_of t).is_descendants ≡ false →
+      further_before f (nested_of t) (map nested_of (u ∷ us)) ≡ max (operand_before false 15 (nested_of t)) (further_before f (nested_of u) (map nested_of us))
+  written_out d = ap (λ (b : Bool). cond b (step_before f (nested_of u) (map nested_of us)) (max (operand_before false 15 (nested_of t)) (further_before f (nested_of u) (map nested_of us)))) d
+
+mutual
+  -- a step that is written out costs the parentheses of its test at most
+  step_costs : (f : Bool) (t : Tree) (ts : List Tree) → step_before f (nested_of t) (map nested_of ts) ≤ max 1 (further_before f (nested_of t) (map nested_of ts))
+  step_costs f t [] = omega arith
+  step_costs f t (u ∷ us) =
+      let less = further_less f u us in
+      ⊎_elim
+      (λ (d : (nested_of t).is_descendants ≡ true). let is = skipped f t u us d in let one = descendants_operand false 15 t (omega arith) d in omega arith)
+      (λ (d : (nested_of t).is_descendants ≡ false). let is = written_out f t u us d in omega arith)
+      (cases_Bool (nested_of t).is_descendants)
+
+  further_less : (f : Bool) (t : Tree) (ts : List Tree) → further_before f (nested_of t) (map nested_of ts) ≤ step_before f (nested_of t) (map nested_of ts)
+  further_less f t [] = omega arith
+  further_less f t (u ∷ us) =
+      let costs = step_costs f u us in
+      ⊎_elim
+      (λ (d : (nested_of t).is_descendants ≡ true). let is = skipped f t u us d in let one = descendants_operand false 15 t (omega arith) d in omega arith)
+      (λ (d : (nested_of t).is_descendants ≡ false). let is = written_out f t u us d in omega arith)
+      (cases_Bool (nested_of t).is_descendants)
+
+pub path_kept : {around : ℕ} {us behind : List Lexed} {v u : RuleValue} → DeepOne around (flag (us ++ behind)) 15 v → DeepSteps around behind us u →
     DeepPath around (flag behind) (part.Many (expression v ∷ expressions u))
 path_kept {around} {us} {behind} (k.one {t} h) (k.nothing e) = k.path (subst (λ (f : Bool). around + operand_before f 15 (nested_of t) ≤ 200) (same_flag behind e) h)
-path_kept {around} {us} {behind} (k.one {t} h) (k.list {t = u} {us = ts} mk g) = k.path (before around 15 false us behind t u ts h mk g)
+path_kept {around} {us} {behind} (k.one {t} h) (k.steps {t = u} {us = ts} g) = let least = least_operand (flag (us ++ behind)) 15 t in k.path (omega arith)
 
-pub descendants_nested : (f : Bool) (n : ℕ) → n ≤ 15 → operand_before f n (nested_of descendants) ≡ 0
-descendants_nested f n le = node_operand f n (tree.Step axis.DescendantOrSelf tests.AnyNode) [] le
+pub steps_kept : {around : ℕ} {us behind : List Lexed} {v u : RuleValue} (all : List Lexed) → DeepOne around (flag (us ++ behind)) 15 v → DeepSteps around behind us u →
+    DeepSteps around behind all (part.Many (expression v ∷ expressions u))
+steps_kept {around} {us} {behind} all (k.one {t} h) (k.nothing e) = k.steps (subst (λ (f : Bool). around + operand_before f 15 (nested_of t) ≤ 200) (same_flag behind e) h)
+steps_kept {around} {us} {behind} all (k.one {t} h) (k.steps {t = u} {us = ts} g) =
+    let least = least_operand (flag (us ++ behind)) 15 t in
+    let costs = step_costs (flag behind) u ts in
+    k.steps (⊎_elim
+    (λ (d : (nested_of t).is_descendants ≡ true). let is = skipped (flag behind) t u ts d in let one = descendants_operand false 15 t (omega arith) d in omega arith)
+    (λ (d : (nested_of t).is_descendants ≡ false). let is = written_out (flag behind) t u ts d in omega arith)
+    (cases_Bool (nested_of t).is_descendants))
 
 pub root_nested : (n : ℕ) → n ≤ 14 → operand_before false n (nested_of (alone tree.Root)) ≡ 0
 root_nested n le = node_operand false n tree.Root [] le
 
-pub descendant_steps_kept : {around : ℕ} {us behind : List Lexed} {v u : RuleValue} (all : List Lexed) → DeepOne around (flag (us ++ behind)) 15 v → DeepList around behind 15 false us u →
-    DeepList around behind 15 false all (part.Many (descendants ∷ expression v ∷ expressions u))
+pub descendant_steps_kept : {around : ℕ} {us behind : List Lexed} {v u : RuleValue} (all : List Lexed) → DeepOne around (flag (us ++ behind)) 15 v → DeepSteps around behind us u →
+    DeepSteps around behind all (part.Many (descendants ∷ expression v ∷ expressions u))
 descendant_steps_kept {around} {us} {behind} {v} {u} all h g = by (path_kept h g)
   where
-    by : {ts : List Tree} → DeepPath around (flag behind) (part.Many ts) → DeepList around behind 15 false all (part.Many (descendants ∷ ts))
-    by (k.path p) = let none_deep = descendants_nested false 15 (omega arith) in k.list (not_marked (all ++ behind)) (omega arith)
+    by : {ts : List Tree} → DeepPath around (flag behind) (part.Many ts) → DeepSteps around behind all (part.Many (descendants ∷ ts))
+    by (k.path {t} {us = ms} p) = let is = skipped (flag behind) descendants t ms descendants_are in k.steps (omega arith)
 
 pub rooted_kept : {around : ℕ} {f : Bool} (text : List ℕ) {v : RuleValue} → DeepPath around f v → DeepOne around f 13 (part.One (value.single_value single.RootedPath text v))
 rooted_kept {around} {f} text (k.path {t} {us} p) =
     let none_deep = root_nested 14 (omega arith) in
+    let less = further_less f t us in
     deep_node around f 13 tree.Path (alone tree.Root ∷ t ∷ us) (omega arith) (omega arith)
 
 pub rooted_descendants_kept : {around : ℕ} {f : Bool} (text : List ℕ) {v : RuleValue} → DeepPath around f v → DeepOne around f 13 (part.One (value.single_value single.RootedDescendants text v))
 rooted_descendants_kept {around} {f} text (k.path {t} {us} p) =
     let none_deep = root_nested 14 (omega arith) in
-    let as_deep = descendants_nested false 15 (omega arith) in
+    let is = skipped f descendants t us descendants_are in
     deep_node around f 13 tree.Path (alone tree.Root ∷ descendants ∷ t ∷ us) (omega arith) (omega arith)
 
 pub relative_kept : {around : ℕ} {f : Bool} (text : List ℕ) {v : RuleValue} → DeepPath around f v → DeepOne around f 13 (part.One (value.single_value single.RelativePath text v))
@@ -238,18 +293,52 @@ context_item_kept f {v} h g =
     let inside = node_operand false 16 tree.ContextItem [] (omega arith) in
     filtered_deep (alone tree.ContextItem) (expressions v) (omega arith) (omega arith) (predicates_enclosed h g)
 
-pub step_kept : {around : ℕ} {us : List Lexed} (f : Bool) (a : Axis) (t : NodeTest) {v : RuleValue} → around ≤ 200 → DeepPredicates around us v → DeepOne around f 15 (part.One (node (tree.Step a t) (expressions v)))
-step_kept {around} f a t {v} h g = let it = predicates_enclosed h g in deep_node around f 15 (tree.Step a t) (expressions v) (omega arith) it
+pub step_kept : {around : ℕ} {us : List Lexed} (f : Bool) (a : Axis) (t : NodeTest) {v : RuleValue} → around ≤ 200 → around + axis_nesting a t ≤ 200 → DeepPredicates around us v →
+    DeepOne around f 15 (part.One (node (tree.Step a t) (expressions v)))
+step_kept {around} f a t {v} h m g = let it = predicates_enclosed h g in deep_node around f 15 (tree.Step a t) (expressions v) (omega arith) (omega arith)
 
-pub attribute_kept : {around : ℕ} {us : List Lexed} (f : Bool) (t : NodeTest) {v : RuleValue} → around ≤ 200 → DeepPredicates around us v → DeepOne around f 15 (part.One (node (tree.AttributeStep t) (expressions v)))
-attribute_kept {around} f t {v} h g = let it = predicates_enclosed h g in deep_node around f 15 (tree.AttributeStep t) (expressions v) (omega arith) it
+pub attribute_kept : {around : ℕ} {us : List Lexed} (f : Bool) (t : NodeTest) {v : RuleValue} → around ≤ 200 → around + test_nesting t ≤ 200 → DeepPredicates around us v →
+    DeepOne around f 15 (part.One (node (tree.AttributeStep t) (expressions v)))
+attribute_kept {around} f t {v} h m g = let it = predicates_enclosed h g in deep_node around f 15 (tree.AttributeStep t) (expressions v) (omega arith) (omega arith)
 
-pub child_deep : (around : ℕ) (f : Bool) (t : NodeTest) (ps : List Tree) → around + enclosed (map nested_of ps) ≤ 200 → DeepOne around f 15 (part.One (child_step t ps))
-child_deep around f t ps h = deep_node around f 15 (tree.Step axis.Child t) ps (omega arith) h
+pub child_deep : (around : ℕ) (f : Bool) (t : NodeTest) (ps : List Tree) → around + test_nesting t ≤ 200 → around + enclosed (map nested_of ps) ≤ 200 → DeepOne around f 15 (part.One (child_step t ps))
+child_deep around f t ps m h = deep_node around f 15 (tree.Step axis.Child t) ps (omega arith) (omega arith)
 
-pub along_deep : (around : ℕ) (f : Bool) (a : Option Axis) (t : NodeTest) (ps : List Tree) → around + enclosed (map nested_of ps) ≤ 200 → DeepOne around f 15 (part.One (along a t ps))
-along_deep around f (Some a) t ps h = deep_node around f 15 (tree.Step a t) ps (omega arith) h
-along_deep around f None t ps h = deep_node around f 15 (tree.AttributeStep t) ps (omega arith) h
+-- no axis makes more of a test
+axis_less : (a : Axis) (t : NodeTest) → axis_nesting a t ≤ test_nesting t
+axis_less axis.Parent (tests.Name name) = omega arith
+axis_less axis.Parent tests.AnyName = omega arith
+axis_less axis.Parent tests.AnyNode = omega arith
+axis_less axis.Parent tests.AnyElement = omega arith
+axis_less axis.Child t = le_refl (test_nesting t)
+axis_less axis.Descendant t = le_refl (test_nesting t)
+axis_less axis.SelfNode t = le_refl (test_nesting t)
+axis_less axis.DescendantOrSelf t = le_refl (test_nesting t)
+axis_less axis.FollowingSibling t = le_refl (test_nesting t)
+axis_less axis.Following t = le_refl (test_nesting t)
+axis_less axis.Ancestor t = le_refl (test_nesting t)
+axis_less axis.PrecedingSibling t = le_refl (test_nesting t)
+axis_less axis.Preceding t = le_refl (test_nesting t)
+axis_less axis.AncestorOrSelf t = le_refl (test_nesting t)
+
+pub along_deep : (around : ℕ) (f : Bool) (a : Option Axis) (t : NodeTest) (ps : List Tree) → around + test_nesting t ≤ 200 → around + enclosed (map nested_of ps) ≤ 200 →
+    DeepOne around f 15 (part.One (along a t ps))
+along_deep around f (Some a) t ps m h = let less = axis_less a t in deep_node around f 15 (tree.Step a t) ps (omega arith) (omega arith)
+along_deep around f None t ps m h = deep_node around f 15 (tree.AttributeStep t) ps (omega arith) (omega arith)
+
+-- ---- tests
+
+pub test_within : {around : ℕ} {v : RuleValue} → DeepTest around v → around + test_nesting (part.test v) ≤ 200
+test_within (k.tested m) = m
+
+pub kind_within : {around : ℕ} (c : test.Kind) (text : List ℕ) {v : RuleValue} → around ≤ 200 → DeepParentheses around v → around + test_nesting (value.kind_test c text v) ≤ 200
+kind_within kinds.Node text h k.none = omega arith
+kind_within kinds.Node text h (k.parentheses m) = omega arith
+kind_within kinds.Element text h k.none = omega arith
+kind_within kinds.Element text h (k.parentheses m) = omega arith
+
+pub name_test_kept : {around : ℕ} {v : RuleValue} → DeepWord around v → DeepTest around (part.Test (tests.Name (part.word v)))
+name_test_kept (k.word h) = k.tested (omega arith)
 
 -- a call
 pub called_nested : (f : Bool) (n : ℕ) (c : Option Callee) (ts : List Tree) → n ≤ 16 → operand_before f n (nested_of (called c ts)) ≤ 1 + chain_before false false 1 (map nested_of ts)
@@ -265,15 +354,15 @@ called_deep around f c ts ps h g =
     filtered_deep (called c ts) ps (omega arith) (omega arith) g
 
 pub axis_kept : {around : ℕ} (f : Bool) (name : List ℕ) {v : RuleValue} → around ≤ 200 → DeepBehind around v → DeepOne around f 15 (part.One (axis_step name v))
-axis_kept {around} f name h k.nothing = child_deep around f (tests.Name name) [] (omega arith)
-axis_kept {around} f name h (k.predicates {t} {us} g) = child_deep around f (tests.Name name) (t ∷ us) g
-axis_kept {around} f name h (k.test {n} {us} g) = along_deep around f (axis_of name) n us g
+axis_kept {around} f name h k.nothing = child_deep around f (tests.Name name) [] (omega arith) (omega arith)
+axis_kept {around} f name h (k.predicates {t} {us} g) = child_deep around f (tests.Name name) (t ∷ us) (omega arith) g
+axis_kept {around} f name h (k.test {n} {us} m g) = along_deep around f (axis_of name) n us m g
 axis_kept {around} f name h (k.called {arguments} {us} g i) = called_deep around f (callee_of name) arguments us g i
 
 pub name_kept : {around : ℕ} (f : Bool) {v u : RuleValue} → DeepWord around v → DeepBehind around u → DeepOne around f 15 (part.One (named (part.word v) u))
-name_kept {around} f (k.word {name} h) k.nothing = child_deep around f (tests.Name name) [] (omega arith)
-name_kept {around} f (k.word {name} h) (k.predicates {t} {us} g) = child_deep around f (tests.Name name) (t ∷ us) g
-name_kept {around} f (k.word {name} h) (k.test {n} {us} g) = child_deep around f (tests.Name name) [] (omega arith)
+name_kept {around} f (k.word {name} h) k.nothing = child_deep around f (tests.Name name) [] (omega arith) (omega arith)
+name_kept {around} f (k.word {name} h) (k.predicates {t} {us} g) = child_deep around f (tests.Name name) (t ∷ us) (omega arith) g
+name_kept {around} f (k.word {name} h) (k.test {n} {us} m g) = child_deep around f (tests.Name name) [] (omega arith) (omega arith)
 name_kept {around} f (k.word {name} h) (k.called {arguments} {us} g i) = called_deep around f (callee_of name) arguments us g i
 
 pub behind_of : {around : ℕ} {us : List Lexed} {v : RuleValue} → DeepPredicates around us v → DeepBehind around v
@@ -372,7 +461,7 @@ nothing_nests around behind kind.Compared w h = k.nothing refl
 nothing_nests around behind kind.Ranged w h = k.nothing refl
 nothing_nests around behind kind.LeftOut w h = k.nothing refl
 nothing_nests around behind kind.MoreBindings w h = k.nothing refl
-nothing_nests around behind kind.TestBehind w h = tt
+nothing_nests around behind kind.TestBehind w h = k.none
 nothing_nests around behind kind.Predicates w h = k.nothing refl
 nothing_nests around behind kind.Steps w h = k.nothing refl
 nothing_nests around behind (kind.Expression n) w h = absurd (let z = h in cc)
@@ -380,7 +469,7 @@ nothing_nests around behind (kind.Clause m) w h = absurd (let z = h in cc)
 nothing_nests around behind kind.Tested w h = absurd (let z = h in cc)
 nothing_nests around behind kind.Bindings w h = absurd (let z = h in cc)
 nothing_nests around behind kind.Word w h = absurd (let z = h in cc)
-nothing_nests around behind kind.Test w h = tt
+nothing_nests around behind kind.Test w h = absurd (let z = h in cc)
 nothing_nests around behind kind.Path w h = absurd (let z = h in cc)
 nothing_nests around behind kind.NameBehind w h = absurd (let z = h in cc)
 nothing_nests around behind kind.Parenthesized w h = absurd (let z = h in cc)

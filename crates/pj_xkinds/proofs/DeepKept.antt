@@ -19,8 +19,8 @@ use Rattle.pj_xkinds.proofs.Typed.{Typed, least, mark}
 use Rattle.pj_xkinds.proofs.Induction.{none, token, value_of, close, IsKept}
 use Rattle.pj_xkinds.proofs.Read.{alone_read}
 use Rattle.pj_xkinds.proofs.DeepKinds as k
-use Rattle.pj_xkinds.proofs.DeepKinds.{Nests, flag, DeepList, DeepOperands, DeepCompared, DeepRanged, DeepNothing, DeepClause, DeepMore, DeepPredicates}
-use Rattle.pj_xkinds.proofs.DeepActions.{not_marked, marked_by, deep_lower, more_list, chain_kept, sum_kept, product_kept, sets_kept, more_operands, comparison_kept, range_kept, operand_kept, signed_kept, path_kept, descendant_steps_kept, rooted_kept, rooted_descendants_kept, relative_kept, primary_kept, alone_deep, predicates_enclosed, context_item_kept, step_kept, attribute_kept, axis_kept, name_kept, behind_of, arguments_within, predicates_kept, binding_kept, binder_kept, choice_kept, clause_kept, tested_kept, compared_kept, ranged_kept, more_bindings_kept, parenthesized_kept, inside_kept, variable_kept, nothing_nests}
+use Rattle.pj_xkinds.proofs.DeepKinds.{Nests, flag, DeepList, DeepOperands, DeepCompared, DeepRanged, DeepNothing, DeepClause, DeepMore, DeepSteps, DeepPredicates}
+use Rattle.pj_xkinds.proofs.DeepActions.{not_marked, marked_by, deep_lower, more_list, chain_kept, sum_kept, product_kept, sets_kept, more_operands, comparison_kept, range_kept, operand_kept, signed_kept, path_kept, steps_kept, test_within, kind_within, name_test_kept, descendant_steps_kept, rooted_kept, rooted_descendants_kept, relative_kept, primary_kept, alone_deep, predicates_enclosed, context_item_kept, step_kept, attribute_kept, axis_kept, name_kept, behind_of, arguments_within, predicates_kept, binding_kept, binder_kept, choice_kept, clause_kept, tested_kept, compared_kept, ranged_kept, more_bindings_kept, parenthesized_kept, inside_kept, variable_kept, nothing_nests}
 
 -- The tokens of the last rule are all that are left.
 whole : {ts us : List Lexed} (P : List Lexed → Type 0) → us ≡ ts ++ [] → P ts → P us
@@ -47,6 +47,9 @@ clause {around} {m} {behind} {v} e g = whole (λ l. DeepClause around behind m l
 
 bindings : {ts us : List Lexed} {around : ℕ} {behind : List Lexed} {v : RuleValue} → us ≡ ts ++ [] → DeepMore around behind ts v → DeepMore around behind us v
 bindings {around} {behind} {v} e g = whole (λ l. DeepMore around behind l v) e g
+
+steps : {ts us : List Lexed} {around : ℕ} {behind : List Lexed} {v : RuleValue} → us ≡ ts ++ [] → DeepSteps around behind ts v → DeepSteps around behind us v
+steps {around} {behind} {v} e g = whole (λ l. DeepSteps around behind l v) e g
 
 predicates : {ts us : List Lexed} {around : ℕ} {v : RuleValue} → us ≡ ts ++ [] → DeepPredicates around ts v → DeepPredicates around us v
 predicates {around} {v} e g = whole (λ l. DeepPredicates around l v) e g
@@ -83,26 +86,26 @@ kept around behind ts a ks c vs ws typed.root (token x t r q none) = alone_deep 
 kept around behind ts a ks c vs ws typed.rooted (token {ts = us} x t r q (value_of h none f)) = rooted_kept (first_text (x ∷ us ++ behind)) h
 kept around behind ts a ks c vs ws typed.rooted_descendants (token {ts = us} x t r q (value_of h none f)) = rooted_descendants_kept (first_text (x ∷ us ++ behind)) h
 kept around behind ts a ks c vs ws typed.relative (value_of h none f) = relative_kept (first_text (ts ++ behind)) h
-kept around behind ts a ks c vs ws typed.path (value_of h (value_of g none e) f) = path_kept h (list e g)
-kept around behind ts a ks c vs ws typed.steps (token {ts = us} x t r q (value_of h (value_of g none e) f)) = more_list (x ∷ us) (not_marked (x ∷ us ++ behind)) h (list e g)
-kept around behind ts a ks c vs ws typed.descendant_steps (token {ts = us} x t r q (value_of h (value_of g none e) f)) = descendant_steps_kept (x ∷ us) h (list e g)
+kept around behind ts a ks c vs ws typed.path (value_of h (value_of g none e) f) = path_kept h (steps e g)
+kept around behind ts a ks c vs ws typed.steps (token {ts = us} x t r q (value_of h (value_of g none e) f)) = steps_kept (x ∷ us) h (steps e g)
+kept around behind ts a ks c vs ws typed.descendant_steps (token {ts = us} x t r q (value_of h (value_of g none e) f)) = descendant_steps_kept (x ∷ us) h (steps e g)
 kept around behind ts a ks c vs ws typed.context_item (token x t r q (value_of h none f)) = context_item_kept (flag behind) q h
 kept around behind ts a ks c vs ws typed.primary (value_of h (value_of {all = us} g none e) f) = primary_kept us behind h (predicates e g)
-kept around behind ts a ks c vs ws typed.parent_step (token x t r q (value_of h none f)) = step_kept (flag behind) axis.Parent tests.AnyNode q h
-kept around behind ts a ks c vs ws typed.attribute (token x t r q (value_of {v = v} h (value_of g none e) f)) = attribute_kept (flag behind) (part.test v) q g
+kept around behind ts a ks c vs ws typed.parent_step (token x t r q (value_of h none f)) = step_kept (flag behind) axis.Parent tests.AnyNode q (omega arith) h
+kept around behind ts a ks c vs ws typed.attribute (token x t r q (value_of {v = v} h (value_of g none e) f)) = attribute_kept (flag behind) (part.test v) q (test_within h) g
 kept around behind ts a ks c vs ws (typed.axis_step n) (token {ts = us} x t r q (value_of h none f)) = axis_kept (flag behind) (first_text (x ∷ us ++ behind)) q h
-kept around behind ts a ks c vs ws typed.any_name_step (token x t r q (value_of h none f)) = step_kept (flag behind) axis.Child tests.AnyName q h
+kept around behind ts a ks c vs ws typed.any_name_step (token x t r q (value_of h none f)) = step_kept (flag behind) axis.Child tests.AnyName q (omega arith) h
 kept around behind ts a ks c vs ws (typed.kind_step by n) (token {ts = us} x t r q (value_of {v = v} h (value_of g none e) f)) =
-    step_kept (flag behind) axis.Child (value.kind_test by (first_text (x ∷ us ++ behind)) v) q g
+    step_kept (flag behind) axis.Child (value.kind_test by (first_text (x ∷ us ++ behind)) v) q (kind_within by (first_text (x ∷ us ++ behind)) q h) g
 kept around behind ts a ks c vs ws typed.name_step (value_of h (value_of g none e) f) = name_kept (flag behind) h g
-kept around behind ts a ks c vs ws typed.axis_test (token x t r q (value_of h (value_of g none e) f)) = k.test (predicates_enclosed q g)
+kept around behind ts a ks c vs ws typed.axis_test (token x t r q (value_of h (value_of g none e) f)) = k.test (test_within h) (predicates_enclosed q g)
 kept around behind ts a ks c vs ws typed.called (token x t r q (value_of h (close (token y u s p (value_of g none e))) f)) = k.called (arguments_within q h) (predicates_enclosed p g)
 kept around behind ts a ks c vs ws typed.not_called (value_of h none f) = behind_of h
-kept around behind ts a ks c vs ws typed.name_test has = tt
-kept around behind ts a ks c vs ws (typed.axis_name_test n) has = tt
-kept around behind ts a ks c vs ws typed.any_name_test has = tt
-kept around behind ts a ks c vs ws (typed.kind_test by n) has = tt
-kept around behind ts a ks c vs ws typed.parentheses has = tt
+kept around behind ts a ks c vs ws typed.name_test (value_of h none f) = name_test_kept h
+kept around behind ts a ks c vs ws (typed.axis_name_test n) (token x t r q none) = k.tested (omega arith)
+kept around behind ts a ks c vs ws typed.any_name_test (token x t r q none) = k.tested (omega arith)
+kept around behind ts a ks c vs ws (typed.kind_test by n) (token {ts = us} x t r q (value_of h none f)) = k.tested (kind_within by (first_text (x ∷ us ++ behind)) q h)
+kept around behind ts a ks c vs ws typed.parentheses (token x t r q (close (token y u s p none))) = k.parentheses q
 kept around behind ts a ks c vs ws typed.predicates (token {ts = us} x t r q (value_of h (close (token {ts = ms} y u s p (value_of g none e))) f)) = predicates_kept (flag (y ∷ ms ++ behind)) (x ∷ us) q h g
 kept around behind ts a ks c vs ws typed.integer (token {ts = us} x t r q none) = alone_deep 16 (tree.Integer (integer_of (first_text (x ∷ us ++ behind)))) (omega arith) refl q
 kept around behind ts a ks c vs ws typed.string (token {ts = us} x t r q none) = alone_deep 16 (tree.String (string_of (first_text (x ∷ us ++ behind)))) (omega arith) refl q

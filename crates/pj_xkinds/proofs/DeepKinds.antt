@@ -1,6 +1,5 @@
 -- How deep the values of each kind nest, where so many things are open, and these tokens stand behind.
-use Rattle.std.proofs.Common.{◌≡◌, ℕ, ◌+◌, ◌≤◌, Bool, true, false, List, [], ◌∷◌, ◌++◌, map, max}
-use Rattle.std.specs.Prelude.{⊤}
+use Rattle.std.proofs.Common.{◌≡◌, ℕ, suc, ◌+◌, ◌≤◌, Bool, true, false, List, [], ◌∷◌, ◌++◌, map, max}
 use Rattle.pj_xtokens.specs.Tokens.{Lexed}
 use Rattle.pj_xvalue.specs.declared.operator.Compare.{Compare}
 use Rattle.pj_xvalue.specs.declared.expr.NodeTest.{NodeTest}
@@ -9,7 +8,7 @@ use Rattle.pj_xgrammar.specs.Terminals.{first_behind, begins_step}
 use Rattle.pj_xmeaning.specs.Trees.{Tree}
 use Rattle.pj_xmeaning.specs.Parts as value
 use Rattle.pj_xmeaning.specs.Parts.{RuleValue, empty_sequence}
-use Rattle.pj_xshape.specs.Nesting.{Nested, operand_before, chain_before, enclosed, nested_of}
+use Rattle.pj_xshape.specs.Nesting.{Nested, operand_before, chain_before, step_before, further_before, enclosed, test_nesting, nested_of}
 use Rattle.pj_xkinds.proofs.RuleKinds as kind
 use Rattle.pj_xkinds.proofs.RuleKinds.{Kind}
 use Rattle.pj_xkinds.proofs.Induction.{Claim}
@@ -75,13 +74,25 @@ pub data DeepPredicates (around : ℕ) (ts : List Lexed) : RuleValue → Type 0 
   nothing : ts ≡ [] → DeepPredicates around ts value.Nothing
   predicates : {t : Tree} {us : List Tree} → around + enclosed (map nested_of (t ∷ us)) ≤ 200 → DeepPredicates around ts (value.Many (t ∷ us))
 
+pub data DeepSteps (around : ℕ) (behind : List Lexed) (ts : List Lexed) : RuleValue → Type 0 where
+  nothing : ts ≡ [] → DeepSteps around behind ts value.Nothing
+  steps : {t : Tree} {us : List Tree} → around + further_before (flag behind) (nested_of t) (map nested_of us) ≤ 200 → DeepSteps around behind ts (value.Many (t ∷ us))
+
 pub data DeepPath (around : ℕ) (behind : Bool) : RuleValue → Type 0 where
-  path : {t : Tree} {us : List Tree} → around + chain_before behind false 15 (map nested_of (t ∷ us)) ≤ 200 → DeepPath around behind (value.Many (t ∷ us))
+  path : {t : Tree} {us : List Tree} → around + step_before behind (nested_of t) (map nested_of us) ≤ 200 → DeepPath around behind (value.Many (t ∷ us))
+
+-- the test of a rule
+pub data DeepTest (around : ℕ) (v : RuleValue) : Type 0 where
+  tested : around + test_nesting (value.test v) ≤ 200 → DeepTest around v
+
+pub data DeepParentheses (around : ℕ) : RuleValue → Type 0 where
+  none : DeepParentheses around value.Nothing
+  parentheses : suc around ≤ 200 → DeepParentheses around value.Parentheses
 
 pub data DeepBehind (around : ℕ) : RuleValue → Type 0 where
   nothing : DeepBehind around value.Nothing
   predicates : {t : Tree} {us : List Tree} → around + enclosed (map nested_of (t ∷ us)) ≤ 200 → DeepBehind around (value.Many (t ∷ us))
-  test : {n : NodeTest} {us : List Tree} → around + enclosed (map nested_of us) ≤ 200 → DeepBehind around (value.AxisTest n us)
+  test : {n : NodeTest} {us : List Tree} → around + test_nesting n ≤ 200 → around + enclosed (map nested_of us) ≤ 200 → DeepBehind around (value.AxisTest n us)
   called : {arguments us : List Tree} → around + (1 + chain_before false false 1 (map nested_of arguments)) ≤ 200 → around + enclosed (map nested_of us) ≤ 200 →
       DeepBehind around (value.Called arguments us)
 
@@ -103,10 +114,10 @@ Nests around behind kind.Tested ts v w = DeepTested around v
 Nests around behind kind.Bindings ts v w = DeepBindings around (flag behind) v
 Nests around behind kind.MoreBindings ts v w = DeepMore around behind ts v
 Nests around behind kind.Word ts v w = DeepWord around v
-Nests around behind kind.Test ts v w = ⊤
-Nests around behind kind.TestBehind ts v w = ⊤
+Nests around behind kind.Test ts v w = DeepTest around v
+Nests around behind kind.TestBehind ts v w = DeepParentheses around v
 Nests around behind kind.Predicates ts v w = DeepPredicates around ts v
 Nests around behind kind.Path ts v w = DeepPath around (flag behind) v
-Nests around behind kind.Steps ts v w = DeepList around behind 15 false ts v
+Nests around behind kind.Steps ts v w = DeepSteps around behind ts v
 Nests around behind kind.NameBehind ts v w = DeepBehind around v
 Nests around behind kind.Parenthesized ts v w = DeepInside around v

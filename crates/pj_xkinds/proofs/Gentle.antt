@@ -6,7 +6,7 @@ use Rattle.pj_xmeaning.specs.Trees as tree
 use Rattle.pj_xmeaning.specs.Trees.{Tree, Trees, Construct, Node, NoMore, More, trees, node}
 use Rattle.pj_xshape.specs.Shapes.{level_by}
 use Rattle.pj_xshape.proofs.Nodes.{nested_as, nested_of_node}
-use Rattle.pj_xshape.specs.Nesting.{Nested, operand_before, chain_before, clauses_before, choice_before, enclosed, filter_inside, steps_before, nested_by, nested_of, nested_each}
+use Rattle.pj_xshape.specs.Nesting.{Nested, operand_before, chain_before, clauses_before, choice_before, enclosed, filter_inside, step_before, further_before, steps_before, axis_nesting, test_nesting, nested_by, nested_of, nested_each}
 
 -- The number is one more at most where a word or a `*` stands behind, and not less.
 pub record IsGentle (f : Bool → ℕ) : Type 0 where
@@ -51,10 +51,23 @@ unfolding AllGentle
 choice_gentle [] h = constant 0
 choice_gentle (p ∷ ps) h = greater (constant (1 + p.nesting false)) (clauses_gentle ps h.1)
 
+mutual
+  unfolding AllGentle
+
+  step_gentle : (p : Nested) (ps : List Nested) → IsGentle p.nesting → AllGentle ps → IsGentle (λ b. step_before b p ps)
+  step_gentle p [] h hs = operand_gentle 15 p h
+  step_gentle p (q ∷ ps) h hs = greater (constant (operand_before false 15 p)) (further_gentle q ps hs.0 hs.1)
+
+  further_gentle : (p : Nested) (ps : List Nested) → IsGentle p.nesting → AllGentle ps → IsGentle (λ b. further_before b p ps)
+  further_gentle p [] h hs = operand_gentle 15 p h
+  further_gentle p (q ∷ ps) h hs =
+      either p.is_descendants (step_gentle q ps hs.0 hs.1) (greater (constant (operand_before false 15 p)) (further_gentle q ps hs.0 hs.1))
+
 steps_gentle : (ps : List Nested) → AllGentle ps → IsGentle (λ b. steps_before b ps)
 unfolding AllGentle
 steps_gentle [] h = constant 0
-steps_gentle (p ∷ ps) h = greater (constant (operand_before false 14 p)) (chain_gentle false 15 ps h.1)
+steps_gentle (p ∷ []) h = constant (operand_before false 14 p)
+steps_gentle (p ∷ q ∷ ps) h = greater (constant (operand_before false 14 p)) (further_gentle q ps h.1.0 h.1.1)
 
 root_gentle : IsGentle (λ b. cond b 1 0)
 root_gentle = record { up = omega arith; near = omega arith }
@@ -78,8 +91,8 @@ nested_gentle (tree.Unary sign) ps h = one_more (chain_gentle false 11 ps h)
 nested_gentle tree.SimpleMap ps h = chain_gentle false 13 ps h
 nested_gentle tree.Path ps h = steps_gentle ps h
 nested_gentle tree.Root ps h = root_gentle
-nested_gentle (tree.Step axis test) ps h = constant (enclosed ps)
-nested_gentle (tree.AttributeStep test) ps h = constant (enclosed ps)
+nested_gentle (tree.Step a t) ps h = constant (max (axis_nesting a t) (enclosed ps))
+nested_gentle (tree.AttributeStep t) ps h = constant (max (test_nesting t) (enclosed ps))
 nested_gentle tree.Filter ps h = constant (filter_inside ps)
 nested_gentle (tree.Call function) ps h = constant (1 + chain_before false false 1 ps)
 nested_gentle (tree.PmdCall function) ps h = constant (1 + chain_before false false 1 ps)

@@ -115,7 +115,7 @@ pub data Typed : Action → List Piece → Kind → Type 0 where
   axis_name_test : {t : ℕ} → IsTrue (is_name t) → Typed (action.Leaf leaf.NameTest) (Token t ∷ []) Test
   any_name_test : {t : ℕ} → Typed (action.Leaf leaf.AnyNameTest) (Token t ∷ []) Test
   kind_test : {t : ℕ} (c : test.Kind) → IsTrue (is_name t) → Typed (action.Change (change.KindTest c)) (Token t ∷ Of TestBehind ∷ []) Test
-  parentheses : {t u : ℕ} → Typed (action.Leaf leaf.Parentheses) (Token t ∷ Token u ∷ []) TestBehind
+  parentheses : {t u : ℕ} → Typed (action.Leaf leaf.Parentheses) (Token t ∷ Close ∷ Token u ∷ []) TestBehind
   predicates : {t u : ℕ} → Typed (action.Rest rest.Further) (Token t ∷ Of (Expression 0) ∷ Close ∷ Token u ∷ Of Predicates ∷ []) Predicates
   integer : {t : ℕ} → Typed (action.Leaf leaf.Integer) (Token t ∷ []) (Expression 16)
   string : {t : ℕ} → Typed (action.Leaf leaf.String) (Token t ∷ []) (Expression 16)

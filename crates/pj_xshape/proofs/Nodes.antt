@@ -2,7 +2,7 @@
 use mathlib.Core.Path.{ap}
 use Rattle.std.proofs.Common.{◌≡◌, refl, List, [], ◌∷◌, length, map}
 use Rattle.pj_xmeaning.specs.Trees.{Tree, Construct, trees, node}
-use Rattle.pj_xshape.specs.Nesting.{Nested, nested_by, nested_of, nested_each}
+use Rattle.pj_xshape.specs.Nesting.{Nested, is_descendants_by, nested_by, nested_of, nested_each}
 use Rattle.pj_xshape.specs.Shapes.{level_by, part_by, part_of_tree, parts_of_trees}
 
 pub parts_of_trees_each : (parts : List Tree) → parts_of_trees (trees parts) ≡ map part_of_tree parts
@@ -20,7 +20,7 @@ nested_each_of [] = refl
 nested_each_of (first ∷ rest) = ap (λ more. nested_of first ∷ more) (nested_each_of rest)
 
 abbrev pub nested_as : Construct → List Nested → Nested
-nested_as construct parts = record { level = level_by construct (length parts); nesting = nested_by construct parts }
+nested_as construct parts = record { level = level_by construct (length parts); is_descendants = is_descendants_by construct (length parts); nesting = nested_by construct parts }
 
 pub nested_of_node : (construct : Construct) (parts : List Tree) → nested_of (node construct parts) ≡ nested_as construct (map nested_of parts)
 unfolding nested_of nested_each

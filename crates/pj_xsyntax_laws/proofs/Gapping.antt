@@ -1,5 +1,5 @@
 -- The tokens of words with white space and comments between them, and that these change no expression.
-use Rattle.std.proofs.Common.{◌≡◌, ℕ, ◌+◌, List, [], ◌∷◌, ◌++◌, refl, sym, arith}
+use Rattle.std.proofs.Common.{◌≡◌, ℕ, ◌+◌, false, List, [], ◌∷◌, ◌++◌, refl, sym, arith}
 use Rattle.std.proofs.Math.Nat.{zero-add}
 use Rattle.pj_xtokens.specs.Gaps.{Past, here, white}
 use Rattle.pj_xtokens.specs.Size.{size}
@@ -56,14 +56,14 @@ begins_back : (n m : ℕ) (ps : List Piece) → begins_step (first_behind b.End 
 begins_back n m [] = refl
 begins_back n m (p ∷ ps) = refl
 
-closer : (n m : ℕ) (ps : List Piece) → WrittenOut [] (located n ps) (placed m (words_in ps))
+closer : (n m : ℕ) (ps : List Piece) → WrittenOut false [] (located n ps) (placed m (words_in ps))
 closer n m [] = done
 closer n m (p ∷ ps) =
     let n' : ℕ = n + size p.word.text + 1 + size p.gap in
     let m' : ℕ = m + size p.word.text + 1 in
     kept m (λ e. begins_same n' m' ps) (closer n' m' ps)
 
-apart : (n m : ℕ) (ps : List Piece) → WrittenOut [] (placed m (words_in ps)) (located n ps)
+apart : (n m : ℕ) (ps : List Piece) → WrittenOut false [] (placed m (words_in ps)) (located n ps)
 apart n m [] = done
 apart n m (p ∷ ps) =
     let n' : ℕ = n + size p.word.text + 1 + size p.gap in

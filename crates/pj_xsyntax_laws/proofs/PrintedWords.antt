@@ -34,7 +34,7 @@ use Rattle.pj_xmeaning.specs.Trees as tree
 use Rattle.pj_xmeaning.specs.Trees.{Tree, Trees, Construct, Node, NoMore, More}
 use Rattle.pj_xshape.specs.Spelled as shape
 use Rattle.pj_xshape.specs.Spelled.{IsSpelled, IsConstructSpelled, IsTestSpelled, IsInteger, AreNames}
-use Rattle.pj_xsyntax_laws.specs.Printed.{Printed, printed_of, printed_each, words_by, words_of, operand, enclosed, chain, joined, clauses, choice, predicates, filter, steps, keyword, sign, named, comma, left, right, slash, dollar, axis_name, function_name, pmd_function_name, test_words, compare_word, sum_word, product_word, set_word, signed_word, quantifier_word, integer_text}
+use Rattle.pj_xsyntax_laws.specs.Printed.{Printed, printed_of, printed_each, words_by, words_of, operand, enclosed, chain, joined, clauses, choice, predicates, filter, from_step, further_steps, steps, step_words, keyword, sign, named, comma, left, right, slash, slashes, dollar, axis_name, function_name, pmd_function_name, test_words, compare_word, sum_word, product_word, set_word, signed_word, quantifier_word, integer_text}
 
 abbrev IsWordSpelled : Word → Type 0
 IsWordSpelled w = Spells w.kind w.text
@@ -56,6 +56,14 @@ right_spelled = kind_spells (right).text (right).kind refl
 slash_spelled : IsWordSpelled (slash)
 unfolding first_step sign_step
 slash_spelled = kind_spells (slash).text (slash).kind refl
+
+slashes_spelled : IsWordSpelled (slashes)
+unfolding first_step sign_step
+slashes_spelled = kind_spells (slashes).text (slashes).kind refl
+
+dots_spelled : IsWordSpelled (sign ".." s.DotDot)
+unfolding first_step sign_step
+dots_spelled = kind_spells (sign ".." s.DotDot).text (sign ".." s.DotDot).kind refl
 
 dollar_spelled : IsWordSpelled (dollar)
 unfolding first_step sign_step
@@ -339,13 +347,30 @@ filter_spelled : (parts : List Printed) → ArePartsSpelled parts → AreSpelled
 filter_spelled [] h = tt
 filter_spelled (part ∷ parts) h = AreSpelled-append (operand false 16 part) (predicates parts) (operand_spelled false 16 part h.0) (predicates_spelled parts h.1)
 
-steps_case : (first : Printed) (us : List Word) → IsPartSpelled first → AreSpelled us → (root : Bool) → AreSpelled (cond root (slash ∷ us) (operand false 14 first ++ slash ∷ us))
-steps_case first us h g true = (slash_spelled, g)
-steps_case first us h g false = AreSpelled-append (operand false 14 first) (slash ∷ us) (operand_spelled false 14 first h) (slash_spelled, g)
+either_spelled : (b : Bool) (us ws : List Word) → AreSpelled us → AreSpelled ws → AreSpelled (cond b us ws)
+either_spelled true us ws h g = h
+either_spelled false us ws h g = g
+
+mutual
+  from_spelled : (flag : Bool) (step : Printed) (parts : List Printed) → IsPartSpelled step → ArePartsSpelled parts → AreSpelled (from_step flag step parts)
+  from_spelled flag step [] h hs = operand_spelled flag 15 step h
+  from_spelled flag step (next ∷ more) h hs =
+      AreSpelled-append (operand false 15 step) (further_steps flag next more) (operand_spelled false 15 step h) (further_spelled flag next more hs.0 hs.1)
+
+  further_spelled : (flag : Bool) (step : Printed) (parts : List Printed) → IsPartSpelled step → ArePartsSpelled parts → AreSpelled (further_steps flag step parts)
+  further_spelled flag step [] h hs = (slash_spelled, operand_spelled flag 15 step h)
+  further_spelled flag step (next ∷ more) h hs =
+      either_spelled step.is_descendants (slashes ∷ from_step flag next more) (slash ∷ (operand false 15 step ++ further_steps flag next more))
+      (slashes_spelled, from_spelled flag next more hs.0 hs.1)
+      (slash_spelled, AreSpelled-append (operand false 15 step) (further_steps flag next more) (operand_spelled false 15 step h) (further_spelled flag next more hs.0 hs.1))
 
 steps_spelled : (flag : Bool) (parts : List Printed) → ArePartsSpelled parts → AreSpelled (steps flag parts)
 steps_spelled flag [] h = tt
-steps_spelled flag (first ∷ rest) h = steps_case first (joined flag false 15 slash rest) h.0 (joined_spelled flag false 15 slash rest slash_spelled h.1) (nat_eq first.level 14)
+steps_spelled flag (only ∷ []) h = operand_spelled false 14 only h.0
+steps_spelled flag (first ∷ next ∷ more) h =
+    let further = further_spelled flag next more h.1.0 h.1.1 in
+    either_spelled (nat_eq first.level 14) (further_steps flag next more) (operand false 14 first ++ further_steps flag next more) further
+    (AreSpelled-append (operand false 14 first) (further_steps flag next more) (operand_spelled false 14 first h.0) further)
 
 ops_spelled : {Op : Type 0} (word : Op → Word) → ((o : Op) → IsWordSpelled (word o)) → (os : List Op) → AreSpelled (map word os)
 ops_spelled word h [] = tt
@@ -360,6 +385,25 @@ comma_case flag false parts h = joined_spelled flag false 1 comma parts comma_sp
 root_case : (flag : Bool) → AreSpelled (cond flag (enclosed (slash ∷ [])) (slash ∷ []))
 root_case true = enclosed_spelled (slash ∷ []) (slash_spelled, tt)
 root_case false = (slash_spelled, tt)
+
+along_spelled : (a : Axis) (t : NodeTest) → IsTestSpelled t → AreSpelled (named (axis_name a) ∷ sign "::" s.ColonColon ∷ test_words t)
+along_spelled a t g = (axis_spelled a, (colons_spelled, test_spelled t g))
+
+step_words_spelled : (a : Axis) (t : NodeTest) → IsTestSpelled t → AreSpelled (step_words a t)
+step_words_spelled axis.Parent test.AnyNode g = (dots_spelled, tt)
+step_words_spelled axis.Parent (test.Name bytes) g = along_spelled axis.Parent (test.Name bytes) g
+step_words_spelled axis.Parent test.AnyName g = along_spelled axis.Parent test.AnyName g
+step_words_spelled axis.Parent test.AnyElement g = along_spelled axis.Parent test.AnyElement g
+step_words_spelled axis.Child t g = along_spelled axis.Child t g
+step_words_spelled axis.Descendant t g = along_spelled axis.Descendant t g
+step_words_spelled axis.SelfNode t g = along_spelled axis.SelfNode t g
+step_words_spelled axis.DescendantOrSelf t g = along_spelled axis.DescendantOrSelf t g
+step_words_spelled axis.FollowingSibling t g = along_spelled axis.FollowingSibling t g
+step_words_spelled axis.Following t g = along_spelled axis.Following t g
+step_words_spelled axis.Ancestor t g = along_spelled axis.Ancestor t g
+step_words_spelled axis.PrecedingSibling t g = along_spelled axis.PrecedingSibling t g
+step_words_spelled axis.Preceding t g = along_spelled axis.Preceding t g
+step_words_spelled axis.AncestorOrSelf t g = along_spelled axis.AncestorOrSelf t g
 
 step_spelled : (t : NodeTest) (parts : List Printed) → IsTestSpelled t → ArePartsSpelled parts → AreSpelled (sign "::" s.ColonColon ∷ (test_words t ++ predicates parts))
 step_spelled t parts g h = (colons_spelled, AreSpelled-append (test_words t) (predicates parts) (test_spelled t g) (predicates_spelled parts h))
@@ -383,7 +427,7 @@ construct_spelled (tree.Unary sign) parts g h flag = (signed_spelled sign, chain
 construct_spelled tree.SimpleMap parts g h flag = joined_spelled flag false 13 (sign "!" s.Bang) parts bang_spelled h
 construct_spelled tree.Path parts g h flag = steps_spelled flag parts h
 construct_spelled tree.Root parts g h flag = root_case flag
-construct_spelled (tree.Step a t) parts g h flag = (axis_spelled a, step_spelled t parts g h)
+construct_spelled (tree.Step a t) parts g h flag = AreSpelled-append (step_words a t) (predicates parts) (step_words_spelled a t g) (predicates_spelled parts h)
 construct_spelled (tree.AttributeStep t) parts g h flag = (attribute_spelled, step_spelled t parts g h)
 construct_spelled tree.Filter parts g h flag = filter_spelled parts h
 construct_spelled (tree.Integer value) parts g h flag = (integer_spelled value g, tt)

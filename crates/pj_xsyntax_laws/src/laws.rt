@@ -1,7 +1,7 @@
 //! Laws of the syntax of XPath. The functions do nothing, and their contracts are the laws.
 
 ghost use Rattle.pj_xtokens.specs.Rules as lexical;
-ghost use Rattle.std.specs.Prelude.{All, Contains, IsTrue, List, None, Some, [], codes, suc, ℕ, ◌++◌, ◌<◌, ◌∷◌, ◌^◌, ◌≡◌, ◌≢◌, ◌≤◌, ◌⊎◌};
+ghost use Rattle.std.specs.Prelude.{All, Contains, IsTrue, List, None, Some, [], codes, false, suc, true, ℕ, ◌++◌, ◌<◌, ◌∷◌, ◌^◌, ◌≡◌, ◌≢◌, ◌≤◌, ◌⊎◌};
 ghost use Rattle.std.specs.Fmt.{decimal};
 ghost use Rattle.pj_xtokens.specs.Characters.{is_digit};
 ghost use Rattle.pj_xtokens.specs.Signs.{Entry, signs};
@@ -94,11 +94,14 @@ pub fn spelled_expressions_are_printed()
     ensures { (variables : List (List ℕ)) (text : List ℕ) (t : Tree) → IsTrue (all_scalars text) → Spells variables text t → Spells variables (printed t) t }
 {}
 
-/// Abbreviations stand for their longer forms: a text that spells an expression spells the same one where `//`, `@`, `..` and `|` are written out and
-/// literals of one string are put for each other (XPath 2.0, 3.2.4, 3.3.3 and 3.1.1).
+/// Abbreviations stand for their longer forms: a text that spells an expression spells the same one where `@` and `|` are written out and literals of one
+/// string are put for each other, and `//` and `..` too, where one more thing may be open, since the parentheses of a kind test nest (XPath 2.0, 3.2.4,
+/// 3.3.3 and 3.1.1).
 pub fn abbreviations_stand_for_longer_forms()
-    ensures { (variables : List (List ℕ)) (text other : List ℕ) (tokens others : List Lexed) (tree : Tree) → Tokens (size text) text tokens (ends.Text (size text)) →
-        Tokens (size other) other others (ends.Text (size other)) → WrittenOut [] tokens others → Spells variables text tree → Spells variables other tree }
+    ensures as_deep { (variables : List (List ℕ)) (text other : List ℕ) (tokens others : List Lexed) (tree : Tree) → Tokens (size text) text tokens (ends.Text (size text)) →
+        Tokens (size other) other others (ends.Text (size other)) → WrittenOut false [] tokens others → Spells variables text tree → Spells variables other tree }
+    ensures with_kind_tests { (variables : List (List ℕ)) (other : List ℕ) (tokens others : List Lexed) (a : Operand) → Tokens (size other) other others (ends.Text (size other)) →
+        WrittenOut true [] tokens others → Reads r.Expr 1 tokens [] a → first_fault variables a.names ≡ None → Spells variables other a.tree }
 {}
 
 /// A step without an axis is one along `child`: a test with its predicates is read as the same step with `child::` before it and without (XPath 2.0, 3.2.4).
@@ -133,6 +136,6 @@ pub fn parentheses_leave_no_trace()
     ensures operands { (depth : ℕ) (xs ys zs us : List Lexed) (a : Operand) → Takes (suc depth) (t "(") xs ys → Reads r.Expr (suc depth) ys zs a → Takes depth (t ")") zs us →
         Reads r.PrimaryExpr depth xs us (other a.tree a.names) }
     ensures texts { (variables : List (List ℕ)) (text : List ℕ) (tokens others : List Lexed) (from to : ℕ) (a : Operand) →
-        Tokens (size text) text (sign s.LeftParenthesis "(" from ∷ others) (ends.Text (size text)) → WrittenOut (sign s.RightParenthesis ")" to ∷ []) tokens others →
+        Tokens (size text) text (sign s.LeftParenthesis "(" from ∷ others) (ends.Text (size text)) → WrittenOut false (sign s.RightParenthesis ")" to ∷ []) tokens others →
         Reads r.Expr 1 tokens [] a → first_fault variables a.names ≡ None → Spells variables text a.tree }
 {}
