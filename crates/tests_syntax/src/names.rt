@@ -112,7 +112,7 @@ static VARIABLES: [(&str, &str); 20] = [
     ("for $x in $y", "Variable y 10"),
 ];
 
-static FORMS: [(&str, &str); 25] = [
+static FORMS: [(&str, &str); 26] = [
     ("matches('a', 'b')", "None"),
     ("matches('a', a)", "Form 13"),
     ("matches('a', ('b'))", "Form 13"),
@@ -137,7 +137,8 @@ static FORMS: [(&str, &str); 25] = [
     ("matches(f(), a)", "Function f 8"),
     ("matches('a', 'b'[1])", "Form 13"),
     ("matches('a', b", "None"),
-    ("matches('a', b, 1.5)", "None"),
+    ("matches('a', b,", "Form 13"),
+    ("matches('a', b, 1.5)", "Form 13"),
 ];
 
 /// A word that is read as the beginning of another construct is the name of a variable behind a `$`.
