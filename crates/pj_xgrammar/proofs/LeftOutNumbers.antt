@@ -1,18 +1,18 @@
 -- No decimal or double number stands in what begins an expression.
-use Rattle.std.proofs.Common.{◌≡◌, ℕ, zero, suc, ◌<◌, ◌⊎◌, inl, inr, ⊎_elim, Bool, true, false, not, List, [], ◌∷◌, ◌++◌, length, take, Option, Some, None, refl, sym, ap, subst, ◌∙◌, arith}
+use Rattle.std.proofs.Common.{◌≡◌, ℕ, zero, suc, ◌<◌, ◌⊎◌, inl, inr, ⊎_elim, Bool, true, false, not, List, [], ◌∷◌, ◌++◌, take, Option, Some, None, refl, sym, ap, ◌∙◌, arith}
 use Rattle.std.specs.Prelude.{nat_eq, slice_get}
 use Rattle.std.specs.List.{list_all}
 use Rattle.std.proofs.lemmas.Bool.{and_parts, and_from, eq-eqb, false≢true}
 use Rattle.std.proofs.lemmas.List.Folds.{list_all-append}
 use Rattle.pj_ll.specs.declared.grammar.Symbol.{Symbol}
-use Rattle.pj_ll.specs.declared.grammar.Symbol.TheVariants.{Terminal, Rule, LeftOut, Close}
+use Rattle.pj_ll.specs.declared.grammar.Symbol.TheVariants.{Terminal}
 use Rattle.pj_ll.specs.Grammar.{Line}
-use Rattle.pj_ll.specs.Leads.{Leads, stay, take_terminal, close, expand, start}
+use Rattle.pj_ll.specs.Leads.{Leads, stay, take_terminal, close, expand}
 use Rattle.pj_xtokens.specs.Tokens.{Lexed}
 use Rattle.pj_xtokens.specs.declared.token.TokenKind.{TokenKind}
 use Rattle.pj_xtokens.specs.declared.token.TokenKind.TheVariants as kinds
 use Rattle.pj_xgrammar.specs.declared.terminal.Behind.{Behind}
-use Rattle.pj_xgrammar.specs.Terminals.{kind_terminal, terminal_number, numbers}
+use Rattle.pj_xgrammar.specs.Terminals.{kind_terminal, terminal_number}
 use Rattle.pj_xgrammar.specs.XPath.{xpath, rules, xpath_grammar}
 use Rattle.pj_xgrammar.specs.Expressions.{CanGoOn, IsExpression, is_left_out_kind, is_left_out_token}
 use Rattle.pj_xgrammar.proofs.Outcomes.{read_at}

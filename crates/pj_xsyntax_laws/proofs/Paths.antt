@@ -289,7 +289,7 @@ rooted_at {scope} t _ r (more_parts {t = u} {ts = us} ru rus) flag around from b
     let ws = further_steps flag (printed_of u) (printed_each us) in
     let start = next (past from slash) (operand false 15 (printed_of t)) in
     way (λ x. Reading around behind 37 from (cond x (slashes ∷ from_step flag (printed_of u) (printed_each us)) (slash ∷ (operand false 15 (printed_of t) ++ ws))) scope Other
-        (Node tree.Path (More (Node tree.Root NoMore) (More t (More u us)))))
+    (Node tree.Path (More (Node tree.Root NoMore) (More t (More u us)))))
     (printed_of t).is_descendants (nested_of t).is_descendants (same_descendants t)
     (λ e d.
     let i = short_nests (nested_of t).is_descendants around short (max a c) h d in

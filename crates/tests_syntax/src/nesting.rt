@@ -114,7 +114,10 @@ fn order_at_one_place(rt: HostRuntime) -> Result<(), Fail> {
 /// The parentheses of kind tests nest as others do.
 fn check_kind_tests(alloc: Global, variables: &Names, test: &str) -> Result<(), Fail> {
     let within = nested(alloc, 199, "(", test, ")")?;
-    expect(is_taken(alloc, variables, within.as_str()), "199 parentheses")?;
+    expect(
+        is_taken(alloc, variables, within.as_str()),
+        "199 parentheses",
+    )?;
     let past = nested(alloc, 200, "(", test, ")")?;
     expect(
         is_read(alloc, variables, past.as_str(), "Deep(201)")?,
