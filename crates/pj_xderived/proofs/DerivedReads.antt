@@ -2,10 +2,10 @@
 use Rattle.std.proofs.Common.{◌≡◌, ℕ, zero, suc, ◌+◌, ◌≤◌, List, [], ◌∷◌, ◌++◌, map, Option, Some, None, refl, sym, ◌∙◌, ap, subst, arith, append_assoc}
 use Rattle.std.specs.Prelude.{slice_get, ⊤}
 use Rattle.std.proofs.lemmas.List.{append-nil}
+use Rattle.std.proofs.lemmas.Option.{same_Some}
 use Rattle.pj_ll.specs.declared.grammar.Symbol.{Symbol}
 use Rattle.pj_ll.specs.declared.grammar.Symbol.TheVariants as symbol
 use Rattle.pj_ll.specs.Grammar.{Line, Grammar, closes}
-use Rattle.pj_ll.proofs.Lists.{some_one}
 use Rattle.pj_xvalue.specs.declared.operator.Compare.TheVariants as compare
 use Rattle.pj_xvalue.specs.declared.expr.Additive.TheVariants as sum
 use Rattle.pj_xvalue.specs.declared.expr.Multiplicative.TheVariants as product
@@ -194,7 +194,7 @@ step_at : (ls : Grammar) (acts : List Action) (p : ℕ) (l : Line) (rule : Rule)
 step_at [] acts p l rule s e f = absurd (let z = e in cc)
 step_at (m ∷ ls) [] p l rule s e f = absurd s
 step_at (m ∷ ls) (a ∷ acts) zero l rule s e f =
-    let same : m ≡ l = some_one e in
+    let same : m ≡ l = same_Some m l e in
     subst (λ (x : Line). StepFor rule a x.symbols) same (s.0 rule (ap (λ (x : Line). x.rule) same ∙ f))
 step_at (m ∷ ls) (a ∷ acts) (suc p) l rule s e f = step_at ls acts p l rule s.1 e f
 

@@ -1,5 +1,6 @@
 -- In a sentence of a predictive grammar nothing is left out.
 use Rattle.std.proofs.Common.{◌≡◌, ℕ, zero, suc, List, [], ◌∷◌, ◌++◌, take, Some, slice_get, refl, sym, ◌∙◌, ap, subst}
+use Rattle.std.proofs.lemmas.Option.{same_Some}
 use Rattle.pj_ll.specs.declared.grammar.Symbol.{Symbol}
 use Rattle.pj_ll.specs.declared.grammar.Symbol.TheVariants.{LeftOut}
 use Rattle.pj_ll.specs.Grammar.{Entry, Grammar, Line, grammar_of}
@@ -9,7 +10,6 @@ use Rattle.pj_ll.specs.Parsing.{IsNext, IsStacked, IsStack}
 use Rattle.pj_ll.specs.Predictive.{RuleFacts, IsPredictive}
 use Rattle.pj_ll.proofs.Chosen.{chosen, replaced, none_first}
 use Rattle.pj_ll.proofs.Composing.{line_there}
-use Rattle.pj_ll.proofs.Lists.{some_same, some_one}
 use Rattle.pj_ll.proofs.Moving.{start_stack}
 use Rattle.pj_xgrammar.specs.XPath.{xpath_grammar}
 use Rattle.pj_xgrammar.proofs.RuleFacts.{xpath_facts}
@@ -70,14 +70,14 @@ module _ (fs : List RuleFacts) (ps : List Entry) (ok : IsPredictive fs ps) where
       let y_on = chosen fs ps ok y q b y_at (subst (λ k. IsStacked fs k ss) (sym y_rule) stack.stacked.0) d'
       (subst (λ l. IsNext l after b) (sym is) (first_next us vs t after)) in
       let one : p ≡ q = ok.one p q x y b x_at y_at (x_rule ∙ sym y_rule) x_on y_on in
-      let it : other ≡ line = some_same (subst (λ k. slice_get G k ≡ Some other) (sym one) there) at in
+      let it : other ≡ line = same_Some other line (sym (subst (λ k. slice_get G k ≡ Some other) (sym one) there) ∙ at) in
       cannot_follow t vs end e (subst (λ (l : Line). Leads G (l.symbols ++ ss) all qs after) it d) ends is
       (subst (λ (l : Line). IsStack fs (l.symbols ++ ss)) (sym x_is) (replaced fs ps ok x p x_at x_rule stack))
 
 -- the terminals before a place, the one there, and those behind it
 cut : (ts : List ℕ) (i t : ℕ) → slice_get ts i ≡ Some t → (vs : List ℕ) × (ts ≡ take i ts ++ t ∷ vs)
 cut [] i t at = absurd (let z = at in cc)
-cut (u ∷ ts) zero t at = (ts, ap (λ k. k ∷ ts) (some_one at))
+cut (u ∷ ts) zero t at = (ts, ap (λ k. k ∷ ts) (same_Some u t at))
 cut (u ∷ ts) (suc i) t at = let (vs, is) = cut ts i t at in (vs, ap (λ l. u ∷ l) is)
 
 pub not_left_out : (ts ps : List ℕ) → Leads xpath_grammar start ts ps [] → (i : ℕ) → IsLeftOutAt xpath_grammar ts i → ⊥

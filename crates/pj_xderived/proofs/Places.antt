@@ -1,9 +1,9 @@
 -- Where productions stand in the grammar: the place of each is known by its rule and its place among those of the rule.
 use Rattle.std.proofs.Common.{◌≡◌, ℕ, zero, suc, ◌+◌, List, [], ◌∷◌, ◌++◌, map, length, Some, refl, sym, ◌∙◌, ap, subst, arith}
 use Rattle.std.specs.Prelude.{slice_get, ⊤}
+use Rattle.std.proofs.lemmas.Option.{same_Some}
 use Rattle.pj_ll.specs.declared.grammar.Symbol.{Symbol}
 use Rattle.pj_ll.specs.Grammar.{Grammar}
-use Rattle.pj_ll.proofs.Lists.{some_one, some_same}
 use Rattle.pj_xgrammar.specs.declared.rule.Rule.{Rule}
 use Rattle.pj_xgrammar.specs.declared.rule.Rule.TheVariants as r
 use Rattle.pj_xgrammar.specs.Notation.{rule_number}
@@ -26,7 +26,7 @@ are_numbered = (refl, (refl, (refl, (refl, (refl, (refl, (refl, (refl, (refl, (r
 numbered : (k : ℕ) (rs : List Rule) (n : ℕ) (rule : Rule) → AreNumbered k rs → slice_get rs n ≡ Some rule → rule_number rule ≡ k + n
 unfolding AreNumbered
 numbered k [] n rule a e = absurd (let z = e in cc)
-numbered k (x ∷ xs) zero rule a e = let same : x ≡ rule = some_one e in ap rule_number (sym same) ∙ a.0 ∙ omega arith
+numbered k (x ∷ xs) zero rule a e = let same : x ≡ rule = same_Some x rule e in ap rule_number (sym same) ∙ a.0 ∙ omega arith
 numbered k (x ∷ xs) (suc n) rule a e = numbered (suc k) xs n rule a.1 e ∙ omega arith
 
 -- the rule at a place has its number
@@ -35,7 +35,7 @@ number_at n rule e = numbered 0 rules n rule are_numbered e ∙ omega arith
 
 -- a number is that of one rule
 pub one_rule : (a b : Rule) → rule_number a ≡ rule_number b → a ≡ b
-one_rule a b e = some_same (subst (λ n. slice_get rules n ≡ Some a) e (rule_at a)) (rule_at b)
+one_rule a b e = same_Some a b (sym (subst (λ n. slice_get rules n ≡ Some a) e (rule_at a)) ∙ rule_at b)
 
 -- ---- places
 
@@ -54,7 +54,7 @@ first_place : (rule : Rule) (sss : List (List Symbol)) (many : List Action) (ls 
     slice_get sss i ≡ Some ss → slice_get many i ≡ Some a → PlaceIn (map (line rule) sss ++ ls) (many ++ acts) rule ss a
 first_place rule [] many ls acts i ss a e f = absurd (let z = e in cc)
 first_place rule (x ∷ sss) [] ls acts i ss a e f = absurd (let z = f in cc)
-first_place rule (x ∷ sss) (y ∷ many) ls acts zero ss a e f = record { at = 0; line_there = ap (λ l. Some (line rule l)) (some_one e); action_there = f }
+first_place rule (x ∷ sss) (y ∷ many) ls acts zero ss a e f = record { at = 0; line_there = ap (λ l. Some (line rule l)) (same_Some x ss e); action_there = f }
 first_place rule (x ∷ sss) (y ∷ many) ls acts (suc i) ss a e f =
     let p = first_place rule sss many ls acts i ss a e f in
     record { at = suc p.at; line_there = p.line_there; action_there = p.action_there }
@@ -128,7 +128,7 @@ place_in : (rs : List Rule) (n : ℕ) (rule : Rule) (i : ℕ) (ss : List Symbol)
     slice_get (xpath rule) i ≡ Some ss → slice_get (actions_of rule) i ≡ Some a → PlaceIn (lines_of rs) (actions_by rs) rule ss a
 place_in [] n rule i ss a e f g = absurd (let z = e in cc)
 place_in (x ∷ xs) zero rule i ss a e f g =
-    let same : x ≡ rule = some_one e in
+    let same : x ≡ rule = same_Some x rule e in
     subst (λ (y : Rule). PlaceIn (lines_of (y ∷ xs)) (actions_by (y ∷ xs)) rule ss a) (sym same)
     (first_place rule (xpath rule) (actions_of rule) (lines_of xs) (actions_by xs) i ss a f g)
 place_in (x ∷ xs) (suc n) rule i ss a e f g =

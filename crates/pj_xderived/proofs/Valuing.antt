@@ -1,11 +1,10 @@
 -- The values of rules and what they name, from the productions of a leftmost derivation.
-use Rattle.std.proofs.Common.{◌≡◌, ℕ, List, [], ◌∷◌, ◌++◌, map, length, Some, slice_get, refl, sym, ◌∙◌, ap, arith, append_assoc}
+use Rattle.std.proofs.Common.{◌≡◌, ℕ, List, [], ◌∷◌, ◌++◌, map, length, Option, Some, None, slice_get, refl, sym, ◌∙◌, ap, arith, append_assoc}
 use Rattle.std.proofs.lemmas.List.{append-nil}
 use Rattle.std.specs.Option.{option_map}
-use Rattle.std.proofs.lemmas.Option.{slice_get-map}
+use Rattle.std.proofs.lemmas.Option.{none-some, same_Some, slice_get-map}
 use Rattle.pj_ll.specs.declared.grammar.Symbol.{Symbol}
 use Rattle.pj_ll.specs.Grammar.{Line}
-use Rattle.pj_ll.proofs.Lists.{mapped}
 use Rattle.pj_xtokens.specs.Tokens.{Lexed}
 use Rattle.pj_xgrammar.specs.XPath.{xpath_grammar}
 use Rattle.pj_xmeaning.specs.Actions.{actions}
@@ -34,14 +33,18 @@ slots_are p line at = ap slots_in at
 count_of : Line → ℕ
 count_of line = rules_among (slots line.symbols)
 
+-- the action that is there takes as many values as this
+taken_there : (there : Option Action) (count : ℕ) → option_map taken there ≡ Some count → taken (action_in there) ≡ count
+taken_there None count e = absurd (none-some count e)
+taken_there (Some a) count e = same_Some (taken a) count e
+
 -- the action of a production takes as many values as there are rules in it
 takes : (p : ℕ) (line : Line) → slice_get xpath_grammar p ≡ Some line → taken (action_of p) ≡ rules_among (slots line.symbols)
 unfolding action_of count_of
 takes p line at =
     let here : slice_get (map count_of xpath_grammar) p ≡ Some (count_of line) = slice_get-map count_of xpath_grammar p ∙ ap (option_map count_of) at in
     let there : option_map taken (slice_get actions p) ≡ Some (count_of line) = sym (slice_get-map taken actions p) ∙ ap (λ l. slice_get l p) actions_fit ∙ here in
-    let (a, is, same) = mapped taken (slice_get actions p) (count_of line) there in
-    ap (λ o. taken (action_in o)) is ∙ sym same
+    taken_there (slice_get actions p) (count_of line) there
 
 -- ---- what an action makes of the values of its production is not changed by those that stand behind them
 

@@ -1,9 +1,8 @@
 -- Each text has tokens, up to its end or up to a place where no token begins.
 use Rattle.std.proofs.Common.{◌≡◌, ℕ, zero, suc, ◌+◌, ◌<◌, ◌≤◌, ◌⊎◌, inl, inr, Bool, true, false, List, [], ◌∷◌, ◌++◌, length, Option, Some, None, sym, refl, ap, ◌∙◌, subst, arith, length-append}
 use Rattle.std.specs.Prelude.{IsTrue, ◌==◌, ◌&&◌}
-use Rattle.std.proofs.lemmas.Bool.{cases_Bool, eqb-true, false≢true}
+use Rattle.std.proofs.lemmas.Bool.{and_parts, cases_Bool, eqb-true, false≢true}
 use Rattle.std.proofs.Math.Logic.{⊎_elim}
-use Rattle.pj_ll.proofs.Lists.{and_first, and_second}
 use Rattle.pj_xtokens.specs.Characters.{is_white}
 use Rattle.pj_xtokens.specs.Gaps.{begins_with, opens, closes, Comment, Past, here, white, comment, IsSolid}
 use Rattle.pj_xtokens.specs.Gaps as gap
@@ -27,8 +26,8 @@ and_false false = refl
 -- two characters that a text begins with
 pair_is : (a b c d : ℕ) (rest : List ℕ) → begins_with a b (c ∷ d ∷ rest) ≡ true → c ∷ d ∷ rest ≡ a ∷ b ∷ rest
 pair_is a b c d rest e =
-    let x : c ≡ a = eqb-true c a (and_first (c == a) (d == b) e) in
-    let y : d ≡ b = eqb-true d b (and_second (c == a) (d == b) e) in
+    let x : c ≡ a = eqb-true c a (and_parts (c == a) (d == b) e).0 in
+    let y : d ≡ b = eqb-true d b (and_parts (c == a) (d == b) e).1 in
     (λ i. x i ∷ y i ∷ rest)
 
 -- what stands behind a comment, where it ends

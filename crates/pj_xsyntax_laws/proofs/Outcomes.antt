@@ -1,11 +1,11 @@
 -- The tokens have their fault where the run over their terminals ends, or behind it.
-use Rattle.std.proofs.Common.{◌≡◌, ℕ, ◌+◌, ◌<◌, ◌≤◌, true, false, List, length, Some, sym, ◌∙◌, ap, ⊎_elim, arith}
+use Rattle.std.proofs.Common.{◌≡◌, ℕ, ◌+◌, ◌<◌, ◌≤◌, true, false, List, length, Some, sym, ◌∙◌, ap, inl, inr, ⊎_elim, arith}
 use Rattle.std.specs.Prelude.{slice_get}
 use Rattle.std.proofs.lemmas.Bool.{cases_lt, cases_Bool, false≢true}
+use Rattle.std.proofs.lemmas.Option.{slice_get_cases}
 use Rattle.pj_ll.specs.declared.parser.End.{End}
 use Rattle.pj_ll.specs.declared.parser.End.TheVariants.{Whole, Stops, LeftOut, TooDeep}
 use Rattle.pj_ll.specs.Outcome as ll
-use Rattle.pj_ll.proofs.Lists.{found}
 use Rattle.pj_xtokens.specs.Tokens.{Lexed}
 use Rattle.pj_xgrammar.specs.Terminals.{numbers}
 use Rattle.pj_xgrammar.specs.XPath.{xpath_grammar}
@@ -31,13 +31,15 @@ module _ (tokens : List Lexed) (fault : End) (is_fault : IsOutcome tokens fault)
       (cases_Bool (is_left_out_kind x.kind))
 
   stopped_first : (i : ℕ) → ll.StopsAt xpath_grammar (numbers tokens) 200 i → i ≤ place_of tokens fault
-  stopped_first i stops = ⊎_elim
-      (λ (lt : i < length tokens). ⊎_elim
-      (λ (early : place_of tokens fault < i). let (x, there) = found tokens i lt in absurd (not_earlier i x there stops early))
-      (λ (le : i ≤ place_of tokens fault). le)
-      (cases_lt (place_of tokens fault) i))
-      (λ (le : length tokens ≤ i). let e = same (Stops i) (stops_at_end tokens i stops le) in omega arith)
-      (cases_lt i (length tokens))
+  stopped_first i stops = elim (slice_get_cases tokens i).1 [
+    | inl here ↦
+        let (x, within, there, is) = here in
+        ⊎_elim
+        (λ (early : place_of tokens fault < i). absurd (not_earlier i x there stops early))
+        (λ (le : i ≤ place_of tokens fault). le)
+        (cases_lt (place_of tokens fault) i)
+    | inr past ↦ let e = same (Stops i) (stops_at_end tokens i stops past.0) in omega arith
+  ]
 
   -- what is left out, or the place where too much is open before it
   left_out_first : (i : ℕ) → ll.IsLeftOutFirst xpath_grammar (numbers tokens) 200 i → i ≤ place_of tokens fault
