@@ -1,5 +1,6 @@
 pub mod OneAnswer
 pub mod Parsed
+pub mod Sizes
 pub mod SomeAnswer
 pub mod SomeRun
 pub mod SomeTokens

@@ -9,7 +9,7 @@ use Rattle.pj_xtokens.specs.Tokens.{Lexed, Tokens}
 use Rattle.pj_xtokens.specs.declared.token.Token.{Token}
 use Rattle.pj_xtokens.specs.declared.token.End as token
 use Rattle.pj_xtokens.specs.declared.token.End.TheVariants as ends
-use Rattle.pj_xtokens.proofs.Ends.{size_chars}
+use Rattle.pj_xparse.proofs.Sizes.{size_chars}
 use Rattle.pj_xgrammar.specs.Expressions.{IsOutcome, LeadTo}
 use Rattle.pj_xmeaning.specs.Meaning.{meaning}
 use Rattle.pj_xnames.specs.Faults.{first_fault}

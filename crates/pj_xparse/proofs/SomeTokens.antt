@@ -14,7 +14,7 @@ use Rattle.pj_xtokens.specs.declared.state.State.TheVariants.{Start}
 use Rattle.pj_xtokens.specs.declared.token.TokenKind.{TokenKind}
 use Rattle.pj_xtokens.specs.declared.token.End.{End}
 use Rattle.pj_xtokens.specs.declared.token.End.TheVariants as ends
-use Rattle.pj_xtokens.proofs.Ends.{size-append}
+use Rattle.pj_xparse.proofs.Sizes.{size-append}
 use Rattle.pj_xtokens.proofs.Gapped.{nothing_open, at_close, at_open, at_other, comment_behind, solid_end, solid_plain}
 use Rattle.pj_xtokens.proofs.Reading.{past_behind, spelled_length}
 use Rattle.pj_xtokens.proofs.Scanned.{longest_found, unspelled_from}

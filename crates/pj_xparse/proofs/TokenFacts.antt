@@ -8,7 +8,7 @@ use Rattle.pj_xtokens.specs.Tokens.{Lexed, Tokens, ended, token, joined, unspell
 use Rattle.pj_xtokens.specs.declared.token.TokenKind.{TokenKind}
 use Rattle.pj_xtokens.specs.declared.token.End.{End}
 use Rattle.pj_xtokens.specs.declared.token.End.TheVariants as ends
-use Rattle.pj_xtokens.proofs.Ends.{size-append}
+use Rattle.pj_xparse.proofs.Sizes.{size-append}
 use Rattle.pj_xtokens.proofs.Reading.{past_behind, spelled_length}
 
 -- what has a character has a byte

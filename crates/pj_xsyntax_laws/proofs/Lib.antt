@@ -1,3 +1,4 @@
+pub mod Sizes
 pub mod Stopping
 pub mod Fronts
 pub mod Placing

@@ -5,7 +5,7 @@ use Rattle.pj_xtokens.specs.Gaps.{Past, here, white}
 use Rattle.pj_xtokens.specs.Size.{size}
 use Rattle.pj_xtokens.specs.Tokens.{Tokens, ended, token}
 use Rattle.pj_xtokens.specs.declared.token.End.TheVariants as ends
-use Rattle.pj_xtokens.proofs.Ends.{size-append}
+use Rattle.pj_xsyntax_laws.proofs.Sizes.{size-append}
 use Rattle.pj_xsyntax_laws.specs.Spaced.{Word, spaced, placed, AreSpelled}
 use Rattle.pj_xsyntax_laws.proofs.Stopping.{longest_before_space}
 use Rattle.pj_xsyntax_laws.proofs.Fronts.{opens_none, solid_front, not_joined}

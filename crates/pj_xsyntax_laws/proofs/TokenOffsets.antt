@@ -6,7 +6,7 @@ use Rattle.pj_xtokens.specs.Size.{size}
 use Rattle.pj_xtokens.specs.Tokens.{IsLongest, Lexed, Tokens, ended, token, joined, unspelled}
 use Rattle.pj_xtokens.specs.declared.token.TokenKind.{TokenKind}
 use Rattle.pj_xtokens.specs.declared.token.End.{End}
-use Rattle.pj_xtokens.proofs.Ends.{size-append}
+use Rattle.pj_xsyntax_laws.proofs.Sizes.{size-append}
 use Rattle.pj_xtokens.proofs.Reading.{past_behind, spelled_length}
 use Rattle.pj_xsyntax_laws.specs.Order.{offset_of_end, offset_at}
 use Rattle.pj_xsyntax_laws.proofs.Running.{at, AreAscending}
