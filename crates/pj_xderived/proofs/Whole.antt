@@ -4,7 +4,6 @@ use Rattle.std.proofs.lemmas.List.{append-nil}
 use Rattle.pj_xtokens.specs.Tokens.{Lexed}
 use Rattle.pj_xgrammar.specs.declared.rule.Rule.TheVariants as r
 use Rattle.pj_xgrammar.specs.Expressions.{AreDerived, AreClear}
-use Rattle.pj_xgrammar.proofs.OneOutcome.{one_derivation}
 use Rattle.pj_xmeaning.specs.Meaning.{meaning}
 use Rattle.pj_xmeaning.specs.Parts.{RuleValue, expression}
 use Rattle.pj_xnames.specs.Meaning.{mentions}
@@ -60,8 +59,10 @@ derivation_reads tokens ps derived clear =
       tree_mentions tokens ps v w tree ∙ names_are m.links,
     )
 
-pub one_reading : (tokens : List Lexed) (a b : Operand) → AreRead tokens a → AreRead tokens b → (a.tree ≡ b.tree) × (a.names ≡ b.names)
-one_reading tokens a b h k =
+-- where tokens have one leftmost derivation, what they read is one
+pub one_reading : ((tokens : List Lexed) (ps qs : List ℕ) → AreDerived tokens ps → AreDerived tokens qs → ps ≡ qs) → (tokens : List Lexed) (a b : Operand) →
+    AreRead tokens a → AreRead tokens b → (a.tree ≡ b.tree) × (a.names ≡ b.names)
+one_reading one_derivation tokens a b h k =
     let d = read_derives tokens a h in
     let e = read_derives tokens b k in
     let same = one_derivation tokens d.productions e.productions d.derived e.derived in

@@ -11,6 +11,8 @@ ghost use Rattle.pj_xderived.specs.Derived.{Derived};
 ghost use Rattle.pj_xderived.specs.Operands.{Operand};
 ghost use Rattle.pj_xderived.specs.Reads.{AreRead};
 
+use pj_xgrammar::one_derivation;
+
 /// What the tokens of a text read, rule by rule, is what their leftmost derivation means and names; it nests no deeper than it may.
 pub fn readings_are_derivations()
     ensures { (tokens : List Lexed) (a : Operand) → AreRead tokens a →
@@ -27,7 +29,9 @@ pub fn derivations_are_readings()
 pub fn one_reading()
     ensures tree { (tokens : List Lexed) (a b : Operand) → AreRead tokens a → AreRead tokens b → a.tree ≡ b.tree }
     ensures names { (tokens : List Lexed) (a b : Operand) → AreRead tokens a → AreRead tokens b → a.names ≡ b.names }
-{}
+{
+    one_derivation();
+}
 
 /// A leftmost derivation of a text that nests no deeper than it may is one by rules, with the same meaning and the same names.
 pub fn derivations_are_trees()

@@ -33,7 +33,7 @@ use Rattle.pj_xmeaning.specs.declared.action.Single.TheVariants as single
 use Rattle.pj_xnames.specs.Namings.{Naming}
 use Rattle.pj_xshape.specs.Shapes.{level_by}
 use Rattle.pj_xshape.specs.Nesting.{Nested, operand_before, chain_before, clauses_before, step_before, further_before, enclosed, axis_nesting, test_nesting, nested_by, nested_of, nested_each}
-use Rattle.pj_xshape.proofs.Nodes.{nested_of_node}
+use Rattle.pj_xshape.specs.Nodes.{nested_of_node}
 use Rattle.pj_xderived.specs.Derived.{IsRead}
 use Rattle.pj_xkinds.proofs.RuleKinds as kind
 use Rattle.pj_xkinds.proofs.RuleKinds.{Kind, Piece}

@@ -9,7 +9,7 @@ use Rattle.pj_xnames.specs.Mentions.{Mention}
 use Rattle.pj_xnames.specs.Namings.{Operand, mentions_in}
 use Rattle.pj_xnames.specs.Faults.{first_fault_from}
 use Rattle.pj_xshape.specs.Shapes.{written_by, fits_by, part_of_tree, operators_fit, exactly}
-use Rattle.pj_xshape.proofs.Nodes.{part_of_node}
+use Rattle.pj_xshape.specs.Nodes.{part_of_node}
 use Rattle.pj_xkinds.proofs.Faultless.{AreBalanced, none_balanced, both_balanced, both_none}
 
 -- The expression may stand wherever what it names has no fault.

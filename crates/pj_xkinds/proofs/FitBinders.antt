@@ -11,7 +11,7 @@ use Rattle.pj_xnames.specs.Mentions.{Mention, Binds, Ends}
 use Rattle.pj_xnames.specs.Namings.{scoped}
 use Rattle.pj_xnames.specs.Faults.{first_fault_from}
 use Rattle.pj_xshape.specs.Shapes.{part_of_tree, scoped_fit, fits_by}
-use Rattle.pj_xshape.proofs.Nodes.{part_of_node}
+use Rattle.pj_xshape.specs.Nodes.{part_of_node}
 use Rattle.pj_xkinds.proofs.Faultless.{scope_after, after-append, AreBalanced, first_none, both_none}
 use Rattle.pj_xkinds.proofs.Fit.{IsFit}
 use Rattle.pj_xkinds.proofs.FitKinds.{AreBound, none, more}

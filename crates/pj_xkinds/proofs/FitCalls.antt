@@ -19,7 +19,7 @@ use Rattle.pj_xnames.specs.Namings.{Operand, in_roles}
 use Rattle.pj_xnames.specs.Faults as fault
 use Rattle.pj_xnames.specs.Faults.{Fault, Form, unless, fault_in, fits_role, callee_takes, first_fault_from}
 use Rattle.pj_xshape.specs.Shapes.{part_of_tree}
-use Rattle.pj_xshape.proofs.Nodes.{part_of_node}
+use Rattle.pj_xshape.specs.Nodes.{part_of_node}
 use Rattle.pj_xkinds.proofs.Faultless.{AreBalanced, none_balanced, both_balanced, one_balanced, both_none, first_none}
 use Rattle.pj_xkinds.proofs.Fit.{IsFit, AreFit, ArePaired, none_paired, more_paired, more_fit, chain_fit, filter_chain}
 

@@ -41,7 +41,7 @@ use Rattle.pj_xkinds.proofs.RuleKinds as kind
 use Rattle.pj_xkinds.proofs.Typed as typed
 use Rattle.pj_xkinds.proofs.Typed.{Typed, may_be_nothing}
 use Rattle.pj_xkinds.proofs.Induction.{none, token, value_of, close, IsKept}
-use Rattle.pj_xshape.proofs.Nodes.{part_of_node}
+use Rattle.pj_xshape.specs.Nodes.{part_of_node}
 use Rattle.pj_xkinds.proofs.Faultless.{none_balanced, one_balanced, first_none}
 use Rattle.pj_xkinds.proofs.Fit.{IsFit, AreFit, none_paired, more_paired, none_fit, more_fit, last_fit, no_fit, paired_fit, node_fit, fit_behind, IsChain, or_chain, and_chain, concatenation_chain, union_chain, simple_map_chain, path_chain, comma_chain, chain_fit, alone_fit, operated_by}
 use Rattle.pj_xkinds.proofs.FitCalls.{filtered_fit, call_fit, good_unless}

@@ -19,6 +19,9 @@ ghost use Rattle.pj_xshape.specs.Shapes.{part_of_tree};
 ghost use Rattle.pj_xshape.specs.Spelled.{IsSpelled};
 ghost use Rattle.pj_xkinds.specs.WellSpelled.{AreWellSpelled};
 
+use pj_xderived::derivations_are_trees;
+use pj_xshape::{expressions_have_shapes, nesting_is_least};
+
 /// The expression of a text whose names have no fault is one that may be evaluated where the rule set gives these variables.
 pub fn derived_expressions_fit()
     ensures fits { (tokens : List Lexed) (productions : List ℕ) (v : RuleValue) (w : Naming) (variables : List (List ℕ)) → Derived 0 [] 0 tokens productions v w →
@@ -36,4 +39,8 @@ pub fn tokens_are_well_spelled()
 pub fn meanings_are_expressions()
     ensures { (variables : List (List ℕ)) (tokens : List Lexed) (productions : List ℕ) (e : Expr) → AreDerived tokens productions → AreClear tokens (length tokens + 1) →
         first_fault variables (mentions productions tokens) ≡ None → tree_of e ≡ meaning productions tokens → IsExpression variables e }
-{}
+{
+    derivations_are_trees();
+    expressions_have_shapes();
+    nesting_is_least();
+}

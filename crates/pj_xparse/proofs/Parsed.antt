@@ -15,7 +15,7 @@ use Rattle.pj_xmeaning.specs.Meaning.{meaning}
 use Rattle.pj_xnames.specs.Faults.{first_fault}
 use Rattle.pj_xnames.specs.Meaning.{mentions}
 use Rattle.pj_xparse.specs.Spells.{Spells}
-use Rattle.pj_xparse.proofs.Derivations.{IsDerived, spelled_by}
+use Rattle.pj_xparse.proofs.Derivations.{DerivedAreReadings, IsDerived, spelled_by}
 use Rattle.pj_xparse.specs.Faults.{syntax_fault}
 use Rattle.pj_xparse.proofs.TokenFacts.{token_count, text_end}
 
@@ -56,6 +56,6 @@ module _ (variables : List (List ℕ)) (text : List ℕ) (tokens : List Lexed) (
   derived_meaning end (outcome.TooDeep i) read is leads none = absurd (cc)
 
   -- and spells it
-  pub spells_meaning : (end : token.End) (o : End) → Tokens (size text) text tokens end → IsOutcome tokens o → LeadTo tokens productions o
+  pub spells_meaning : DerivedAreReadings → (end : token.End) (o : End) → Tokens (size text) text tokens end → IsOutcome tokens o → LeadTo tokens productions o
       → syntax_fault tokens end o ≡ None → Spells variables text (meaning productions tokens)
-  spells_meaning end o read is leads none = spelled_by (derived_meaning end o read is leads none)
+  spells_meaning reads end o read is leads none = spelled_by reads (derived_meaning end o read is leads none)

@@ -12,7 +12,9 @@ ghost use Rattle.pj_xparse.specs.declared.fault.XSyntax.TheVariants.{Memory};
 use crate::fault::XSyntax;
 use crate::syntax::syntax_fault;
 use pj_base::{Names, NoMemory, Text};
+use pj_xderived::derivations_are_readings;
 use pj_xgrammar::derivation;
+use pj_xkinds::meanings_are_expressions;
 use pj_xmeaning::meaning;
 use pj_xnames::{NameFault, first_fault};
 use pj_xtokens::tokens;
@@ -60,6 +62,8 @@ pub fn parse(alloc: Global, text: &str, variables: &Names) -> Result<Expr, XSynt
     if let Some(fault) = syntax_fault(tokens, found.end, run.end) {
         return Err(fault);
     }
+    derivations_are_readings();
+    meanings_are_expressions();
     let expr = meaning(alloc, productions, tokens)?;
     Ok(expr)
 }

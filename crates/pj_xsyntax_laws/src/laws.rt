@@ -38,6 +38,12 @@ ghost use Rattle.pj_xsyntax_laws.specs.Abbreviations.{WrittenOut, along_child, s
 ghost use Rattle.pj_xsyntax_laws.specs.Gapped.{ArePieces, IsGap, Piece, gapped, located, words_in};
 ghost use Rattle.pj_xsyntax_laws.specs.Printed.{function_name, printed};
 
+use pj_xderived::{
+    derivations_are_readings, derivations_are_trees, readings_are_derivations,
+    trees_are_derivations,
+};
+use pj_xkinds::{derived_expressions_fit, tokens_are_well_spelled};
+
 /// The text of words that each spell a token, with a space behind each, has just these tokens, up to its end.
 pub fn spaced_words_are_tokens()
     ensures { (words : List Word) → AreSpelled words → Tokens (size (spaced words)) (spaced words) (placed 0 words) (ends.Text (size (spaced words))) }
@@ -86,13 +92,23 @@ pub fn first_fault_is_first()
 /// nests no deeper than it may, and its names, strings and integers have a spelling.
 pub fn printed_expressions_are_read()
     ensures { (variables : List (List ℕ)) (t : Tree) → IsTrue ((part_of_tree t).fits (record { given = variables; bound = [] })) → nesting_of_tree t ≤ 200 → IsSpelled t → Spells variables (printed t) t }
-{}
+{
+    derivations_are_readings();
+    trees_are_derivations();
+}
 
 /// What any text spells is read again from its printed form: the text of Unicode scalar values, which the characters of every text
 /// are, spells an expression only where the printed form of that expression spells it too, with the same variables.
 pub fn spelled_expressions_are_printed()
     ensures { (variables : List (List ℕ)) (text : List ℕ) (t : Tree) → IsTrue (all_scalars text) → Spells variables text t → Spells variables (printed t) t }
-{}
+{
+    derivations_are_readings();
+    derivations_are_trees();
+    derived_expressions_fit();
+    readings_are_derivations();
+    tokens_are_well_spelled();
+    trees_are_derivations();
+}
 
 /// Abbreviations stand for their longer forms: a text that spells an expression spells the same one where `@` and `|` are written out and literals of one
 /// string are put for each other, and `//` and `..` too, where one more thing may be open, since the parentheses of a kind test nest (XPath 2.0, 3.2.4,

@@ -7,7 +7,6 @@ use Rattle.pj_xgrammar.specs.Expressions.{IsRun, LeadTo}
 use Rattle.pj_xnames.specs.Seen.{fault_of}
 use Rattle.pj_xnames.specs.Faults.{Fault, first_fault}
 use Rattle.pj_xnames.specs.Meaning.{mentions}
-use Rattle.pj_xkinds.proofs.Meanings.{meaning_is_expression}
 use Rattle.pj_xparse.specs.Faults.{named_first, syntax_fault}
 use Rattle.pj_xparse.specs.Spells.{Spells}
 use Rattle.pj_xparse.proofs.Parsed.{count_of_tokens, read_slice, derived_meaning, spells_meaning}
@@ -63,7 +62,7 @@ returns-clause-spells c =
     let none : first_fault c.args.variables.now (mentions productions tokens) ≡ None = sym c.in_ok-fault.ensures ∙ ap (option_map fault_of) c.in_default.is in
     let read = read_slice _ _ _ _ c.utf8.text c.as_slice-tokens.ensures c.in_ok-found.ensures in
     subst (Spells c.args.variables.now (chars c.args.text.now)) (sym c.in_ok-expr.ensures)
-    (spells_meaning _ _ tokens productions none c.in_ok-found.found.end c.in_ok-run.run'.end read c.in_ok-run.ensures.outcome leads (sym c.in_default-syntax_fault.ensures))
+    (spells_meaning _ _ tokens productions none c.derivations_are_readings.ensures c.in_ok-found.found.end c.in_ok-run.run'.end read c.in_ok-run.ensures.outcome leads (sym c.in_default-syntax_fault.ensures))
 
 pub returns-clause-expression : goal.returns-clause-expression
 returns-clause-expression c =
@@ -74,4 +73,4 @@ returns-clause-expression c =
     let none : first_fault c.args.variables.now (mentions productions tokens) ≡ None = sym c.in_ok-fault.ensures ∙ ap (option_map fault_of) c.in_default.is in
     let read = read_slice _ _ _ _ c.utf8.text c.as_slice-tokens.ensures c.in_ok-found.ensures in
     let it = derived_meaning _ _ tokens productions none c.in_ok-found.found.end c.in_ok-run.run'.end read c.in_ok-run.ensures.outcome leads (sym c.in_default-syntax_fault.ensures) in
-    meaning_is_expression _ it.tokens it.productions c.in_ok-expr.expr it.derived it.clear it.named (c.in_ok-expr.ensures ∙ it.means)
+    c.meanings_are_expressions.ensures _ it.tokens it.productions c.in_ok-expr.expr it.derived it.clear it.named (c.in_ok-expr.ensures ∙ it.means)
