@@ -4,10 +4,10 @@ use Rattle.pj_xtokens.specs.Tokens.{Lexed}
 use Rattle.pj_xgrammar.specs.declared.terminal.Behind.TheVariants as b
 use Rattle.pj_xgrammar.specs.Terminals.{numbers}
 use Rattle.pj_xgrammar.specs.Expressions.{AreClear}
-use Rattle.pj_xgrammar.proofs.Outcomes.{length_numbers}
 use Rattle.pj_xmeaning.specs.Parts.{RuleValue}
 use Rattle.pj_xnames.specs.Namings.{Naming}
 use Rattle.pj_xderived.specs.Derived.{Derived}
+use Rattle.pj_xderived.proofs.Counts.{length_numbers}
 use Rattle.pj_xderived.proofs.Flattening.{tree_derives}
 use Rattle.pj_xderived.proofs.Kept.{not_left_out}
 use Rattle.pj_xderived.proofs.Shallow.{tree_not_deep}

@@ -13,8 +13,6 @@ use Rattle.pj_xgrammar.specs.declared.terminal.Behind.TheVariants as b
 use Rattle.pj_xgrammar.specs.Terminals.{first_behind, numbers}
 use Rattle.pj_xgrammar.specs.XPath.{xpath_grammar}
 use Rattle.pj_xgrammar.specs.Expressions.{AreDerived, AreClear}
-use Rattle.pj_xgrammar.proofs.Outcomes.{length_numbers}
-use Rattle.pj_xgrammar.proofs.Reading.{number}
 use Rattle.pj_xmeaning.specs.Meaning.{action_of, first_text}
 use Rattle.pj_xmeaning.specs.Parts.{RuleValue}
 use Rattle.pj_xmeaning.specs.Values as value
@@ -22,6 +20,7 @@ use Rattle.pj_xnames.specs.Namings as naming
 use Rattle.pj_xnames.specs.Namings.{Naming}
 use Rattle.pj_xderived.specs.Derived as derived
 use Rattle.pj_xderived.specs.Derived.{IsRead, Derived, Fill}
+use Rattle.pj_xderived.proofs.Counts.{number, length_numbers}
 use Rattle.pj_xderived.proofs.Splitting.{split}
 
 -- the symbols derive the tokens up to the end by these productions, with some values

@@ -1,3 +1,4 @@
+pub mod Counts
 pub mod Splitting
 pub mod Leading
 pub mod Valuing

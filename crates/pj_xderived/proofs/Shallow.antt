@@ -9,7 +9,6 @@ use Rattle.pj_ll.specs.Leads as leads
 use Rattle.pj_ll.specs.Leads.{Leads, stay, expand, Behind, at_start, start, IsDeeper}
 use Rattle.pj_ll.proofs.Composing.{and_take, and_move}
 use Rattle.pj_ll.proofs.Moving.{one_behind}
-use Rattle.pj_ll.proofs.Stacking.{closes-append}
 use Rattle.pj_xtokens.specs.Tokens.{Lexed}
 use Rattle.pj_xgrammar.specs.Terminals.{numbers}
 use Rattle.pj_xgrammar.specs.XPath.{xpath_grammar}
@@ -20,6 +19,7 @@ use Rattle.pj_xnames.specs.Namings.{Naming}
 use Rattle.pj_xderived.specs.Derived as derived
 use Rattle.pj_xderived.specs.Derived.{Derived, by, Fill, none, token, rule}
 use Rattle.pj_xderived.proofs.Splitting.{behind_is}
+use Rattle.pj_xderived.proofs.Counts.{closes-append}
 
 -- directly behind the terminals not too much is open
 record IsFlat (before : List ℕ) : Type 0 where

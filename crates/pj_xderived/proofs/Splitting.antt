@@ -3,11 +3,11 @@ use Rattle.std.proofs.Common.{◌≡◌, ℕ, ◌+◌, ◌≤◌, List, [], ◌�
 use Rattle.pj_ll.specs.declared.grammar.Symbol.{Symbol}
 use Rattle.pj_ll.specs.declared.grammar.Symbol.TheVariants.{Terminal, Rule, LeftOut, Close}
 use Rattle.pj_ll.specs.Grammar.{closes}
-use Rattle.pj_ll.proofs.Stacking.{closes-append}
 use Rattle.pj_xtokens.specs.Tokens.{Lexed}
 use Rattle.pj_xmeaning.specs.Parts.{RuleValue}
 use Rattle.pj_xnames.specs.Namings.{Naming}
 use Rattle.pj_xderived.specs.Derived.{IsRead, Derived, Fill, none, token, rule, close}
+use Rattle.pj_xderived.proofs.Counts.{closes-append}
 
 -- the tokens, productions and values of the first symbols, and those of the others behind them
 pub record Parts (around : ℕ) (behind : List Lexed) (xs ys : List Symbol) (tokens : List Lexed) (productions : List ℕ) : Type 0 where
