@@ -4,6 +4,7 @@ use Rattle.std.proofs.lemmas.List.{append-nil}
 use Rattle.pj_xtokens.specs.Tokens.{Lexed}
 use Rattle.pj_xgrammar.specs.declared.rule.Rule.TheVariants as r
 use Rattle.pj_xgrammar.specs.Expressions.{AreDerived, AreClear}
+use Rattle.pj_xmeaning.specs.Fitting.{ActionsFit}
 use Rattle.pj_xmeaning.specs.Meaning.{meaning}
 use Rattle.pj_xmeaning.specs.Parts.{RuleValue, expression}
 use Rattle.pj_xnames.specs.Meaning.{mentions}
@@ -33,37 +34,39 @@ pub record Derivation (tokens : List Lexed) (a : Operand) : Type 0 where
   pub means : meaning productions tokens ≡ a.tree
   pub names : mentions productions tokens ≡ a.names
 
-pub read_derives : (tokens : List Lexed) (a : Operand) → AreRead tokens a → Derivation tokens a
-read_derives tokens a h =
-    let g = reads_derive h in
-    let i = g.is in
-    let same : i.tokens ≡ tokens = sym (i.are ∙ append-nil i.tokens) in
-    let tree : Derived 0 [] 0 tokens i.productions g.value g.name = subst (λ l. Derived 0 [] 0 l i.productions g.value g.name) same i.derived in
-    record {
-      productions = i.productions;
-      derived = tree_derives tokens i.productions g.value g.name tree;
-      clear = tree_clear tokens i.productions g.value g.name tree;
-      means = tree_meaning tokens i.productions g.value g.name tree ∙ tree_is g.links;
-      names = tree_mentions tokens i.productions g.value g.name tree ∙ names_are g.links;
-    }
+-- where the actions fit the grammar
+module _ (actions_fit : ActionsFit) where
+  pub read_derives : (tokens : List Lexed) (a : Operand) → AreRead tokens a → Derivation tokens a
+  read_derives tokens a h =
+      let g = reads_derive h in
+      let i = g.is in
+      let same : i.tokens ≡ tokens = sym (i.are ∙ append-nil i.tokens) in
+      let tree : Derived 0 [] 0 tokens i.productions g.value g.name = subst (λ l. Derived 0 [] 0 l i.productions g.value g.name) same i.derived in
+      record {
+        productions = i.productions;
+        derived = tree_derives tokens i.productions g.value g.name tree;
+        clear = tree_clear tokens i.productions g.value g.name tree;
+        means = tree_meaning actions_fit tokens i.productions g.value g.name tree ∙ tree_is g.links;
+        names = tree_mentions actions_fit tokens i.productions g.value g.name tree ∙ names_are g.links;
+      }
 
-pub derivation_reads : (tokens : List Lexed) (ps : List ℕ) → AreDerived tokens ps → AreClear tokens (length tokens + 1) →
-    (a : Operand) × AreRead tokens a × (meaning ps tokens ≡ a.tree) × (mentions ps tokens ≡ a.names)
-derivation_reads tokens ps derived clear =
-    let (v, rest) = leads_tree tokens ps derived clear in
-    let (w, tree) = rest in
-    let m = derived_reads tree r.Expr refl in (
-      m.value,
-      subst (λ l. Reads r.Expr 0 l [] m.value) (append-nil tokens) m.reads,
-      tree_meaning tokens ps v w tree ∙ tree_is m.links,
-      tree_mentions tokens ps v w tree ∙ names_are m.links,
-    )
+  pub derivation_reads : (tokens : List Lexed) (ps : List ℕ) → AreDerived tokens ps → AreClear tokens (length tokens + 1) →
+      (a : Operand) × AreRead tokens a × (meaning ps tokens ≡ a.tree) × (mentions ps tokens ≡ a.names)
+  derivation_reads tokens ps derived clear =
+      let (v, rest) = leads_tree tokens ps derived clear in
+      let (w, tree) = rest in
+      let m = derived_reads tree r.Expr refl in (
+        m.value,
+        subst (λ l. Reads r.Expr 0 l [] m.value) (append-nil tokens) m.reads,
+        tree_meaning actions_fit tokens ps v w tree ∙ tree_is m.links,
+        tree_mentions actions_fit tokens ps v w tree ∙ names_are m.links,
+      )
 
--- where tokens have one leftmost derivation, what they read is one
-pub one_reading : ((tokens : List Lexed) (ps qs : List ℕ) → AreDerived tokens ps → AreDerived tokens qs → ps ≡ qs) → (tokens : List Lexed) (a b : Operand) →
-    AreRead tokens a → AreRead tokens b → (a.tree ≡ b.tree) × (a.names ≡ b.names)
-one_reading one_derivation tokens a b h k =
-    let d = read_derives tokens a h in
-    let e = read_derives tokens b k in
-    let same = one_derivation tokens d.productions e.productions d.derived e.derived in
-    (sym d.means ∙ ap (λ l. meaning l tokens) same ∙ e.means, sym d.names ∙ ap (λ l. mentions l tokens) same ∙ e.names)
+  -- where tokens have one leftmost derivation, what they read is one
+  pub one_reading : ((tokens : List Lexed) (ps qs : List ℕ) → AreDerived tokens ps → AreDerived tokens qs → ps ≡ qs) → (tokens : List Lexed) (a b : Operand) →
+      AreRead tokens a → AreRead tokens b → (a.tree ≡ b.tree) × (a.names ≡ b.names)
+  one_reading one_derivation tokens a b h k =
+      let d = read_derives tokens a h in
+      let e = read_derives tokens b k in
+      let same = one_derivation tokens d.productions e.productions d.derived e.derived in
+      (sym d.means ∙ ap (λ l. meaning l tokens) same ∙ e.means, sym d.names ∙ ap (λ l. mentions l tokens) same ∙ e.names)

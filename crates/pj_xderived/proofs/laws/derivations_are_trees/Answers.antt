@@ -6,4 +6,4 @@ pub returns : goal.returns
 returns c = λ tokens ps derived clear.
     let (v, rest) = leads_tree tokens ps derived clear in
     let (w, tree) = rest in
-    (v, (w, tree, tree_meaning tokens ps v w tree, tree_mentions tokens ps v w tree))
+    (v, (w, tree, tree_meaning c.actions_fit_the_grammar.ensures tokens ps v w tree, tree_mentions c.actions_fit_the_grammar.ensures tokens ps v w tree))

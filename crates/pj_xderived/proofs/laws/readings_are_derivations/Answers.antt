@@ -3,5 +3,5 @@ use Rattle.pj_xderived.proofs.laws.readings_are_derivations.Goals as goal
 
 pub returns : goal.returns
 returns c = λ tokens a h.
-    let d = read_derives tokens a h in
+    let d = read_derives c.actions_fit_the_grammar.ensures tokens a h in
     (d.productions, d.derived, d.clear, d.means, d.names)

@@ -10,7 +10,7 @@ pub returns-clause-clear : goal.returns-clause-clear
 returns-clause-clear c = tree_clear
 
 pub returns-clause-meaning : goal.returns-clause-meaning
-returns-clause-meaning c = tree_meaning
+returns-clause-meaning c = tree_meaning c.actions_fit_the_grammar.ensures
 
 pub returns-clause-mentions : goal.returns-clause-mentions
-returns-clause-mentions c = tree_mentions
+returns-clause-mentions c = tree_mentions c.actions_fit_the_grammar.ensures
