@@ -1,5 +1,3 @@
+-- definitions
 pub mod Format
 pub mod Fields
-pub mod Laws
-pub mod Spelling
-pub mod Loops

@@ -4,6 +4,9 @@ ghost use Rattle.pj_format.specs.declared.fault.Refused.TheVariants.{Memory};
 
 use std::alloc::{AllocError, AllocFailed};
 
+/// The kind of the fault that the bytes end.
+pub const BYTES_END: u8 = 1;
+
 /// What is wrong with bytes, and where.
 #[derive(Clone, Copy, Debug, PartialEq, Eq)]
 pub struct Fault {

@@ -4,7 +4,7 @@ ghost use Rattle.pj_format.specs.declared.fault.Refused.TheVariants as refusals;
 ghost use Rattle.pj_format.specs.Format.{fault, first};
 ghost use Rattle.pj_format.specs.Fields.{Gives, u8, u16, u32, run};
 
-use crate::fault::{Fault, Refused};
+use crate::fault::{BYTES_END, Fault, Refused};
 
 /// The refusal of a fault.
 pub fn refused(kind: u8, offset: u32) -> Refused
@@ -21,7 +21,7 @@ pub fn u8_of(bytes: &[u8], at: u32) -> Result<(u8, u32), Refused>
 {
     let from = at as usize;
     if bytes.len() < from + 1 {
-        return Err(refused(1, at));
+        return Err(refused(BYTES_END, at));
     }
     Ok((bytes[from], at + 1))
 }
@@ -34,7 +34,7 @@ pub fn u16_of(bytes: &[u8], at: u32) -> Result<(u16, u32), Refused>
 {
     let from = at as usize;
     if bytes.len() < from + 2 {
-        return Err(refused(1, at));
+        return Err(refused(BYTES_END, at));
     }
     Ok((u16::from_be_bytes([bytes[from], bytes[from + 1]]), at + 2))
 }
@@ -47,7 +47,7 @@ pub fn u32_of(bytes: &[u8], at: u32) -> Result<(u32, u32), Refused>
 {
     let from = at as usize;
     if bytes.len() < from + 4 {
-        return Err(refused(1, at));
+        return Err(refused(BYTES_END, at));
     }
     let number = u32::from_be_bytes([
         bytes[from],
@@ -67,7 +67,7 @@ pub fn run_of(bytes: &[u8], count: u32, at: u32) -> Result<(&[u8], u32), Refused
     let from = at as usize;
     let to = from + count as usize;
     if bytes.len() < to {
-        return Err(refused(1, at));
+        return Err(refused(BYTES_END, at));
     }
     Ok((&bytes[from..to], at + count))
 }

@@ -2,3 +2,8 @@ pub mod Lists
 pub mod NameSets
 pub mod Oracles
 pub mod Parts
+pub mod MeaningLaws
+pub mod AskingLaws
+pub mod NotingLaws
+pub mod ExpandLaws
+pub mod Held

@@ -8,7 +8,7 @@ use Rattle.pj_names.specs.declared.oracle.AskFault.TheVariants.{Failed, Memory}
 use Rattle.pj_names.specs.ClassName.{Name, NameSet}
 use Rattle.pj_names.specs.Asking.{ask}
 use Rattle.pj_names.specs.Told.{IsWithin, Asks, UnlessFailed}
-use Rattle.pj_names.specs.AskingLaws.{within-names, within-self}
+use Rattle.pj_names.proofs.AskingLaws.{within-names, within-self}
 use Rattle.pj_names.specs.Meaning.{found_in}
 use Rattle.pj_names.specs.AnswerList.{or_absent, list_tells}
 

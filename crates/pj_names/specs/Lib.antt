@@ -1,11 +1,9 @@
+-- definitions
 pub mod ClassName
 pub mod JavaType
 pub mod Asking
 pub mod Meaning
 pub mod Told
-pub mod MeaningLaws
-pub mod AskingLaws
-pub mod Expand
 pub mod AnswerList
 pub mod Noting
-pub mod Held
+pub mod Expand

@@ -1,6 +1,6 @@
 -- What an oracle tells, and what a call that asks promises.
 use Rattle.std.specs.Borrow.{GName}
-use Rattle.std.specs.Prelude.{◌≡◌, ℕ, ◌+◌, ◌-◌, ◌^◌, ◌≤◌, min, Bool, List, [], ◌∷◌, IsTrue, Option, Some, None, Result, Ok, Err, IsErrOf, IfOk, OnOk, refl}
+use Rattle.std.specs.Prelude.{◌≡◌, ℕ, ◌+◌, ◌-◌, ◌^◌, ◌≤◌, min, Bool, List, [], ◌∷◌, ◌++◌, IsTrue, Option, Some, None, Result, Ok, Err, IsErrOf, IfOk, OnOk, refl}
 use Rattle.std.specs.FinSet as set
 use Rattle.std.specs.declared.sync.Arc.{Arc}
 use Rattle.std.specs.declared.alloc.Global.{Global}
@@ -15,6 +15,11 @@ use Rattle.pj_names.specs.Asking.{Asking, Return, Ask, Unbounded, value_of}
 pub record World : Type 0 where
   pub answer : Name → Answer
   pub needs : Name → List Name
+
+-- the needs of some names, one after the other
+abbrev pub all_needs : World → List Name → List Name
+all_needs w [] = []
+all_needs w (n ∷ ns) = w.needs n ++ all_needs w ns
 
 -- Worlds by how deep recursions go: an oracle that answers some classes by a meaning of its own has the answers to which
 -- these come. Another one has the same world at each depth.

@@ -12,7 +12,7 @@ use std::sync::Arc;
 pub type ClassNames = ListOf<ClassName>;
 
 /// The answer for a class, or `None` for `java.lang.Object`, which is known and not asked.
-#[tactic(auto, using(crate::specs::AskingLaws::asking_steps))]
+#[tactic(auto, using(crate::proofs::AskingLaws::asking_steps))]
 pub fn look_up<O: Oracle>(oracle: &mut O, name: &ClassName) -> Result<Option<Arc<Answer>>, AskFault>
     ensures { Asks (look_up_of name.now) (O.tells oracle.old) (O.tells oracle.new) (seen known_answer result) }
 {

@@ -80,7 +80,7 @@ impl ClassNameSet {
     }
 
     /// Puts names into the set; each is copied where it is new there.
-    #[tactic(auto, using(crate::specs::AskingLaws::asking_loops))]
+    #[tactic(auto, using(crate::proofs::AskingLaws::asking_loops))]
     pub fn note_all(&mut self, names: &ClassNames) -> Result<(), NoMemory>
         ensures ok { OnOk result (self.new ≡ with_names self.old names.now) }
         ensures stays { IsWithin self.old self.new }

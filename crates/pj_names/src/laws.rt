@@ -5,7 +5,7 @@ ghost use Rattle.pj_names.specs.ClassName.{Name, NameSet};
 ghost use Rattle.pj_names.specs.Asking.{Asking, bind, names_of, value_of};
 ghost use Rattle.pj_names.specs.Meaning.{Meaning, Source, found_in, Done, over, after, whole, source_of, Agrees, Means};
 ghost use Rattle.pj_names.specs.Told.{World, with_names, asked_after};
-ghost use Rattle.pj_names.specs.AskingLaws.{all_needs};
+ghost use Rattle.pj_names.specs.Told.{all_needs};
 ghost use Rattle.pj_names.specs.AnswerList.{or_absent};
 
 /// Agreement: what a meaning is done as over one source, it is done as over every source that answers alike the names

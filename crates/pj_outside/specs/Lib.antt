@@ -1,3 +1,4 @@
+-- definitions
 pub mod Faults
 pub mod Files
 pub mod Putting

@@ -87,6 +87,7 @@ fn put_pair(pairs: &mut Vec<(Text, Bytes)>, pair: (Text, Bytes)) -> Result<(), N
 }
 
 impl MemKeeper {
+    /// Puts a file in place of the one of its name, without counting a call.
     fn put(&mut self, name: &str, bytes: &[u8]) -> Result<(), NoMemory>
         ensures ok { OnOk result (self.new.files ≡ replaced name.now bytes.now self.old.files) }
         ensures err { OnErr result (self.new.files ≡ self.old.files) }

@@ -42,6 +42,7 @@ impl MemTree {
         }
     }
 
+    /// The paths of the files that lie at a path or below it.
     fn paths_at(&self, at: &str) -> Result<Names, NoMemory>
         ensures { IfOk result (λ paths. paths ≡ filter (is_at_or_below at.now) (map (λ f. f.0) self.now.files)) }
     {
@@ -62,6 +63,7 @@ fn is_path_at(path: &str, at: &str) -> bool
     path == at || is_path_below(path.as_bytes(), at.as_bytes())
 }
 
+/// What stands behind a front of a path.
 fn behind<'a>(path: &'a [u8], at: &[u8]) -> &'a [u8]
     requires { IsTrue (starts_with nat_eq path.now at.now) }
     ensures { result.now ≡ drop (length at.now) path.now }
@@ -69,6 +71,7 @@ fn behind<'a>(path: &'a [u8], at: &[u8]) -> &'a [u8]
     path.split_at(at.len()).1
 }
 
+/// Whether a path leads below another one.
 fn is_path_below(path: &[u8], at: &[u8]) -> bool
     ensures { result ≡ starts_with nat_eq path.now (at.now ++ 47 ∷ []) }
 {

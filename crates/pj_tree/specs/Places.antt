@@ -1,7 +1,7 @@
 -- Lines and columns of a text.
 -- Lines end by a line feed, a carriage return, or a carriage return with a line feed behind it, which is one end (JLS 3.4).
 -- Lines and columns count from 1. A column is a character, and a tab is one column.
-use Rattle.std.specs.Prelude.{ℕ, ◌≡◌, ◌+◌, ◌<◌, ◌==◌, nat_lt, Some, length, slice_get, slice_index_or, ◌&&◌, ◌||◌, not, Bool, false, if◌then◌else◌, List, [], ◌∷◌, ◌++◌, replicate}
+use Rattle.std.specs.Prelude.{ℕ, ◌≡◌, ◌+◌, ◌<◌, ◌==◌, nat_lt, Some, length, slice_get, slice_index_or, ◌&&◌, ◌||◌, not, Bool, if◌then◌else◌, List, [], ◌∷◌, ◌++◌, replicate}
 use Rattle.std.specs.Char.{len_utf8}
 use Rattle.std.specs.Str.{chars}
 use Rattle.pj_base.specs.Front.{starts_with}

@@ -1,7 +1,6 @@
-//! Names, files and plans in memory, made of rows, and what a reading is.
-use pj_base::{Bytes, NoMemory, Numbers, Text};
+//! Texts, names and lists of numbers, made of rows.
+use pj_base::{NoMemory, Numbers, Text};
 use pj_names::ClassName;
-use pj_outside::{Files, Reading, Refused};
 use std::alloc::Global;
 use std::test::Fail;
 
@@ -23,46 +22,4 @@ pub fn name(alloc: Global, text: &str) -> Result<ClassName, Fail> {
 /// A list of numbers.
 pub fn numbers(alloc: Global, numbers: &[u32]) -> Result<Numbers, NoMemory> {
     Ok(Numbers::from_vec(Vec::from_slice(alloc, numbers)?))
-}
-
-/// A path and the bytes of its file.
-pub type File = (&'static str, &'static [u8]);
-
-/// A file in memory.
-fn file(alloc: Global, (path, bytes): File) -> Result<(Text, Bytes), NoMemory> {
-    let bytes = Bytes::from_vec(Vec::from_slice(alloc, bytes)?);
-    Ok((text(alloc, path)?, bytes))
-}
-
-/// Files in memory.
-pub fn files(alloc: Global, all: &[File]) -> Result<Files, NoMemory> {
-    let mut files = Files::new(alloc);
-    for one in all {
-        files.push(file(alloc, *one)?)?;
-    }
-    Ok(files)
-}
-
-/// What a reading is to answer.
-#[derive(Clone, Copy)]
-pub enum Read {
-    /// There is no such file.
-    Absent,
-    /// It has more bytes than were asked for.
-    Longer,
-    /// All its bytes.
-    Whole(&'static [u8]),
-    /// The call fails.
-    Failed,
-}
-
-/// Whether a reading answered this.
-pub fn is_read(answer: &Result<Reading, Refused>, wanted: Read) -> bool {
-    match (answer, wanted) {
-        (Ok(Reading::Absent), Read::Absent) => true,
-        (Ok(Reading::Longer), Read::Longer) => true,
-        (Ok(Reading::Whole(bytes)), Read::Whole(wanted)) => bytes.as_slice() == wanted,
-        (Err(Refused::Failed), Read::Failed) => true,
-        _ => false,
-    }
 }

@@ -6,10 +6,6 @@ mod base;
 #[cfg(test)]
 mod fixtures;
 #[cfg(test)]
-mod keepers;
-#[cfg(test)]
 mod names;
-#[cfg(test)]
-mod outside;
 #[cfg(test)]
 mod types;

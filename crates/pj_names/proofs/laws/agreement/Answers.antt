@@ -1,4 +1,4 @@
-use Rattle.pj_names.specs.MeaningLaws as laws
+use Rattle.pj_names.proofs.MeaningLaws as laws
 use Rattle.pj_names.proofs.laws.agreement.Goals as goal
 
 pub returns : goal.returns

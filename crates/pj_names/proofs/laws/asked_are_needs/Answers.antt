@@ -1,4 +1,4 @@
-use Rattle.pj_names.specs.AskingLaws.{asked_after-names}
+use Rattle.pj_names.proofs.AskingLaws.{asked_after-names}
 use Rattle.pj_names.proofs.laws.asked_are_needs.Goals as goal
 
 pub returns : goal.returns

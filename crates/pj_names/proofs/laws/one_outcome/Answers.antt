@@ -1,4 +1,4 @@
-use Rattle.pj_names.specs.MeaningLaws.{means-one}
+use Rattle.pj_names.proofs.MeaningLaws.{means-one}
 use Rattle.pj_names.proofs.laws.one_outcome.Goals as goal
 
 pub returns : goal.returns

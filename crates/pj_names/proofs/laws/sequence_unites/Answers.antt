@@ -1,4 +1,4 @@
-use Rattle.pj_names.specs.MeaningLaws.{over-bind}
+use Rattle.pj_names.proofs.MeaningLaws.{over-bind}
 use Rattle.pj_names.proofs.laws.sequence_unites.Goals as goal
 
 pub returns : goal.returns

@@ -1,4 +1,4 @@
-use Rattle.pj_names.specs.MeaningLaws.{over-whole, source_of-whole}
+use Rattle.pj_names.proofs.MeaningLaws.{over-whole, source_of-whole}
 use Rattle.pj_names.proofs.laws.whole_is_done.Goals as goal
 
 pub returns-clause-done : goal.returns-clause-done

@@ -1,5 +1,5 @@
 use Rattle.std.proofs.Common.{rules}
-use Rattle.pj_names.specs.AskingLaws.{asks-stop}
+use Rattle.pj_names.proofs.AskingLaws.{asks-stop}
 use Rattle.pj_names.proofs.Oracles.{list-asks}
 use Rattle.pj_names.proofs.map_oracle.MapOracleOracle.ask.Goals as goal
 

@@ -7,7 +7,7 @@ use Rattle.pj_format.specs.declared.fault.Refused.{Refused}
 use Rattle.pj_format.specs.declared.fault.Refused.TheVariants as refused
 use Rattle.pj_format.specs.Format.{Format, Done, ◌>>=◌, ◌and_then◌, first}
 use Rattle.pj_format.specs.Fields.{Fails, several, several_from}
-use Rattle.pj_format.specs.Laws.{first_then}
+use Rattle.pj_format.proofs.Laws.{first_then}
 
 abbrev pub Read : Type 0 → Type 0
 Read A = Result (List A × ℕ) Fault

@@ -15,8 +15,10 @@ use Rattle.pj_names.specs.declared.oracle.AskFault.TheVariants.{Memory}
 use Rattle.pj_names.specs.ClassName.{Name, NameSet}
 use Rattle.pj_names.specs.Asking.{Asking, Return, ask, bind, value_of, names_of}
 use Rattle.pj_names.specs.Told.{World, Worlds, Told, longest, with_names, asked_after, Asks, IsWithin}
-use Rattle.pj_names.specs.AskingLaws.{all_needs, asked_after-names, within-self, within-names}
-use Rattle.pj_names.specs.Noting.{Notes, tells_noting, asks-noting, same_names}
+use Rattle.pj_names.specs.Told.{all_needs}
+use Rattle.pj_names.proofs.AskingLaws.{asked_after-names, within-self, within-names}
+use Rattle.pj_names.specs.Noting.{Notes, tells_noting}
+use Rattle.pj_names.proofs.NotingLaws.{asks-noting, same_names}
 
 -- the names asked once more, and then the value
 abbrev pub again : {A : Type 0} → A → List Name → Asking A

@@ -8,8 +8,8 @@ use Rattle.pj_names.specs.declared.oracle.AskFault.{AskFault}
 use Rattle.pj_names.specs.declared.oracle.AskFault.TheVariants.{Failed, Memory}
 use Rattle.pj_names.specs.ClassName.{Name, NameSet}
 use Rattle.pj_names.specs.Asking.{Asking, Return, Ask, Unbounded, bind, value_of, names_of}
-use Rattle.pj_names.specs.MeaningLaws.{value_of-bind}
-use Rattle.pj_names.specs.Told.{World, Worlds, Told, longest, with_names, asked_after, IsWithin, UnlessFailed, Asks}
+use Rattle.pj_names.proofs.MeaningLaws.{value_of-bind}
+use Rattle.pj_names.specs.Told.{World, Worlds, Told, longest, with_names, all_needs, asked_after, IsWithin, UnlessFailed, Asks}
 
 -- What a sequence asks.
 
@@ -19,10 +19,6 @@ asked_after-bind d w s (Ask n f) k = asked_after-bind d w (with_names s (w.needs
 asked_after-bind d w s (Unbounded f) k = asked_after-bind d w s (f d) k
 
 -- What was asked is what was asked before, with the needs of the meaning's names.
-
-abbrev pub all_needs : World → List Name → List Name
-all_needs w [] = []
-all_needs w (n ∷ ns) = w.needs n ++ all_needs w ns
 
 pub with_names-append : (s : NameSet) (xs ys : List Name) → with_names s (xs ++ ys) ≡ with_names (with_names s xs) ys
 with_names-append s [] ys = refl
@@ -217,8 +213,8 @@ asks-settled {t = t} {v = v} is = record {
 pub left_from : {X : Type 0} (xs : List X) (i : ℕ) (x : X) → i < length xs → drop i xs ≡ get_or xs i x ∷ drop (i + 1) xs
 left_from xs i x h = rw (add-one, drop-cons xs i x) refl
 
--- for a function that asks without a loop: `#[tactic(auto, using(pj_names::specs::AskingLaws::asking_steps))]`
+-- for a function that asks without a loop: `#[tactic(auto, using(pj_names::proofs::AskingLaws::asking_steps))]`
 pub ruleset asking_steps = (within-self, within-trans, within-insert, within-names, within-after, value_of-bind, asked_after-bind)
 
--- for a function that asks in a `for`: `#[tactic(auto, using(pj_names::specs::AskingLaws::asking_loops))]`
+-- for a function that asks in a `for`: `#[tactic(auto, using(pj_names::proofs::AskingLaws::asking_loops))]`
 pub ruleset asking_loops = (within-self, within-trans, within-insert, within-names, within-after, value_of-bind, asked_after-bind, left_from)

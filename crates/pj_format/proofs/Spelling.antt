@@ -7,7 +7,7 @@ use Rattle.std.proofs.lemmas.Bool.{ltb-false, le-ltb, eqb-true, eq-eqb}
 use Rattle.std.proofs.lemmas.List.{length-append, length-drop, length-take-le, take-append-drop, drop-drop, take_at, drop_at}
 use Rattle.pj_format.specs.declared.fault.Fault.{Fault}
 use Rattle.pj_format.specs.Format.{Format, Done, Field, Run, End, Spells, fault, judged, ◌and_then◌, first, IsFirst, Means, whole}
-use Rattle.pj_format.specs.Laws.{first_then, stops_at_least, has_none}
+use Rattle.pj_format.proofs.Laws.{first_then, stops_at_least, has_none}
 
 -- A list from a place on, in two parts.
 

@@ -1,6 +1,6 @@
 -- Laws of formats, with their proofs, for the crates above: reading stops at the first fault, and one format behind another
 -- is read so. Nothing here defines a word, so it need not be read to know what a format means.
-use Rattle.std.proofs.Common.{◌≡◌, ℕ, suc, ◌+◌, ◌-◌, ◌<◌, ◌≤◌, ◌⊎◌, inl, inr, Bool, true, false, cond, List, [], ◌++◌, length, take, drop, Result, Ok, Err, nat_lt, nat_eq, get_or, refl, sym, ap, subst, ◌∙◌, arith}
+use Rattle.std.proofs.Common.{◌≡◌, ℕ, suc, ◌+◌, ◌<◌, ◌≤◌, ◌⊎◌, inl, inr, Bool, true, false, cond, List, length, take, drop, Result, Ok, Err, nat_lt, nat_eq, get_or, refl, sym, ◌∙◌, arith}
 use Rattle.std.specs.Prelude.{MatchResult}
 use Rattle.std.specs.Bool.{MatchBool}
 use Rattle.std.specs.Int.{w16, w32, from_be_bytes}
