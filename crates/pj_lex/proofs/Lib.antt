@@ -2,12 +2,9 @@ pub mod BlockMeaning
 pub mod CharMeaning
 pub mod CommentMeaning
 pub mod Ends
-pub mod EscapeLaws
 pub mod Exists
 pub mod FaultKinds
 pub mod FaultsTakeNothing
-pub mod FileExists
-pub mod FileTexts
 pub mod FloatMeaning
 pub mod Follows
 pub mod HexMeaning
@@ -18,12 +15,6 @@ pub mod Reading
 pub mod Scanned
 pub mod SignMeaning
 pub mod Slices
-pub mod SourceLaws
-pub mod SourceRunPlaces
 pub mod TextMeaning
-pub mod TranslationLaws
 pub mod Unique
-pub mod UntouchedLaws
 pub mod Words
-pub mod WritingLaws
-pub mod WrittenLaws

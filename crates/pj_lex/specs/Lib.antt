@@ -1,8 +1,4 @@
--- the text of a source file
-pub mod Escapes
-pub mod SourceText
-pub mod SourceWritings
--- the definition of tokens
+-- definitions
 pub mod Answer
 pub mod Characters
 pub mod Comments
@@ -13,8 +9,6 @@ pub mod Rules
 pub mod Size
 pub mod Tokens
 pub mod Words
--- private clauses alone cite these: what the translation and the scanner compute
-pub mod SourceRuns
-pub mod Translating
+-- for private clauses: what the scanner computes
 pub mod Scanning
 pub mod States

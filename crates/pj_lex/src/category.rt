@@ -16,3 +16,19 @@ pub enum Category {
     /// A fault of this kind.
     Fault(u8),
 }
+
+/// The kind of a fault: a character that begins no token.
+pub const NO_TOKEN: u8 = 1;
+
+/// The kind of a fault: a quote that begins no character or string literal that ends on its line, or three quotes that begin no
+/// text block.
+pub const OPEN_LITERAL: u8 = 2;
+
+/// The kind of a fault: a comment that does not end.
+pub const OPEN_COMMENT: u8 = 3;
+
+/// The kind of a fault: a literal that ends, with a bad escape in it.
+pub const BAD_ESCAPE: u8 = 4;
+
+/// The kind of a fault: a number that a character directly follows which could continue a name.
+pub const NUMBER_GOES_ON: u8 = 5;

@@ -4,7 +4,7 @@ ghost use Rattle.std.specs.Prelude.{◌≡◌};
 ghost use Rattle.pj_lex.specs.Characters.{holds};
 ghost use Rattle.pj_lex.specs.States.{char_step, char_spelled};
 
-use crate::category::Category;
+use crate::category::{Category, OPEN_LITERAL};
 use crate::state::State;
 use crate::token::TokenKind;
 
@@ -75,7 +75,7 @@ pub fn char_category(state: CharState) -> Option<Category>
     ensures { result ≡ char_spelled state }
 {
     match state {
-        CharState::Apostrophe => Some(Category::Fault(2)),
+        CharState::Apostrophe => Some(Category::Fault(OPEN_LITERAL)),
         CharState::CharBody
         | CharState::CharEscape
         | CharState::CharOctal

@@ -4,7 +4,7 @@ ghost use Rattle.std.specs.Prelude.{◌≡◌};
 ghost use Rattle.pj_lex.specs.Characters.{holds};
 ghost use Rattle.pj_lex.specs.States.{comment_step, comment_spelled};
 
-use crate::category::Category;
+use crate::category::{Category, OPEN_COMMENT};
 use crate::state::State;
 use crate::token::TokenKind;
 
@@ -59,7 +59,7 @@ pub fn comment_category(state: CommentState) -> Option<Category>
         CommentState::LineComment | CommentState::CommentEnd => Some(Category::Token(
             TokenKind::Comment,
         )),
-        CommentState::CommentOpening => Some(Category::Fault(3)),
+        CommentState::CommentOpening => Some(Category::Fault(OPEN_COMMENT)),
         CommentState::CommentBody | CommentState::CommentStar => None,
     }
 }

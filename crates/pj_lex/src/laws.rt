@@ -1,13 +1,10 @@
 //! What holds of the tokens of every text.
 
-ghost use Rattle.std.specs.Prelude.{◌≡◌, ℕ, List, Ok, Result};
+ghost use Rattle.std.specs.Prelude.{◌≡◌, ℕ, List};
 ghost use Rattle.std.specs.Str.{chars};
-ghost use Rattle.pj_lex.specs.SourceText.{SourceText, IsPlaced, IsRead};
 ghost use Rattle.pj_lex.specs.Rules.{rules, token_rules, FirstOf};
 ghost use Rattle.pj_lex.specs.Tokens.{Tokens, Lexed, AreSlices, HaveKinds};
 ghost use Rattle.pj_lex.specs.declared.category.Category.{Category};
-
-use crate::source::SourceFault;
 
 /// The tokens of a text, with the fault that may end them, are there, are one list, and are slices of the text at their
 /// spans; the fault is of a kind from 1 to 5.
@@ -26,15 +23,6 @@ pub fn tokens_are_one(text: &str)
 pub fn all_texts_have_tokens()
     ensures there { (at : ℕ) (text : List ℕ) → (ls : List Lexed) × Tokens at text ls }
     ensures one { (at : ℕ) (text : List ℕ) (ls ms : List Lexed) → Tokens at text ls → Tokens at text ms → ls ≡ ms }
-{}
-
-/// Something comes of the bytes of every file, and it is one thing: a text, or the first fault. A text is UTF-8 and has
-/// all its places.
-/// The call does nothing: its contract is the law.
-pub fn files_are_read()
-    ensures there { (bytes : List ℕ) → (o : Result SourceText SourceFault) × IsRead bytes o }
-    ensures one { (bytes : List ℕ) (o p : Result SourceText SourceFault) → IsRead bytes o → IsRead bytes p → o ≡ p }
-    ensures placed { (bytes : List ℕ) (s : SourceText) → IsRead bytes (Ok s) → IsPlaced s }
 {}
 
 /// The rules for faults take no word from the rules for tokens: what a word is by these alone it is by all.

@@ -6,7 +6,6 @@ ghost use Rattle.pj_lex.specs.Answer.{lexed};
 ghost use Rattle.pj_lex.specs.Tokens.{IsGap, Position, position, Tokens, Took, Lexed};
 
 use crate::scan::scan;
-use crate::source::Source;
 use crate::text::{before, skip_white};
 use crate::token::{LexFault, Token};
 use pj_tree::Span;
@@ -29,7 +28,7 @@ impl<'s> Model for Lexer<'s> {
 
 impl<'s> Lexer<'s> {
     /// A lexer at the beginning of the text. No memory is taken.
-    pub(crate) fn over(text: &'s str) -> Lexer<'s>
+    pub fn over(text: &'s str) -> Lexer<'s>
         requires fits { length text.now < 2 ^ 32 }
         ensures begins { result ≡ position 0 (chars text.now) }
     {
@@ -70,11 +69,4 @@ impl<'s> Lexer<'s> {
             }
         }
     }
-}
-
-/// A lexer at the beginning of the text of a source. No memory is taken.
-pub fn tokens<'s>(source: &'s Source) -> Lexer<'s>
-    ensures begins { result ≡ position 0 (chars source.now.text) }
-{
-    Lexer::over(source.text())
 }

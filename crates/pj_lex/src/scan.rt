@@ -8,7 +8,7 @@ ghost use Rattle.pj_lex.specs.Scanning.{IsFault, scanned, seen};
 ghost use Rattle.pj_lex.specs.Tokens.{Begins};
 ghost use Rattle.pj_lex.specs.declared.state.State.TheVariants.{Start};
 
-use crate::category::Category;
+use crate::category::{Category, NO_TOKEN, NUMBER_GOES_ON};
 use crate::characters::continues_name;
 use crate::reserved_words::name_kind;
 use crate::state::{State, category, step};
@@ -64,7 +64,7 @@ fn outcome(category: Category, word: &str, behind: &str) -> Result<TokenKind, u8
         Category::Name => Ok(name_kind(word)),
         Category::Number(kind) => {
             if goes_on_as_name(behind) {
-                Err(5)
+                Err(NUMBER_GOES_ON)
             } else {
                 Ok(kind)
             }
@@ -80,7 +80,7 @@ pub fn scan<'s>(text: &'s str) -> Result<(TokenKind, &'s str), u8>
     ensures { MatchResult result (λ p. Begins (chars text.now) (Ok p.0) (chars p.1.now)) (λ f. IsFault (chars text.now) f) }
 {
     let Some((category, behind)) = longest_word(text) else {
-        return Err(1);
+        return Err(NO_TOKEN);
     };
     match outcome(category, before(text, behind), behind) {
         Ok(kind) => Ok((kind, behind)),

@@ -4,7 +4,7 @@ ghost use Rattle.std.specs.Prelude.{◌≡◌};
 ghost use Rattle.pj_lex.specs.Characters.{holds};
 ghost use Rattle.pj_lex.specs.States.{step, spelled, first_step};
 
-use crate::category::Category;
+use crate::category::{BAD_ESCAPE, Category};
 use crate::char_literal::{CharState, after_char, char_category};
 use crate::characters::{continues_name, starts_name};
 use crate::comment::{CommentState, after_comment, comment_category};
@@ -108,7 +108,7 @@ pub fn category(state: State) -> Option<Category>
     match state {
         State::Start => None,
         State::Name => Some(Category::Name),
-        State::BadEnd => Some(Category::Fault(4)),
+        State::BadEnd => Some(Category::Fault(BAD_ESCAPE)),
         State::Sign(state) => sign_category(state),
         State::Integer(state) => integer_category(state),
         State::Hex(state) => hex_category(state),

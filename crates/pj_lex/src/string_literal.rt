@@ -4,7 +4,7 @@ ghost use Rattle.std.specs.Prelude.{◌≡◌};
 ghost use Rattle.pj_lex.specs.Characters.{holds};
 ghost use Rattle.pj_lex.specs.States.{string_step, string_spelled};
 
-use crate::category::Category;
+use crate::category::{Category, OPEN_LITERAL};
 use crate::state::State;
 use crate::text_block::BlockState;
 use crate::token::TokenKind;
@@ -78,7 +78,7 @@ pub fn string_category(state: StringState) -> Option<Category>
     ensures { result ≡ string_spelled state }
 {
     match state {
-        StringState::Quote => Some(Category::Fault(2)),
+        StringState::Quote => Some(Category::Fault(OPEN_LITERAL)),
         StringState::EmptyString | StringState::StringEnd => Some(Category::Token(
             TokenKind::StringLiteral,
         )),

@@ -4,7 +4,7 @@ ghost use Rattle.std.specs.Prelude.{◌≡◌};
 ghost use Rattle.pj_lex.specs.Characters.{holds};
 ghost use Rattle.pj_lex.specs.States.{block_step, block_spelled};
 
-use crate::category::Category;
+use crate::category::{Category, OPEN_LITERAL};
 use crate::state::State;
 use crate::token::TokenKind;
 
@@ -102,7 +102,7 @@ pub fn block_category(state: BlockState) -> Option<Category>
     ensures { result ≡ block_spelled state }
 {
     match state {
-        BlockState::BlockOpening => Some(Category::Fault(2)),
+        BlockState::BlockOpening => Some(Category::Fault(OPEN_LITERAL)),
         BlockState::BlockOpeningLine
         | BlockState::BlockBody
         | BlockState::BlockQuote

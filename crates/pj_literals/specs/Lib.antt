@@ -1,11 +1,11 @@
--- the values of literals
+-- definitions
 pub mod Digits
 pub mod IntegerValue
 pub mod Escapes
 pub mod Lines
 pub mod TextBlock
 pub mod StringValue
--- what laws say of them
+-- laws
 pub mod Spellings
--- private clauses alone cite this
+-- for private clauses
 pub mod Reading

@@ -1,5 +1,5 @@
 -- What a pattern matches behind a character its derivative matches, and what rules spell behind one the rules that are left spell.
-use Rattle.std.proofs.Common.{◌≡◌, ℕ, Bool, true, false, cond, ◌||◌, ◌&&◌, ◌⊎◌, inl, inr, ⊎_elim, List, [], ◌∷◌, ◌++◌, Option, Some, None, sym, refl, ap, ◌∙◌, subst}
+use Rattle.std.proofs.Common.{◌≡◌, ℕ, Bool, true, false, cond, ◌||◌, ◌⊎◌, inl, inr, ⊎_elim, List, [], ◌∷◌, ◌++◌, Some, sym, refl, ap, ◌∙◌, subst}
 use Rattle.std.proofs.lemmas.Bool.{false≢true, and_parts, and_from}
 use Rattle.pj_patterns.specs.Pattern.{Pattern, Nothing, Empty, One, Then, Either, Many, Repeats, none, more, Matches}
 use Rattle.pj_patterns.specs.Rules.{Rule, rule, FirstOf}

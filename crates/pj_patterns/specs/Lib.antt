@@ -1,6 +1,4 @@
--- patterns and their words
+-- definitions
 pub mod Pattern
--- rules: what a word is
 pub mod Rules
--- what is left of them behind a character
 pub mod Derivatives

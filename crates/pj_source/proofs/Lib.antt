@@ -1,0 +1,9 @@
+pub mod EscapeLaws
+pub mod FileExists
+pub mod FileTexts
+pub mod SourceLaws
+pub mod SourceRunPlaces
+pub mod TranslationLaws
+pub mod UntouchedLaws
+pub mod WritingLaws
+pub mod WrittenLaws
