@@ -1,7 +1,7 @@
 -- The grammar is well-formed.
 use Rattle.std.proofs.Common.{◌≡◌, ◌<◌, ◌≤◌, ◌^◌, ℕ, zero, suc, Bool, true, false, ◌||◌, ◌==◌, List, [], ◌∷◌, length, refl, arith}
-use Rattle.pj_peg.specs.WellFormed.{IsWellFormed}
-use Rattle.pj_peg.proofs.Decided.{well_formed_by, well_formed_from_test}
+use Rattle.pj_peg_grammar.specs.WellFormed.{IsWellFormed}
+use Rattle.pj_peg_grammar.proofs.Decided.{well_formed_by, well_formed_from_test}
 use Rattle.pj_lex.specs.Words.{reserved_words}
 use Rattle.pj_grammar.specs.Java17.{java_17, rules, java_17_forms}
 use Rattle.pj_grammar.proofs.Places.{nullable, places}

@@ -1,12 +1,12 @@
 -- Each node begins before the last token of the node around it, and a file takes all tokens.
-use Rattle.std.proofs.Common.{◌≡◌, ℕ, ◌≤◌, ◌&&◌, ◌||◌, ◌⊎◌, inl, inr, Bool, true, false, List, [], ◌∷◌, length, Some, slice_get, refl, sym, ◌∙◌, ap, subst}
+use Rattle.std.proofs.Common.{◌≡◌, ℕ, ◌≤◌, ◌&&◌, ◌||◌, ◌⊎◌, inl, inr, Bool, true, false, List, length, Some, refl, sym, ◌∙◌, ap, subst}
 use Rattle.std.proofs.lemmas.Bool.{and_parts}
 use Rattle.pj_tree.specs.declared.kind.Kind.{Kind}
 use Rattle.pj_tree.specs.declared.kind.Kind.TheVariants as k
 use Rattle.pj_lex.specs.Words.{reserved_words}
-use Rattle.pj_peg.specs.Form.{Form, token, any, rule, nothing, seq, never, choice, star, maybe, ahead, not_ahead}
-use Rattle.pj_peg.specs.Derivation.{Forest}
-use Rattle.pj_peg.specs.Derives.{Outcome, To, Fails, Derives, token_is, token_not, any_is, any_not, rule_to, rule_fails, nothing_to, seq_to, seq_first, seq_second, never_fails, choice_first, choice_other, star_more, star_end, maybe_some, maybe_none, ahead_is, ahead_not, not_ahead_is, not_ahead_not}
+use Rattle.pj_peg_grammar.specs.Form.{Form, any, rule, nothing, seq, not_ahead}
+use Rattle.pj_peg_grammar.specs.Derivation.{Forest}
+use Rattle.pj_peg_grammar.specs.Derives.{Outcome, To, Fails, Derives, any_is, any_not, rule_to, nothing_to, seq_to, seq_first, seq_second, not_ahead_is, not_ahead_not}
 use Rattle.pj_shape.specs.Kinds.{is_variable_access, is_field_access}
 use Rattle.pj_shape.proofs.Nesting.{HasSolidNames}
 use Rattle.pj_shape.proofs.Shutting.{IsTight, are_tight_rows, tight_by_test}

@@ -3,7 +3,7 @@
 -- It takes after the productions of JLS 17, chapters 3, 4, 7 to 10, 14 and 15, each read as a parsing expression; the
 -- headings name the sections. The notation is that of `Notation`.
 use Rattle.std.specs.Prelude.{List, [], ◌∷◌, map}
-use Rattle.pj_peg.specs.Form.{Form, any, nothing, maybe, ahead, not_ahead}
+use Rattle.pj_peg_grammar.specs.Form.{Form, any, nothing, maybe, ahead, not_ahead}
 use Rattle.pj_shape.specs.declared.shape.Shape.{Shape}
 use Rattle.pj_tree.specs.declared.kind.Kind.TheVariants as k
 use Rattle.pj_grammar.specs.declared.rule.Rule.{Rule}

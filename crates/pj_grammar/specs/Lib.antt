@@ -1,8 +1,8 @@
--- the terminals, the notation and the grammar
+-- definitions: the terminals, the notation and the grammar
 pub mod Terminal
 pub mod Notation
 pub mod Java17
--- the tokens that the grammar sees
+-- definitions: the tokens that the grammar sees
 pub mod Words
--- what a table of pieces stands for
+-- definitions: what a table of pieces stands for
 pub mod Piece

@@ -18,7 +18,7 @@
 use Rattle.std.specs.Prelude.{ℕ, List, [], ◌∷◌, ◌++◌, Option, Some, None, codes}
 use Prim.Native.String.{String}
 use denote.Enum.Declared.{tag_of}
-use Rattle.pj_peg.specs.Form.{Form, token, rule, never, seq_all, choice_all, star}
+use Rattle.pj_peg_grammar.specs.Form.{Form, token, rule, never, seq_all, choice_all, star}
 use Rattle.pj_tree.specs.declared.kind.Kind.{Kind}
 use Rattle.pj_shape.specs.declared.shape.Shape.{Shape}
 use Rattle.pj_shape.specs.declared.shape.Shape.TheVariants.{Pass, Node, Joined, Turn, Segment}

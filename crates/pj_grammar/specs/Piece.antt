@@ -1,6 +1,6 @@
 -- What a list of pieces stands for.
 use Rattle.std.specs.Prelude.{List, [], ◌∷◌, take, drop}
-use Rattle.pj_peg.specs.Form.{Form, token, any, rule, seq_all, choice_all, star, maybe, ahead, not_ahead}
+use Rattle.pj_peg_grammar.specs.Form.{Form, token, any, rule, seq_all, choice_all, star, maybe, ahead, not_ahead}
 use Rattle.pj_grammar.specs.declared.piece.Piece.{Piece}
 use Rattle.pj_grammar.specs.declared.piece.Piece.TheVariants.{Token, Any, Rule, Seq, Choice, Star, Maybe, And, Not}
 

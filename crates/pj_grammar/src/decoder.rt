@@ -1,12 +1,12 @@
 //! The items that pieces stand for.
 
 ghost use Rattle.std.specs.Prelude.{◌≡◌, map, reverse, take, drop, IfOk, OnOk};
-ghost use Rattle.pj_peg.specs.Form.{form_of, forms_of};
+ghost use Rattle.pj_peg_grammar.specs.Form.{form_of, forms_of};
 ghost use Rattle.pj_grammar.specs.Piece.{piece_on, decoded};
 
 use crate::piece::Piece;
 use pj_base::NoMemory;
-use pj_peg::{Item, Items};
+use pj_peg_grammar::{Item, Items};
 use std::alloc::Global;
 
 /// Takes as many items from the top of the stack as there are, and at most `count`, the top one first.

@@ -1,8 +1,8 @@
 //! The grammar of Java 17.
 
 ghost use Rattle.std.specs.Prelude.{◌≡◌, ◌^◌, ◌<◌, ◌≤◌, length, IfOk};
-ghost use Rattle.pj_peg.specs.Form.{forms_of};
-ghost use Rattle.pj_peg.specs.WellFormed.{IsWellFormed};
+ghost use Rattle.pj_peg_grammar.specs.Form.{forms_of};
+ghost use Rattle.pj_peg_grammar.specs.WellFormed.{IsWellFormed};
 ghost use Rattle.pj_grammar.specs.Piece.{decoded};
 ghost use Rattle.pj_grammar.specs.Java17.{java_17_forms, java_17_shapes};
 ghost use Rattle.pj_shape.specs.Shaped.{shape_of};

@@ -1,7 +1,7 @@
 //! Laws of the grammar. The functions do nothing, and their contracts are the laws.
 
 ghost use Rattle.std.specs.Prelude.{◌≡◌, ◌<◌, Some, length, slice_get};
-ghost use Rattle.pj_peg.specs.WellFormed.{IsWellFormed};
+ghost use Rattle.pj_peg_grammar.specs.WellFormed.{IsWellFormed};
 ghost use Rattle.pj_shape.specs.Shaped.{shape_of};
 ghost use Rattle.pj_shape.specs.ShapedTree.{MakesNode};
 ghost use Rattle.pj_grammar.specs.declared.rule.Rule.{Rule};

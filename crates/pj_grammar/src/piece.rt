@@ -1,7 +1,7 @@
 //! Pieces.
 
 /// An item of a grammar without its parts, which are what the next pieces stand for. Numbers of tokens and rules are those of
-/// `pj_peg::Item`.
+/// `pj_peg_grammar::Item`.
 #[derive(Clone, Copy, Debug, PartialEq, Eq)]
 pub enum Piece {
     /// One token of this kind.

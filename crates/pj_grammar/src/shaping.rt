@@ -3,15 +3,16 @@
 ghost use Rattle.std.specs.Prelude.{◌≡◌, ◌⊎◌, map, Ok, Err, MatchResult};
 ghost use Rattle.pj_grammar.specs.Java17.{java_17_forms, java_17_shapes};
 ghost use Rattle.pj_grammar.specs.Words.{AreTokens, seen, words, spans, terminals};
-ghost use Rattle.pj_peg.specs.Derivation.{Forest, steps_of};
-ghost use Rattle.pj_peg.specs.Derives.{DerivesSteps};
+ghost use Rattle.pj_peg_grammar.specs.Derivation.{Forest, steps_of};
+ghost use Rattle.pj_peg_grammar.specs.Derives.{DerivesSteps};
 ghost use Rattle.pj_shape.specs.ShapedTree.{shaped_tree};
 
 use crate::grammar::java_shapes;
 use crate::words::word_spans;
-use pj_lex::{Source, Tokens};
-use pj_peg::Derivation;
+use pj_lex::Tokens;
+use pj_peg_grammar::Derivation;
 use pj_shape::shape_derivation;
+use pj_source::Source;
 use pj_tree::{ShapeFault, SyntaxTree};
 use std::alloc::Global;
 

@@ -1,15 +1,15 @@
 -- The tree of a file has each word of its text.
-use Rattle.std.proofs.Common.{◌≡◌, ℕ, zero, suc, ◌+◌, ◌<◌, ◌≤◌, ◌⊎◌, inl, inr, Bool, true, false, cond, not, nat_lt, if◌then◌else◌, List, [], ◌∷◌, ◌++◌, length, map, Result, Ok, Err, None, refl, sym, ◌∙◌, ap, subst, arith, length-append}
+use Rattle.std.proofs.Common.{◌≡◌, ℕ, suc, ◌+◌, ◌<◌, ◌≤◌, inl, inr, Bool, true, false, cond, not, nat_lt, if◌then◌else◌, List, [], ◌∷◌, ◌++◌, length, map, Ok, Err, None, refl, sym, ◌∙◌, ap, subst, arith, length-append}
 use Rattle.std.specs.Prelude.{Contains}
-use Rattle.std.specs.Char.{len_utf8, encode_utf8}
+use Rattle.std.specs.Char.{encode_utf8}
 use Rattle.std.specs.Str.{chars, IsUtf8, encode_utf8_all}
 use Rattle.std.proofs.lemmas.List.{length-map}
 use Rattle.std.proofs.lemmas.Str.{length-encode, len_utf8_bounds}
 use Rattle.pj_lex.specs.Rules.{Spells}
 use Rattle.pj_lex.specs.Size.{size}
-use Rattle.pj_lex.specs.Tokens.{Lexed, Begins, Tokens, longest, nothing, ended, token, fault, fault_of}
+use Rattle.pj_lex.specs.Tokens.{Lexed, Begins, Tokens, longest, nothing, ended, token, fault}
 use Rattle.pj_lex.specs.declared.token.TokenKind.{TokenKind}
-use Rattle.pj_lex.proofs.FileTexts.{text_placed}
+use Rattle.pj_source.proofs.FileTexts.{text_placed}
 use Rattle.pj_lex.proofs.Unique.{spells_empty}
 use Rattle.pj_grammar.specs.Java17.{java_17_forms, java_17_shapes}
 use Rattle.pj_grammar.specs.Terminal.{terminal_of, terminal_number}
@@ -17,14 +17,13 @@ use Rattle.pj_grammar.proofs.IsWellFormed.{is_in}
 use Rattle.pj_grammar.proofs.Numbers.{file_makes_node}
 use Rattle.pj_grammar.proofs.Places.{nullable}
 use Rattle.pj_grammar.proofs.Shut.{hollow, solid_names, java_17_tight, file_takes_all}
-use Rattle.pj_peg.specs.Derivation.{Forest}
-use Rattle.pj_peg.specs.Derives.{Derives, To}
-use Rattle.pj_peg.specs.Form.{rule}
+use Rattle.pj_peg_grammar.specs.Derivation.{Forest}
+use Rattle.pj_peg_grammar.specs.Derives.{Derives, To}
+use Rattle.pj_peg_grammar.specs.Form.{rule}
 use Rattle.pj_tree.specs.Building.{Building, finished, tree_of}
-use Rattle.pj_tree.specs.Nested.{Parts, preorder, tokens_of}
+use Rattle.pj_tree.specs.Nested.{preorder, tokens_of}
 use Rattle.pj_tree.specs.Tree.{Tree, greatest_depth}
 use Rattle.pj_tree.specs.declared.node.Span.{Span}
-use Rattle.pj_tree.specs.declared.shape_fault.ShapeFault.{ShapeFault}
 use Rattle.pj_tree.specs.declared.shape_fault.ShapeFault.TheVariants as shape
 use Rattle.pj_shape.specs.Shaped.{Nodes, no_nodes, node, nodes_of}
 use Rattle.pj_shape.specs.ShapedTree.{roots_of, parts_of_derivation, shaped_tree}
@@ -34,7 +33,7 @@ use Rattle.pj_shape.proofs.Derived.{HaveEachToken, derived_parts}
 use Rattle.pj_shape.proofs.Laying.{lies}
 use Rattle.pj_parse.specs.JavaFile.{JavaFile, IsJavaFile, file}
 use Rattle.pj_parse.specs.OwnTokens.{HasEachWord, HasOwnTokens}
-use Rattle.pj_parse.specs.Parses.{Parses, FileParsed, HasDerivation, parsed}
+use Rattle.pj_parse.specs.Parses.{Parses, FileParsed, parsed}
 use Rattle.pj_grammar.specs.Words.{TokenSeen, as_lexed, words, spans, terminals, is_comment}
 use Rattle.pj_parse.proofs.Owners.{own_tokens}
 use Rattle.pj_grammar.proofs.Stretches.{words_are_tokens}

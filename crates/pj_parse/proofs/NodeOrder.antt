@@ -1,13 +1,11 @@
 -- Where the nodes of parts stand that stand in order themselves.
-use Rattle.std.proofs.Common.{◌≡◌, ◌≢◌, ℕ, zero, suc, ◌+◌, ◌-◌, ◌<◌, ◌≤◌, ◌⊎◌, inl, inr, Option, None, Some, List, [], ◌∷◌, ◌++◌, length, slice_get, refl, sym, ◌∙◌, ap, subst, arith}
-use Rattle.std.specs.Prelude.{Contains, slice_index_or}
+use Rattle.std.proofs.Common.{◌≡◌, ℕ, zero, suc, ◌+◌, ◌-◌, ◌<◌, ◌≤◌, ◌⊎◌, inl, inr, Option, Some, List, [], ◌∷◌, ◌++◌, length, slice_get, refl, sym, ◌∙◌, ap, subst, arith}
 use Rattle.pj_tree.specs.Nested.{Parts, NoMore, Token, Child, preorder, tokens_of, node_count}
 use Rattle.pj_tree.specs.Tree.{TreeNode}
 use Rattle.pj_tree.specs.declared.kind.Kind.{Kind}
 use Rattle.pj_tree.specs.declared.node.Node.{Node}
-use Rattle.pj_tree.specs.declared.node.Span.{Span}
 use Rattle.pj_tree.proofs.NestedLaws.{length-preorder}
-use Rattle.pj_shape.specs.InOrder.{StandInOrder, all_tokens}
+use Rattle.pj_shape.specs.InOrder.{StandInOrder}
 
 abbrev pub numbered : ℕ → Node
 numbered n = record { 0 = n }

@@ -1,17 +1,17 @@
 -- What comes of a text, from what its parts came to.
 use Rattle.std.proofs.Common.{◌≡◌, ◌≤◌, ◌<◌, ℕ, Bool, true, false, nat_lt, if◌then◌else◌, None, List, length, Ok, Err, ◌⊎◌, inl, inr, refl, sym, ◌∙◌, ap, subst, arith}
 use Rattle.std.proofs.lemmas.List.{length-map}
-use Rattle.pj_peg.specs.Derivation.{Forest}
-use Rattle.pj_peg.specs.Form.{rule}
-use Rattle.pj_peg.specs.Derives.{Derives, To, DerivesSteps, FailsAtStart}
-use Rattle.pj_peg.specs.declared.derivation.Step.{Step}
+use Rattle.pj_peg_grammar.specs.Derivation.{Forest}
+use Rattle.pj_peg_grammar.specs.Form.{rule}
+use Rattle.pj_peg_grammar.specs.Derives.{Derives, To, DerivesSteps, FailsAtStart}
+use Rattle.pj_peg_grammar.specs.declared.derivation.Step.{Step}
 use Rattle.pj_tree.specs.Tree.{Tree, greatest_depth}
 use Rattle.pj_tree.specs.Building.{Building, finished, tree_of}
 use Rattle.pj_tree.specs.Nested.{preorder}
 use Rattle.pj_tree.specs.declared.node.Span.{Span}
 use Rattle.pj_tree.specs.declared.shape_fault.ShapeFault.{ShapeFault}
 use Rattle.pj_tree.specs.declared.shape_fault.ShapeFault.TheVariants as shape
-use Rattle.pj_shape.specs.ShapedTree.{IsDerived, shaped_tree, parts_of_derivation}
+use Rattle.pj_shape.specs.ShapedTree.{shaped_tree, parts_of_derivation}
 use Rattle.pj_shape.specs.declared.shape.Shape.{Shape}
 use Rattle.pj_parse.specs.declared.fault.ParseFault.{ParseFault}
 use Rattle.pj_parse.specs.declared.fault.ParseFault.TheVariants.{Lex, TooManyTokens, Syntax, TooDeep, TooMany, Memory}
@@ -19,7 +19,7 @@ use Rattle.pj_grammar.specs.Words.{TokenSeen, AreTokens, words, spans, terminals
 use Rattle.pj_grammar.specs.Java17.{java_17_forms, java_17_shapes}
 use Rattle.pj_grammar.specs.Terminal.{terminal_of, terminal_number}
 use Rattle.pj_parse.specs.Faults.{IsFaultOfTokens, of_shape}
-use Rattle.pj_parse.specs.Parses.{Parses, HasWords, HasDerivation, lexical_fault, too_many_tokens, syntax_fault, too_deep, too_many, parsed}
+use Rattle.pj_parse.specs.Parses.{Parses, HasWords, HasDerivation, lexical_fault, too_many_tokens, syntax_fault, too_deep, too_many}
 
 -- want of memory, or what comes of the text
 abbrev pub Faulty : List ℕ → ParseFault → Type 0

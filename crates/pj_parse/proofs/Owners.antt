@@ -1,11 +1,11 @@
 -- The own tokens of the nodes of a tree, by their numbers.
-use Rattle.std.proofs.Common.{◌≡◌, ℕ, ◌+◌, ◌-◌, ◌<◌, ◌≤◌, ◌⊎◌, inl, inr, Option, None, Some, List, [], length, refl, sym, ◌∙◌, ap, subst, arith}
+use Rattle.std.proofs.Common.{◌≡◌, ℕ, ◌+◌, ◌-◌, ◌<◌, inl, inr, None, Some, List, [], length, sym, ◌∙◌, ap, subst, arith}
 use Rattle.std.specs.Prelude.{Contains, slice_get}
 use Rattle.pj_tree.specs.Nested.{Parts, preorder, tokens_of}
 use Rattle.pj_tree.specs.Tree.{Tree, TreeNode, node_of}
 use Rattle.pj_tree.specs.declared.node.Node.{Node}
 use Rattle.pj_tree.specs.declared.node.Span.{Span}
-use Rattle.pj_shape.specs.InOrder.{StandInOrder, all_tokens}
+use Rattle.pj_shape.specs.InOrder.{all_tokens}
 use Rattle.pj_shape.specs.Words.{AreInOrder}
 use Rattle.pj_parse.specs.OwnTokens.{HasEachWord, Owns, HasOneOwner, HasOwnTokens}
 use Rattle.pj_parse.proofs.NodeOrder.{Has, numbered, has_at, get_of, child_in, siblings_apart, IsSeated, seated}

@@ -1,8 +1,8 @@
 -- What a call on a file says of its bytes.
 use Rattle.std.proofs.Common.{◌≡◌, ◌≤◌, ℕ, List, length, map, Ok, Err, Option, None, Some, ◌⊎◌, inl, inr, refl, sym, ◌∙◌, ap, subst}
-use Rattle.pj_lex.specs.SourceText.{SourceText, IsRead}
-use Rattle.pj_lex.specs.declared.source.fault.SourceFault.{SourceFault}
-use Rattle.pj_lex.specs.declared.source.fault.SourceFault.TheVariants as unread
+use Rattle.pj_source.specs.SourceText.{SourceText, IsRead}
+use Rattle.pj_source.specs.declared.source.fault.SourceFault.{SourceFault}
+use Rattle.pj_source.specs.declared.source.fault.SourceFault.TheVariants as unread
 use Rattle.pj_parse.specs.PoolText.{pool_of}
 use Rattle.pj_parse.specs.declared.entry.Entry.{Entry}
 use Rattle.pj_parse.specs.JavaFile.{JavaFile, IsJavaFile, file}

@@ -1,22 +1,22 @@
 -- Something comes of the bytes of each file: a proof, on which a definition rests.
-use Rattle.std.proofs.Common.{◌≡◌, ◌≤◌, ◌<◌, ◌+◌, ℕ, zero, suc, List, [], ◌∷◌, length, Result, Ok, Err, Option, None, Some, inl, inr, refl, sym, ap, arith}
+use Rattle.std.proofs.Common.{◌≡◌, ◌≤◌, ◌<◌, ℕ, zero, suc, List, [], ◌∷◌, length, Result, Ok, Err, Some, refl, arith}
 use Rattle.std.specs.Prelude.{slice_get}
 use Rattle.std.specs.Str.{chars}
-use Rattle.pj_lex.specs.Escapes.{Piece}
-use Rattle.pj_lex.specs.SourceText.{SourceText, Translates, IsRead, IsPlaced}
-use Rattle.pj_lex.specs.SourceText.Translates.{ended, sub, next, bad}
-use Rattle.pj_lex.specs.SourceText.IsRead.{not_utf8, translated}
-use Rattle.pj_lex.specs.declared.source.fault.SourceFault.{SourceFault}
-use Rattle.pj_lex.specs.declared.source.fault.SourceFault.TheVariants as unread
+use Rattle.pj_source.specs.Escapes.{Piece}
+use Rattle.pj_source.specs.SourceText.{SourceText, Translates, IsRead, IsPlaced}
+use Rattle.pj_source.specs.SourceText.Translates.{ended, sub, next, bad}
+use Rattle.pj_source.specs.SourceText.IsRead.{not_utf8, translated}
+use Rattle.pj_source.specs.declared.source.fault.SourceFault.{SourceFault}
+use Rattle.pj_source.specs.declared.source.fault.SourceFault.TheVariants as unread
 use Rattle.pj_lex.specs.declared.token.LexFault.{LexFault}
 use Rattle.pj_lex.proofs.Exists.{reading}
-use Rattle.pj_lex.proofs.FileExists.{reading_of}
-use Rattle.pj_lex.proofs.FileTexts.{text_placed}
+use Rattle.pj_source.proofs.FileExists.{reading_of}
+use Rattle.pj_source.proofs.FileTexts.{text_placed}
 use Rattle.pj_lex.proofs.Unique.{tokens_same}
 use Rattle.pj_grammar.specs.Java17.{java_17_forms}
 use Rattle.pj_grammar.proofs.IsWellFormed.{java_17_well_formed, some_rule}
-use Rattle.pj_peg.proofs.Exists.{has_outcome}
-use Rattle.pj_peg.proofs.Unique.{unique}
+use Rattle.pj_peg_grammar.proofs.Exists.{has_outcome}
+use Rattle.pj_peg_grammar.proofs.Unique.{unique}
 use Rattle.pj_tree.specs.declared.node.Place.{Place}
 use Rattle.pj_parse.specs.Laws.{HasOneOutcome}
 use Rattle.pj_parse.specs.Parses.{Parses, FileParsed}

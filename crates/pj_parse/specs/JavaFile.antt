@@ -2,8 +2,8 @@
 use Rattle.std.specs.Prelude.{◌≡◌, ℕ, List, Result, Ok, Err, Some, slice_get}
 use Rattle.pj_tree.specs.declared.node.Place.{Place}
 use Rattle.pj_tree.specs.Tree.{Tree}
-use Rattle.pj_lex.specs.SourceText.{SourceText, IsRead}
-use Rattle.pj_lex.specs.declared.source.fault.SourceFault.TheVariants as unread
+use Rattle.pj_source.specs.SourceText.{SourceText, IsRead}
+use Rattle.pj_source.specs.declared.source.fault.SourceFault.TheVariants as unread
 use Rattle.pj_lex.specs.declared.token.LexFault.{LexFault}
 use Rattle.pj_parse.specs.PoolText.{pool_of}
 use Rattle.pj_parse.specs.declared.entry.Entry.{Entry}

@@ -1,15 +1,15 @@
--- what comes of a text, and of the bytes of a file; `OneOutcome` and `FileThere` are proofs, on which the function in `FileOutcome` rests
+-- definitions
 pub mod Parses
 pub mod Names
 pub mod PoolText
 pub mod JavaFile
-pub mod OneOutcome
-pub mod FileThere
 pub mod FileOutcome
 pub mod OwnTokens
-pub mod Laws
--- what refusals say
 pub mod Refused
--- private clauses alone cite these
+-- laws, with the proofs on which the function in `FileOutcome` rests
+pub mod Laws
+pub mod OneOutcome
+pub mod FileThere
+-- for private clauses
 pub mod Faults
 pub mod Entries

@@ -4,9 +4,9 @@ use Rattle.std.specs.Str.{chars}
 use Rattle.pj_lex.specs.Tokens.{Lexed, Tokens, ended, token, fault, fault_of}
 use Rattle.pj_lex.specs.Size.{size}
 use Rattle.pj_lex.specs.declared.token.LexFault.{LexFault}
-use Rattle.pj_peg.specs.Form.{rule}
-use Rattle.pj_peg.specs.Derivation.{Forest}
-use Rattle.pj_peg.specs.Derives.{Derives, Outcome, To, Fails}
+use Rattle.pj_peg_grammar.specs.Form.{rule}
+use Rattle.pj_peg_grammar.specs.Derivation.{Forest}
+use Rattle.pj_peg_grammar.specs.Derives.{Derives, Outcome, To, Fails}
 use Rattle.pj_tree.specs.Tree.{Tree, greatest_depth}
 use Rattle.pj_tree.specs.Building.{Building, finished, tree_of}
 use Rattle.pj_tree.specs.Nested.{preorder}

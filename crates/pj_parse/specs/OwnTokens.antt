@@ -1,5 +1,5 @@
 -- Which words of a file are own tokens of which node, and how the nodes stand in one another. A word is a token that is no comment.
-use Rattle.std.specs.Prelude.{◌≡◌, ◌≤◌, ◌<◌, ◌⊎◌, ℕ, Option, None, Some, List, [], length, Contains}
+use Rattle.std.specs.Prelude.{◌≡◌, ◌≤◌, ◌<◌, ◌⊎◌, None, Some, List, [], length, Contains}
 use Rattle.pj_tree.specs.Nested.{Parts, preorder, tokens_of}
 use Rattle.pj_tree.specs.Tree.{Tree, TreeNode, node_of}
 use Rattle.pj_tree.specs.declared.node.Node.{Node}

@@ -1,8 +1,8 @@
 -- What comes of the text of a source file: its syntax tree and its tokens, or the first fault.
 use Rattle.std.specs.Prelude.{ℕ, ◌≡◌, ◌<◌, ◌≤◌, length, map, List, Result, Ok, Err}
-use Rattle.pj_peg.specs.Form.{rule}
-use Rattle.pj_peg.specs.Derivation.{Forest}
-use Rattle.pj_peg.specs.Derives.{Derives, To, FailsAtStart}
+use Rattle.pj_peg_grammar.specs.Form.{rule}
+use Rattle.pj_peg_grammar.specs.Derivation.{Forest}
+use Rattle.pj_peg_grammar.specs.Derives.{Derives, To, FailsAtStart}
 use Rattle.pj_tree.specs.Tree.{Tree}
 use Rattle.pj_tree.specs.declared.shape_fault.ShapeFault.TheVariants as shape
 use Rattle.pj_shape.specs.ShapedTree.{shaped_tree}

@@ -1,10 +1,10 @@
 -- What a refusal says of the bytes of a file, for the clauses of calls that read one.
 use Rattle.std.specs.Prelude.{◌≡◌, ◌≤◌, ℕ, List, length, map, Err, Option, None, Some, slice_get}
 use Rattle.std.specs.Option.{option_map}
-use Rattle.pj_lex.specs.SourceText.{SourceText}
+use Rattle.pj_source.specs.SourceText.{SourceText}
 use Rattle.pj_lex.specs.declared.token.LexFault.{LexFault}
-use Rattle.pj_lex.specs.declared.source.fault.SourceFault.{SourceFault}
-use Rattle.pj_lex.specs.declared.source.fault.SourceFault.TheVariants as unread
+use Rattle.pj_source.specs.declared.source.fault.SourceFault.{SourceFault}
+use Rattle.pj_source.specs.declared.source.fault.SourceFault.TheVariants as unread
 use Rattle.pj_parse.specs.JavaFile.{JavaFile, IsJavaFile}
 use Rattle.pj_grammar.specs.Words.{seen}
 use Rattle.pj_parse.specs.declared.parsing.Parsed.{Parsed}

@@ -2,18 +2,18 @@
 
 ghost use Rattle.std.specs.Prelude.{◌≡◌, ◌≤◌, ℕ, List, length, Ok, IfOk, MatchResult};
 ghost use Rattle.pj_grammar.specs.Java17.{java_17_forms};
-ghost use Rattle.pj_lex.specs.SourceText.{IsRead};
+ghost use Rattle.pj_source.specs.SourceText.{IsRead};
 ghost use Rattle.pj_parse.specs.JavaFile.{IsJavaFile};
 ghost use Rattle.pj_parse.specs.Refused.{IsRefused, StandsIn, file_seen, fault_unread, fault_unparsed, refused_by};
-ghost use Rattle.pj_peg.specs.Form.{forms_of};
+ghost use Rattle.pj_peg_grammar.specs.Form.{forms_of};
 
 use crate::fault::ParseFault;
 use crate::file_fault::{FileFault, FileRefused};
 use crate::laws::faults_stand_in_text;
 use crate::parsing::{Parsed, parse_by};
 use pj_grammar::java_17;
-use pj_lex::{Source, SourceFault};
 use pj_peg::WellFormed;
+use pj_source::{Source, SourceFault};
 use std::alloc::Global;
 
 /// What a fault of bytes is, in a file.

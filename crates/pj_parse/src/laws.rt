@@ -12,7 +12,7 @@ ghost use Rattle.pj_grammar.specs.Words.{spans, words};
 
 use pj_grammar::{grammar_is_well_formed, rules_have_their_numbers};
 use pj_lex::all_texts_have_tokens;
-use pj_peg::one_outcome;
+use pj_peg_grammar::one_outcome;
 
 /// One outcome comes of the bytes of each file, and `outcome_of` is it: a text with its tokens, syntax tree and pool, or
 /// the first fault. The call does nothing: its contract is the law.

@@ -11,10 +11,10 @@ mod fault;
 mod file;
 mod file_fault;
 mod laws;
+mod lexing;
 mod names;
 mod parsing;
 mod pool;
-mod tokens;
 
 pub use fault::ParseFault;
 pub use file::{parse_file, parse_file_by, read_file};
@@ -22,5 +22,6 @@ pub use file_fault::{FileFault, FileRefused};
 pub use laws::{
     faults_stand_in_text, file_has_one_outcome, text_has_one_outcome, words_are_own_tokens,
 };
+pub use lexing::tokens;
 pub use parsing::{Parsed, parse, parse_by};
 pub use pool::Pool;

@@ -1,18 +1,20 @@
 //! From the text of a source file to its syntax tree.
 
 ghost use Rattle.std.specs.Prelude.{◌≡◌, ◌≤◌, ◌⊎◌, length, Ok, Err, IfOk, IfErr, MatchResult};
-ghost use Rattle.pj_peg.specs.Form.{forms_of};
-ghost use Rattle.pj_peg.specs.Derives.{DerivesSteps, FailsAtStart};
+ghost use Rattle.pj_peg_grammar.specs.Form.{forms_of};
+ghost use Rattle.pj_peg_grammar.specs.Derives.{DerivesSteps, FailsAtStart};
 ghost use Rattle.pj_grammar.specs.Java17.{java_17_forms};
 ghost use Rattle.pj_parse.specs.PoolText.{pool_of, IsPoolOf};
 ghost use Rattle.pj_parse.specs.Parses.{Parses, file_parsed};
 
 use crate::fault::ParseFault;
+use crate::lexing::collect_tokens;
 use crate::pool::Pool;
-use crate::tokens::collect_tokens;
 use pj_grammar::{java_17, shape, word_terminals};
-use pj_lex::{Source, Tokens};
-use pj_peg::{Derivation, WellFormed, run};
+use pj_lex::Tokens;
+use pj_peg::{WellFormed, run};
+use pj_peg_grammar::Derivation;
+use pj_source::Source;
 use pj_tree::SyntaxTree;
 use std::alloc::Global;
 

@@ -1,5 +1,5 @@
 -- The cells of a table of rows.
-use Rattle.std.proofs.Common.{◌≡◌, ℕ, ◌+◌, ◌<◌, ◌≤◌, List, [], ◌∷◌, ◌++◌, length, map, Vec, Global, Option, Some, None, refl, sym, ◌∙◌, subst, ap, ⊎_elim, arith, get_or, IsSome, is_some}
+use Rattle.std.proofs.Common.{◌≡◌, ℕ, ◌+◌, ◌<◌, List, [], ◌∷◌, ◌++◌, length, map, Vec, Global, Option, Some, None, refl, sym, ◌∙◌, subst, ap, ⊎_elim, arith, get_or, IsSome, is_some}
 use Rattle.std.specs.Prelude.{slice_get, slice_set}
 use Rattle.std.specs.Option.{option_map, option_and_then}
 use Rattle.std.specs.Vec.{with_item}

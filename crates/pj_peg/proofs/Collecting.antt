@@ -2,17 +2,16 @@
 use Rattle.std.proofs.Common.{◌≡◌, ℕ, ◌<◌, ◌≤◌, ◌⊎◌, List, [], ◌∷◌, ◌++◌, length, Option, Some, None, refl, sym, ◌∙◌, subst, ap, inl, inr, append_assoc, get_or}
 use Rattle.std.specs.Prelude.{take}
 use Rattle.std.proofs.Math.Seq.{take-append_seam}
-use Rattle.pj_peg.specs.declared.program.Node.{Node}
-use Rattle.pj_peg.specs.declared.program.Node.TheVariants.{Token, Any, Nothing, Never, And, Not}
-use Rattle.pj_peg.specs.declared.program.Program.{Program}
+use Rattle.pj_peg_grammar.specs.declared.program.Node.{Node}
+use Rattle.pj_peg_grammar.specs.declared.program.Node.TheVariants.{Token, Any, Nothing, Never, And, Not}
+use Rattle.pj_peg_grammar.specs.declared.program.Program.{Program}
 use Rattle.pj_peg.specs.declared.calls.Call.{Call}
-use Rattle.pj_peg.specs.Form.{Form, token, any, rule, nothing, seq, never, choice, star, maybe, ahead, not_ahead}
-use Rattle.pj_peg.specs.Derivation.{Forest, no_tree, tree, append}
-use Rattle.pj_peg.specs.Derives.{Outcome, To, Fails, Derives, token_is, any_is, nothing_to, seq_to, seq_first, seq_second, choice_first, choice_other, star_more, star_end, maybe_some, maybe_none, ahead_is, not_ahead_is}
-use Rattle.pj_peg.specs.Program.{IsProgram, rules_of, forms_in, form_at, node_form}
+use Rattle.pj_peg_grammar.specs.Form.{Form, token, any, rule, nothing, seq, never, choice, star, maybe, ahead, not_ahead}
+use Rattle.pj_peg_grammar.specs.Derivation.{Forest, no_tree, tree, append}
+use Rattle.pj_peg_grammar.specs.Derives.{Outcome, To, Fails, Derives, token_is, any_is, nothing_to, seq_to, seq_first, seq_second, choice_first, choice_other, star_more, star_end, maybe_some, maybe_none, ahead_is, not_ahead_is}
+use Rattle.pj_peg_grammar.specs.Program.{IsProgram, rules_of, forms_in, form_at, node_form}
 use Rattle.pj_peg.specs.Ends.{Ends, AreCalls, Makes, Collects, IsSafe}
 use Rattle.pj_peg.proofs.Lists.{append_nil}
-use Rattle.pj_peg.proofs.Nodes.{node_at}
 use Rattle.pj_peg.proofs.Going.{ends_within, at_index, seq_rest_safe, choice_rest_safe}
 
 pub append_no_tree : (d : Forest) → append d no_tree ≡ d
@@ -197,11 +196,11 @@ module _ (p : Program) (kinds : List ℕ) where
 pub collecting_node : (p : Program) (kinds : List ℕ) (f : Form) (i : ℕ) (old : List Call) (k j : ℕ) (now : List Call) (r n : Node) → IsProgram p → k < length p.nodes.items → r ≡ get_or p.nodes.items k r → r ≡ n →
     IsCollecting p kinds f i old (form_at (forms_in p.nodes.items) k) j now → IsCollecting p kinds f i old (node_form (forms_in p.nodes.items) n) j now
 collecting_node p kinds f i old k j now r n is_p lt is same c =
-    collecting_form p kinds (node_at p.nodes.items p.stars.items k n is_p.nodes_are (at_index p.nodes.items k r n lt is same)) c
+    collecting_form p kinds (is_p.stands k n (at_index p.nodes.items k r n lt is same)) c
 
 -- where a node ends, by what it stands for
 pub node_ends : (p : Program) (kinds : List ℕ) (k j : ℕ) (r n : Node) (o q : Option ℕ) → IsProgram p → k < length p.nodes.items → r ≡ get_or p.nodes.items k r → r ≡ n → o ≡ q →
     Ends (rules_of p) kinds (form_at (forms_in p.nodes.items) k) j o → Ends (rules_of p) kinds (node_form (forms_in p.nodes.items) n) j q
 node_ends p kinds k j r n o q is_p lt is same to ends =
-    subst (λ f. Ends (rules_of p) kinds f j q) (node_at p.nodes.items p.stars.items k n is_p.nodes_are (at_index p.nodes.items k r n lt is same))
+    subst (λ f. Ends (rules_of p) kinds f j q) (is_p.stands k n (at_index p.nodes.items k r n lt is same))
     (subst (Ends (rules_of p) kinds (form_at (forms_in p.nodes.items) k) j) to ends)

@@ -1,24 +1,22 @@
 -- What columns stand for, and the slots that they have.
-use Rattle.std.proofs.Common.{◌≡◌, ℕ, ◌+◌, ◌-◌, ◌<◌, ◌≤◌, ◌⊎◌, Bool, true, false, List, [], ◌∷◌, ◌++◌, length, Option, Some, None, refl, sym, ◌∙◌, subst, ap, inl, inr, ⊎_elim, arith, IsSome}
-use Rattle.std.specs.Prelude.{slice_get, slice_index_or, nat_lt, if◌then◌else◌}
+use Rattle.std.proofs.Common.{◌≡◌, ℕ, ◌+◌, ◌-◌, ◌<◌, ◌≤◌, ◌⊎◌, Bool, true, false, List, [], ◌∷◌, ◌++◌, length, Option, Some, None, refl, sym, ◌∙◌, subst, ap, inl, inr, ⊎_elim, arith}
+use Rattle.std.specs.Prelude.{slice_get, nat_lt, if◌then◌else◌}
 use Rattle.std.specs.Option.{option_and_then}
 use Rattle.std.proofs.lemmas.List.{length_push}
 use Rattle.std.proofs.lemmas.Option.{slice_get_within, get_or_from_slice_get}
-use Rattle.pj_peg.specs.declared.program.Program.{Program}
+use Rattle.pj_peg_grammar.specs.declared.program.Program.{Program}
 use Rattle.pj_peg.specs.declared.slots.KindSlots.{KindSlots}
-use Rattle.pj_peg.specs.Form.{Form, rule, star}
-use Rattle.pj_peg.specs.Derivation.{no_tree}
-use Rattle.pj_peg.specs.Derives.{star_end, rule_fails}
-use Rattle.pj_peg.specs.WellFormed.{IsWellFormed}
-use Rattle.pj_peg.specs.Program.{IsProgram, form_at, forms_in, rules_of}
+use Rattle.pj_peg_grammar.specs.Form.{rule, star}
+use Rattle.pj_peg_grammar.specs.Derivation.{no_tree}
+use Rattle.pj_peg_grammar.specs.Derives.{star_end, rule_fails}
+use Rattle.pj_peg_grammar.specs.WellFormed.{IsWellFormed}
+use Rattle.pj_peg_grammar.specs.Program.{IsProgram, form_at, forms_in, rules_of}
 use Rattle.pj_peg.specs.Ends.{Ends}
-use Rattle.pj_peg.specs.Firsts.{IsAlwaysRuledOut}
+use Rattle.pj_peg_grammar.specs.Firsts.{IsAlwaysRuledOut}
 use Rattle.pj_peg.specs.Slots.{row_of, row_number, columns, star_part, column_form, ruled_out_end, IsOutAt, IsKindSlots, AreSlots}
 use Rattle.pj_peg.specs.Plan.{slot_at}
-use Rattle.pj_peg.proofs.Lists.{some_same, some_one, found, get_push_cases}
-use Rattle.pj_peg.proofs.FactsLemmas.{root_form}
-use Rattle.pj_peg.proofs.Beginning.{fails_ruled_out}
-use Rattle.pj_peg.proofs.Safe.{rule_safe, star_safe}
+use Rattle.pj_peg.proofs.Lists.{some_one, found, get_push_cases}
+use Rattle.pj_peg.proofs.Safe.{root_form, rule_safe, star_safe, fails_ruled_out}
 use Rattle.pj_peg.proofs.Going.{star_part_safe}
 
 pub below : (a b : ℕ) → a < b → nat_lt a b ≡ true

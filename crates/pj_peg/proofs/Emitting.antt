@@ -2,18 +2,17 @@
 use Rattle.std.proofs.Common.{◌≡◌, ℕ, zero, suc, ◌+◌, ◌<◌, ◌≤◌, List, [], ◌∷◌, ◌++◌, length, Option, Some, None, refl, sym, ◌∙◌, ap, subst, arith, append_assoc, length-append, get_or}
 use Rattle.std.specs.Prelude.{reverse, slice_get, slice_set}
 use Rattle.std.proofs.lemmas.List.{reverse-append}
-use Rattle.pj_peg.specs.declared.derivation.Step.{Step}
+use Rattle.std.proofs.lemmas.Option.{slice_get_within}
+use Rattle.pj_peg_grammar.specs.declared.derivation.Step.{Step}
 use Rattle.pj_peg.specs.declared.calls.Call.{Call}
 use Rattle.pj_peg.specs.declared.runner.Task.{Task}
 use Rattle.pj_peg.specs.declared.runner.Task.TheVariants.{Open, Close}
-use Rattle.pj_peg.specs.Form.{Form, rule}
-use Rattle.pj_peg.specs.Derivation.{Forest, no_tree, tree, append, count, steps_from, steps_of}
-use Rattle.pj_peg.specs.Derives.{Derives, To, rule_to, rule_fails}
+use Rattle.pj_peg_grammar.specs.Form.{Form, rule}
+use Rattle.pj_peg_grammar.specs.Derivation.{Forest, no_tree, tree, append, count, steps_from, steps_of}
+use Rattle.pj_peg_grammar.specs.Derives.{Outcome, Derives, To, rule_to, rule_fails}
 use Rattle.pj_peg.specs.Ends.{AreCalls, Collects}
 use Rattle.pj_peg.specs.Emit.{opens, opened, Opens, set_next}
 use Rattle.pj_peg.proofs.Lists.{append_nil}
-use Rattle.pj_peg.proofs.Preorder.{steps_length}
-use Rattle.pj_peg.proofs.Unique.{unique, to_place, to_steps}
 
 opens_push : (cs : List Call) (c : Call) (ts : List Task) → opens (cs ++ c ∷ []) ++ ts ≡ opens cs ++ Open c ∷ ts
 opens_push [] c ts = refl
@@ -37,15 +36,44 @@ set_is [] n m s lt is = absurd (omega arith)
 set_is (x ∷ steps) zero m s lt is = ap (λ (t : Step). record t { next = m } ∷ steps) is
 set_is (x ∷ steps) (suc n) m s lt is = ap (λ l. x ∷ l) (set_is steps n m s (omega arith) is)
 
+to_place : {j k : ℕ} {d e : Forest} → To j d ≡ To k e → j ≡ k
+to_place h = cc
+
+to_steps : {j k : ℕ} {d e : Forest} → To j d ≡ To k e → d ≡ e
+to_steps h = cc
+
+steps_length : (n : ℕ) (d : Forest) → length (steps_from n d) ≡ count d
+steps_length n no_tree = refl
+steps_length n (tree r i j below after) =
+    let a = steps_length (n + 1) below in
+    let b = steps_length (n + 1 + count below) after in
+    let c = length-append (steps_from (n + 1) below) (steps_from (n + 1 + count below) after) in
+    omega arith
+
+-- a rule has at most one outcome at a place
+abbrev pub HaveOneOutcome : List Form → List ℕ → Type 0
+HaveOneOutcome rules kinds = (r i : ℕ) (o p : Outcome) → Derives rules kinds (rule r) i o → Derives rules kinds (rule r) i p → o ≡ p
+
+rule_within : (rules : List Form) (kinds : List ℕ) (r i : ℕ) (o : Outcome) → Derives rules kinds (rule r) i o → r < length rules
+rule_within rules kinds r i _ (rule_to f h x) = slice_get_within rules r f h
+rule_within rules kinds r i _ (rule_fails f h x) = slice_get_within rules r f h
+
+-- where each rule that is there has exactly one outcome at each place
+pub one_from : (rules : List Form) (kinds : List ℕ) →
+    ((r i : ℕ) → r < length rules → (o : Outcome) × Derives rules kinds (rule r) i o × ((p : Outcome) → Derives rules kinds (rule r) i p → p ≡ o)) → HaveOneOutcome rules kinds
+one_from rules kinds one r i o p x y =
+    let (q, z, same) = one r i (rule_within rules kinds r i o x) in
+    same o x ∙ sym (same p y)
+
 module _ (rules : List Form) (kinds : List ℕ) where
   -- a call is opened
-  pub opening : (c : Call) (f : Form) (steps steps' : List Step) (stack stack1 stack' : List Task) (calls0 calls : List Call) (n : ℕ) →
+  pub opening : (one : HaveOneOutcome rules kinds) (c : Call) (f : Form) (steps steps' : List Step) (stack stack1 stack' : List Task) (calls0 calls : List Call) (n : ℕ) →
       slice_get rules c.rule ≡ Some f → (d : Forest) × Derives rules kinds (rule c.rule) c.from (To c.to d) →
       steps' ≡ steps ++ opened c ∷ [] → stack1 ≡ stack ++ Close n ∷ [] → n ≡ length steps → calls0 ≡ [] → (end : Option ℕ) → Collects rules kinds f c.from calls0 calls end →
       reverse stack' ≡ opens calls ++ reverse stack1 → Opens rules kinds c steps stack steps' stack'
-  opening c f steps steps' stack stack1 stack' calls0 calls n is (d, x) emitted closes len none (Some k) (cs, made, (inner, y, below)) todo =
+  opening one c f steps steps' stack stack1 stack' calls0 calls n is (d, x) emitted closes len none (Some k) (cs, made, (inner, y, below)) todo =
       let whole = rule_to f is y in
-      let to : k ≡ c.to = to_place (unique rules kinds whole x) in
+      let to : k ≡ c.to = to_place (one c.rule c.from _ _ whole x) in
       record {
         emitted = emitted;
         below = cs;
@@ -58,8 +86,8 @@ module _ (rules : List Form) (kinds : List ℕ) where
         inner_is = below;
         derives = subst (λ k. Derives rules kinds (rule c.rule) c.from (To k (tree c.rule c.from k inner no_tree))) to whole;
       }
-  opening c f steps steps' stack stack1 stack' calls0 calls n is (d, x) emitted closes len none None (cs, made, y) todo =
-      absurd (let z = unique rules kinds x (rule_fails f is y) in cc)
+  opening one c f steps steps' stack stack1 stack' calls0 calls n is (d, x) emitted closes len none None (cs, made, y) todo =
+      absurd (let z = one c.rule c.from _ _ x (rule_fails f is y) in cc)
 
   -- the rest of the work makes these steps in the end
   abbrev pub Finishes : List Task → List Step → List Step → Type 0
@@ -99,12 +127,12 @@ module _ (rules : List Form) (kinds : List ℕ) where
   set_behind (x ∷ steps) rest s m = ap (λ l. x ∷ l) (set_behind steps rest s m)
 
   -- the call on top is opened
-  pub finish_open : (c : Call) (ts : List Task) (steps steps' final : List Step) (stack stack' : List Task) → reverse stack ≡ ts → Finishes (Open c ∷ ts) steps final →
+  pub finish_open : (one : HaveOneOutcome rules kinds) (c : Call) (ts : List Task) (steps steps' final : List Step) (stack stack' : List Task) → reverse stack ≡ ts → Finishes (Open c ∷ ts) steps final →
       Opens rules kinds c steps stack steps' stack' → Finishes (reverse stack') steps' final
-  finish_open c ts steps steps' final stack stack' rest (within, (d, x, fin)) opens_it =
+  finish_open one c ts steps steps' final stack stack' rest (within, (d, x, fin)) opens_it =
       let n = length steps in
       let inner = opens_it.inner in
-      let d_is : d ≡ tree c.rule c.from c.to inner no_tree = to_steps (unique rules kinds x opens_it.derives) in
+      let d_is : d ≡ tree c.rule c.from c.to inner no_tree = to_steps (one c.rule c.from _ _ x opens_it.derives) in
       let base : List Step = steps ++ opened c ∷ [] in
       let base_len : length base ≡ n + 1 = length-append steps (opened c ∷ []) in
       let emitted : List Step = steps_from (n + 1) inner in
@@ -134,11 +162,11 @@ module _ (rules : List Form) (kinds : List ℕ) where
   on_top : (task : Task) (stack rest : List Task) → stack ≡ rest ++ task ∷ [] → reverse stack ≡ task ∷ reverse rest
   on_top task stack rest is = ap reverse is ∙ reverse-append rest (task ∷ [])
 
-  pub emits_open : (first c : Call) (steps steps' : List Step) (stack rest stack' : List Task) → Emits first steps (reverse stack) → stack ≡ rest ++ Open c ∷ [] →
+  pub emits_open : (one : HaveOneOutcome rules kinds) (first c : Call) (steps steps' : List Step) (stack rest stack' : List Task) → Emits first steps (reverse stack) → stack ≡ rest ++ Open c ∷ [] →
       Opens rules kinds c steps rest steps' stack' → Emits first steps' (reverse stack')
-  emits_open first c steps steps' stack rest stack' emits top opens_it = record {
+  emits_open one first c steps steps' stack rest stack' emits top opens_it = record {
     finishes = λ d x.
-        finish_open c (reverse rest) steps steps' (steps_of d) rest stack' refl (subst (λ t. Finishes t steps (steps_of d)) (on_top (Open c) stack rest top) (emits.finishes d x)) opens_it;
+        finish_open one c (reverse rest) steps steps' (steps_of d) rest stack' refl (subst (λ t. Finishes t steps (steps_of d)) (on_top (Open c) stack rest top) (emits.finishes d x)) opens_it;
   }
 
   -- the call on top can be opened
@@ -169,11 +197,11 @@ module _ (rules : List Form) (kinds : List ℕ) where
   pub emits_end : (first : Call) (steps : List Step) (stack : List Task) → Emits first steps (reverse stack) → stack ≡ [] → (d : Forest) → Derives rules kinds (rule first.rule) first.from (To first.to d) → steps ≡ steps_of d
   emits_end first steps stack emits empty d x = subst (λ t. Finishes t steps (steps_of d)) (ap reverse empty) (emits.finishes d x)
 
-  pub task_open : (first c : Call) (task : Task) (steps S steps' : List Step) (stack rest T stack' : List Task) → Emits first steps (reverse stack) → stack ≡ rest ++ task ∷ [] → task ≡ Open c →
+  pub task_open : (one : HaveOneOutcome rules kinds) (first c : Call) (task : Task) (steps S steps' : List Step) (stack rest T stack' : List Task) → Emits first steps (reverse stack) → stack ≡ rest ++ task ∷ [] → task ≡ Open c →
       Opens rules kinds c steps rest S T → steps' ≡ S → stack' ≡ T → Emits first steps' (reverse stack')
-  task_open first c task steps S steps' stack rest T stack' emits top is opens_it s t =
+  task_open one first c task steps S steps' stack rest T stack' emits top is opens_it s t =
       subst (λ l. Emits first l (reverse stack')) (sym s) (subst (λ l. Emits first S (reverse l)) (sym t)
-      (emits_open first c steps S stack rest T emits (top ∙ ap (λ k. rest ++ k ∷ []) is) opens_it))
+      (emits_open one first c steps S stack rest T emits (top ∙ ap (λ k. rest ++ k ∷ []) is) opens_it))
 
   pub task_close : (first : Call) (n : ℕ) (task : Task) (steps S steps' : List Step) (stack rest T stack' : List Task) → Emits first steps (reverse stack) → stack ≡ rest ++ task ∷ [] → task ≡ Close n →
       S ≡ set_next steps n (length steps) → steps' ≡ S → stack' ≡ rest → Emits first steps' (reverse stack')

@@ -1,17 +1,16 @@
 -- Where a form ends, part by part.
-use Rattle.std.proofs.Common.{◌≡◌, ℕ, ◌+◌, ◌<◌, ◌≤◌, List, length, Option, Some, None, refl, ◌∙◌, subst, ap, inl, inr, ⊎_elim, arith, get_or}
+use Rattle.std.proofs.Common.{◌≡◌, ℕ, ◌<◌, ◌≤◌, List, length, Option, Some, None, refl, ◌∙◌, subst, ap, inl, inr, ⊎_elim, arith, get_or}
 use Rattle.std.specs.Prelude.{slice_get}
-use Rattle.pj_peg.specs.declared.program.Program.{Program}
-use Rattle.pj_peg.specs.Form.{Form, seq, choice, star, maybe, ahead, not_ahead}
-use Rattle.pj_peg.specs.Derivation.{no_tree, append}
-use Rattle.pj_peg.specs.Derives.{seq_to, seq_first, seq_second, choice_first, choice_other, star_more, star_end, maybe_some, maybe_none, ahead_is, ahead_not, not_ahead_is, not_ahead_not}
-use Rattle.pj_peg.specs.Program.{rules_of, forms_in, form_at}
+use Rattle.pj_peg_grammar.specs.declared.program.Program.{Program}
+use Rattle.pj_peg_grammar.specs.Form.{Form, seq, choice, star, maybe, ahead, not_ahead}
+use Rattle.pj_peg_grammar.specs.Derivation.{no_tree, append}
+use Rattle.pj_peg_grammar.specs.Derives.{seq_to, seq_first, seq_second, choice_first, choice_other, star_more, star_end, maybe_some, maybe_none, ahead_is, ahead_not, not_ahead_is, not_ahead_not}
+use Rattle.pj_peg_grammar.specs.Program.{rules_of, forms_in, form_at}
 use Rattle.pj_peg.specs.Ends.{Ends, IsSafe}
-use Rattle.pj_peg.specs.declared.program.Node.{Node}
-use Rattle.pj_peg.specs.Program.{IsProgram, PartsBelow, node_form}
-use Rattle.pj_peg.proofs.Nodes.{node_at}
+use Rattle.pj_peg_grammar.specs.declared.program.Node.{Node}
+use Rattle.pj_peg_grammar.specs.Program.{IsProgram, PartsBelow, node_form}
 use Rattle.std.proofs.lemmas.Option.{slice_get_read}
-use Rattle.pj_peg.proofs.Exists.{goes, nullable}
+use Rattle.pj_peg.proofs.Forward.{goes, nullable}
 
 module _ (p : Program) (kinds : List ℕ) where
   abbrev E : Form → ℕ → Option ℕ → Type 0
@@ -136,4 +135,4 @@ node_parts p k r n is_p lt is same = is_p.nodes_are.parts k n (at_index p.nodes.
 pub on_node : (p : Program) (kinds : List ℕ) (f : Form) (i k j : ℕ) (r n : Node) → IsProgram p → k < length p.nodes.items → r ≡ get_or p.nodes.items k r → r ≡ n →
     IsOn p kinds f i (form_at (forms_in p.nodes.items) k) j → IsOn p kinds f i (node_form (forms_in p.nodes.items) n) j
 on_node p kinds f i k j r n is_p lt is same on =
-    on_form p kinds (node_at p.nodes.items p.stars.items k n is_p.nodes_are (at_index p.nodes.items k r n lt is same)) on
+    on_form p kinds (is_p.stands k n (at_index p.nodes.items k r n lt is same)) on

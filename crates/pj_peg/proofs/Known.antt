@@ -2,9 +2,9 @@
 use Rattle.std.proofs.Common.{◌≡◌, ℕ, ◌<◌, ◌≤◌, List, length, Option, Some, None, sym, ◌∙◌, subst, ap, ⊎_elim, IsSome}
 use Rattle.std.specs.Prelude.{slice_get}
 use Rattle.std.proofs.lemmas.Bool.{cases_eq}
-use Rattle.pj_peg.specs.declared.program.Program.{Program}
+use Rattle.pj_peg_grammar.specs.declared.program.Program.{Program}
 use Rattle.pj_peg.specs.declared.slots.KindSlots.{KindSlots}
-use Rattle.pj_peg.specs.Program.{rules_of}
+use Rattle.pj_peg_grammar.specs.Program.{rules_of}
 use Rattle.pj_peg.specs.Table.{cell_at, end_of_code}
 use Rattle.pj_peg.specs.Ends.{Ends}
 use Rattle.pj_peg.specs.Slots.{row_number, column_form, AreSlots}

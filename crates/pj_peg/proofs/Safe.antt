@@ -1,16 +1,18 @@
 -- The items of a well-formed grammar's rules are safe, and where rules end.
-use Rattle.std.proofs.Common.{◌≡◌, ℕ, ◌+◌, ◌^◌, ◌<◌, ◌≤◌, List, length, Option, Some, None, sym, subst, inl, inr, ⊎_elim, arith, IfSome}
+use Rattle.std.proofs.Common.{◌≡◌, ℕ, ◌+◌, ◌^◌, ◌<◌, ◌≤◌, List, length, Option, Some, None, sym, ◌∙◌, ap, subst, inl, inr, ⊎_elim, arith, IfSome}
 use Rattle.std.specs.Prelude.{slice_get}
+use Rattle.std.specs.Option.{option_map}
+use Rattle.std.proofs.lemmas.Bool.{cases_lt}
 use Rattle.std.proofs.lemmas.List.{length-map}
-use Rattle.pj_peg.specs.declared.program.Program.{Program}
-use Rattle.pj_peg.specs.Form.{Form, rule, star, seq, choice, maybe, ahead, not_ahead, token, any, nothing, never}
-use Rattle.pj_peg.specs.Derives.{rule_to, rule_fails}
-use Rattle.pj_peg.specs.Derivation.{tree, no_tree}
-use Rattle.pj_peg.specs.WellFormed.{IsWellFormed, Names, Repeats, IsNullable}
-use Rattle.pj_peg.specs.Program.{IsProgram, form_at, forms_in, rules_of}
+use Rattle.std.proofs.lemmas.Option.{slice_get_within, slice_get-map}
+use Rattle.pj_peg_grammar.specs.declared.program.Program.{Program}
+use Rattle.pj_peg_grammar.specs.Form.{Form, rule, star, seq, choice, maybe, ahead, not_ahead, token, any, nothing, never}
+use Rattle.pj_peg_grammar.specs.Derives.{Derives, Fails, rule_to, rule_fails}
+use Rattle.pj_peg_grammar.specs.Derivation.{tree, no_tree}
+use Rattle.pj_peg_grammar.specs.WellFormed.{IsWellFormed, Names, Repeats, IsNullable}
+use Rattle.pj_peg_grammar.specs.Program.{IsProgram, form_at, forms_in, rules_of}
+use Rattle.pj_peg_grammar.specs.Firsts.{IsRuledOut}
 use Rattle.pj_peg.specs.Ends.{Ends, IsSafe}
-use Rattle.pj_peg.proofs.FactsLemmas.{root_form}
-use Rattle.pj_peg.proofs.Exists.{known_rule, fed_rule}
 use Rattle.pj_peg.proofs.Going.{ends_within}
 
 -- what a repeated form names and repeats, the whole does
@@ -51,6 +53,21 @@ pub fits : (kinds : List ℕ) (f : Form) (i : ℕ) (o : Option ℕ) (p : Program
 fits kinds f i (Some e) p within small ends = let h = ends_within p kinds f i e within ends in let le = h.1 in omega arith
 fits kinds f i None p within small ends = tt
 
+-- the rule of a root
+pub root_form : (p : Program) (r k : ℕ) → slice_get p.roots.items r ≡ Some k → slice_get (rules_of p) r ≡ Some (form_at (forms_in p.nodes.items) k)
+root_form p r k is = slice_get-map (form_at (forms_in p.nodes.items)) p.roots.items r ∙ ap (option_map (form_at (forms_in p.nodes.items))) is
+
+-- a rule names only rules that are there
+known_rule : (rules : List Form) → IsWellFormed rules → (r : ℕ) (f : Form) → slice_get rules r ≡ Some f → (s : ℕ) → Names f s → s < length rules
+known_rule rules well r f is s names = ⊎_elim
+    (λ (lt : s < length rules). lt)
+    (λ (le : length rules ≤ s). absurd ((well.none r (slice_get_within rules r f is)).no_unknown_rule (f, is, (s, (names, le)))))
+    (cases_lt s (length rules))
+
+-- a rule repeats nothing that can take nothing
+fed_rule : (rules : List Form) → IsWellFormed rules → (r : ℕ) (f : Form) → slice_get rules r ≡ Some f → (q : Form) → Repeats f q → IsNullable rules q → ⊥
+fed_rule rules well r f is q repeats empty = (well.none r (slice_get_within rules r f is)).no_empty_repeat (f, is, (q, (repeats, empty)))
+
 module _ (p : Program) (kinds : List ℕ) where
   pub rule_ends : (r i : ℕ) (f : Form) (o : Option ℕ) → slice_get (rules_of p) r ≡ Some f → Ends (rules_of p) kinds f i o → Ends (rules_of p) kinds (rule r) i o
   rule_ends r i f (Some j) is (d, x) = (tree r i j d no_tree, rule_to f is x)
@@ -62,8 +79,8 @@ module _ (p : Program) (kinds : List ℕ) where
   -- the items of a well-formed grammar's rules are safe
   pub rule_safe : (r : ℕ) (f : Form) → IsWellFormed (rules_of p) → slice_get (rules_of p) r ≡ Some f → IsSafe p f
   rule_safe r f well is = record {
-    known = λ s names. let lt = known_rule (rules_of p) kinds well r f is s names in let len = roots_length in omega arith;
-    repeats = fed_rule (rules_of p) kinds well r f is;
+    known = λ s names. let lt = known_rule (rules_of p) well r f is s names in let len = roots_length in omega arith;
+    repeats = fed_rule (rules_of p) well r f is;
   }
 
   -- and so are the repetitions in them
@@ -79,3 +96,9 @@ module _ (p : Program) (kinds : List ℕ) where
             (λ (e : Repeats (form_at (forms_in p.nodes.items) a) q). safe.repeats q (repeats_on form (form_at (forms_in p.nodes.items) a) q repeats e))
             h;
       }
+
+-- a safe form that is ruled out fails
+pub fails_ruled_out : (p : Program) (kinds : List ℕ) (f : Form) (i : ℕ) → IsWellFormed (rules_of p) → IsSafe p f → IsRuledOut (rules_of p) kinds f i → Derives (rules_of p) kinds f i Fails
+fails_ruled_out p kinds f i well safe out =
+    let len = roots_length p kinds in
+    out well (λ s names. let lt = safe.known s names in omega arith) safe.repeats

@@ -7,15 +7,14 @@ use Rattle.std.proofs.lemmas.Option.{slice_get_within}
 use Rattle.pj_peg.specs.declared.plan.Plan.{Plan}
 use Rattle.pj_peg.specs.declared.plan.Memo.{Memo}
 use Rattle.pj_peg.specs.declared.plan.Question.{Question}
-use Rattle.pj_peg.specs.Form.{Form, rule, star}
-use Rattle.pj_peg.specs.Program.{form_at, forms_in, rules_of}
+use Rattle.pj_peg_grammar.specs.Form.{Form, star}
+use Rattle.pj_peg_grammar.specs.Program.{form_at, forms_in, rules_of}
 use Rattle.pj_peg.specs.Table.{cell_at, end_of_code, code_of_end}
 use Rattle.pj_peg.specs.Ends.{Ends, IsSafe}
 use Rattle.pj_peg.specs.Slots.{columns, column_form, ruled_out_end}
 use Rattle.pj_peg.specs.Plan.{IsPlan, IsSound, IsAsked, slot_at}
-use Rattle.pj_peg.proofs.FactsLemmas.{root_form}
 use Rattle.pj_peg.proofs.Going.{ends_within}
-use Rattle.pj_peg.proofs.Safe.{rule_safe, star_safe, rule_ends}
+use Rattle.pj_peg.proofs.Safe.{root_form, rule_safe, star_safe, rule_ends}
 use Rattle.pj_peg.proofs.Columns.{slot_out, column_rule, column_star}
 use Rattle.pj_peg.proofs.Known.{known_now}
 

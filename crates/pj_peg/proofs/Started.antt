@@ -1,18 +1,16 @@
 -- Where rule 0 ends from the first place on.
 use Rattle.std.proofs.Common.{◌≡◌, ℕ, ◌<◌, ◌≤◌, List, length, Option, Some, None, sym, ◌∙◌, ap, subst, arith}
-use Rattle.std.specs.Prelude.{All, slice_get}
-use Rattle.pj_peg.specs.declared.item.Item.{Item}
-use Rattle.pj_peg.specs.declared.derivation.Step.{Step}
+use Rattle.std.specs.Prelude.{slice_get}
+use Rattle.pj_peg_grammar.specs.declared.item.Item.{Item}
+use Rattle.pj_peg_grammar.specs.declared.derivation.Step.{Step}
 use Rattle.pj_peg.specs.declared.plan.Plan.{Plan}
-use Rattle.pj_peg.specs.Form.{rule, forms_of}
-use Rattle.pj_peg.specs.Derivation.{Forest, steps_of}
-use Rattle.pj_peg.specs.Derives.{Derives, To, Fails, DerivesSteps, FailsAtStart}
-use Rattle.pj_peg.specs.Program.{form_at, forms_in, rules_of}
+use Rattle.pj_peg_grammar.specs.Form.{rule, forms_of}
+use Rattle.pj_peg_grammar.specs.Derivation.{Forest, steps_of}
+use Rattle.pj_peg_grammar.specs.Derives.{Derives, To, Fails, DerivesSteps, FailsAtStart}
+use Rattle.pj_peg_grammar.specs.Program.{form_at, forms_in, rules_of}
 use Rattle.pj_peg.specs.Ends.{Ends}
 use Rattle.pj_peg.specs.Made.{IsMade}
-use Rattle.pj_peg.proofs.FactsLemmas.{root_form}
-use Rattle.pj_peg.proofs.Safe.{roots_length, rule_ends}
-use Rattle.pj_peg.proofs.Placed.{placed, placed_steps}
+use Rattle.pj_peg.proofs.Safe.{root_form, roots_length, rule_ends}
 
 module _ (items now : List Item) (plan : Plan) (kinds : List ℕ) (made : IsMade (forms_of items) plan) (view : items ≡ now) where
   same_rules : rules_of plan.program ≡ forms_of now
@@ -38,10 +36,3 @@ module _ (items now : List Item) (plan : Plan) (kinds : List ℕ) (made : IsMade
     started_steps j steps result same steps_are r =
         let (d, x) = started (Some j) same in
         (j, d, subst (λ rules. Derives rules kinds (rule 0) 0 (To j d)) same_rules x, r ∙ steps_are d x)
-
-    pub started_places : (j : ℕ) (steps result : List Step) → o ≡ Some j →
-        ((d : Forest) → Derives (rules_of plan.program) kinds (rule 0) 0 (To j d) → steps ≡ steps_of d) → result ≡ steps → All (λ (s : Step). (s.from ≤ s.to) × (s.to ≤ length kinds)) result
-    started_places j steps result same steps_are r =
-        let (d, x) = started (Some j) same in
-        subst (All (λ (s : Step). (s.from ≤ s.to) × (s.to ≤ length kinds))) (sym (r ∙ steps_are d x))
-        (placed_steps (length kinds) 0 d (placed (rules_of plan.program) kinds x (omega arith)))

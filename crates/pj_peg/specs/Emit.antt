@@ -1,12 +1,12 @@
 -- Tasks of which the rest of a derivation's steps comes.
 use Rattle.std.specs.Prelude.{◌≡◌, ℕ, zero, suc, List, [], ◌∷◌, ◌++◌, length, reverse}
-use Rattle.pj_peg.specs.declared.derivation.Step.{Step}
+use Rattle.pj_peg_grammar.specs.declared.derivation.Step.{Step}
 use Rattle.pj_peg.specs.declared.calls.Call.{Call}
 use Rattle.pj_peg.specs.declared.runner.Task.{Task}
 use Rattle.pj_peg.specs.declared.runner.Task.TheVariants.{Open, Close}
-use Rattle.pj_peg.specs.Form.{Form, rule}
-use Rattle.pj_peg.specs.Derivation.{Forest, tree, no_tree}
-use Rattle.pj_peg.specs.Derives.{Derives, To}
+use Rattle.pj_peg_grammar.specs.Form.{Form, rule}
+use Rattle.pj_peg_grammar.specs.Derivation.{Forest, tree, no_tree}
+use Rattle.pj_peg_grammar.specs.Derives.{Derives, To}
 use Rattle.pj_peg.specs.Ends.{AreCalls}
 
 -- the calls as tasks, the first one first

@@ -1,12 +1,12 @@
 -- Where forms end, and by which calls.
 use Rattle.std.specs.Prelude.{◌≡◌, ℕ, ◌<◌, ◌≤◌, List, [], ◌∷◌, ◌++◌, length, Option, Some, None}
 use Rattle.pj_peg.specs.declared.calls.Call.{Call}
-use Rattle.pj_peg.specs.declared.program.Program.{Program}
-use Rattle.pj_peg.specs.Form.{Form, rule}
-use Rattle.pj_peg.specs.Derivation.{Forest, no_tree, append}
-use Rattle.pj_peg.specs.Derives.{To, Fails, Derives}
-use Rattle.pj_peg.specs.WellFormed.{Names, Repeats, IsNullable}
-use Rattle.pj_peg.specs.Program.{rules_of}
+use Rattle.pj_peg_grammar.specs.declared.program.Program.{Program}
+use Rattle.pj_peg_grammar.specs.Form.{Form, rule}
+use Rattle.pj_peg_grammar.specs.Derivation.{Forest, no_tree, append}
+use Rattle.pj_peg_grammar.specs.Derives.{To, Fails, Derives}
+use Rattle.pj_peg_grammar.specs.WellFormed.{Names, Repeats, IsNullable}
+use Rattle.pj_peg_grammar.specs.Program.{rules_of}
 
 -- the form goes up to the place, or fails
 abbrev pub Ends : List Form → List ℕ → Form → ℕ → Option ℕ → Type 0

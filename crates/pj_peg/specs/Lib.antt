@@ -1,15 +1,8 @@
-pub mod Form
-pub mod Derivation
-pub mod Derives
-pub mod WellFormed
-pub mod Program
+-- for private clauses
 pub mod Table
-pub mod Analysis
 pub mod Codes
-pub mod Graph
-pub mod Made
 pub mod Ends
-pub mod Firsts
 pub mod Slots
 pub mod Plan
+pub mod Made
 pub mod Emit

@@ -4,13 +4,13 @@ use Rattle.std.specs.Option.{option_and_then}
 use Rattle.pj_peg.specs.declared.plan.Plan.{Plan}
 use Rattle.pj_peg.specs.declared.plan.Memo.{Memo}
 use Rattle.pj_peg.specs.declared.plan.Question.{Question}
-use Rattle.pj_peg.specs.declared.program.Program.{Program}
+use Rattle.pj_peg_grammar.specs.declared.program.Program.{Program}
 use Rattle.pj_peg.specs.declared.slots.KindSlots.{KindSlots}
-use Rattle.pj_peg.specs.WellFormed.{IsWellFormed}
-use Rattle.pj_peg.specs.Program.{IsProgram, rules_of}
+use Rattle.pj_peg_grammar.specs.WellFormed.{IsWellFormed}
+use Rattle.pj_peg_grammar.specs.Program.{IsProgram, rules_of}
 use Rattle.pj_peg.specs.Table.{cell_at, end_of_code}
 use Rattle.pj_peg.specs.Ends.{Ends}
-use Rattle.pj_peg.specs.Firsts.{AreGoing}
+use Rattle.pj_peg_grammar.specs.Firsts.{AreGoing}
 use Rattle.pj_peg.specs.Slots.{row_number, columns, column_form, AreSlots}
 
 pub record IsPlan (plan : Plan) : Type 0 where

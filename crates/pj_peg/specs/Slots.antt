@@ -1,9 +1,9 @@
 -- The columns of a program, and their slots at the places of a text.
 use Rattle.std.specs.Prelude.{◌≡◌, ℕ, ◌+◌, ◌-◌, ◌<◌, ◌≤◌, List, length, Option, Some, None, slice_get, slice_index_or, nat_lt, if◌then◌else◌}
-use Rattle.pj_peg.specs.declared.program.Program.{Program}
+use Rattle.pj_peg_grammar.specs.declared.program.Program.{Program}
 use Rattle.pj_peg.specs.declared.slots.KindSlots.{KindSlots}
-use Rattle.pj_peg.specs.Form.{Form, rule, star}
-use Rattle.pj_peg.specs.Program.{form_at, forms_in, rules_of}
+use Rattle.pj_peg_grammar.specs.Form.{Form, rule, star}
+use Rattle.pj_peg_grammar.specs.Program.{form_at, forms_in, rules_of}
 use Rattle.pj_peg.specs.Ends.{Ends}
 
 -- the kind where it is below 128, else 128

@@ -1,7 +1,7 @@
 //! Where nodes end, however deep the search goes.
 ghost use Rattle.std.specs.Prelude.{ℕ, ◌<◌, ◌≤◌, List, length, All, IfOk, OnOk};
-ghost use Rattle.pj_peg.specs.declared.program.Program.{Program as AnyProgram};
-ghost use Rattle.pj_peg.specs.Program.{form_at, forms_in, rules_of};
+ghost use Rattle.pj_peg_grammar.specs.declared.program.Program.{Program as AnyProgram};
+ghost use Rattle.pj_peg_grammar.specs.Program.{form_at, forms_in, rules_of};
 ghost use Rattle.pj_peg.specs.Ends.{Ends, IsSafe};
 ghost use Rattle.pj_peg.specs.Plan.{IsPlan, IsSound, IsAsked};
 

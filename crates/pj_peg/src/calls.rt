@@ -1,14 +1,14 @@
 //! The calls of rules by which a node takes what it takes.
 ghost use Rattle.std.specs.Prelude.{◌<◌, ◌≤◌, length, IfOk};
-ghost use Rattle.pj_peg.specs.Program.{form_at, forms_in, rules_of};
+ghost use Rattle.pj_peg_grammar.specs.Program.{form_at, forms_in, rules_of};
 ghost use Rattle.pj_peg.specs.Ends.{Collects, IsSafe};
 ghost use Rattle.pj_peg.specs.Plan.{IsPlan, IsSound};
 
 use crate::ask::end_at;
 use crate::evaluate::is_ruled_out;
 use crate::plan::{Memo, Plan};
-use crate::program::Node;
 use pj_base::NoMemory;
+use pj_peg_grammar::Node;
 use std::alloc::Global;
 
 /// A rule that took the tokens from a place up to another.

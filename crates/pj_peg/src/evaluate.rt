@@ -1,18 +1,17 @@
 //! Where nodes end, by the answers that are known, and further ones that are found on the way.
 ghost use Rattle.std.specs.Prelude.{◌≡◌, ℕ, ◌+◌, ◌^◌, ◌<◌, ◌≤◌, ◌↔◌, List, length, IsTrue, IfOk, IfSome, Some, slice_get};
 ghost use Rattle.std.specs.Bool.{OnTrue};
-ghost use Rattle.pj_peg.specs.Form.{Form, token};
-ghost use Rattle.pj_peg.specs.Program.{form_at, forms_in, rules_of};
+ghost use Rattle.pj_peg_grammar.specs.Form.{Form, token};
+ghost use Rattle.pj_peg_grammar.specs.Program.{form_at, forms_in, rules_of};
 ghost use Rattle.pj_peg.specs.Table.{end_of_code, code_of_end};
 ghost use Rattle.pj_peg.specs.Ends.{Ends, IsSafe};
-ghost use Rattle.pj_peg.specs.Firsts.{IsRuledOut};
+ghost use Rattle.pj_peg_grammar.specs.Firsts.{IsRuledOut};
 ghost use Rattle.pj_peg.specs.Slots.{columns, column_form, ruled_out_end};
 ghost use Rattle.pj_peg.specs.Plan.{IsPlan, IsSound, slot_at};
 
-use crate::firsts::KINDS;
 use crate::plan::{Halt, Memo, Plan, Question};
-use crate::program::Node;
 use crate::slots::{row_number, rules_out};
+use pj_peg_grammar::{KINDS, Node};
 
 /// Whether a token of the kind stands at the place.
 fn is_kind_at(kinds: &[u16], place: u32, kind: u16) -> bool

@@ -1,48 +1,16 @@
 //! Grammars, and those that are well-formed.
-ghost use Rattle.std.specs.Prelude.{◌≡◌, ℕ, ◌^◌, ◌<◌, ◌≤◌, length, IfOk, IfErr, OnOk};
-ghost use Rattle.pj_peg.specs.Form.{forms_of};
-ghost use Rattle.pj_peg.specs.WellFormed.{IsWellFormed, IsFirstFault};
-ghost use Rattle.pj_peg.specs.Made.{IsAnalysis, IsMade};
-ghost use Rattle.pj_peg.specs.Graph.{IsPlacing, IsClosed};
-ghost use Rattle.pj_peg.specs.Firsts.{AreGoing};
+ghost use Rattle.std.specs.Prelude.{◌≡◌, ◌^◌, ◌<◌, ◌≤◌, length, IfOk, IfErr, OnOk};
+ghost use Rattle.pj_peg_grammar.specs.Form.{forms_of};
+ghost use Rattle.pj_peg_grammar.specs.WellFormed.{IsWellFormed, IsFirstFault};
+ghost use Rattle.pj_peg_grammar.specs.Analysed.{IsAnalysis};
+ghost use Rattle.pj_peg_grammar.specs.Firsts.{AreGoing};
 
-use crate::analysis::{Facts, facts_of, nullable_rules};
-use crate::compile::compile;
-use crate::firsts::goings;
-use crate::graph::{Placing, calls, fault_of, place_rules};
 use crate::plan::Plan;
-use crate::program::Program;
 use crate::slots::slots_by_kind;
-use crate::{Item, Items};
 use pj_base::NoMemory;
+use pj_peg_grammar::{Analysis, GrammarFault, Item, Items, analyse, first_fault};
 use std::alloc::Global;
 use std::marker::Model;
-
-/// Why a grammar is not well-formed, with the number of the rule at fault, or that memory ran out.
-#[derive(Clone, Copy, Debug, PartialEq, Eq)]
-pub enum GrammarFault {
-    /// The rule can come to itself at one place. What counts as able to take nothing on the way is said at `EmptyRepeat`.
-    LeftRecursion(u16),
-    /// The rule repeats an item that can take nothing. A look-ahead, a repetition and an optional part count as able to take
-    /// nothing, also where they always fail.
-    EmptyRepeat(u16),
-    /// The rule names one that is not there.
-    UnknownRule(u16),
-    /// Memory ran out.
-    Memory,
-}
-
-impl From<NoMemory> for GrammarFault {
-    ghost use Rattle.std.specs.Prelude.{◌≡◌};
-    ghost use Rattle.pj_peg.specs.declared.grammar.GrammarFault.{GrammarFault};
-    ghost use Rattle.pj_peg.specs.declared.grammar.GrammarFault.TheVariants.{Memory};
-
-    ghost from_gives = { λ _ e. e ≡ Memory };
-
-    fn from(_: NoMemory) -> Self {
-        GrammarFault::Memory
-    }
-}
 
 /// The rules of a grammar, by their numbers. Whether it is well-formed is not known yet.
 #[derive(Drop)]
@@ -53,8 +21,8 @@ pub struct Grammar {
 impl Model for Grammar {
     ghost use Rattle.std.specs.Prelude.{◌^◌, ◌<◌, ◌≤◌, List, length};
     ghost use Rattle.std.specs.Coded.{codes};
-    ghost use Rattle.pj_peg.specs.contracts.item.Item as e;
-    ghost use Rattle.pj_peg.specs.declared.item.Item.{Item};
+    ghost use Rattle.pj_peg_grammar.specs.contracts.item.Item as e;
+    ghost use Rattle.pj_peg_grammar.specs.declared.item.Item.{Item};
 
     ghost Value = { List Item };
 
@@ -76,9 +44,9 @@ pub struct WellFormed {
 impl Model for WellFormed {
     ghost use Rattle.std.specs.Prelude.{List};
     ghost use Rattle.std.specs.Coded.{codes};
-    ghost use Rattle.pj_peg.specs.contracts.item.Item as e;
-    ghost use Rattle.pj_peg.specs.declared.item.Item.{Item};
-    ghost use Rattle.pj_peg.specs.Form.{forms_of};
+    ghost use Rattle.pj_peg_grammar.specs.contracts.item.Item as e;
+    ghost use Rattle.pj_peg_grammar.specs.declared.item.Item.{Item};
+    ghost use Rattle.pj_peg_grammar.specs.Form.{forms_of};
     ghost use Rattle.pj_peg.specs.Made.{IsMade};
 
     ghost Value = { List Item };
@@ -88,59 +56,6 @@ impl Model for WellFormed {
     ghost view = { λ g. g.rules.items };
 
     ghost invariant = { λ g. IsMade (forms_of g.rules.items) g.plan };
-}
-
-/// What was found out of a grammar's rules.
-#[derive(Drop)]
-struct Analysis {
-    program: Program,
-    facts: Vec<Facts>,
-    calls: Vec<Vec<u16>>,
-    placing: Placing,
-    goings: Vec<u128>,
-}
-
-/// Finds out what is to be known of the rules.
-fn analyse(alloc: Global, rules: &[Item]) -> Result<Analysis, NoMemory>
-    requires { length rules.now ≤ 2 ^ 16 }
-    ensures analysis { IfOk result (λ a. IsAnalysis (forms_of rules.now) a.program a.facts.items a.calls.items) }
-    ensures placing { IfOk result (λ a. IsPlacing a.calls.items a.placing.order.items a.placing.placed.items) }
-    ensures closed { IfOk result (λ a. IsClosed a.calls.items a.placing.placed.items) }
-    ensures goings { IfOk result (λ a. AreGoing a.program a.goings.items) }
-{
-    let program = compile(alloc, rules)?;
-    let empty = nullable_rules(alloc, &program)?;
-    let facts = facts_of(alloc, &program, &empty)?;
-    let calls = calls(alloc, &program, &facts)?;
-    let placing = place_rules(alloc, &calls)?;
-    let goings = goings(alloc, &program, &empty)?;
-    Ok(Analysis {
-        program,
-        facts,
-        calls,
-        placing,
-        goings,
-    })
-}
-
-/// The fault of the first rule that has one.
-fn first_fault(alloc: Global, rules: &[Item], analysis: &Analysis) -> Result<(), GrammarFault>
-    requires few { length rules.now ≤ 2 ^ 16 }
-    requires analysis { IsAnalysis (forms_of rules.now) analysis.now.program analysis.now.facts.items analysis.now.calls.items }
-    requires placing { IsPlacing analysis.now.calls.items analysis.now.placing.order.items analysis.now.placing.placed.items }
-    ensures well_formed { OnOk result (IsWellFormed (forms_of rules.now)) }
-    ensures fault { IfErr result (IsFirstFault (forms_of rules.now)) }
-    ensures accepts { IsWellFormed (forms_of rules.now) → IfErr result (λ fault. fault ≡ GrammarFault.Memory) }
-{
-    for rule in 0..rules.len() {
-        let fact = analysis.facts[analysis.program.roots[rule]];
-        let placed = &analysis.placing.placed;
-        match fault_of(alloc, fact, &analysis.calls, placed, rule as u16)? {
-            Some(fault) => return Err(fault),
-            None => {}
-        }
-    }
-    Ok(())
 }
 
 impl Grammar {
@@ -202,7 +117,7 @@ impl WellFormed {
     }
 
     /// The grammar of rules that are known to be well-formed, of which there are from 1 to 65,536. For a table of rules that is
-    /// known when it is compiled, `well_formed_from_test` of `proofs/Decided.antt` shows it by a computation.
+    /// known when it is compiled, `well_formed_from_test` of `proofs/Decided.antt` of `pj_peg_grammar` shows it by a computation.
     pub fn of_rules(alloc: Global, rules: Items) -> Result<WellFormed, NoMemory>
         requires some { 0 < length rules.items }
         requires most { length rules.items ≤ 2 ^ 16 }

@@ -1,8 +1,8 @@
 //! What a search needs to know of a grammar, and what it keeps of a text.
-use crate::program::Program;
 use crate::slots::KindSlots;
 use crate::table::Table;
 use pj_base::NoMemory;
+use pj_peg_grammar::Program;
 use std::alloc::{AllocError, AllocFailed};
 
 /// The nodes of a grammar, of each node the kinds of which one can stand where it goes on, and the slots for each kind.

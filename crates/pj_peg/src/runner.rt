@@ -1,19 +1,19 @@
 //! The derivation of the first rule.
 ghost use Rattle.std.specs.Prelude.{◌≡◌, ◌^◌, ◌<◌, ◌≤◌, ◌++◌, length, All, IfOk, IfSome, IfNone, OnOk, reverse};
-ghost use Rattle.pj_peg.specs.Form.{forms_of, rule};
-ghost use Rattle.pj_peg.specs.Derivation.{Forest, steps_of};
-ghost use Rattle.pj_peg.specs.Derives.{Derives, To, DerivesSteps, FailsAtStart};
-ghost use Rattle.pj_peg.specs.Program.{rules_of};
+ghost use Rattle.pj_peg_grammar.specs.Form.{forms_of, rule};
+ghost use Rattle.pj_peg_grammar.specs.Derivation.{Forest, steps_of};
+ghost use Rattle.pj_peg_grammar.specs.Derives.{Derives, To, DerivesSteps, FailsAtStart};
+ghost use Rattle.pj_peg_grammar.specs.Program.{rules_of};
 ghost use Rattle.pj_peg.specs.Plan.{IsPlan, IsSound};
 ghost use Rattle.pj_peg.specs.Emit.{opens, Opens, set_next};
 
 use crate::ask::end_at;
 use crate::calls::{Call, add_calls};
-use crate::derivation::{Derivation, Step};
 use crate::grammar::WellFormed;
 use crate::plan::{Memo, Plan};
 use crate::table::Table;
 use pj_base::NoMemory;
+use pj_peg_grammar::{Derivation, Step, one_outcome, steps_are_in_text};
 use std::alloc::Global;
 
 /// A part of the work that is left: the steps of a call are to come, or all steps below the one of this number are there.
@@ -70,6 +70,7 @@ fn open(
     calls.clear();
     let _end = add_calls(alloc, plan, kinds, memo, root, call.from, calls)?;
     stack_up(calls, stack)?;
+    one_outcome();
     Ok(())
 }
 
@@ -100,6 +101,7 @@ fn steps_of_call(
     ensures steps { IfOk result (λ steps. (d : Forest) → Derives (rules_of plan.now.program) kinds.now (rule first.rule) first.from (To first.to d) → steps.items ≡ steps_of d) }
     ensures few { IfOk result (λ steps. length steps.items < 2 ^ 32) }
 {
+    one_outcome();
     let mut steps = Vec::new(alloc);
     let mut calls = Vec::new(alloc);
     let mut stack = Vec::new(alloc);
@@ -153,6 +155,7 @@ pub fn run(
                 to,
             };
             let steps = steps_of_call(alloc, first, plan, kinds, &mut memo)?;
+            steps_are_in_text();
             Ok(Some(Derivation::of(steps)))
         }
     }

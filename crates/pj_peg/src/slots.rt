@@ -1,16 +1,15 @@
 //! Which cells a place of a text has: one for each rule and each repetition that the token there does not rule out.
 ghost use Rattle.std.specs.Prelude.{◌≡◌, ℕ, ◌+◌, ◌^◌, ◌<◌, ◌≤◌, List, length, IfOk, Some, slice_get};
 ghost use Rattle.std.specs.Bool.{OnTrue};
-ghost use Rattle.pj_peg.specs.WellFormed.{IsWellFormed};
-ghost use Rattle.pj_peg.specs.Program.{IsProgram, form_at, forms_in, rules_of};
+ghost use Rattle.pj_peg_grammar.specs.WellFormed.{IsWellFormed};
+ghost use Rattle.pj_peg_grammar.specs.Program.{IsProgram, form_at, forms_in, rules_of};
 ghost use Rattle.pj_peg.specs.Ends.{Ends};
-ghost use Rattle.pj_peg.specs.Firsts.{AreGoing, IsAlwaysRuledOut};
+ghost use Rattle.pj_peg_grammar.specs.Firsts.{AreGoing, IsAlwaysRuledOut};
 ghost use Rattle.pj_peg.specs.Slots.{row_number, columns, column_form, ruled_out_end, IsOutAt, IsKindSlots, AreSlots};
 
-use crate::firsts::KINDS;
-use crate::program::Program;
 use crate::table::Cell;
 use pj_base::NoMemory;
+use pj_peg_grammar::{KINDS, Program};
 use std::alloc::Global;
 
 /// The slots where a token of one kind stands, or where none or a further kind does. Columns are the rules by their numbers,

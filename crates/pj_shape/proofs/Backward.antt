@@ -2,8 +2,8 @@
 use Rattle.std.proofs.Common.{◌≡◌, ℕ, Bool, zero, suc, ◌+◌, ◌-◌, ◌<◌, ◌≤◌, List, [], ◌++◌, length, reverse, drop, replicate, Some, slice_get, refl, sym, ◌∙◌, ap, subst, arith, append_assoc, length-append, length-drop, ◌⊎◌, inl, inr, true, false, leb}
 use Rattle.std.proofs.lemmas.Bool.Decides.{leb_tells}
 use Rattle.std.proofs.lemmas.List.{length-reverse}
-use Rattle.pj_peg.specs.Derivation.{Forest, no_tree, tree, append, count, steps_from, steps_of}
-use Rattle.pj_peg.specs.declared.derivation.Step.{Step}
+use Rattle.pj_peg_grammar.specs.Derivation.{Forest, no_tree, tree, append, count, steps_from, steps_of}
+use Rattle.pj_peg_grammar.specs.declared.derivation.Step.{Step}
 use Rattle.pj_shape.specs.declared.shape.Shape.{Shape}
 use Rattle.pj_shape.specs.declared.made.Made.{Made}
 use Rattle.pj_shape.specs.Shaped.{Nodes, shape_of, shaped, no_nodes}

@@ -1,18 +1,18 @@
 -- The parts of a derivation that takes all tokens stand in order in the text, and have each token once.
-use Rattle.std.proofs.Common.{◌≡◌, ℕ, ◌+◌, ◌-◌, ◌<◌, ◌≤◌, Bool, List, [], ◌∷◌, ◌++◌, length, take, drop, None, refl, sym, ◌∙◌, ap, subst, arith}
+use Rattle.std.proofs.Common.{◌≡◌, ℕ, ◌+◌, ◌-◌, ◌≤◌, Bool, List, [], ◌∷◌, length, take, drop, refl, sym, ◌∙◌, ap, subst, arith}
 use Rattle.std.specs.Prelude.{slice_range}
 use Rattle.std.proofs.lemmas.List.{append-nil, take_all}
 use Rattle.pj_tree.specs.declared.kind.Kind.{Kind}
 use Rattle.pj_tree.specs.declared.node.Span.{Span}
 use Rattle.pj_tree.specs.Tree.{IsSpanOf}
 use Rattle.pj_tree.specs.Nested.{Parts}
-use Rattle.pj_peg.specs.Form.{Form, rule}
-use Rattle.pj_peg.specs.Derivation.{Forest, no_tree, tree}
-use Rattle.pj_peg.specs.Derives.{Derives, To}
+use Rattle.pj_peg_grammar.specs.Form.{Form, rule}
+use Rattle.pj_peg_grammar.specs.Derivation.{Forest, no_tree, tree}
+use Rattle.pj_peg_grammar.specs.Derives.{Derives, To}
 use Rattle.pj_shape.specs.declared.shape.Shape.{Shape}
 use Rattle.pj_shape.specs.declared.shape.Shape.TheVariants.{Pass, Node, Joined, Turn, Segment}
 use Rattle.pj_shape.specs.InOrder.{StandInOrder, all_tokens}
-use Rattle.pj_shape.specs.Shaped.{Nodes, no_nodes, node, one_node, with_rule, acts, leads, shape_of, shaped, nodes_of}
+use Rattle.pj_shape.specs.Shaped.{Nodes, no_nodes, one_node, with_rule, acts, leads, shape_of, shaped, nodes_of}
 use Rattle.pj_shape.specs.ShapedTree.{roots_of, parts_of_derivation, MakesNode}
 use Rattle.pj_shape.specs.Typed.{Words, typed, words_of, with_types, around_of}
 use Rattle.pj_shape.specs.Words.{AreTokens, is_small}

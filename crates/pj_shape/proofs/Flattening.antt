@@ -3,7 +3,7 @@ use Rattle.std.proofs.Common.{◌≡◌, ℕ, suc, ◌+◌, Bool, true, false, L
 use lib.Dec.{eqb-suc-zero}
 use Rattle.std.specs.Prelude.{◌==◌}
 use Rattle.pj_tree.specs.declared.kind.Kind.{Kind}
-use Rattle.pj_peg.specs.Derivation.{Forest, no_tree, tree}
+use Rattle.pj_peg_grammar.specs.Derivation.{Forest, no_tree, tree}
 use Rattle.pj_shape.specs.declared.shape.Shape.{Shape}
 use Rattle.pj_shape.specs.declared.shape.Shape.TheVariants.{Pass, Node, Joined, Turn, Segment}
 use Rattle.pj_shape.specs.declared.made.Made.{Made}

@@ -1,7 +1,6 @@
 -- The parts of nodes stand in order, and have each token once.
-use Rattle.std.proofs.Common.{◌≡◌, ℕ, zero, suc, ◌+◌, ◌-◌, ◌<◌, ◌≤◌, ◌⊎◌, inl, inr, true, false, Bool, List, [], ◌∷◌, ◌++◌, length, take, drop, Option, Some, None, slice_get, refl, sym, ◌∙◌, ap, subst, arith, append_assoc}
-use Rattle.std.specs.Prelude.{slice_range, if◌then◌else◌, nat_lt}
-use Rattle.std.specs.List.{All}
+use Rattle.std.proofs.Common.{◌≡◌, ℕ, zero, suc, ◌+◌, ◌-◌, ◌<◌, ◌≤◌, inl, inr, Bool, List, [], ◌∷◌, ◌++◌, length, take, drop, Option, Some, None, slice_get, refl, sym, ◌∙◌, ap, subst, arith}
+use Rattle.std.specs.Prelude.{slice_range, if◌then◌else◌}
 use Rattle.std.specs.Option.{option_map_or}
 use Rattle.std.proofs.lemmas.Bool.{lt-ltb, le-ltb, cases_lt}
 use Rattle.std.proofs.lemmas.List.{append-nil}
@@ -10,7 +9,7 @@ use Rattle.std.proofs.Math.Seq.{take-add}
 use Rattle.pj_tree.specs.declared.kind.Kind.{Kind}
 use Rattle.pj_tree.specs.declared.node.Span.{Span}
 use Rattle.pj_tree.specs.Tree.{IsSpanOf}
-use Rattle.pj_tree.specs.Nested.{Parts, NoMore, Token, Child}
+use Rattle.pj_tree.specs.Nested.{Parts, NoMore, Child}
 use Rattle.pj_shape.specs.InOrder.{StandInOrder, all_tokens}
 use Rattle.pj_shape.specs.Shaped.{Nodes, no_nodes, node}
 use Rattle.pj_shape.specs.Words.{AreTokens, AreInOrder, BeginsFrom}

@@ -2,8 +2,8 @@
 use Rattle.std.proofs.Common.{◌≡◌, ℕ, Bool, zero, suc, ◌+◌, ◌-◌, ◌≤◌, ◌⊎◌, List, [], ◌∷◌, ◌++◌, length, drop, Some, slice_get, refl, sym, ◌∙◌, ap, inl, inr, arith, append_assoc, length-append, length-drop}
 use Rattle.std.proofs.Math.Seq.{drop-append_seam, drop-append-add}
 use Rattle.std.proofs.lemmas.List.{drop-append-le}
-use Rattle.pj_peg.specs.Derivation.{Forest, no_tree, tree, append, count, steps_from}
-use Rattle.pj_peg.specs.declared.derivation.Step.{Step}
+use Rattle.pj_peg_grammar.specs.Derivation.{Forest, no_tree, tree, append, count, steps_from}
+use Rattle.pj_peg_grammar.specs.declared.derivation.Step.{Step}
 use Rattle.pj_shape.specs.declared.shape.Shape.{Shape}
 use Rattle.pj_shape.specs.Shaped.{shape_of, shaped, no_nodes}
 use Rattle.pj_shape.specs.Flat.{flat, by_itself, raw}

@@ -6,8 +6,8 @@ use Rattle.std.proofs.lemmas.Bool.Decides.{eqb_tells}
 use Rattle.std.proofs.lemmas.Bool.{lt-ltb, le-ltb}
 use Rattle.std.specs.Prelude.{◌==◌, ◌&&◌, not, nat_lt}
 use Rattle.pj_tree.specs.declared.kind.Kind.{Kind}
-use Rattle.pj_peg.specs.Derivation.{Forest, no_tree, tree, append, count}
-use Rattle.pj_peg.specs.declared.derivation.Step.{Step}
+use Rattle.pj_peg_grammar.specs.Derivation.{Forest, no_tree, tree, append, count}
+use Rattle.pj_peg_grammar.specs.declared.derivation.Step.{Step}
 use Rattle.pj_shape.specs.declared.shape.Shape.{Shape}
 use Rattle.pj_shape.specs.declared.shape.Shape.TheVariants.{Turn}
 use Rattle.pj_shape.specs.declared.made.Made.{Made}

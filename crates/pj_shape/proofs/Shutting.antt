@@ -1,16 +1,15 @@
 -- A node that takes no token is none of the last things that the rule around it takes: a token of that rule follows it.
 -- By tests of the rules, which hold of a table once and for all.
-use Rattle.std.proofs.Common.{◌≡◌, ℕ, zero, suc, ◌+◌, ◌<◌, ◌≤◌, ◌&&◌, ◌||◌, ◌⊎◌, inl, inr, Bool, true, false, not, List, [], ◌∷◌, Some, slice_get, refl, sym, ◌∙◌, ap, subst, arith}
+use Rattle.std.proofs.Common.{◌≡◌, ℕ, zero, suc, ◌+◌, ◌<◌, ◌≤◌, ◌&&◌, ◌||◌, ◌⊎◌, inl, inr, Bool, true, false, not, List, [], ◌∷◌, Some, slice_get, refl, sym, ◌∙◌, subst, arith}
 use Rattle.std.proofs.lemmas.Bool.{and_parts, cases_Bool}
 use Rattle.pj_tree.specs.declared.kind.Kind.{Kind}
-use Rattle.pj_peg.specs.Analysis.{nullable_by}
-use Rattle.pj_peg.specs.Form.{Form, token, any, rule, nothing, seq, never, choice, star, maybe, ahead, not_ahead}
-use Rattle.pj_peg.specs.Derivation.{Forest, no_tree, tree, append}
-use Rattle.pj_peg.specs.Derives.{Outcome, To, Fails, Derives, token_is, token_not, any_is, any_not, rule_to, rule_fails, nothing_to, seq_to, seq_first, seq_second, never_fails, choice_first, choice_other, star_more, star_end, maybe_some, maybe_none, ahead_is, ahead_not, not_ahead_is, not_ahead_not}
+use Rattle.pj_peg_grammar.specs.Analysis.{nullable_by}
+use Rattle.pj_peg_grammar.specs.Form.{Form, token, any, rule, nothing, seq, never, choice, star, maybe, ahead, not_ahead}
+use Rattle.pj_peg_grammar.specs.Derivation.{Forest, no_tree, tree, append}
+use Rattle.pj_peg_grammar.specs.Derives.{Outcome, To, Fails, Derives, token_is, token_not, any_is, any_not, rule_to, rule_fails, nothing_to, seq_to, seq_first, seq_second, never_fails, choice_first, choice_other, star_more, star_end, maybe_some, maybe_none, ahead_is, ahead_not, not_ahead_is, not_ahead_not}
 use Rattle.pj_shape.specs.declared.shape.Shape.{Shape}
 use Rattle.pj_shape.specs.declared.shape.Shape.TheVariants.{Pass, Node, Joined, Turn, Segment}
 use Rattle.pj_shape.specs.Shaped.{shape_of}
-use Rattle.pj_shape.proofs.Laying.{Laid, laid_le, lies}
 
 -- ---- the tests
 

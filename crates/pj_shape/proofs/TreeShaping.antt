@@ -9,10 +9,10 @@ use Rattle.pj_tree.specs.declared.shape_fault.ShapeFault.TheVariants.{Memory}
 use Rattle.pj_tree.specs.Tree.{Tree}
 use Rattle.pj_tree.specs.Building.{Building, after_call, started, finished, IsWhole}
 use Rattle.pj_tree.specs.Nested.{Parts, calls_of, preorder, WritesPreorder}
-use Rattle.pj_peg.specs.Form.{Form, rule}
-use Rattle.pj_peg.specs.Derivation.{Forest, no_tree, tree, steps_of}
-use Rattle.pj_peg.specs.Derives.{Derives, To}
-use Rattle.pj_peg.specs.declared.derivation.Step.{Step}
+use Rattle.pj_peg_grammar.specs.Form.{Form, rule}
+use Rattle.pj_peg_grammar.specs.Derivation.{Forest, no_tree, tree, steps_of}
+use Rattle.pj_peg_grammar.specs.Derives.{Derives, To}
+use Rattle.pj_peg_grammar.specs.declared.derivation.Step.{Step}
 use Rattle.pj_shape.specs.declared.shape.Shape.{Shape}
 use Rattle.pj_shape.specs.declared.shape.Shape.TheVariants.{Pass, Node, Joined, Turn, Segment}
 use Rattle.pj_shape.specs.Shaped.{Nodes, no_nodes, with_rule, acts, leads, shape_of, shaped, nodes_of}

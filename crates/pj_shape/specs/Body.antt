@@ -1,7 +1,7 @@
 -- A body of a rule among the steps of a derivation. It serves clauses inside the crate alone.
 use Rattle.std.specs.Prelude.{◌≡◌, ◌≤◌, ℕ, ◌+◌, Bool, List, ◌++◌, length, reverse, drop, Some, slice_get}
-use Rattle.pj_peg.specs.Derivation.{Forest, append, count, steps_from}
-use Rattle.pj_peg.specs.declared.derivation.Step.{Step}
+use Rattle.pj_peg_grammar.specs.Derivation.{Forest, append, count, steps_from}
+use Rattle.pj_peg_grammar.specs.declared.derivation.Step.{Step}
 use Rattle.pj_shape.specs.declared.shape.Shape.{Shape}
 use Rattle.pj_shape.specs.declared.made.Made.{Made}
 use Rattle.pj_shape.specs.Flat.{raw}

@@ -1,6 +1,6 @@
 -- Nodes in preorder, and those of a body before its turns are put over them. It serves clauses inside the crate alone.
 use Rattle.std.specs.Prelude.{ℕ, ◌+◌, ◌==◌, Bool, true, false, ◌&&◌, not, List, [], ◌∷◌, ◌++◌, length}
-use Rattle.pj_peg.specs.Derivation.{Forest, no_tree, tree}
+use Rattle.pj_peg_grammar.specs.Derivation.{Forest, no_tree, tree}
 use Rattle.pj_shape.specs.declared.made.Made.{Made}
 use Rattle.pj_shape.specs.declared.shape.Shape.{Shape}
 use Rattle.pj_shape.specs.declared.shape.Shape.TheVariants.{Pass, Node, Joined, Turn, Segment}

@@ -1,12 +1,14 @@
-pub mod Body
-pub mod NameLists
-pub mod Flat
+-- definitions
 pub mod InOrder
 pub mod Kinds
-pub mod Marks
 pub mod Shaped
 pub mod ShapedTree
 pub mod Typed
 pub mod Words
-pub mod Writing
 pub mod Written
+-- for private clauses
+pub mod Body
+pub mod NameLists
+pub mod Flat
+pub mod Marks
+pub mod Writing

@@ -1,7 +1,7 @@
 -- The nodes that a derivation has by a table of shapes.
 use Rattle.std.specs.Prelude.{ℕ, ◌+◌, Bool, true, false, not, ◌&&◌, ◌==◌, List, slice_index_or}
 use Rattle.pj_tree.specs.declared.kind.Kind.{Kind}
-use Rattle.pj_peg.specs.Derivation.{Forest, no_tree, tree}
+use Rattle.pj_peg_grammar.specs.Derivation.{Forest, no_tree, tree}
 use Rattle.pj_shape.specs.declared.shape.Shape.{Shape}
 use Rattle.pj_shape.specs.declared.shape.Shape.TheVariants.{Pass, Node, Joined, Turn, Segment}
 

@@ -5,10 +5,10 @@ use Rattle.pj_tree.specs.Building.{finished}
 use Rattle.pj_tree.specs.Nested.{Parts, NoMore, Child, preorder}
 use Rattle.pj_tree.specs.declared.node.Span.{Span}
 use Rattle.pj_tree.specs.declared.shape_fault.ShapeFault.{ShapeFault}
-use Rattle.pj_peg.specs.Form.{Form}
-use Rattle.pj_peg.specs.Derivation.{Forest}
-use Rattle.pj_peg.specs.Derives.{DerivesSteps}
-use Rattle.pj_peg.specs.declared.derivation.Step.{Step}
+use Rattle.pj_peg_grammar.specs.Form.{Form}
+use Rattle.pj_peg_grammar.specs.Derivation.{Forest}
+use Rattle.pj_peg_grammar.specs.Derives.{DerivesSteps}
+use Rattle.pj_peg_grammar.specs.declared.derivation.Step.{Step}
 use Rattle.pj_shape.specs.declared.shape.Shape.{Shape}
 use Rattle.pj_shape.specs.declared.shape.Shape.TheVariants.{Pass, Node, Joined, Turn, Segment}
 use Rattle.pj_shape.specs.Shaped.{Nodes, no_nodes, node, nodes_of}

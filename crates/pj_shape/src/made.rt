@@ -6,7 +6,7 @@ ghost use Rattle.pj_shape.specs.Flat.{flat, is_two, by_itself};
 
 use crate::shape::Shape;
 use pj_base::NoMemory;
-use pj_peg::Step;
+use pj_peg_grammar::Step;
 use pj_tree::Kind;
 
 /// A node with the places from and up to which it takes the tokens, and the number of nodes of its subtree.

@@ -1,7 +1,7 @@
 //! All nodes of a derivation.
 
 ghost use Rattle.std.specs.Prelude.{◌≡◌, ℕ, ◌<◌, IfOk, Some, length, replicate, slice_get};
-ghost use Rattle.pj_peg.specs.Derivation.{Forest, steps_of};
+ghost use Rattle.pj_peg_grammar.specs.Derivation.{Forest, steps_of};
 ghost use Rattle.pj_shape.specs.Words.{AreTokens, is_small};
 ghost use Rattle.pj_shape.specs.Shaped.{nodes_of};
 ghost use Rattle.pj_shape.specs.Flat.{flat};
@@ -10,10 +10,11 @@ use crate::made::{Made, put_node};
 use crate::shape::{Shape, shape_at};
 use crate::turns::{Body, count_at, put_turns};
 use pj_base::NoMemory;
-use pj_peg::Derivation;
+use pj_peg_grammar::Derivation;
 use pj_tree::Span;
 use std::alloc::Global;
 
+/// Sets the count at a place.
 fn set_count(counts: &mut Vec<usize>, at: u32, count: usize)
     requires { at < length counts.old.items }
     ensures len { length counts.new.items ≡ length counts.old.items }

@@ -1,7 +1,7 @@
 //! The tree of a derivation.
 
 ghost use Rattle.std.specs.Prelude.{◌≡◌, ◌≤◌, ◌⊎◌, length, Ok, Err, MatchResult};
-ghost use Rattle.pj_peg.specs.Derivation.{Forest, steps_of};
+ghost use Rattle.pj_peg_grammar.specs.Derivation.{Forest, steps_of};
 ghost use Rattle.pj_tree.specs.declared.shape_fault.ShapeFault.{ShapeFault};
 ghost use Rattle.pj_shape.specs.Shaped.{shape_of};
 ghost use Rattle.pj_shape.specs.ShapedTree.{shaped_tree, MakesNode, IsDerived};
@@ -11,7 +11,7 @@ use crate::marks::class_marks;
 use crate::nodes::made_nodes;
 use crate::shape::Shape;
 use crate::writing::write_nodes;
-use pj_peg::Derivation;
+use pj_peg_grammar::Derivation;
 use pj_tree::{Builder, ShapeFault, Span, SyntaxTree};
 use std::alloc::Global;
 

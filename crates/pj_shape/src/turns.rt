@@ -9,7 +9,7 @@ use crate::made::Made;
 use crate::shape::{Shape, act, shape_at};
 use crate::words::is_small_word;
 use pj_base::NoMemory;
-use pj_peg::{Derivation, Step};
+use pj_peg_grammar::{Derivation, Step};
 use pj_tree::Span;
 
 /// The steps of a body: those from the first up to, but not including, the last. The body begins at the place `start`.

@@ -119,6 +119,7 @@ fn is_class_at(around: Option<u32>, node: Made, marked: bool) -> bool
     }
 }
 
+/// Whether the node of a number is marked.
 fn mark_at(marked: &[bool], number: usize) -> bool
     requires within { number < length marked.now }
     ensures value { slice_get marked.now number ≡ Some result }

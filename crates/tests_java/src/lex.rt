@@ -1,7 +1,8 @@
 //! The tokens of small texts, by the lexical grammar. Offsets are bytes of the text with Unicode escapes translated.
 
 use crate::fixtures::{Table, expect};
-use pj_lex::{LexFault, Source, Token, tokens};
+use pj_lex::{LexFault, Lexer, Token};
+use pj_source::Source;
 use std::alloc::{AllocError, Global};
 use std::fmt::Write;
 use std::test::Fail;
@@ -24,7 +25,7 @@ fn write_answer(
 
 /// The answers for a text. The lexer is asked on after a `None`.
 fn write_answers(out: &mut String, source: &Source) -> Result<(), AllocError> {
-    let mut lexer = tokens(source);
+    let mut lexer = Lexer::over(source.text());
     for _ in 0..40 {
         write_answer(out, &lexer.next_token())?;
     }

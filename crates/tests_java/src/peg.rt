@@ -4,8 +4,9 @@ use crate::pieces::grammar;
 use pj_base::NoMemory;
 use pj_grammar::Piece;
 use pj_grammar::Piece::{And, Any, Choice, Maybe, Not, Rule, Seq, Star, Token};
-use pj_peg::GrammarFault::{EmptyRepeat, LeftRecursion, UnknownRule};
-use pj_peg::{Derivation, GrammarFault, Step, run};
+use pj_peg::run;
+use pj_peg_grammar::GrammarFault::{EmptyRepeat, LeftRecursion, UnknownRule};
+use pj_peg_grammar::{Derivation, GrammarFault, Step};
 use std::alloc::Global;
 
 /// Grammars, each with its fault.

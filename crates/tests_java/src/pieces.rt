@@ -1,7 +1,8 @@
 //! Grammars written as tables of pieces.
 
 use pj_grammar::{Piece, items_of};
-use pj_peg::{Grammar, GrammarFault, WellFormed};
+use pj_peg::{Grammar, WellFormed};
+use pj_peg_grammar::GrammarFault;
 use std::alloc::Global;
 
 /// The grammar of the rules that the pieces stand for, or its fault. No rule at all, and more rules than there may be, are want

@@ -1,7 +1,7 @@
 //! The texts of files, with Unicode escapes translated, and their places. The values were found by hand from JLS 3.3 to 3.5.
 
 use crate::fixtures::{Table, expect};
-use pj_lex::{Source, SourceFault};
+use pj_source::{Source, SourceFault};
 use pj_tree::Place;
 use std::alloc::{AllocError, Global};
 use std::fmt::Write;

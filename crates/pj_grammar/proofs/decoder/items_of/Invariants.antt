@@ -1,5 +1,5 @@
 use Rattle.std.proofs.Common.{◌≡◌, ◌≤◌, length, map, reverse, drop}
-use Rattle.pj_peg.specs.Form.{form_of}
+use Rattle.pj_peg_grammar.specs.Form.{form_of}
 use Rattle.pj_grammar.specs.Piece.{decoded}
 use Rattle.pj_grammar.proofs.decoder.items_of.Given as goal
 

@@ -1,5 +1,5 @@
 use Rattle.std.proofs.Common.{map, reverse, sym, ◌∙◌, ap}
-use Rattle.pj_peg.specs.Form.{form_of}
+use Rattle.pj_peg_grammar.specs.Form.{form_of}
 use Rattle.pj_grammar.proofs.Stack.{popped_some, popped_none, empty_items}
 use Rattle.pj_grammar.proofs.decoder.take_parts.Goals.{in-Some+in_ok-push, in_default}
 use Rattle.pj_grammar.proofs.decoder.take_parts.Goals as goal

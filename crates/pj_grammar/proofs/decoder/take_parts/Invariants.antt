@@ -1,5 +1,5 @@
 use Rattle.std.proofs.Common.{◌≡◌, map, reverse, take, drop}
-use Rattle.pj_peg.specs.Form.{form_of}
+use Rattle.pj_peg_grammar.specs.Form.{form_of}
 use Rattle.pj_grammar.proofs.decoder.take_parts.Given as goal
 
 abbrev pub invariant-loop : goal.invariant-loop

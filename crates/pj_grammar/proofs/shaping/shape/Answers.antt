@@ -1,4 +1,4 @@
-use Rattle.std.proofs.Common.{◌≡◌, List, map, ◌∙◌, ap, subst}
+use Rattle.std.proofs.Common.{List, map, ◌∙◌, ap, subst}
 use Rattle.std.specs.Str.{IsUtf8}
 use Rattle.pj_grammar.specs.Words.{TokenSeen, seen, words, spans}
 use Rattle.pj_grammar.proofs.TreeOfWords.{is_derived, gives_same}

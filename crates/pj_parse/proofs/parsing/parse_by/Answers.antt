@@ -1,7 +1,7 @@
 use Rattle.std.proofs.Common.{◌≡◌, List, length, map, Ok, Err, ◌⊎◌, ◌∙◌, subst, ap, arith}
 use Rattle.std.proofs.lemmas.Result.{err_from_is_err_and}
 use Rattle.pj_tree.specs.declared.shape_fault.ShapeFault.TheVariants.{Memory}
-use Rattle.pj_peg.specs.Derives.{DerivesSteps}
+use Rattle.pj_peg_grammar.specs.Derives.{DerivesSteps}
 use Rattle.pj_shape.specs.ShapedTree.{shaped_tree}
 use Rattle.pj_grammar.specs.Java17.{java_17_forms, java_17_shapes}
 use Rattle.pj_grammar.specs.Words.{TokenSeen, seen, words, spans, terminals}

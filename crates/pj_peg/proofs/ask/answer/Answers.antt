@@ -1,4 +1,4 @@
-use Rattle.std.proofs.Common.{ℕ, List, Some}
+use Rattle.std.proofs.Common.{Some}
 use Rattle.std.specs.Prelude.{All}
 use Rattle.std.proofs.lemmas.List.Elements.{All-pop}
 use Rattle.pj_peg.specs.Plan.{IsAsked}

@@ -1,6 +1,6 @@
 use Rattle.std.proofs.Common.{ℕ, List, vec_len}
 use Rattle.std.specs.Prelude.{All}
-use Rattle.pj_peg.specs.declared.program.Program.{Program}
+use Rattle.pj_peg_grammar.specs.declared.program.Program.{Program}
 use Rattle.pj_peg.specs.Plan.{IsAsked}
 use Rattle.pj_peg.proofs.ask.stack_up.Given as goal
 

@@ -1,9 +1,8 @@
-use Rattle.std.proofs.Common.{◌∙◌, ◌+◌, ◌-◌, ◌<◌, length, sym, refl, arith, Some, None}
+use Rattle.std.proofs.Common.{◌∙◌, sym, refl, arith, Some, None}
 use Rattle.std.proofs.lemmas.Result.{IfOk-weaker}
-use Rattle.pj_peg.specs.declared.program.Node.TheVariants.{Rule, Seq, Choice, Star, Maybe}
-use Rattle.pj_peg.specs.Program.{form_at, forms_in, rules_of}
-use Rattle.pj_peg.proofs.Beginning.{fails_ruled_out}
-use Rattle.pj_peg.proofs.Nodes.{node_at}
+use Rattle.pj_peg_grammar.specs.declared.program.Node.TheVariants.{Rule, Seq, Choice, Star, Maybe}
+use Rattle.pj_peg_grammar.specs.Program.{form_at, forms_in, rules_of}
+use Rattle.pj_peg.proofs.Safe.{fails_ruled_out}
 use Rattle.pj_peg.proofs.Going.{node_parts, at_index, star_moves, seq_part_safe, choice_part_safe, star_part_safe, maybe_part_safe}
 use Rattle.pj_peg.proofs.Collecting.{collecting_form, collecting_node, collected, collects_within, collects_ends, node_ends, nothing_collected, plain, plain_done, rule_done, seq_collects, seq_fails, choice_collects, choice_done, star_collects, star_done, maybe_done, maybe_some_done}
 use Rattle.pj_peg.proofs.calls.+add_calls.Goals as goal
@@ -83,7 +82,7 @@ loop-rule-smaller t c =
 pub loop-rule-preserved : goal.loop-rule-preserved
 loop-rule-preserved t c =
     let on = collecting_node c.args.plan.now.program c.args.kinds.now _ _ _ _ _ _ _ (Star c.in-Star.part c.in-Star.field-1) c.requires.plan.program_is c.loop-rule.invariant.there c.index.ensures c.in-Star.is c.loop-rule.invariant.collecting in
-    record { there = c.loop-rule.invariant.there; down = c.loop-rule.invariant.down; collecting = collecting_form c.args.plan.now.program c.args.kinds.now (sym (node_at c.args.plan.now.program.nodes.items c.args.plan.now.program.stars.items c.loop-rule.node (Star c.in-Star.part c.in-Star.field-1) c.requires.plan.program_is.nodes_are (at_index _ _ _ _ c.loop-rule.invariant.there c.index.ensures c.in-Star.is))) (star_collects c.args.plan.now.program c.args.kinds.now _ _ _ _ _ _ _ _ on (collected c.args.plan.now.program c.args.kinds.now _ _ _ _ _ _ c.in-Some-4.is c.in_ok-add_calls-in-Star.ensures.collects)); sound = c.in_ok-add_calls-in-Star.ensures.sound }
+    record { there = c.loop-rule.invariant.there; down = c.loop-rule.invariant.down; collecting = collecting_form c.args.plan.now.program c.args.kinds.now (sym (c.requires.plan.program_is.stands c.loop-rule.node (Star c.in-Star.part c.in-Star.field-1) (at_index _ _ _ _ c.loop-rule.invariant.there c.index.ensures c.in-Star.is))) (star_collects c.args.plan.now.program c.args.kinds.now _ _ _ _ _ _ _ _ on (collected c.args.plan.now.program c.args.kinds.now _ _ _ _ _ _ c.in-Some-4.is c.in_ok-add_calls-in-Star.ensures.collects)); sound = c.in_ok-add_calls-in-Star.ensures.sound }
 
 pub add_calls-requires-in-Maybe : goal.add_calls-requires-in-Maybe
 add_calls-requires-in-Maybe t c =

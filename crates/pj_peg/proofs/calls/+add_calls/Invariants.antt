@@ -1,5 +1,5 @@
 use Rattle.std.proofs.Common.{◌+◌, ◌-◌, ◌<◌, ◌≤◌, length}
-use Rattle.pj_peg.specs.Program.{form_at, forms_in}
+use Rattle.pj_peg_grammar.specs.Program.{form_at, forms_in}
 use Rattle.pj_peg.specs.Plan.{IsSound}
 use Rattle.pj_peg.proofs.Collecting.{IsCollecting}
 use Rattle.pj_peg.proofs.calls.+add_calls.Given as goal

@@ -2,15 +2,14 @@ use Rattle.std.proofs.Common.{◌≡◌, ℕ, ◌+◌, ◌-◌, ◌*◌, ◌<◌
 use Rattle.std.specs.Prelude.{slice_get}
 use Rattle.std.proofs.lemmas.Option.{slice_get_read, slice_get_within}
 use Rattle.std.proofs.lemmas.Result.{IfOk-weaker}
-use Rattle.pj_peg.specs.declared.program.Node.TheVariants.{Token, Any, Rule, Nothing, Never, Seq, Choice, Star, Maybe, And, Not}
-use Rattle.pj_peg.specs.Derivation.{no_tree}
-use Rattle.pj_peg.specs.Derives.{any_is, any_not, nothing_to, never_fails}
-use Rattle.pj_peg.specs.Program.{form_at, forms_in, rules_of}
+use Rattle.pj_peg_grammar.specs.declared.program.Node.TheVariants.{Token, Any, Rule, Nothing, Never, Seq, Choice, Star, Maybe, And, Not}
+use Rattle.pj_peg_grammar.specs.Derivation.{no_tree}
+use Rattle.pj_peg_grammar.specs.Derives.{any_is, any_not, nothing_to, never_fails}
+use Rattle.pj_peg_grammar.specs.Program.{form_at, forms_in, rules_of}
 use Rattle.pj_peg.specs.Ends.{Ends}
 use Rattle.pj_peg.specs.Slots.{column_form}
-use Rattle.pj_peg.proofs.Beginning.{fails_ruled_out}
 use Rattle.pj_peg.proofs.Going.{starts, on_node, node_parts, become, seq_part_safe, choice_part_safe, star_part_safe, maybe_part_safe, ahead_part_safe, not_part_safe, seq_on, seq_stops, choice_on, choice_stops, star_on, star_stops, maybe_ends, maybe_takes, ahead_fails, ahead_holds, not_holds, not_fails}
-use Rattle.pj_peg.proofs.Safe.{fits}
+use Rattle.pj_peg.proofs.Safe.{fits, fails_ruled_out}
 use Rattle.pj_peg.proofs.Columns.{column_rule, column_of_star}
 use Rattle.pj_peg.proofs.Searching.{code_fits, sound_set, root_safe, root_ends, part_safe, part_ends}
 use Rattle.pj_peg.proofs.Depth.{deeper}

@@ -1,6 +1,6 @@
-use Rattle.std.proofs.Common.{◌*◌, ◌+◌, ◌-◌, ◌<◌, ◌≤◌, length}
-use Rattle.pj_peg.specs.Form.{star}
-use Rattle.pj_peg.specs.Program.{form_at, forms_in}
+use Rattle.std.proofs.Common.{◌*◌, ◌+◌, ◌<◌, ◌≤◌, length}
+use Rattle.pj_peg_grammar.specs.Form.{star}
+use Rattle.pj_peg_grammar.specs.Program.{form_at, forms_in}
 use Rattle.pj_peg.specs.Plan.{IsSound}
 use Rattle.pj_peg.proofs.Going.{IsOn}
 use Rattle.pj_peg.proofs.evaluate.+ends.Given as goal

@@ -1,6 +1,6 @@
 use Rattle.std.proofs.Common.{◌≡◌, ◌∙◌, sym, true, false}
-use Rattle.pj_peg.specs.Derivation.{no_tree}
-use Rattle.pj_peg.specs.Derives.{token_is, token_not}
+use Rattle.pj_peg_grammar.specs.Derivation.{no_tree}
+use Rattle.pj_peg_grammar.specs.Derives.{token_is, token_not}
 use Rattle.pj_peg.proofs.evaluate.end_of_token.Goals as goal
 
 pub returns-then-is_kind_at : goal.returns-then-is_kind_at

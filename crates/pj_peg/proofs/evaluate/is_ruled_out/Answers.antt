@@ -1,8 +1,8 @@
 use Rattle.std.proofs.Common.{◌≡◌, length, refl, true}
 use Rattle.std.proofs.lemmas.Option.{slice_get_read}
-use Rattle.pj_peg.specs.Program.{form_at, forms_in, rules_of}
-use Rattle.pj_peg.specs.Firsts.{IsRuledOut, IsAlwaysRuledOut}
-use Rattle.pj_peg.proofs.Sets.{on_true, true_on}
+use Rattle.pj_peg_grammar.specs.Program.{form_at, forms_in, rules_of}
+use Rattle.pj_peg_grammar.specs.Firsts.{IsRuledOut, IsAlwaysRuledOut}
+use Rattle.pj_peg.proofs.Bools.{on_true, true_on}
 use Rattle.pj_peg.proofs.evaluate.is_ruled_out.Goals as goal
 
 pub returns-then-kind-lt-KINDS : goal.returns-then-kind-lt-KINDS

@@ -1,11 +1,8 @@
-use Rattle.std.proofs.Common.{◌∙◌, subst, refl, length, arith}
+use Rattle.std.proofs.Common.{◌∙◌, refl, length, arith}
 use Rattle.std.proofs.lemmas.Option.{slice_get_within, slice_get_read}
-use Rattle.pj_peg.specs.Derives.{Derives, To}
-use Rattle.pj_peg.specs.Program.{form_at, forms_in, rules_of}
-use Rattle.pj_peg.proofs.Lists.{some_same}
-use Rattle.pj_peg.proofs.FactsLemmas.{root_form}
-use Rattle.pj_peg.proofs.Safe.{rule_safe, roots_length}
-use Rattle.pj_peg.proofs.Emitting.{inverted, opening}
+use Rattle.pj_peg_grammar.specs.Program.{form_at, forms_in, rules_of}
+use Rattle.pj_peg.proofs.Safe.{root_form, rule_safe, roots_length}
+use Rattle.pj_peg.proofs.Emitting.{inverted, one_from, opening}
 use Rattle.pj_peg.proofs.runner.open.Goals as goal
 
 pub index-root-requires : goal.index-root-requires
@@ -34,6 +31,7 @@ returns-clause-opens c =
     let lt = slice_get_within (rules_of c.args.plan.now.program) c.args.call.rule f is in
     let len = roots_length c.args.plan.now.program c.args.kinds.now in
     let root = root_form c.args.plan.now.program c.args.call.rule c.index-root.result.now (slice_get_read c.args.plan.now.program.roots.items (length c.args.plan.now.program.roots.items) c.args.call.rule c.index-root.result.now refl (omega arith) c.index-root.ensures) in
-    opening (rules_of c.args.plan.now.program) c.args.kinds.now c.args.call (form_at (forms_in c.args.plan.now.program.nodes.items) c.index-root.result.now) c.args.steps.now.items c.push.new.self.items c.args.stack.now.items c.push-2.new.self.items c.stack_up.new.stack.items
+    let one = one_from (rules_of c.args.plan.now.program) c.args.kinds.now (λ r i lt. c.one_outcome.ensures.one_outcome (rules_of c.args.plan.now.program) c.args.kinds.now r i c.requires.plan.well_formed lt) in
+    opening (rules_of c.args.plan.now.program) c.args.kinds.now one c.args.call (form_at (forms_in c.args.plan.now.program.nodes.items) c.index-root.result.now) c.args.steps.now.items c.push.new.self.items c.args.stack.now.items c.push-2.new.self.items c.stack_up.new.stack.items
     c.clear.new.self.items c.add_calls.new.calls.items c.len-number.result root c.requires.call c.in_ok-push.ensures.items c.in_ok-push-2.ensures.items (c.len-number.ensures ∙ c.args.steps.now.ok.0)
     c.clear.ensures.items c.in_ok-_end._end c.in_ok-_end.ensures.collects c.in_ok-stack_up.ensures

@@ -1,6 +1,6 @@
 use Rattle.std.proofs.Common.{◌≤◌, length}
 use Rattle.std.specs.Prelude.{reverse}
-use Rattle.pj_peg.specs.Program.{rules_of}
+use Rattle.pj_peg_grammar.specs.Program.{rules_of}
 use Rattle.pj_peg.specs.Plan.{IsSound}
 use Rattle.pj_peg.proofs.Emitting.{Emits}
 use Rattle.pj_peg.proofs.runner.steps_of_call.Given as goal

@@ -1,10 +1,10 @@
 use Rattle.std.proofs.Common.{◌≡◌, ℕ, ◌-◌, ◌<◌, ◌∙◌, Some, length, true, refl, subst, arith}
 use Rattle.std.specs.Prelude.{slice_get}
 use Rattle.std.proofs.lemmas.Option.{slice_get_read}
-use Rattle.pj_peg.specs.Program.{form_at, forms_in, rules_of}
-use Rattle.pj_peg.specs.Firsts.{IsAlwaysRuledOut}
+use Rattle.pj_peg_grammar.specs.Program.{form_at, forms_in, rules_of}
+use Rattle.pj_peg_grammar.specs.Firsts.{IsAlwaysRuledOut}
 use Rattle.pj_peg.specs.Slots.{IsOutAt}
-use Rattle.pj_peg.proofs.Sets.{on_true, true_on}
+use Rattle.pj_peg.proofs.Bools.{on_true, true_on}
 use Rattle.pj_peg.proofs.Columns.{rule_out_at, star_out_at}
 use Rattle.pj_peg.proofs.slots.is_out.Goals as goal
 

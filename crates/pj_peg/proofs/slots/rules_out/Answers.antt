@@ -2,9 +2,9 @@ use Rattle.std.proofs.Common.{◌≡◌, ℕ, ◌/◌, ◌^◌, ◌∙◌, sym, 
 use Rattle.std.specs.Prelude.{nat_eq, bit_and}
 use Rattle.std.proofs.lemmas.Nat.Bits.{shr_and_one}
 use Rattle.std.proofs.lemmas.Option.{slice_get-get_or}
-use Rattle.pj_peg.specs.Program.{form_at, forms_in, rules_of}
-use Rattle.pj_peg.specs.Firsts.{IsAlwaysRuledOut}
-use Rattle.pj_peg.proofs.Sets.{on_true}
+use Rattle.pj_peg_grammar.specs.Program.{form_at, forms_in, rules_of}
+use Rattle.pj_peg_grammar.specs.Firsts.{IsAlwaysRuledOut}
+use Rattle.pj_peg.proofs.Bools.{on_true}
 use Rattle.pj_peg.proofs.slots.rules_out.Goals as goal
 
 zero_is : (n : ℕ) → nat_eq n 0 ≡ true → n ≡ 0

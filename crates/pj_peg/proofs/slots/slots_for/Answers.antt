@@ -1,5 +1,4 @@
-use Rattle.std.proofs.Common.{◌∙◌, ℕ, ◌+◌, ◌≡◌, length, arith}
-use Rattle.pj_peg.specs.Slots.{columns}
+use Rattle.std.proofs.Common.{◌∙◌, arith}
 use Rattle.pj_peg.proofs.Columns.{slots_out, slots_more, slots_all}
 use Rattle.pj_peg.proofs.slots.slots_for.Goals as goal
 

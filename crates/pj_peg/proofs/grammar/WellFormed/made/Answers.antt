@@ -1,8 +1,8 @@
-use Rattle.std.proofs.Common.{◌∙◌, ◌<◌, ◌≤◌, ◌^◌, sym, subst, ap, length, arith}
+use Rattle.std.proofs.Common.{◌∙◌, ◌<◌, ◌≤◌, ◌^◌, sym, subst, ap, length}
 use Rattle.std.proofs.lemmas.List.{length-map}
-use Rattle.pj_peg.specs.Form.{form_of}
-use Rattle.pj_peg.specs.WellFormed.{IsWellFormed}
-use Rattle.pj_peg.specs.Program.{form_at, forms_in}
+use Rattle.pj_peg_grammar.specs.Form.{form_of}
+use Rattle.pj_peg_grammar.specs.WellFormed.{IsWellFormed}
+use Rattle.pj_peg_grammar.specs.Program.{form_at, forms_in}
 use Rattle.pj_peg.proofs.grammar.WellFormed.made.Goals as goal
 
 pub slots_by_kind-requires-clause-well_formed : goal.slots_by_kind-requires-clause-well_formed

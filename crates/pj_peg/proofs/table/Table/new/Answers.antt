@@ -1,5 +1,4 @@
-use Rattle.std.proofs.Common.{◌≡◌, ℕ, ◌<◌, ◌∙◌, Some, length, ap, sym, arith, get_or, refl, subst}
-use Rattle.std.specs.Prelude.{slice_get}
+use Rattle.std.proofs.Common.{ℕ, ◌<◌, ◌∙◌, length, ap, arith, get_or, refl, subst}
 use Rattle.std.proofs.lemmas.Option.{slice_get_read}
 use Rattle.pj_peg.specs.declared.slots.KindSlots.{KindSlots}
 use Rattle.pj_peg.specs.Slots.{row_number}

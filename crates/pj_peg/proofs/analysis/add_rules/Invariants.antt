@@ -1,5 +1,0 @@
-use Rattle.pj_peg.proofs.Turns.{IsTurn}
-use Rattle.pj_peg.proofs.analysis.add_rules.Given as goal
-
-abbrev pub invariant-loop-rule : goal.invariant-loop-rule
-invariant-loop-rule l = IsTurn l.bits l.roots l.fn.set.items l.set.items l.added l.rule

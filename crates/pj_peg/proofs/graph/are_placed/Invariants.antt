@@ -1,7 +1,0 @@
-use Rattle.std.proofs.Common.{◌≡◌, ℕ, ◌⊎◌, drop, true}
-use Rattle.pj_peg.specs.Analysis.{is_set}
-use Rattle.pj_peg.specs.Graph.{IsIn}
-use Rattle.pj_peg.proofs.graph.are_placed.Given as goal
-
-abbrev pub invariant-loop-rule : goal.invariant-loop-rule
-invariant-loop-rule l = (s : ℕ) → IsIn l.calls s → IsIn (drop l.rule-index l.calls) s ⊎ (is_set l.placed s ≡ true)

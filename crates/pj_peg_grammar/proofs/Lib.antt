@@ -1,0 +1,20 @@
+pub mod Lists
+pub mod Unique
+pub mod Reaching
+pub mod Exists
+pub mod Nodes
+pub mod Forms
+pub mod Roots
+pub mod Preorder
+pub mod Nullable
+pub mod FactsLemmas
+pub mod Sets
+pub mod Turns
+pub mod Marking
+pub mod Begun
+pub mod Orders
+pub mod Checking
+pub mod Beginning
+mod Growing
+pub mod Placed
+pub mod Decided
