@@ -5,7 +5,7 @@ use Rattle.pj_format.specs.declared.fault.Refused.{Refused}
 use Rattle.pj_format.specs.declared.fault.Refused.TheVariants as refused
 use Rattle.pj_format.specs.Format.{◌and_then◌, first}
 use Rattle.pj_format.specs.Fields.{Fails}
-use Rattle.pj_format.specs.Laws.{first_then}
+use Rattle.pj_format.proofs.Laws.{first_then}
 use Rattle.pj_classfile.specs.declared.member.Holder.{Holder}
 use Rattle.pj_classfile.specs.ClassFile.{Slot, attribute, signature_among, or_next}
 

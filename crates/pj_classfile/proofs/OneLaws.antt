@@ -10,7 +10,7 @@ use Rattle.pj_outside.specs.declared.refused.Reading.{Reading}
 use Rattle.pj_outside.specs.declared.refused.Reading.TheVariants as readings
 use Rattle.pj_format.specs.declared.fault.Fault.{Fault}
 use Rattle.pj_format.specs.Format.{Means, fault}
-use Rattle.pj_format.specs.Spelling.{means_one, whole_means}
+use Rattle.pj_format.proofs.Spelling.{means_one, whole_means}
 use Rattle.pj_classfile.specs.ClassFile.{class_file, class_structure}
 use Rattle.pj_classfile.specs.ClassOf.{ClassOf, AnswerOf, answer_from}
 

@@ -5,6 +5,7 @@ ghost use Rattle.pj_format.specs.Fields.{Gives};
 ghost use Rattle.pj_classfile.specs.ClassFile.{Slot, views, is_signature_of, signature_content, other_content, attribute, signature_among, signature, or_next};
 ghost use Rattle.pj_classfile.specs.Passed.{ArePassed, seen_at, text_at};
 
+use crate::fault::BAD_LENGTH;
 use crate::lookup::{bytes_of, signature_at};
 use crate::member::Holder;
 use crate::passed::Passed;
@@ -13,7 +14,7 @@ use pj_format::{Refused, refused, run_of, u16_of, u32_of};
 use std::alloc::Global;
 
 /// The content of a Signature attribute: the index of its text.
-#[tactic(auto, using(pj_format::specs::Laws::reads), unfolding(crate::specs::ClassFile::signature_content))]
+#[tactic(auto, using(pj_format::proofs::Laws::reads), unfolding(crate::specs::ClassFile::signature_content))]
 fn signature_content_of(
     alloc: Global,
     passed: &mut Passed,
@@ -29,7 +30,7 @@ fn signature_content_of(
 {
     let (count, place) = u32_of(bytes, at)?;
     if count != 2 {
-        return Err(refused(9, at));
+        return Err(refused(BAD_LENGTH, at));
     }
     let (index, behind) = u16_of(bytes, place)?;
     let signature = signature_at(alloc, passed, holder, pool, index, place)?;
@@ -37,7 +38,7 @@ fn signature_content_of(
 }
 
 /// The content of any other attribute.
-#[tactic(auto, using(pj_format::specs::Laws::reads), unfolding(crate::specs::ClassFile::other_content))]
+#[tactic(auto, using(pj_format::proofs::Laws::reads), unfolding(crate::specs::ClassFile::other_content))]
 fn other_content_of(bytes: &[u8], at: u32) -> Result<(Option<u16>, u32), Refused>
     requires { length bytes.now ≤ 4294967294 }
     ensures { (pool : List Slot) → Gives (seen_at pool) result (first other_content bytes.now at) }
@@ -48,7 +49,7 @@ fn other_content_of(bytes: &[u8], at: u32) -> Result<(Option<u16>, u32), Refused
 }
 
 /// An attribute: the index of its signature, where it is one.
-#[tactic(auto, using(pj_format::specs::Laws::reads), unfolding(crate::specs::ClassFile::attribute, crate::specs::ClassFile::is_signature_in))]
+#[tactic(auto, using(pj_format::proofs::Laws::reads), unfolding(crate::specs::ClassFile::attribute, crate::specs::ClassFile::is_signature_in))]
 fn attribute_of(
     alloc: Global,
     passed: &mut Passed,
@@ -106,7 +107,7 @@ fn signature_among_of(
 }
 
 /// A table of attributes: the index of the first signature in it, and the place behind the table.
-#[tactic(auto, using(pj_format::specs::Laws::reads), unfolding(crate::specs::ClassFile::signature))]
+#[tactic(auto, using(pj_format::proofs::Laws::reads), unfolding(crate::specs::ClassFile::signature))]
 pub fn signature_in_table(
     alloc: Global,
     passed: &mut Passed,

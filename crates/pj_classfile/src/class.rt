@@ -8,7 +8,7 @@ ghost use Rattle.pj_classfile.specs.ClassOf.{IsRead};
 ghost use Rattle.pj_classfile.specs.Passed.{ArePassed, text_at};
 
 use crate::attribute::signature_in_table;
-use crate::fault::{ClassRefused, or_memory};
+use crate::fault::{BYTES_BEHIND, ClassRefused, LOW_VERSION, OTHER_MAGIC, or_memory};
 use crate::lookup::{class_at, class_of, text_at};
 use crate::member::{Holder, MemberKind, members_of};
 use crate::passed::Passed;
@@ -20,26 +20,26 @@ use pj_names::{ClassFault, ClassInfo};
 use std::alloc::Global;
 
 /// All up to the constant pool: the pool, and the place behind it.
-#[tactic(auto, using(pj_format::specs::Laws::reads), unfolding(crate::specs::ClassFile::head))]
+#[tactic(auto, using(pj_format::proofs::Laws::reads), unfolding(crate::specs::ClassFile::head))]
 fn head_of(alloc: Global, bytes: &[u8]) -> Result<(Vec<Constant<'_>>, u32), Refused>
     requires { length bytes.now ≤ 4294967294 }
     ensures { Gives (λ x. (views x.0.items, x.1)) result (first head bytes.now 0) }
 {
     let (magic, behind) = u32_of(bytes, 0)?;
     if magic != 0xcafebabe {
-        return Err(refused(2, 0));
+        return Err(refused(OTHER_MAGIC, 0));
     }
     let (_, place) = u16_of(bytes, behind)?;
     let (major, behind) = u16_of(bytes, place)?;
     if major < 45 {
-        return Err(refused(3, place));
+        return Err(refused(LOW_VERSION, place));
     }
     let (count, behind) = u16_of(bytes, behind)?;
     pool_of(alloc, bytes, count, behind)
 }
 
 /// The name of a class behind an index.
-#[tactic(auto, using(pj_format::specs::Laws::reads))]
+#[tactic(auto, using(pj_format::proofs::Laws::reads))]
 fn name_of(alloc: Global, bytes: &[u8], pool: &[Constant], at: u32) -> Result<(Text, u32), Refused>
     requires { length bytes.now ≤ 4294967294 }
     ensures value { Gives (λ x. x) result (first (u16_as (class_in (views pool.now))) bytes.now at) }
@@ -58,7 +58,7 @@ fn is_root(name: &str) -> bool
 }
 
 /// The superclass of the class of a name.
-#[tactic(auto, using(pj_format::specs::Laws::reads), unfolding(crate::specs::ClassFile::superclass_in))]
+#[tactic(auto, using(pj_format::proofs::Laws::reads), unfolding(crate::specs::ClassFile::superclass_in))]
 fn superclass_of(
     alloc: Global,
     bytes: &[u8],
@@ -79,7 +79,7 @@ fn superclass_of(
 }
 
 /// The index of the name of an interface.
-#[tactic(auto, using(pj_format::specs::Laws::reads))]
+#[tactic(auto, using(pj_format::proofs::Laws::reads))]
 fn interface_of(
     alloc: Global,
     passed: &mut Passed,
@@ -172,7 +172,7 @@ fn named<'n>(name: &'n str, superclass: &'n str) -> &'n str
 }
 
 /// All behind the constant pool.
-#[tactic(auto, using(pj_format::specs::Laws::reads), unfolding(crate::specs::ClassFile::body))]
+#[tactic(auto, using(pj_format::proofs::Laws::reads), unfolding(crate::specs::ClassFile::body))]
 fn body_of(
     alloc: Global,
     bytes: &[u8],
@@ -220,7 +220,7 @@ fn body_of(
 }
 
 /// The whole class, and the end of the bytes.
-#[tactic(auto, using(pj_format::specs::Laws::reads), unfolding(crate::specs::ClassFile::class_file, crate::specs::ClassFile::class_structure, pj_format::specs::Format::whole))]
+#[tactic(auto, using(pj_format::proofs::Laws::reads), unfolding(crate::specs::ClassFile::class_file, crate::specs::ClassFile::class_structure, pj_format::specs::Format::whole))]
 fn class_file_of(alloc: Global, bytes: &[u8]) -> Result<(ClassInfo, u32), Refused>
     requires { length bytes.now ≤ 4294967294 }
     ensures { Gives (λ x. x) result (first class_file bytes.now 0) }
@@ -228,7 +228,7 @@ fn class_file_of(alloc: Global, bytes: &[u8]) -> Result<(ClassInfo, u32), Refuse
     let (pool, behind) = head_of(alloc, bytes)?;
     let (class, end) = body_of(alloc, bytes, &pool, behind)?;
     if end as usize != bytes.len() {
-        return Err(refused(10, end));
+        return Err(refused(BYTES_BEHIND, end));
     }
     Ok((class, end))
 }

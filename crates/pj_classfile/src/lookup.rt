@@ -6,7 +6,7 @@ ghost use Rattle.pj_signatures.specs.Names.{is_internal_name};
 ghost use Rattle.pj_classfile.specs.ClassFile.{views, bytes_in, text_in, class_in, descriptor_in, is_descriptor_of, signature_in, is_signature_of};
 ghost use Rattle.pj_classfile.specs.Passed.{ArePassed, text_at};
 
-use crate::fault::or_memory;
+use crate::fault::{BAD_DESCRIPTOR, BAD_INDEX, BAD_SIGNATURE, BAD_TEXT, or_memory};
 use crate::member::{Holder, MemberKind};
 use crate::modified_utf8::decode;
 use crate::passed::Passed;
@@ -24,7 +24,7 @@ pub fn bytes_of<'b>(pool: &[Constant<'b>], index: u16, offset: u32) -> Result<&'
 {
     match pool.get(index as usize) {
         Some(Constant::Utf8(bytes)) => Ok(bytes),
-        _ => Err(refused(5, offset)),
+        _ => Err(refused(BAD_INDEX, offset)),
     }
 }
 
@@ -36,7 +36,7 @@ pub fn text_of(alloc: Global, pool: &[Constant], index: u16, offset: u32) -> Res
     let bytes = bytes_of(pool, index, offset)?;
     match or_memory(decode(alloc, bytes))? {
         Some(text) => Ok(text),
-        None => Err(refused(6, offset)),
+        None => Err(refused(BAD_TEXT, offset)),
     }
 }
 
@@ -48,13 +48,13 @@ pub fn class_of(alloc: Global, pool: &[Constant], index: u16, offset: u32) -> Re
 {
     let name = match pool.get(index as usize) {
         Some(Constant::Class(name)) => *name,
-        _ => return Err(refused(5, offset)),
+        _ => return Err(refused(BAD_INDEX, offset)),
     };
     let text = text_of(alloc, pool, name, offset)?;
     if is_internal_name(text.as_str()) {
         return Ok(text);
     }
-    Err(refused(6, offset))
+    Err(refused(BAD_TEXT, offset))
 }
 
 /// The text behind an index, and the empty one where there is none.
@@ -88,14 +88,14 @@ pub fn class_at(
 {
     let name = match pool.get(index as usize) {
         Some(Constant::Class(name)) => *name,
-        _ => return Err(refused(5, offset)),
+        _ => return Err(refused(BAD_INDEX, offset)),
     };
     if passed.has(name) {
         return Ok(name);
     }
     let text = text_of(alloc, pool, name, offset)?;
     if !is_internal_name(text.as_str()) {
-        return Err(refused(6, offset));
+        return Err(refused(BAD_TEXT, offset));
     }
     or_memory(passed.add(name))?;
     Ok(name)
@@ -120,7 +120,7 @@ pub fn descriptor_at(
     }
     let text = text_of(alloc, pool, index, offset)?;
     if !or_memory(fits_descriptor(alloc, kind, text.as_str()))? {
-        return Err(refused(7, offset));
+        return Err(refused(BAD_DESCRIPTOR, offset));
     }
     or_memory(passed.add(index))?;
     Ok(index)
@@ -145,7 +145,7 @@ pub fn signature_at(
     }
     let text = text_of(alloc, pool, index, offset)?;
     if !or_memory(fits_signature(alloc, holder, text.as_str()))? {
-        return Err(refused(8, offset));
+        return Err(refused(BAD_SIGNATURE, offset));
     }
     or_memory(passed.add(index))?;
     Ok(index)

@@ -38,6 +38,7 @@ pub struct Judged {
     pub signatures: Passed,
 }
 
+/// What has the attributes of a member: a field or a method.
 fn holder_of(kind: MemberKind) -> Holder
     ensures { result ≡ holder_of kind }
 {
@@ -47,7 +48,8 @@ fn holder_of(kind: MemberKind) -> Holder
     }
 }
 
-#[tactic(auto, using(pj_format::specs::Laws::reads), unfolding(crate::specs::ClassFile::member))]
+/// A field or a method from a place on, with the place behind it.
+#[tactic(auto, using(pj_format::proofs::Laws::reads), unfolding(crate::specs::ClassFile::member))]
 fn member_of(
     alloc: Global,
     judged: &mut Judged,
@@ -85,6 +87,7 @@ fn member_of(
     ))
 }
 
+/// So many fields or methods from a place on, with the place behind them.
 fn member_list_of(
     alloc: Global,
     judged: &mut Judged,
@@ -110,7 +113,7 @@ fn member_list_of(
 }
 
 /// The fields or the methods, and the place behind them.
-#[tactic(auto, using(pj_format::specs::Laws::reads), unfolding(crate::specs::ClassFile::members))]
+#[tactic(auto, using(pj_format::proofs::Laws::reads), unfolding(crate::specs::ClassFile::members))]
 pub fn members_of(
     alloc: Global,
     kind: MemberKind,

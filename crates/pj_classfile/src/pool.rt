@@ -4,6 +4,7 @@ ghost use Rattle.pj_format.specs.Format.{first};
 ghost use Rattle.pj_format.specs.Fields.{Gives};
 ghost use Rattle.pj_classfile.specs.ClassFile.{view, views, tag, content, slot, slots, utf8, class, index, two_indices, number, wide_number, method_handle};
 
+use crate::fault::NO_TAG;
 use pj_format::{Refused, refused, run_of, u8_of, u16_of, u32_of};
 use std::alloc::Global;
 
@@ -43,7 +44,8 @@ pub enum Tag {
 /// A slot, whether the constant takes the next slot too, and the place behind it.
 type Slot<'b> = ((Constant<'b>, bool), u32);
 
-#[tactic(auto, using(pj_format::specs::Laws::reads), unfolding(crate::specs::ClassFile::tag))]
+/// The tag of a constant (JVMS 4.4, table 4.4-A).
+#[tactic(auto, using(pj_format::proofs::Laws::reads), unfolding(crate::specs::ClassFile::tag))]
 fn tag_of(bytes: &[u8], at: u32) -> Result<(Tag, u32), Refused>
     requires { length bytes.now ≤ 4294967294 }
     ensures { Gives (λ x. x) result (first tag bytes.now at) }
@@ -67,11 +69,12 @@ fn tag_of(bytes: &[u8], at: u32) -> Result<(Tag, u32), Refused>
         18 => Ok((Tag::InvokeDynamic, behind)),
         19 => Ok((Tag::Module, behind)),
         20 => Ok((Tag::Package, behind)),
-        _ => Err(refused(4, at)),
+        _ => Err(refused(NO_TAG, at)),
     }
 }
 
-#[tactic(auto, using(pj_format::specs::Laws::reads), unfolding(crate::specs::ClassFile::utf8))]
+/// The content of a constant with a text (JVMS 4.4.7). Whether a slot takes two numbers stands beside it, here and below.
+#[tactic(auto, using(pj_format::proofs::Laws::reads), unfolding(crate::specs::ClassFile::utf8))]
 fn utf8_of(bytes: &[u8], at: u32) -> Result<Slot<'_>, Refused>
     requires { length bytes.now ≤ 4294967294 }
     ensures { Gives (λ x. ((view x.0.0, x.0.1), x.1)) result (first utf8 bytes.now at) }
@@ -81,7 +84,8 @@ fn utf8_of(bytes: &[u8], at: u32) -> Result<Slot<'_>, Refused>
     Ok(((Constant::Utf8(text), false), behind))
 }
 
-#[tactic(auto, using(pj_format::specs::Laws::reads), unfolding(crate::specs::ClassFile::class))]
+/// The content of a constant that names a class (JVMS 4.4.1).
+#[tactic(auto, using(pj_format::proofs::Laws::reads), unfolding(crate::specs::ClassFile::class))]
 fn class_of(bytes: &[u8], at: u32) -> Result<Slot<'_>, Refused>
     requires { length bytes.now ≤ 4294967294 }
     ensures { Gives (λ x. ((view x.0.0, x.0.1), x.1)) result (first class bytes.now at) }
@@ -90,7 +94,8 @@ fn class_of(bytes: &[u8], at: u32) -> Result<Slot<'_>, Refused>
     Ok(((Constant::Class(name), false), behind))
 }
 
-#[tactic(auto, using(pj_format::specs::Laws::reads), unfolding(crate::specs::ClassFile::index))]
+/// The content of a constant of one index, which nothing asks for.
+#[tactic(auto, using(pj_format::proofs::Laws::reads), unfolding(crate::specs::ClassFile::index))]
 fn index_of(bytes: &[u8], at: u32) -> Result<Slot<'_>, Refused>
     requires { length bytes.now ≤ 4294967294 }
     ensures { Gives (λ x. ((view x.0.0, x.0.1), x.1)) result (first index bytes.now at) }
@@ -99,7 +104,8 @@ fn index_of(bytes: &[u8], at: u32) -> Result<Slot<'_>, Refused>
     Ok(((Constant::Other, false), behind))
 }
 
-#[tactic(auto, using(pj_format::specs::Laws::reads), unfolding(crate::specs::ClassFile::two_indices))]
+/// The content of a constant of two indices, which nothing asks for.
+#[tactic(auto, using(pj_format::proofs::Laws::reads), unfolding(crate::specs::ClassFile::two_indices))]
 fn two_indices_of(bytes: &[u8], at: u32) -> Result<Slot<'_>, Refused>
     requires { length bytes.now ≤ 4294967294 }
     ensures { Gives (λ x. ((view x.0.0, x.0.1), x.1)) result (first two_indices bytes.now at) }
@@ -109,7 +115,8 @@ fn two_indices_of(bytes: &[u8], at: u32) -> Result<Slot<'_>, Refused>
     Ok(((Constant::Other, false), behind))
 }
 
-#[tactic(auto, using(pj_format::specs::Laws::reads), unfolding(crate::specs::ClassFile::number))]
+/// The content of a number of four bytes (JVMS 4.4.4), which nothing asks for.
+#[tactic(auto, using(pj_format::proofs::Laws::reads), unfolding(crate::specs::ClassFile::number))]
 fn number_of(bytes: &[u8], at: u32) -> Result<Slot<'_>, Refused>
     requires { length bytes.now ≤ 4294967294 }
     ensures { Gives (λ x. ((view x.0.0, x.0.1), x.1)) result (first number bytes.now at) }
@@ -118,7 +125,8 @@ fn number_of(bytes: &[u8], at: u32) -> Result<Slot<'_>, Refused>
     Ok(((Constant::Other, false), behind))
 }
 
-#[tactic(auto, using(pj_format::specs::Laws::reads), unfolding(crate::specs::ClassFile::wide_number))]
+/// The content of a number of eight bytes, which takes two numbers of the pool (JVMS 4.4.5).
+#[tactic(auto, using(pj_format::proofs::Laws::reads), unfolding(crate::specs::ClassFile::wide_number))]
 fn wide_number_of(bytes: &[u8], at: u32) -> Result<Slot<'_>, Refused>
     requires { length bytes.now ≤ 4294967294 }
     ensures { Gives (λ x. ((view x.0.0, x.0.1), x.1)) result (first wide_number bytes.now at) }
@@ -128,7 +136,8 @@ fn wide_number_of(bytes: &[u8], at: u32) -> Result<Slot<'_>, Refused>
     Ok(((Constant::Other, true), behind))
 }
 
-#[tactic(auto, using(pj_format::specs::Laws::reads), unfolding(crate::specs::ClassFile::method_handle))]
+/// The content of a method handle (JVMS 4.4.8), which nothing asks for.
+#[tactic(auto, using(pj_format::proofs::Laws::reads), unfolding(crate::specs::ClassFile::method_handle))]
 fn method_handle_of(bytes: &[u8], at: u32) -> Result<Slot<'_>, Refused>
     requires { length bytes.now ≤ 4294967294 }
     ensures { Gives (λ x. ((view x.0.0, x.0.1), x.1)) result (first method_handle bytes.now at) }
@@ -165,7 +174,7 @@ fn content_of(bytes: &[u8], tag: Tag, at: u32) -> Result<Slot<'_>, Refused>
 }
 
 /// A slot, where the one before it may have taken it.
-#[tactic(auto, using(pj_format::specs::Laws::reads), unfolding(crate::specs::ClassFile::slot))]
+#[tactic(auto, using(pj_format::proofs::Laws::reads), unfolding(crate::specs::ClassFile::slot))]
 fn slot_of(bytes: &[u8], taken: bool, at: u32) -> Result<Slot<'_>, Refused>
     requires { length bytes.now ≤ 4294967294 }
     ensures { Gives (λ x. ((view x.0.0, x.0.1), x.1)) result (first (slot taken) bytes.now at) }

@@ -1,6 +1,6 @@
 -- The turns of the loops over members, their types and their names.
 use Rattle.std.proofs.Common.{◌≡◌, ℕ, ◌<◌, ◌+◌, List, [], ◌∷◌, ◌++◌, length, get_or, drop, ap, refl, reverse, sym, ◌∙◌, append_assoc}
-use Rattle.std.specs.Prelude.{Bool, true, false, not, Option, Some, None, if◌then◌else◌, nat_eq}
+use Rattle.std.specs.Prelude.{Bool, true, false, not, Some, None, if◌then◌else◌, nat_eq}
 use Rattle.std.specs.Cmp.Lexicographic.{pointwise}
 use Rattle.std.specs.FinSet as set
 use Rattle.std.proofs.lemmas.List.{map-append, reverse-append}
@@ -8,8 +8,8 @@ use Rattle.pj_names.specs.declared.answer.Member.{Member}
 use Rattle.pj_names.specs.declared.ty.Ty.{Ty}
 use Rattle.pj_names.specs.ClassName.{Name, NameSet}
 use Rattle.pj_names.specs.JavaType.{JavaType, java_type, bound_types, type_list}
-use Rattle.pj_names.specs.AskingLaws.{left_from}
-use Rattle.pj_names.specs.Noting.{insert-there}
+use Rattle.pj_names.proofs.AskingLaws.{left_from}
+use Rattle.pj_names.proofs.NotingLaws.{insert-there}
 use Rattle.pj_signatures.specs.Types.{MethodTypes}
 use Rattle.pj_signatures.specs.Reading.{method_signature_of}
 use Rattle.pj_types.specs.declared.members.Method.{Method}

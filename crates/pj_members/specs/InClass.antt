@@ -4,7 +4,6 @@ use Rattle.std.specs.List.{list_any}
 use Rattle.std.specs.Cmp.Lexicographic.{pointwise}
 use Rattle.pj_names.specs.declared.answer.Answer.{Answer}
 use Rattle.pj_names.specs.declared.answer.Answer.TheVariants.{Found, Absent, Broken}
-use Rattle.pj_names.specs.declared.answer.ClassInfo.{ClassInfo}
 use Rattle.pj_names.specs.declared.answer.Member.{Member}
 use Rattle.pj_names.specs.ClassName.{Name}
 use Rattle.pj_names.specs.JavaType.{JavaType, Arguments}

@@ -1,3 +1,4 @@
+-- definitions
 pub mod InClass
 pub mod Fields
 pub mod Methods

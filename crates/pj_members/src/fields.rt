@@ -95,7 +95,7 @@ fn field_of_known(
 }
 
 /// The field of a class on the list of a class: it is asked, unless it is `java.lang.Object`.
-#[tactic(auto, using(pj_names::specs::AskingLaws::asking_steps))]
+#[tactic(auto, using(pj_names::proofs::AskingLaws::asking_steps))]
 fn field_in_class<O: Oracle>(
     alloc: Global,
     oracle: &mut O,
@@ -113,7 +113,7 @@ fn field_in_class<O: Oracle>(
 }
 
 /// The field of a type on the list of a class. Each of these is a class.
-#[tactic(auto, using(pj_names::specs::AskingLaws::asking_steps))]
+#[tactic(auto, using(pj_names::proofs::AskingLaws::asking_steps))]
 fn field_in<O: Oracle>(
     alloc: Global,
     oracle: &mut O,
@@ -138,7 +138,7 @@ const MOST_CLASSES: u64 = 4294967294;
 ///
 /// Its type is written with the type parameters of the class: in a further class of the list, its type arguments stand in
 /// the place of its type parameters, and where it is raw (JLS 4.8), their erased bounds.
-#[tactic(auto, using(pj_types::specs::Along::along_loops))]
+#[tactic(auto, using(pj_types::proofs::AlongTurns::along_loops))]
 pub fn find_field<O: Oracle>(
     alloc: Global,
     oracle: &mut O,

@@ -115,7 +115,7 @@ fn methods_of_known(
 }
 
 /// The methods of a class on the list of a class: it is asked, unless it is `java.lang.Object`.
-#[tactic(auto, using(pj_names::specs::AskingLaws::asking_steps))]
+#[tactic(auto, using(pj_names::proofs::AskingLaws::asking_steps))]
 fn methods_in_class<O: Oracle>(
     alloc: Global,
     oracle: &mut O,
@@ -133,7 +133,7 @@ fn methods_in_class<O: Oracle>(
 }
 
 /// The methods of a type on the list of a class. Each of these is a class.
-#[tactic(auto, using(pj_names::specs::AskingLaws::asking_steps))]
+#[tactic(auto, using(pj_names::proofs::AskingLaws::asking_steps))]
 fn methods_in<O: Oracle>(
     alloc: Global,
     oracle: &mut O,
@@ -152,7 +152,7 @@ fn methods_in<O: Oracle>(
 }
 
 /// The methods of some types, one after the other.
-#[tactic(auto, using(pj_names::specs::AskingLaws::asking_loops))]
+#[tactic(auto, using(pj_names::proofs::AskingLaws::asking_loops))]
 fn found_in<O: Oracle>(
     alloc: Global,
     oracle: &mut O,
@@ -180,7 +180,7 @@ fn one_class(alloc: Global, class: &ClassName) -> Result<TyList, NoMemory>
 }
 
 /// The types that methods of a name are looked for in.
-#[tactic(auto, using(pj_names::specs::AskingLaws::asking_steps))]
+#[tactic(auto, using(pj_names::proofs::AskingLaws::asking_steps))]
 fn searched<O: Oracle>(
     alloc: Global,
     oracle: &mut O,
@@ -289,7 +289,7 @@ fn unhidden(alloc: Global, found: Methods) -> Result<Methods, NoMemory>
 ///
 /// Types are written with the type parameters of the class: in a further class of the list, its type arguments stand in the
 /// place of its type parameters, and where it is raw (JLS 4.8), their erased bounds. A method's own type parameters stay.
-#[tactic(auto, using(pj_names::specs::AskingLaws::asking_steps))]
+#[tactic(auto, using(pj_names::proofs::AskingLaws::asking_steps))]
 pub fn methods_named<O: Oracle>(
     alloc: Global,
     oracle: &mut O,

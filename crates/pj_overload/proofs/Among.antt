@@ -1,9 +1,9 @@
 -- The choice among the candidates that are applicable in a phase.
-use Rattle.std.specs.Prelude.{Bool, true, false, ◌==◌, Option, Some, None, Result, Ok, Err}
+use Rattle.std.specs.Prelude.{true, false, ◌==◌, Option, Some, None, Result, Ok, Err}
 use Rattle.std.proofs.Common.{◌≡◌, ℕ, List, [], ◌∷◌, arith, length}
 use Rattle.pj_names.specs.declared.oracle.AskFault.{AskFault}
 use Rattle.pj_names.specs.Asking.{Return}
-use Rattle.pj_names.specs.AskingLaws.{asks-refused, asks-return, asks-then}
+use Rattle.pj_names.proofs.AskingLaws.{asks-refused, asks-return, asks-then}
 use Rattle.pj_names.specs.Told.{Asks, Told}
 use Rattle.pj_overload.specs.declared.candidates.Candidate as held
 use Rattle.pj_overload.specs.declared.choice.Choice.{Choice}

@@ -5,7 +5,7 @@ use Rattle.pj_names.specs.declared.answer.Answer.{Answer}
 use Rattle.pj_names.specs.ClassName.{Name}
 use Rattle.pj_names.specs.JavaType.{JavaType}
 use Rattle.pj_names.specs.Asking.{Asking, Return, bind, first_hit, or_else, value_of}
-use Rattle.pj_names.specs.MeaningLaws.{value_of-bind}
+use Rattle.pj_names.proofs.MeaningLaws.{value_of-bind}
 use Rattle.pj_types.specs.Members.{FoundMethod}
 use Rattle.pj_overload.specs.declared.phase.Phase.{Phase}
 use Rattle.pj_overload.specs.declared.choice.Choice.{Choice}
@@ -15,7 +15,7 @@ use Rattle.pj_overload.specs.Passed.{Argument, arguments_of}
 use Rattle.pj_overload.specs.Candidates.{Candidate, candidates_from, candidates_of}
 use Rattle.pj_overload.specs.Phases.{applicable, is_applicable}
 use Rattle.pj_overload.specs.Specific.{best_of, is_most_specific, most_specific, most_specific_at, number_if, one_or_tie}
-use Rattle.pj_overload.specs.Choosing.{choice_among, choice_by_phases, choice_in, choose, or_no_method, phases}
+use Rattle.pj_overload.specs.Choosing.{choice_among, choice_in, choose, or_no_method, phases}
 
 -- the numbers of candidates are all below one
 abbrev AllBelow : ℕ → List Candidate → Type 0

@@ -5,7 +5,7 @@ use Rattle.std.proofs.Math.ListN.{drop_of_length-le}
 use Rattle.pj_names.specs.declared.oracle.AskFault.{AskFault}
 use Rattle.pj_names.specs.declared.oracle.AskFault.TheVariants.{Memory}
 use Rattle.pj_names.specs.Asking.{Asking, Return, bind, first_hit, or_else}
-use Rattle.pj_names.specs.AskingLaws.{ComesTo, asks-refused, asks-return, asks-stop, comes-begin, comes-ends, comes-then}
+use Rattle.pj_names.proofs.AskingLaws.{ComesTo, asks-refused, asks-return, asks-stop, comes-begin, comes-ends, comes-then}
 use Rattle.pj_names.specs.Told.{Asks, Told}
 use Rattle.pj_overload.specs.Testing.{all_of, filtered}
 use Rattle.pj_overload.proofs.Turns.{all-turn, behind-turn, filtered-gather, filtered_behind, hit-turn, pair-end, pair-turn}

@@ -3,8 +3,8 @@ use Rattle.std.specs.Prelude.{Option, Some, None, Result, Ok, Err}
 use Rattle.std.proofs.Common.{◌≡◌, List, ◌∷◌, subst}
 use Rattle.pj_names.specs.declared.oracle.AskFault.{AskFault}
 use Rattle.pj_names.specs.Asking.{Asking, Return, bind, first_hit, or_else}
-use Rattle.pj_names.specs.AskingLaws.{ComesTo, asks-refused, asks-return, comes-ends, comes-then}
-use Rattle.pj_names.specs.MeaningLaws.{bind-bind}
+use Rattle.pj_names.proofs.AskingLaws.{ComesTo, asks-refused, asks-return, comes-ends, comes-then}
+use Rattle.pj_names.proofs.MeaningLaws.{bind-bind}
 use Rattle.pj_names.specs.Told.{Asks, Told}
 
 module _ {K X B C : Type 0} (find : X → Asking (Option B)) (x : X) (xs : List X) (view : Option B → C) {m : Asking C} {t u : Told K}

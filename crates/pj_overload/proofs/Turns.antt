@@ -7,10 +7,10 @@ use Rattle.std.proofs.lemmas.Option.{slice_get-map}
 use Rattle.pj_names.specs.declared.ty.Ty.{Ty}
 use Rattle.pj_names.specs.JavaType.{JavaType, java_type, type_list}
 use Rattle.pj_names.specs.Asking.{Asking, Return, bind, first_hit, or_else}
-use Rattle.pj_names.specs.AskingLaws.{within-self, within-trans, within-insert, within-names, within-after, asked_after-bind, left_from}
-use Rattle.pj_names.specs.MeaningLaws.{bind-bind, bind-Return, value_of-bind}
+use Rattle.pj_names.proofs.AskingLaws.{within-self, within-trans, within-insert, within-names, within-after, asked_after-bind, left_from}
+use Rattle.pj_names.proofs.MeaningLaws.{bind-bind, bind-Return, value_of-bind}
 use Rattle.pj_types.specs.declared.members.Method.{Method}
-use Rattle.pj_types.specs.Members.{FoundMethod, all_methods, method_view}
+use Rattle.pj_types.specs.Members.{all_methods, method_view}
 use Rattle.pj_overload.specs.declared.candidates.Candidate as held
 use Rattle.pj_overload.specs.declared.passed.Passed.{Passed}
 use Rattle.pj_overload.specs.Testing.{all_of, and_then, filtered}

@@ -1,3 +1,4 @@
+-- definitions
 pub mod Testing
 pub mod Passed
 pub mod Candidates
@@ -5,4 +6,5 @@ pub mod Conversions
 pub mod Phases
 pub mod Specific
 pub mod Choosing
+-- for private clauses
 pub mod Seen

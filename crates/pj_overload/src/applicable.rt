@@ -15,7 +15,7 @@ use pj_types::is_subtype;
 use std::alloc::Global;
 
 /// Whether the type of an argument fits that of a parameter in a phase.
-#[tactic(auto, using(pj_names::specs::AskingLaws::asking_steps))]
+#[tactic(auto, using(pj_names::proofs::AskingLaws::asking_steps))]
 fn type_fits<O: Oracle>(
     alloc: Global,
     oracle: &mut O,
@@ -32,7 +32,7 @@ fn type_fits<O: Oracle>(
 }
 
 /// The same, where the type that is not known fits everything.
-#[tactic(auto, using(pj_names::specs::AskingLaws::asking_steps))]
+#[tactic(auto, using(pj_names::proofs::AskingLaws::asking_steps))]
 fn known_fits<O: Oracle>(
     alloc: Global,
     oracle: &mut O,
@@ -49,7 +49,7 @@ fn known_fits<O: Oracle>(
 }
 
 /// Whether an argument fits a parameter in a phase.
-#[tactic(auto, using(pj_names::specs::AskingLaws::asking_steps))]
+#[tactic(auto, using(pj_names::proofs::AskingLaws::asking_steps))]
 fn fits<O: Oracle>(
     alloc: Global,
     oracle: &mut O,
@@ -101,7 +101,7 @@ fn takes(phase: Phase, count: usize, candidate: &Candidate) -> bool
 }
 
 /// Whether each argument fits its parameter, of a candidate that takes so many.
-#[tactic(auto, using(pj_names::specs::AskingLaws::asking_steps))]
+#[tactic(auto, using(pj_names::proofs::AskingLaws::asking_steps))]
 fn arguments_fit<O: Oracle>(
     alloc: Global,
     oracle: &mut O,
@@ -127,7 +127,7 @@ fn arguments_fit<O: Oracle>(
 }
 
 /// Whether a candidate is applicable in a phase. Where it does not take so many arguments nothing is asked.
-#[tactic(auto, using(pj_names::specs::AskingLaws::asking_steps))]
+#[tactic(auto, using(pj_names::proofs::AskingLaws::asking_steps))]
 fn is_applicable<O: Oracle>(
     alloc: Global,
     oracle: &mut O,

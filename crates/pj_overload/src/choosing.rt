@@ -17,7 +17,7 @@ use pj_types::Methods;
 use std::alloc::Global;
 
 /// The choice among the applicable candidates of a phase, for so many arguments, where there are some.
-#[tactic(auto, using(pj_names::specs::AskingLaws::asking_steps))]
+#[tactic(auto, using(pj_names::proofs::AskingLaws::asking_steps))]
 fn choice_among<O: Oracle>(
     alloc: Global,
     oracle: &mut O,
@@ -35,7 +35,7 @@ fn choice_among<O: Oracle>(
 }
 
 /// The choice in a phase, where a candidate is applicable.
-#[tactic(auto, using(pj_names::specs::AskingLaws::asking_steps))]
+#[tactic(auto, using(pj_names::proofs::AskingLaws::asking_steps))]
 fn choice_in<O: Oracle>(
     alloc: Global,
     oracle: &mut O,
@@ -50,7 +50,7 @@ fn choice_in<O: Oracle>(
 }
 
 /// The choice in the first phase in which a candidate is applicable.
-#[tactic(auto, using(pj_names::specs::AskingLaws::asking_steps))]
+#[tactic(auto, using(pj_names::proofs::AskingLaws::asking_steps))]
 fn choice_by_phases<O: Oracle>(
     alloc: Global,
     oracle: &mut O,
@@ -82,7 +82,7 @@ fn choice_by_phases<O: Oracle>(
 /// The type that is not known fits every parameter, and a parameter of it takes nothing else. A lambda expression and a method
 /// reference fit each class and interface. In a phase the candidates are asked for in order, the arguments of each from left to
 /// right, up to the first that does not fit; a candidate that takes another number of arguments asks nothing.
-#[tactic(auto, using(pj_names::specs::AskingLaws::asking_steps))]
+#[tactic(auto, using(pj_names::proofs::AskingLaws::asking_steps))]
 pub fn choose<O: Oracle>(
     alloc: Global,
     oracle: &mut O,

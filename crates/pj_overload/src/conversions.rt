@@ -71,7 +71,7 @@ fn converted(alloc: Global, ty: &Ty) -> Result<Option<Ty>, NoMemory>
 }
 
 /// Whether a type is under another one, where there is one.
-#[tactic(auto, using(pj_names::specs::AskingLaws::asking_steps))]
+#[tactic(auto, using(pj_names::proofs::AskingLaws::asking_steps))]
 fn is_some_under<O: Oracle>(
     alloc: Global,
     oracle: &mut O,
@@ -87,7 +87,7 @@ fn is_some_under<O: Oracle>(
 }
 
 /// Whether what boxing or unboxing makes of the type of an argument is under that of a parameter.
-#[tactic(auto, using(pj_names::specs::AskingLaws::asking_steps))]
+#[tactic(auto, using(pj_names::proofs::AskingLaws::asking_steps))]
 fn fits_converted<O: Oracle>(
     alloc: Global,
     oracle: &mut O,
@@ -102,7 +102,7 @@ fn fits_converted<O: Oracle>(
 
 /// Whether the type of an argument fits that of a parameter by subtyping, or else by boxing or unboxing, and then by subtyping of
 /// what that makes.
-#[tactic(auto, using(pj_names::specs::AskingLaws::asking_steps))]
+#[tactic(auto, using(pj_names::proofs::AskingLaws::asking_steps))]
 pub fn fits_loosely<O: Oracle>(
     alloc: Global,
     oracle: &mut O,

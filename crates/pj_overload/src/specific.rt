@@ -49,7 +49,7 @@ fn compared(count: usize, other: &Candidate) -> usize
 }
 
 /// Whether the variable arity parameter types of a candidate, so many of them, are each under those of another one.
-#[tactic(auto, using(pj_names::specs::AskingLaws::asking_steps))]
+#[tactic(auto, using(pj_names::proofs::AskingLaws::asking_steps))]
 fn under_by_types<O: Oracle>(
     alloc: Global,
     oracle: &mut O,
@@ -65,7 +65,7 @@ fn under_by_types<O: Oracle>(
 }
 
 /// Whether the parameters of a candidate are each under those of another one.
-#[tactic(auto, using(pj_names::specs::AskingLaws::asking_steps))]
+#[tactic(auto, using(pj_names::proofs::AskingLaws::asking_steps))]
 fn is_more_specific<O: Oracle>(
     alloc: Global,
     oracle: &mut O,
@@ -91,7 +91,7 @@ fn is_more_specific<O: Oracle>(
 }
 
 /// The same, of a candidate that may be the other one.
-#[tactic(auto, using(pj_names::specs::AskingLaws::asking_steps))]
+#[tactic(auto, using(pj_names::proofs::AskingLaws::asking_steps))]
 fn is_itself_or_under<O: Oracle>(
     alloc: Global,
     oracle: &mut O,
@@ -130,7 +130,7 @@ fn is_most_specific<O: Oracle>(
 }
 
 /// The number of a candidate, where it is the most specific one.
-#[tactic(auto, using(pj_names::specs::AskingLaws::asking_steps))]
+#[tactic(auto, using(pj_names::proofs::AskingLaws::asking_steps))]
 fn most_specific_at<O: Oracle>(
     alloc: Global,
     oracle: &mut O,
@@ -172,7 +172,7 @@ fn best_of<O: Oracle>(
 
 /// The choice among candidates that are applicable in a phase, for so many arguments: the first one that is more specific than
 /// every other one, or else a tie.
-#[tactic(auto, using(pj_names::specs::AskingLaws::asking_steps))]
+#[tactic(auto, using(pj_names::proofs::AskingLaws::asking_steps))]
 pub fn most_specific<O: Oracle>(
     alloc: Global,
     oracle: &mut O,

@@ -1,3 +1,4 @@
+-- definitions
 pub mod Names
 pub mod Signature
 pub mod Descriptor

@@ -2,7 +2,7 @@
 use Rattle.std.proofs.Common.{◌≡◌, ℕ, ◌<◌, ◌+◌, List, [], ◌∷◌, ◌++◌, length, get_or, drop, ap, refl, sym, ◌∙◌, append_assoc}
 use Rattle.pj_names.specs.declared.ty.Ty.{Ty}
 use Rattle.pj_names.specs.JavaType.{JavaType, Primitive, Void, Null, Class, Array, Variable, Unknown, java_type, type_list}
-use Rattle.pj_names.specs.AskingLaws.{left_from}
+use Rattle.pj_names.proofs.AskingLaws.{left_from}
 use Rattle.pj_types.specs.Supertypes.{Listed, with_class, classes_by}
 
 with_class-append : (ty : JavaType) (rest : List Listed) → with_class ty rest ≡ with_class ty [] ++ rest

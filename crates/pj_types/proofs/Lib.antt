@@ -3,3 +3,11 @@ pub mod Classes
 pub mod Steps
 pub mod Loops
 pub mod LastKnown
+pub mod DepthFirstLaws
+pub mod WalkLaws
+pub mod AlongTurns
+pub mod StepLaws
+pub mod SubstitutionLaws
+pub mod SubtypingLaws
+pub mod ListingLaws
+pub mod FiniteLaws

@@ -1,16 +1,15 @@
 -- What is still to come of the loops over a walk.
-use Rattle.std.proofs.Common.{◌≡◌, ℕ, ◌<◌, ◌≤◌, ◌+◌, ◌-◌, suc, List, [], ◌∷◌, ◌++◌, Bool, true, false, ap, refl, sym, subst, ◌∙◌, arith}
+use Rattle.std.proofs.Common.{◌≡◌, ℕ, ◌<◌, ◌+◌, ◌-◌, suc, List, Bool, true, false, ap, refl, sym, ◌∙◌, arith}
 use Rattle.std.specs.Prelude.{map, Option, Some, None, if◌then◌else◌}
-use Rattle.std.proofs.lemmas.List.{map-append}
 use Rattle.pj_names.specs.ClassName.{Name}
 use Rattle.pj_names.specs.JavaType.{JavaType}
 use Rattle.pj_names.specs.Asking.{Asking, Return, Unbounded, bind}
-use Rattle.pj_names.specs.MeaningLaws.{bind-bind}
+use Rattle.pj_names.proofs.MeaningLaws.{bind-bind}
 use Rattle.pj_names.specs.Told.{Told, longest}
-use Rattle.pj_names.specs.AskingLaws.{ComesTo, comes-deeper}
+use Rattle.pj_names.proofs.AskingLaws.{ComesTo, comes-deeper}
 use Rattle.pj_types.specs.Supertypes.{Listed, Standing, begin, given_type, no_hit, search_within, supertypes_within, supertype_list, step}
 use Rattle.pj_types.specs.Subtyping.{is_class_of, is_named, is_hit, is_on_list}
-use Rattle.pj_types.specs.WalkLaws.{onward, as_types, tested, unless_hit, onward-step, search-onward}
+use Rattle.pj_types.proofs.WalkLaws.{onward, as_types, tested, unless_hit, onward-step, search-onward}
 
 -- the list, from where a walk stands
 abbrev pub types_from : ℕ → Standing → Asking (List JavaType)

@@ -4,7 +4,7 @@ use Rattle.std.specs.Prelude.{Option, Some, None}
 use Rattle.std.proofs.lemmas.List.{map-append}
 use Rattle.pj_names.specs.declared.ty.Ty.{Ty}
 use Rattle.pj_names.specs.JavaType.{JavaType, Arguments, Argument, java_type, bound_types}
-use Rattle.pj_names.specs.AskingLaws.{left_from}
+use Rattle.pj_names.proofs.AskingLaws.{left_from}
 use Rattle.pj_types.specs.Supertypes.{paired, with_pair}
 
 abbrev pub Pair : Type 0

@@ -22,7 +22,7 @@ module _ {A B : Type 0} (name_of : A → Name) (test : A → Asking (Option B)) 
 
   -- One item, at most so deep: it is tested, and then each item that it leads to is visited in turn, each of these with all
   -- that it leads to. Each step down visits one more item, so a depth of `most` is no bound of its own: a greater one
-  -- changes nothing (`specs/DepthFirstLaws.antt`).
+  -- changes nothing (`proofs/DepthFirstLaws.antt`).
   abbrev pub visit : ℕ → List A → A → Asking (Option B × List A)
   visit zero visited x = Return (None, visited)
   visit (suc depth) visited x =

@@ -1,17 +1,15 @@
+-- definitions
 pub mod Substitution
-pub mod SubstitutionLaws
 pub mod DepthFirst
-pub mod DepthFirstLaws
 pub mod Supertypes
-pub mod WalkLaws
 pub mod Subtyping
 pub mod Seen
-pub mod Visited
 pub mod Standing
-pub mod Listing
-pub mod ListingLaws
-pub mod FiniteLaws
-pub mod SubtypingLaws
 pub mod Stepped
 pub mod Members
 pub mod Along
+-- laws
+pub mod WalkAnswers
+pub mod Listing
+-- for private clauses
+pub mod Visited

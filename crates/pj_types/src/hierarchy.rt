@@ -57,7 +57,7 @@ fn class_names(alloc: Global, types: &TyList) -> Result<Names, NoMemory>
 }
 
 /// The names of a class and of its supertypes, as `supertype_list` gives them.
-#[tactic(auto, using(pj_names::specs::AskingLaws::asking_steps))]
+#[tactic(auto, using(pj_names::proofs::AskingLaws::asking_steps))]
 pub fn supertypes<O: Oracle>(
     alloc: Global,
     oracle: &mut O,

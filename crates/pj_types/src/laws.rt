@@ -12,7 +12,7 @@ ghost use Rattle.pj_types.specs.Listing.{AreSupertypes, asked_names};
 ghost use Rattle.pj_types.specs.Substitution.{erased, substituted};
 ghost use Rattle.pj_types.specs.Subtyping.{is_under};
 ghost use Rattle.pj_types.specs.Supertypes.{Standing, begin, class_name, last_asked, search, step, supertype_list, supertypes_of};
-ghost use Rattle.pj_types.specs.WalkLaws.{answers};
+ghost use Rattle.pj_types.specs.WalkAnswers.{answers};
 ghost use Rattle.std.specs.Prelude.{true};
 
 /// Erasing twice is erasing once, and a substitution without bindings replaces nothing.

@@ -178,7 +178,7 @@ pub fn of_answer(
 
 /// The direct supertypes of a class: its superclass, then its interfaces (JLS 8.1.4, 8.1.5, 9.1.3). The class is asked,
 /// unless it is `java.lang.Object`, which has none.
-#[tactic(auto, using(pj_names::specs::AskingLaws::asking_steps), unfolding(crate::specs::Supertypes::direct))]
+#[tactic(auto, using(pj_names::proofs::AskingLaws::asking_steps), unfolding(crate::specs::Supertypes::direct))]
 pub fn direct_supertypes<O: Oracle>(
     alloc: Global,
     oracle: &mut O,

@@ -94,7 +94,7 @@ fn is_on_list<O: Oracle>(
 }
 
 /// Whether a class is under another one. Equal names are looked at first, without asking.
-#[tactic(auto, using(pj_names::specs::AskingLaws::asking_steps), unfolding(crate::specs::Subtyping::is_class_under))]
+#[tactic(auto, using(pj_names::proofs::AskingLaws::asking_steps), unfolding(crate::specs::Subtyping::is_class_under))]
 fn is_class_under<O: Oracle>(
     alloc: Global,
     oracle: &mut O,
@@ -110,7 +110,7 @@ fn is_class_under<O: Oracle>(
 }
 
 /// Whether a class is under a type.
-#[tactic(auto, using(pj_names::specs::AskingLaws::asking_steps))]
+#[tactic(auto, using(pj_names::proofs::AskingLaws::asking_steps))]
 fn class_under<O: Oracle>(
     alloc: Global,
     oracle: &mut O,
@@ -126,7 +126,7 @@ fn class_under<O: Oracle>(
 }
 
 /// Whether a type without type variables is under another one. It recurses as deep as the arrays' dimensions.
-#[tactic(auto, using(pj_names::specs::AskingLaws::asking_steps), unfolding(crate::specs::Subtyping::erased_under))]
+#[tactic(auto, using(pj_names::proofs::AskingLaws::asking_steps), unfolding(crate::specs::Subtyping::erased_under))]
 fn erased_under<O: Oracle>(
     alloc: Global,
     oracle: &mut O,
@@ -159,7 +159,7 @@ fn erased_under<O: Oracle>(
 ///
 /// No number bounds the search: where a list of supertypes has more members than a list can hold and the class is not among
 /// the first of them, memory is wanted.
-#[tactic(auto, using(pj_names::specs::AskingLaws::asking_steps))]
+#[tactic(auto, using(pj_names::proofs::AskingLaws::asking_steps))]
 pub fn is_subtype<O: Oracle>(
     alloc: Global,
     oracle: &mut O,

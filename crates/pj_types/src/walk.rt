@@ -213,7 +213,7 @@ impl Walk {
     ///
     /// The class that was given last is asked, unless that is `java.lang.Object`, and nothing else; so the first call asks
     /// nothing. After an `Err` the walk is unchanged.
-    #[tactic(auto, using(pj_names::specs::AskingLaws::asking_steps), unfolding(crate::specs::Supertypes::step))]
+    #[tactic(auto, using(pj_names::proofs::AskingLaws::asking_steps), unfolding(crate::specs::Supertypes::step))]
     pub fn next_class<O: Oracle>(&mut self, oracle: &mut O) -> Result<Option<Ty>, AskFault>
         ensures asks { Asks (step (standing self.old)) (O.tells oracle.old) (O.tells oracle.new) (seen (after_step self.new) result) }
         ensures given { IfOk result (λ next. MatchOption next (self.new ≡ self.old) (λ ty. given_types self.new ≡ given_types self.old ++ java_type ty ∷ [])) }

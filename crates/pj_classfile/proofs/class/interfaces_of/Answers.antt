@@ -3,7 +3,7 @@ use Rattle.std.proofs.lemmas.List.{map_push}
 use Rattle.std.proofs.lemmas.Result.{err_from_is_err_and}
 use Rattle.pj_format.specs.Format.{first}
 use Rattle.pj_format.specs.Fields.{several, u16_as}
-use Rattle.pj_format.specs.Loops.{goes_on, ends, is_done, several_more, several_ends, several_done}
+use Rattle.pj_format.proofs.Loops.{goes_on, ends, is_done, several_more, several_ends, several_done}
 use Rattle.pj_classfile.specs.ClassFile.{views, class_in}
 use Rattle.pj_classfile.specs.Passed.{text_at}
 use Rattle.pj_classfile.proofs.class.interfaces_of.Goals as goal

@@ -1,7 +1,7 @@
 use Rattle.std.proofs.Common.{◌≡◌, ◌-◌, map}
 use Rattle.pj_format.specs.Format.{first}
 use Rattle.pj_format.specs.Fields.{several, u16_as}
-use Rattle.pj_format.specs.Loops.{with_front}
+use Rattle.pj_format.proofs.Loops.{with_front}
 use Rattle.pj_signatures.specs.Names.{is_internal_name}
 use Rattle.pj_classfile.specs.ClassFile.{views, class_in}
 use Rattle.pj_classfile.specs.Passed.{ArePassed, text_at}

@@ -1,4 +1,4 @@
-use Rattle.pj_format.specs.Spelling.{read_means}
+use Rattle.pj_format.proofs.Spelling.{read_means}
 use Rattle.pj_classfile.specs.ClassFile.{class_file, class_structure}
 use Rattle.pj_classfile.proofs.class.parse.Goals as goal
 

@@ -1,7 +1,7 @@
 use Rattle.std.proofs.lemmas.Result.{err_from_is_err_and}
 use Rattle.pj_format.specs.Format.{first}
 use Rattle.pj_format.specs.Fields.{several}
-use Rattle.pj_format.specs.Loops.{goes_on, ends, is_done, several_more, several_ends, several_done}
+use Rattle.pj_format.proofs.Loops.{goes_on, ends, is_done, several_more, several_ends, several_done}
 use Rattle.pj_classfile.specs.ClassFile.{views, member}
 use Rattle.pj_classfile.proofs.member.member_list_of.Goals as goal
 

@@ -1,7 +1,7 @@
 use Rattle.std.proofs.Common.{◌≡◌, ◌-◌}
 use Rattle.pj_format.specs.Format.{first}
 use Rattle.pj_format.specs.Fields.{several}
-use Rattle.pj_format.specs.Loops.{with_front}
+use Rattle.pj_format.proofs.Loops.{with_front}
 use Rattle.pj_classfile.specs.ClassFile.{views, member}
 use Rattle.pj_classfile.specs.Passed.{AreJudged}
 use Rattle.pj_classfile.proofs.member.member_list_of.Given as goal

@@ -3,7 +3,7 @@ use Rattle.std.proofs.lemmas.Result.{err_from_is_err_and}
 use Rattle.std.proofs.lemmas.List.{map_push}
 use Rattle.pj_format.specs.Format.{first}
 use Rattle.pj_format.specs.Fields.{several_from}
-use Rattle.pj_format.specs.Loops.{goes_on, ends, is_done, several_from_more, several_from_ends, several_from_done}
+use Rattle.pj_format.proofs.Loops.{goes_on, ends, is_done, several_from_more, several_from_ends, several_from_done}
 use Rattle.pj_classfile.specs.ClassFile.{view, views, slot, slots}
 use Rattle.pj_classfile.proofs.pool.pool_of.Goals as goal
 

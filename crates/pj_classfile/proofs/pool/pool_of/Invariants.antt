@@ -1,7 +1,7 @@
 use Rattle.std.proofs.Common.{◌≡◌, ◌-◌, true}
 use Rattle.pj_format.specs.Format.{first}
 use Rattle.pj_format.specs.Fields.{several_from}
-use Rattle.pj_format.specs.Loops.{with_front}
+use Rattle.pj_format.proofs.Loops.{with_front}
 use Rattle.pj_classfile.specs.ClassFile.{views, slot}
 use Rattle.pj_classfile.proofs.pool.pool_of.Given as goal
 

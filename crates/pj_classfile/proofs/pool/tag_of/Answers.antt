@@ -1,5 +1,5 @@
 use Rattle.std.proofs.Common.{arith, refl}
-use Rattle.pj_format.specs.Laws.{first_u8_as}
+use Rattle.pj_format.proofs.Laws.{first_u8_as}
 use Rattle.pj_classfile.specs.ClassFile.{tag, tag_of}
 use Rattle.pj_classfile.proofs.Tags.{IsNoTag, no_tag}
 use Rattle.pj_classfile.proofs.pool.tag_of.Goals as goal

@@ -1,8 +1,8 @@
 use Rattle.std.proofs.Common.{rules, ◌+◌, ◌<◌, refl, subst}
-use Rattle.pj_names.specs.AskingLaws.{ComesTo, comes-begin, comes-then, comes-ends, asks-refused, asks-settled, asks-stop}
+use Rattle.pj_names.proofs.AskingLaws.{ComesTo, comes-begin, comes-then, comes-ends, asks-refused, asks-settled, asks-stop}
 use Rattle.pj_names.specs.JavaType.{java_type}
 use Rattle.pj_names.specs.Told.{longest, longest_is}
-use Rattle.pj_types.specs.Along.{first-begin, first-turn, first-tested}
+use Rattle.pj_types.proofs.AlongTurns.{first-begin, first-turn, first-tested}
 use Rattle.pj_types.specs.Standing.{standing}
 use Rattle.pj_members.specs.Fields.{field_in, find_field}
 use Rattle.pj_members.proofs.fields.find_field.Goals as goal

@@ -1,5 +1,5 @@
-use Rattle.pj_names.specs.AskingLaws.{ComesTo}
-use Rattle.pj_types.specs.Along.{first_rest}
+use Rattle.pj_names.proofs.AskingLaws.{ComesTo}
+use Rattle.pj_types.proofs.AlongTurns.{first_rest}
 use Rattle.pj_types.specs.Standing.{standing}
 use Rattle.pj_members.specs.Fields.{field_in, find_field}
 use Rattle.pj_members.proofs.fields.find_field.Given as goal

@@ -1,4 +1,4 @@
-use Rattle.pj_names.specs.MeaningLaws.{agreement}
+use Rattle.pj_names.proofs.MeaningLaws.{agreement}
 use Rattle.pj_members.specs.Fields.{find_field}
 use Rattle.pj_members.specs.Methods.{methods_named}
 use Rattle.pj_members.proofs.laws.sources_agree.Goals as goal

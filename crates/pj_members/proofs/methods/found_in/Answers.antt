@@ -1,6 +1,6 @@
 use Rattle.std.proofs.Common.{◌≡◌, ◌++◌, ◌∙◌, ap, rules}
 use Rattle.std.proofs.lemmas.List.{map-append}
-use Rattle.pj_names.specs.AskingLaws.{comes-then}
+use Rattle.pj_names.proofs.AskingLaws.{comes-then}
 use Rattle.pj_types.specs.Members.{all_methods, method_view}
 use Rattle.pj_members.proofs.Turns.{found-turn}
 use Rattle.pj_members.proofs.methods.found_in.Goals as goal

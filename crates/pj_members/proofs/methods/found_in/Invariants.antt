@@ -1,5 +1,5 @@
 use Rattle.std.proofs.Common.{[], drop}
-use Rattle.pj_names.specs.AskingLaws.{ComesTo}
+use Rattle.pj_names.proofs.AskingLaws.{ComesTo}
 use Rattle.pj_names.specs.JavaType.{type_list}
 use Rattle.pj_types.specs.Members.{all_methods}
 use Rattle.pj_members.specs.Methods.{found_in}

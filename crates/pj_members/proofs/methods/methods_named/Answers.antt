@@ -1,5 +1,5 @@
 use Rattle.std.proofs.Common.{rules}
-use Rattle.pj_names.specs.AskingLaws.{asks-then, asks-refused, asks-return, asks-stop}
+use Rattle.pj_names.proofs.AskingLaws.{asks-then, asks-refused, asks-return, asks-stop}
 use Rattle.pj_members.proofs.methods.methods_named.Goals as goal
 
 pub returns-in_err-found : goal.returns-in_err-found

@@ -1,5 +1,5 @@
 use Rattle.std.proofs.Common.{drop}
-use Rattle.pj_names.specs.AskingLaws.{ComesTo}
+use Rattle.pj_names.proofs.AskingLaws.{ComesTo}
 use Rattle.pj_names.specs.JavaType.{type_list}
 use Rattle.pj_overload.specs.Phases.{all_fit}
 use Rattle.pj_overload.specs.Seen.{arguments_seen}

@@ -1,5 +1,5 @@
 use Rattle.std.proofs.Common.{drop}
-use Rattle.pj_names.specs.AskingLaws.{ComesTo}
+use Rattle.pj_names.proofs.AskingLaws.{ComesTo}
 use Rattle.pj_overload.specs.Phases.{applicable, is_applicable}
 use Rattle.pj_overload.specs.Seen.{arguments_seen, candidates_seen}
 use Rattle.pj_overload.proofs.Turns.{filtered_behind}

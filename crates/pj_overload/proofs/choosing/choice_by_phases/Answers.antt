@@ -1,5 +1,5 @@
 use Rattle.std.proofs.Common.{[], ◌∷◌, refl, rules}
-use Rattle.pj_names.specs.AskingLaws.{asks-return, comes-begin, comes-ends}
+use Rattle.pj_names.proofs.AskingLaws.{asks-return, comes-begin, comes-ends}
 use Rattle.pj_overload.specs.declared.phase.Phase.TheVariants.{Strict, Loose, VariableArity}
 use Rattle.pj_overload.specs.Choosing.{choice_in, or_no_method}
 use Rattle.pj_overload.specs.Seen.{arguments_seen, candidates_seen}

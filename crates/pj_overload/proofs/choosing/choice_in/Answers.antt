@@ -1,7 +1,7 @@
 use Rattle.std.proofs.Common.{◌∙◌, sym}
 use Rattle.std.proofs.lemmas.List.{length-map}
-use Rattle.pj_names.specs.AskingLaws.{asks-then}
-use Rattle.pj_overload.specs.Seen.{argument_seen, candidates_seen}
+use Rattle.pj_names.proofs.AskingLaws.{asks-then}
+use Rattle.pj_overload.specs.Seen.{argument_seen}
 use Rattle.pj_overload.proofs.choosing.choice_in.Goals as goal
 
 pub returns : goal.returns

@@ -1,4 +1,4 @@
-use Rattle.pj_names.specs.AskingLaws.{asks-then}
+use Rattle.pj_names.proofs.AskingLaws.{asks-then}
 use Rattle.pj_overload.proofs.conversions.fits_loosely.Goals as goal
 
 pub returns : goal.returns

@@ -1,4 +1,4 @@
-use Rattle.pj_names.specs.MeaningLaws.{agreement}
+use Rattle.pj_names.proofs.MeaningLaws.{agreement}
 use Rattle.pj_overload.specs.Choosing.{choose}
 use Rattle.pj_overload.proofs.laws.sources_agree.Goals as goal
 

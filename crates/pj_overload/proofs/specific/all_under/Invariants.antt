@@ -1,5 +1,5 @@
 use Rattle.std.proofs.Common.{drop}
-use Rattle.pj_names.specs.AskingLaws.{ComesTo}
+use Rattle.pj_names.proofs.AskingLaws.{ComesTo}
 use Rattle.pj_names.specs.JavaType.{type_list}
 use Rattle.pj_overload.specs.Specific.{all_under}
 use Rattle.pj_overload.proofs.specific.all_under.Given as goal

@@ -1,5 +1,5 @@
 use Rattle.std.proofs.Common.{drop}
-use Rattle.pj_names.specs.AskingLaws.{ComesTo}
+use Rattle.pj_names.proofs.AskingLaws.{ComesTo}
 use Rattle.pj_names.specs.Asking.{first_hit}
 use Rattle.pj_overload.specs.Specific.{best_of, most_specific_at}
 use Rattle.pj_overload.specs.Seen.{candidates_seen}

@@ -1,5 +1,5 @@
 use Rattle.std.proofs.Common.{drop}
-use Rattle.pj_names.specs.AskingLaws.{ComesTo}
+use Rattle.pj_names.proofs.AskingLaws.{ComesTo}
 use Rattle.pj_overload.specs.Specific.{is_most_specific}
 use Rattle.pj_overload.specs.Seen.{candidate_seen, candidates_seen}
 use Rattle.pj_overload.proofs.specific.is_most_specific.Given as goal

@@ -2,7 +2,7 @@ use Rattle.std.proofs.Common.{rules, ◌<◌, ◌∷◌, ◌++◌, [], ap, sym, 
 use Rattle.std.specs.Prelude.{map, Ok}
 use Rattle.std.proofs.lemmas.List.{map-append}
 use Rattle.pj_names.specs.JavaType.{java_type, type_list}
-use Rattle.pj_names.specs.AskingLaws.{ComesTo, comes-begin, comes-then, comes-ends, asks-refused, asks-settled, asks-stop}
+use Rattle.pj_names.proofs.AskingLaws.{ComesTo, comes-begin, comes-then, comes-ends, asks-refused, asks-settled, asks-stop}
 use Rattle.pj_names.specs.Told.{longest, longest_is}
 use Rattle.pj_types.specs.Supertypes.{given_type, supertype_list}
 use Rattle.pj_types.specs.Standing.{given_types, standing}

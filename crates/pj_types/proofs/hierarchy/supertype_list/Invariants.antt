@@ -1,5 +1,5 @@
 use Rattle.std.proofs.Common.{◌≡◌}
-use Rattle.pj_names.specs.AskingLaws.{ComesTo}
+use Rattle.pj_names.proofs.AskingLaws.{ComesTo}
 use Rattle.pj_names.specs.JavaType.{type_list}
 use Rattle.pj_types.specs.Supertypes.{supertype_list}
 use Rattle.pj_types.specs.Standing.{given_types, standing}

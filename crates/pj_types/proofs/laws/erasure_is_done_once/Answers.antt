@@ -1,4 +1,4 @@
-use Rattle.pj_types.specs.SubstitutionLaws.{erased-again, substituted-none}
+use Rattle.pj_types.proofs.SubstitutionLaws.{erased-again, substituted-none}
 use Rattle.pj_types.proofs.laws.erasure_is_done_once.Goals as goal
 
 pub returns : goal.returns

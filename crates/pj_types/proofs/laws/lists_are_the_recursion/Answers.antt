@@ -1,5 +1,5 @@
-use Rattle.pj_types.specs.ListingLaws.{list-meant, meant-are, names-once, one-list}
-use Rattle.pj_types.specs.FiniteLaws.{list-there}
+use Rattle.pj_types.proofs.ListingLaws.{list-meant, meant-are, names-once, one-list}
+use Rattle.pj_types.proofs.FiniteLaws.{list-there}
 use Rattle.pj_types.proofs.laws.lists_are_the_recursion.Goals as goal
 
 pub returns : goal.returns

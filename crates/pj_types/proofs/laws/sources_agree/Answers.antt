@@ -1,4 +1,4 @@
-use Rattle.pj_names.specs.MeaningLaws.{agreement}
+use Rattle.pj_names.proofs.MeaningLaws.{agreement}
 use Rattle.pj_types.specs.Subtyping.{is_under}
 use Rattle.pj_types.specs.Supertypes.{search, supertypes_of}
 use Rattle.pj_types.proofs.laws.sources_agree.Goals as goal

@@ -1,4 +1,4 @@
-use Rattle.pj_types.specs.SubtypingLaws.{classes-by-list, under-itself}
+use Rattle.pj_types.proofs.SubtypingLaws.{classes-by-list, under-itself}
 use Rattle.pj_types.proofs.laws.subtyping_is_by_the_list.Goals as goal
 
 pub returns : goal.returns

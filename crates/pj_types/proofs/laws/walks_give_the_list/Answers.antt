@@ -1,4 +1,4 @@
-use Rattle.pj_types.specs.WalkLaws.{answers-prefix, step-asks}
+use Rattle.pj_types.proofs.WalkLaws.{answers-prefix, step-asks}
 use Rattle.pj_types.proofs.laws.walks_give_the_list.Goals as goal
 
 pub returns : goal.returns

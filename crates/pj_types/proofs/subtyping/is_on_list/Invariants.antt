@@ -1,4 +1,4 @@
-use Rattle.pj_names.specs.AskingLaws.{ComesTo}
+use Rattle.pj_names.proofs.AskingLaws.{ComesTo}
 use Rattle.pj_types.specs.Subtyping.{is_on_list}
 use Rattle.pj_types.specs.Standing.{standing}
 use Rattle.pj_types.proofs.Loops.{any_hit}

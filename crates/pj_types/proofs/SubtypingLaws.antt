@@ -10,12 +10,12 @@ use Rattle.pj_names.specs.ClassName.{Name}
 use Rattle.pj_names.specs.JavaType.{JavaType, Primitive, Void, Null, Class, Array, Variable, Unknown, Arguments}
 use Rattle.pj_names.specs.Asking.{Asking, Return, bind, walk, value_of, has_name, unvisited, hit_or}
 use Rattle.pj_names.specs.Asking as asking
-use Rattle.pj_names.specs.MeaningLaws.{value_of-bind}
+use Rattle.pj_names.proofs.MeaningLaws.{value_of-bind}
 use Rattle.pj_types.specs.Substitution.{erased}
 use Rattle.pj_types.specs.Supertypes.{Listed, first_listed, name_of, on_listed, direct, search_within, no_hit, supertypes_within, supertype_list, class_name, begin}
 use Rattle.pj_types.specs.Subtyping.{is_named, is_hit, is_on_list, is_class_under, is_primitive, is_primitive_under, is_under, as_member, erased_under}
-use Rattle.pj_types.specs.WalkLaws.{onward, as_types, search-onward}
-use Rattle.pj_types.specs.ListingLaws.{names-given}
+use Rattle.pj_types.proofs.WalkLaws.{onward, as_types, search-onward}
+use Rattle.pj_types.proofs.ListingLaws.{names-given}
 
 module _ (d : ℕ) (w : Name → Answer) where
   -- the classes that a walk without hits gives

@@ -1,12 +1,12 @@
 -- The recursion is the walk that keeps the items to visit in one list, and the depth is no part of it.
-use Rattle.std.specs.Prelude.{◌≡◌, ℕ, zero, suc, ◌+◌, ◌-◌, ◌<◌, ◌≤◌, Bool, true, false, ◌||◌, IsTrue, List, [], ◌∷◌, ◌++◌, length, map, Option, Some, None, nat_le, if◌then◌else◌, refl}
-use Rattle.std.proofs.Common.{sym, ◌∙◌, ap, subst, arith, append-nil, append_assoc, length-append}
+use Rattle.std.specs.Prelude.{◌≡◌, ℕ, zero, suc, ◌-◌, ◌≤◌, Bool, true, false, ◌||◌, List, [], ◌∷◌, ◌++◌, length, map, Option, Some, None, nat_le, if◌then◌else◌, refl}
+use Rattle.std.proofs.Common.{sym, ◌∙◌, ap, arith, append-nil, append_assoc, length-append}
 use Rattle.std.proofs.lemmas.Bool.Decides.{nat_tests}
 use Rattle.pj_names.specs.declared.answer.Answer.{Answer}
 use Rattle.pj_names.specs.ClassName.{Name}
 use Rattle.pj_names.specs.Asking.{Asking, Return, Ask, Unbounded, bind, has_name, unvisited, hit_or, walk}
 use Rattle.pj_names.specs.Asking as asking
-use Rattle.pj_names.specs.MeaningLaws.{bind-bind}
+use Rattle.pj_names.proofs.MeaningLaws.{bind-bind}
 use Rattle.pj_types.specs.DepthFirst.{in_turn, visit}
 
 -- A fact of each value that a meaning may have, whatever is answered.

@@ -1,6 +1,6 @@
 -- What the list of supertypes means is what the recursion without a number leads to, and that leads to one list.
 use Rattle.std.specs.Prelude.{◌≡◌, ℕ, zero, suc, ◌+◌, ◌-◌, ◌<◌, ◌≤◌, Bool, true, false, if◌then◌else◌, List, [], ◌∷◌, ◌++◌, length, map, Option, Some, None, refl}
-use Rattle.std.proofs.Common.{sym, ◌∙◌, ap, subst, arith, length-append, append-nil, append_assoc}
+use Rattle.std.proofs.Common.{sym, ◌∙◌, ap, subst, arith, length-append, append-nil}
 use Rattle.std.specs.Prelude.{nat_eq}
 use Rattle.std.specs.List.{IsDistinct, list_any}
 use Rattle.std.specs.Cmp.Lexicographic.{pointwise, nat_list_eq_equiv}
@@ -12,10 +12,10 @@ use Rattle.pj_names.specs.JavaType.{JavaType}
 use Rattle.pj_names.specs.Asking.{Asking, Return, bind, walk, value_of, names_of, has_name, unvisited}
 use Rattle.pj_names.specs.Asking as asking
 use Rattle.pj_names.specs.Meaning.{Meaning, Done, over, Means, whole, also, in_front, after}
-use Rattle.pj_names.specs.MeaningLaws.{value_of-bind, over-bind, over-whole, over-whole-bind}
+use Rattle.pj_names.proofs.MeaningLaws.{value_of-bind, over-bind, over-whole, over-whole-bind}
 use Rattle.pj_types.specs.Supertypes.{Listed, first_listed, given_type, name_of, on_listed, direct, search_within, no_hit, supertypes_within, supertype_list, class_name, begin, of_known}
-use Rattle.pj_types.specs.WalkLaws.{onward, as_types, search-onward}
-use Rattle.pj_types.specs.Listing.{LeadTo, none, skipped, visited_now, AreSupertypes, direct_in, known_in, asked_names}
+use Rattle.pj_types.proofs.WalkLaws.{onward, as_types, search-onward}
+use Rattle.pj_types.specs.Listing.{LeadTo, none, skipped, visited_now, AreSupertypes, direct_in, asked_names}
 
 module _ (w : Name → Answer) where
   -- what two lists lead to, the first one leads to a part of

@@ -1,14 +1,15 @@
 -- A walk gives the list of supertypes, step by step.
-use Rattle.std.specs.Prelude.{◌≡◌, ℕ, zero, suc, ◌+◌, ◌-◌, ◌<◌, ◌≤◌, Bool, true, false, IsTrue, if◌then◌else◌, List, [], ◌∷◌, ◌++◌, length, map, Option, Some, None, refl, take}
-use Rattle.std.proofs.Common.{sym, ◌∙◌, ap, subst, arith, append-nil, append_assoc}
-use Rattle.std.proofs.lemmas.List.{map-append, length-map}
+use Rattle.std.specs.Prelude.{◌≡◌, ℕ, zero, suc, ◌-◌, ◌≤◌, Bool, true, false, if◌then◌else◌, List, [], ◌∷◌, ◌++◌, map, Option, Some, None, refl, take}
+use Rattle.std.proofs.Common.{sym, ◌∙◌, ap, arith, append-nil, append_assoc}
+use Rattle.std.proofs.lemmas.List.{map-append}
 use Rattle.pj_names.specs.declared.answer.Answer.{Answer}
 use Rattle.pj_names.specs.ClassName.{Name, is_object}
 use Rattle.pj_names.specs.JavaType.{JavaType}
 use Rattle.pj_names.specs.Asking.{Asking, Return, ask, bind, walk, value_of, names_of}
 use Rattle.pj_names.specs.Asking as asking
-use Rattle.pj_names.specs.MeaningLaws.{bind-bind, value_of-bind, names_of-bind}
-use Rattle.pj_types.specs.DepthFirstLaws.{visits-walk}
+use Rattle.pj_names.proofs.MeaningLaws.{bind-bind, value_of-bind, names_of-bind}
+use Rattle.pj_types.proofs.DepthFirstLaws.{visits-walk}
+use Rattle.pj_types.specs.WalkAnswers.{and_more, answers}
 use Rattle.pj_types.specs.Supertypes.{Listed, first_listed, given_type, name_of, on_listed, direct, search_within, no_hit, supertypes_within, Standing, begin, after_last, last_asked, given_next, of_known, still_left, step}
 
 -- What is still to come of a search from where the walk stands, where at most so many more classes are visited.
@@ -64,15 +65,6 @@ search-onward most test name =
     ∙ (λ i. walk name_of (on_listed test) direct (all i) [] (first_listed name ∷ [])))
 
 -- The first answers of a walk.
-
-abbrev pub and_more : (Standing → Asking (List JavaType)) → Option JavaType → Standing → Asking (List JavaType)
-and_more more None standing = Return []
-and_more more (Some ty) standing = bind (more standing) (λ types. Return (ty ∷ types))
-
--- at most so many answers of a walk, one after the other
-abbrev pub answers : ℕ → Standing → Asking (List JavaType)
-answers zero standing = Return []
-answers (suc n) standing = bind (step standing) (λ o. and_more (answers n) o.0 o.1)
 
 module _ (d : ℕ) (w : Name → Answer) where
   abbrev next_of : Standing → Option JavaType × Standing
