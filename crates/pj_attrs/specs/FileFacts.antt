@@ -1,7 +1,7 @@
 -- What an evaluator is told of a file.
 use Rattle.std.specs.Prelude.{ℕ, Bool, Option, if◌then◌else◌, List, []}
 use Rattle.std.specs.Option.{option_map_or}
-use Rattle.pj_lex.specs.SourceText.{SourceText}
+use Rattle.pj_source.specs.SourceText.{SourceText}
 use Rattle.pj_modifiers.specs.Sets.{explicit_modifiers, effective_modifiers}
 use Rattle.pj_parse.specs.Parses.{FileParsed}
 use Rattle.pj_tree.specs.Tree.{kind_of}

@@ -1,3 +1,4 @@
+-- definitions
 pub mod Scope
 pub mod Behind
 pub mod Bodies
@@ -7,5 +8,5 @@ pub mod TypeScopes
 pub mod Rows
 pub mod Imports
 pub mod Nearest
--- private clauses alone cite this
+-- for private clauses
 pub mod Table

@@ -16,9 +16,9 @@ use Rattle.pj_names.specs.declared.answer.Answer.{Answer}
 use Rattle.pj_names.specs.declared.oracle.AskFault.{AskFault}
 use Rattle.pj_names.specs.ClassName.{Name, NameSet}
 use Rattle.pj_names.specs.Asking.{Asking, value_of, names_of}
-use Rattle.pj_names.specs.Told.{Asks, IsWithin, Told, Worlds, asked_after, longest, with_names}
-use Rattle.pj_names.specs.AskingLaws.{all_needs, asked_after-names, within-names, within-self}
-use Rattle.pj_names.specs.Noting.{insert-there}
+use Rattle.pj_names.specs.Told.{Asks, IsWithin, Told, Worlds, all_needs, asked_after, longest, with_names}
+use Rattle.pj_names.proofs.AskingLaws.{asked_after-names, within-names, within-self}
+use Rattle.pj_names.proofs.NotingLaws.{insert-there}
 use Rattle.pj_tree.specs.Tree.{Tree}
 use Rattle.pj_tree.specs.declared.node.Node.{Node}
 use Rattle.pj_imports.specs.Candidates.{file_classes, node_named}

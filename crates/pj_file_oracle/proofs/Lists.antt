@@ -1,13 +1,13 @@
 -- The first of a list of types, and what is gathered in a loop: types as they are seen, and members, one child of the body after the other.
-use Rattle.std.proofs.Common.{◌≡◌, ℕ, ◌+◌, ◌<◌, List, [], ◌∷◌, ◌++◌, Option, Some, None, refl, sym, subst, ap, ◌∙◌, append_assoc, append-nil, drop, get_or, length, map}
+use Rattle.std.proofs.Common.{◌≡◌, ℕ, ◌+◌, ◌<◌, List, [], ◌∷◌, ◌++◌, Some, None, refl, sym, subst, ap, ◌∙◌, append_assoc, append-nil, drop, get_or, length, map}
 use Rattle.std.proofs.lemmas.List.{map-append}
 use Rattle.std.specs.Prelude.{Ok}
 use Rattle.std.specs.List.{slice_get}
 use Rattle.pj_names.specs.JavaType.{JavaType, java_type, type_list}
 use Rattle.pj_names.specs.declared.ty.Ty.{Ty}
 use Rattle.pj_names.specs.Asking.{Asking, Return, bind, each}
-use Rattle.pj_names.specs.AskingLaws.{ComesTo, comes-then, left_from}
-use Rattle.pj_names.specs.MeaningLaws.{bind-bind, gather}
+use Rattle.pj_names.proofs.AskingLaws.{ComesTo, comes-then, left_from}
+use Rattle.pj_names.proofs.MeaningLaws.{bind-bind, gather}
 use Rattle.pj_names.specs.Told.{Asks, Told}
 use Rattle.pj_file_oracle.specs.declared.members.MemberLists.{MemberLists}
 use Rattle.pj_file_oracle.specs.Members.{all_members, both_lists, no_members}

@@ -11,8 +11,7 @@ use Rattle.pj_names.specs.declared.answer.Answer.{Answer}
 use Rattle.pj_names.specs.contracts.answer.Answer as answers
 use Rattle.pj_names.specs.ClassName.{Name}
 use Rattle.pj_names.specs.Asking.{Asking, value_of, names_of}
-use Rattle.pj_names.specs.Told.{Told, longest}
-use Rattle.pj_names.specs.AskingLaws.{all_needs}
+use Rattle.pj_names.specs.Told.{Told, all_needs, longest}
 
 -- the needs of the names of a meaning were asked
 abbrev pub WereAsked : {K A : Type 0} → Told K → ℕ → Asking A → Type 0

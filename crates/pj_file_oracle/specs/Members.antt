@@ -1,6 +1,6 @@
 -- The members that a class of the file answers (JVMS 4.5, 4.6): those that its body writes, in the order of the text, and no implied ones. A compact
 -- constructor is none of them, since its parameters are not written (JLS 8.10.4.2).
-use Rattle.std.specs.Prelude.{ℕ, Bool, Option, None, Some, if◌then◌else◌, List, [], ◌∷◌, ◌++◌, length, filter, codes}
+use Rattle.std.specs.Prelude.{ℕ, Option, Some, if◌then◌else◌, List, [], ◌∷◌, ◌++◌, length, filter, codes}
 use Rattle.std.specs.Option.{option_map_or}
 use Rattle.pj_tree.specs.Tree.{Tree, kind_of, children_of}
 use Rattle.pj_tree.specs.declared.kind.Kind.{Kind}

@@ -59,7 +59,7 @@ fn is_of_object(name: &ClassName) -> bool
 }
 
 /// Whether a class outside the file is an interface.
-#[tactic(auto, using(pj_names::specs::AskingLaws::asking_steps))]
+#[tactic(auto, using(pj_names::proofs::AskingLaws::asking_steps))]
 fn asked_interface<O: Oracle>(
     alloc: Global,
     oracle: &mut O,
@@ -76,7 +76,7 @@ fn asked_interface<O: Oracle>(
 }
 
 /// Whether a class is an interface: of the file by its declaration, and else by its answer.
-#[tactic(auto, using(pj_names::specs::AskingLaws::asking_steps))]
+#[tactic(auto, using(pj_names::proofs::AskingLaws::asking_steps))]
 fn interface_named<O: Oracle>(
     alloc: Global,
     file: &File<'_>,
@@ -92,7 +92,7 @@ fn interface_named<O: Oracle>(
 }
 
 /// Whether a type is an interface.
-#[tactic(auto, using(pj_names::specs::AskingLaws::asking_steps))]
+#[tactic(auto, using(pj_names::proofs::AskingLaws::asking_steps))]
 fn is_interface_type<O: Oracle>(
     alloc: Global,
     file: &File<'_>,
@@ -119,7 +119,7 @@ fn as_either(alloc: Global, ty: Ty, is_interface: bool) -> Result<Supertypes, No
 }
 
 /// The supertypes of a class by the type of its `new`.
-#[tactic(auto, using(pj_names::specs::AskingLaws::asking_steps))]
+#[tactic(auto, using(pj_names::proofs::AskingLaws::asking_steps))]
 fn by_type<O: Oracle>(
     alloc: Global,
     file: &File<'_>,
@@ -142,7 +142,7 @@ fn only_object(alloc: Global) -> Result<Supertypes, NoMemory>
 }
 
 /// The same by the node of that type.
-#[tactic(auto, using(pj_names::specs::AskingLaws::asking_steps))]
+#[tactic(auto, using(pj_names::proofs::AskingLaws::asking_steps))]
 fn by_node<O: Oracle>(
     alloc: Global,
     file: &File<'_>,
@@ -158,7 +158,7 @@ fn by_node<O: Oracle>(
 }
 
 /// The supertypes of a class that is created by a `new`.
-#[tactic(auto, using(pj_names::specs::AskingLaws::asking_steps))]
+#[tactic(auto, using(pj_names::proofs::AskingLaws::asking_steps))]
 fn created_supertypes<O: Oracle>(
     alloc: Global,
     file: &File<'_>,
@@ -199,7 +199,7 @@ fn constant_supertypes(alloc: Global, file: &File<'_>, class: Node) -> Result<Su
 }
 
 /// The superclass and the interfaces of an anonymous class, where the headers of some classes are being resolved.
-#[tactic(auto, using(pj_names::specs::AskingLaws::asking_steps))]
+#[tactic(auto, using(pj_names::proofs::AskingLaws::asking_steps))]
 pub fn anonymous_supertypes<O: Oracle>(
     alloc: Global,
     file: &File<'_>,

@@ -45,7 +45,7 @@ fn found_with(
 }
 
 /// What a class of the file answers: first its header is resolved, and then its members.
-#[tactic(auto, using(pj_names::specs::AskingLaws::asking_steps))]
+#[tactic(auto, using(pj_names::proofs::AskingLaws::asking_steps))]
 fn class_answer<O: Oracle>(
     alloc: Global,
     file: &File<'_>,

@@ -38,7 +38,7 @@ fn field_with(
 }
 
 /// The field of a declarator.
-#[tactic(auto, using(pj_names::specs::AskingLaws::asking_steps))]
+#[tactic(auto, using(pj_names::proofs::AskingLaws::asking_steps))]
 fn field_of<O: Oracle>(
     alloc: Global,
     file: &File<'_>,
@@ -58,7 +58,7 @@ fn field_of<O: Oracle>(
 }
 
 /// Fields of a declaration, one after the other.
-#[tactic(auto, using(pj_names::specs::AskingLaws::asking_loops))]
+#[tactic(auto, using(pj_names::proofs::AskingLaws::asking_loops))]
 fn listed_fields<O: Oracle>(
     alloc: Global,
     file: &File<'_>,
@@ -79,7 +79,7 @@ fn listed_fields<O: Oracle>(
 }
 
 /// The fields of a declaration: one for each declarator.
-#[tactic(auto, using(pj_names::specs::AskingLaws::asking_steps))]
+#[tactic(auto, using(pj_names::proofs::AskingLaws::asking_steps))]
 pub fn fields_of<O: Oracle>(
     alloc: Global,
     file: &File<'_>,

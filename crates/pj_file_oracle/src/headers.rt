@@ -29,7 +29,7 @@ fn annotation_supertypes(alloc: Global) -> Result<Supertypes, NoMemory>
 }
 
 /// The superclass and the interfaces of a class of the file, where the headers of some classes are being resolved.
-#[tactic(auto, using(pj_names::specs::AskingLaws::asking_steps))]
+#[tactic(auto, using(pj_names::proofs::AskingLaws::asking_steps))]
 fn supertypes_of<O: Oracle>(
     alloc: Global,
     file: &File<'_>,
@@ -63,7 +63,7 @@ fn spelled_header(
 }
 
 /// The signature of a class, where the headers of some classes are being resolved.
-#[tactic(auto, using(pj_names::specs::AskingLaws::asking_steps))]
+#[tactic(auto, using(pj_names::proofs::AskingLaws::asking_steps))]
 fn header_within<O: Oracle>(
     alloc: Global,
     file: &File<'_>,
@@ -81,7 +81,7 @@ fn header_within<O: Oracle>(
 }
 
 /// The signature of a class, whose own header is being resolved.
-#[tactic(auto, using(pj_names::specs::AskingLaws::asking_steps))]
+#[tactic(auto, using(pj_names::proofs::AskingLaws::asking_steps))]
 pub fn header_text<O: Oracle>(
     alloc: Global,
     file: &File<'_>,

@@ -55,7 +55,7 @@ fn one_method(alloc: Global, method: Member) -> Result<MemberLists, NoMemory>
 }
 
 /// The fields of a declaration.
-#[tactic(auto, using(pj_names::specs::AskingLaws::asking_steps))]
+#[tactic(auto, using(pj_names::proofs::AskingLaws::asking_steps))]
 fn fields_alone<O: Oracle>(
     alloc: Global,
     file: &File<'_>,
@@ -87,7 +87,7 @@ fn constant_alone(
 }
 
 /// A method or a constructor.
-#[tactic(auto, using(pj_names::specs::AskingLaws::asking_steps))]
+#[tactic(auto, using(pj_names::proofs::AskingLaws::asking_steps))]
 fn method_alone<O: Oracle>(
     alloc: Global,
     file: &File<'_>,
@@ -103,7 +103,7 @@ fn method_alone<O: Oracle>(
 }
 
 /// What one child of the body of a class declares.
-#[tactic(auto, using(pj_names::specs::AskingLaws::asking_steps))]
+#[tactic(auto, using(pj_names::proofs::AskingLaws::asking_steps))]
 fn member_lists<O: Oracle>(
     alloc: Global,
     file: &File<'_>,
@@ -138,7 +138,7 @@ fn put_members(members: &mut MemberLists, more: MemberLists) -> Result<(), NoMem
 }
 
 /// What some children of the body of a class declare.
-#[tactic(auto, using(pj_names::specs::AskingLaws::asking_loops))]
+#[tactic(auto, using(pj_names::proofs::AskingLaws::asking_loops))]
 fn members_among<O: Oracle>(
     alloc: Global,
     file: &File<'_>,
@@ -158,7 +158,7 @@ fn members_among<O: Oracle>(
 }
 
 /// The fields and methods of a class.
-#[tactic(auto, using(pj_names::specs::AskingLaws::asking_steps))]
+#[tactic(auto, using(pj_names::proofs::AskingLaws::asking_steps))]
 pub fn members_of<O: Oracle>(
     alloc: Global,
     file: &File<'_>,

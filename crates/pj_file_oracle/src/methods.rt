@@ -20,7 +20,7 @@ use pj_written::{Parameters, bracket_count, method_flags, method_signature};
 use std::alloc::Global;
 
 /// The type of a parameter.
-#[tactic(auto, using(pj_names::specs::AskingLaws::asking_steps))]
+#[tactic(auto, using(pj_names::proofs::AskingLaws::asking_steps))]
 fn argument_of<O: Oracle>(
     alloc: Global,
     file: &File<'_>,
@@ -35,7 +35,7 @@ fn argument_of<O: Oracle>(
 }
 
 /// The types of parameters, one after the other.
-#[tactic(auto, using(pj_names::specs::AskingLaws::asking_loops))]
+#[tactic(auto, using(pj_names::proofs::AskingLaws::asking_loops))]
 fn listed_arguments<O: Oracle>(
     alloc: Global,
     file: &File<'_>,
@@ -54,7 +54,7 @@ fn listed_arguments<O: Oracle>(
 }
 
 /// The types of the parameters of a method.
-#[tactic(auto, using(pj_names::specs::AskingLaws::asking_steps))]
+#[tactic(auto, using(pj_names::proofs::AskingLaws::asking_steps))]
 fn argument_types<O: Oracle>(
     alloc: Global,
     file: &File<'_>,
@@ -69,7 +69,7 @@ fn argument_types<O: Oracle>(
 }
 
 /// What a method returns; a constructor returns nothing.
-#[tactic(auto, using(pj_names::specs::AskingLaws::asking_steps))]
+#[tactic(auto, using(pj_names::proofs::AskingLaws::asking_steps))]
 fn result_of<O: Oracle>(
     alloc: Global,
     file: &File<'_>,
@@ -121,7 +121,7 @@ fn method_with(
 }
 
 /// A method or a constructor: its type parameters, its parameters and then its result are resolved.
-#[tactic(auto, using(pj_names::specs::AskingLaws::asking_steps))]
+#[tactic(auto, using(pj_names::proofs::AskingLaws::asking_steps))]
 pub fn method_of<O: Oracle>(
     alloc: Global,
     file: &File<'_>,

@@ -17,7 +17,7 @@ use pj_written::{below_child, class_of_text, is_plain_interface, object_type};
 use std::alloc::Global;
 
 /// The types behind `extends`.
-#[tactic(auto, using(pj_names::specs::AskingLaws::asking_steps))]
+#[tactic(auto, using(pj_names::proofs::AskingLaws::asking_steps))]
 fn extended_types<O: Oracle>(
     alloc: Global,
     file: &File<'_>,
@@ -33,7 +33,7 @@ fn extended_types<O: Oracle>(
 }
 
 /// The types behind `implements`.
-#[tactic(auto, using(pj_names::specs::AskingLaws::asking_steps))]
+#[tactic(auto, using(pj_names::proofs::AskingLaws::asking_steps))]
 fn implemented_types<O: Oracle>(
     alloc: Global,
     file: &File<'_>,
@@ -121,7 +121,7 @@ fn with_interfaces(
 }
 
 /// Those of a class that is no interface.
-#[tactic(auto, using(pj_names::specs::AskingLaws::asking_steps))]
+#[tactic(auto, using(pj_names::proofs::AskingLaws::asking_steps))]
 fn class_supertypes<O: Oracle>(
     alloc: Global,
     file: &File<'_>,
@@ -139,7 +139,7 @@ fn class_supertypes<O: Oracle>(
 }
 
 /// Those of an interface.
-#[tactic(auto, using(pj_names::specs::AskingLaws::asking_steps))]
+#[tactic(auto, using(pj_names::proofs::AskingLaws::asking_steps))]
 fn interface_supertypes<O: Oracle>(
     alloc: Global,
     file: &File<'_>,
@@ -156,7 +156,7 @@ fn interface_supertypes<O: Oracle>(
 }
 
 /// Those of a class or an interface with a name.
-#[tactic(auto, using(pj_names::specs::AskingLaws::asking_steps))]
+#[tactic(auto, using(pj_names::proofs::AskingLaws::asking_steps))]
 pub fn named_supertypes<O: Oracle>(
     alloc: Global,
     file: &File<'_>,

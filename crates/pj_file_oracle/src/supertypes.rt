@@ -65,7 +65,7 @@ fn as_supertype(ty: Ty) -> Ty
 }
 
 /// The supertype that is written in a node.
-#[tactic(auto, using(pj_names::specs::AskingLaws::asking_steps), unfolding(crate::specs::Supertypes::supertype))]
+#[tactic(auto, using(pj_names::proofs::AskingLaws::asking_steps), unfolding(crate::specs::Supertypes::supertype))]
 pub fn supertype<O: Oracle>(
     alloc: Global,
     file: &File<'_>,
@@ -82,7 +82,7 @@ pub fn supertype<O: Oracle>(
 }
 
 /// Written supertypes, one after the other.
-#[tactic(auto, using(pj_names::specs::AskingLaws::asking_loops))]
+#[tactic(auto, using(pj_names::proofs::AskingLaws::asking_loops))]
 pub fn listed_supertypes<O: Oracle>(
     alloc: Global,
     file: &File<'_>,

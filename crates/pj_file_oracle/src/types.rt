@@ -20,7 +20,7 @@ use pj_written::{Parameter, Parameters, below_child, bounds_of, type_child};
 use std::alloc::Global;
 
 /// Bounds of a type parameter, one after the other.
-#[tactic(auto, using(pj_names::specs::AskingLaws::asking_loops))]
+#[tactic(auto, using(pj_names::proofs::AskingLaws::asking_loops))]
 fn resolved_bounds<O: Oracle>(
     alloc: Global,
     file: &File<'_>,
@@ -54,7 +54,7 @@ fn parameter_with(
 }
 
 /// A type parameter with each of its bounds.
-#[tactic(auto, using(pj_names::specs::AskingLaws::asking_steps), unfolding(crate::specs::Types::parameter_of))]
+#[tactic(auto, using(pj_names::proofs::AskingLaws::asking_steps), unfolding(crate::specs::Types::parameter_of))]
 fn parameter_of<O: Oracle>(
     alloc: Global,
     file: &File<'_>,
@@ -72,7 +72,7 @@ fn parameter_of<O: Oracle>(
 }
 
 /// Type parameters, one after the other.
-#[tactic(auto, using(pj_names::specs::AskingLaws::asking_loops))]
+#[tactic(auto, using(pj_names::proofs::AskingLaws::asking_loops))]
 fn listed_parameters<O: Oracle>(
     alloc: Global,
     file: &File<'_>,
@@ -92,7 +92,7 @@ fn listed_parameters<O: Oracle>(
 }
 
 /// The type parameters of a class, a method or a constructor, where the headers of some classes are being resolved.
-#[tactic(auto, using(pj_names::specs::AskingLaws::asking_steps))]
+#[tactic(auto, using(pj_names::proofs::AskingLaws::asking_steps))]
 pub fn type_parameters<O: Oracle>(
     alloc: Global,
     file: &File<'_>,
@@ -108,7 +108,7 @@ pub fn type_parameters<O: Oracle>(
 }
 
 /// The type that the declaration of a field, a method or a parameter writes, with so many brackets behind the name.
-#[tactic(auto, using(pj_names::specs::AskingLaws::asking_steps), unfolding(crate::specs::Types::declared_type))]
+#[tactic(auto, using(pj_names::proofs::AskingLaws::asking_steps), unfolding(crate::specs::Types::declared_type))]
 pub fn declared_type<O: Oracle>(
     alloc: Global,
     file: &File<'_>,

@@ -3,7 +3,7 @@ use Rattle.std.proofs.Common.{◌≡◌, ℕ, ◌<◌, ◌-◌, ◌+◌, suc, Li
 use Rattle.std.specs.Option.{option_map_or}
 use Rattle.pj_names.specs.ClassName.{Name}
 use Rattle.pj_names.specs.Asking.{Asking, bind, first_hit, or_else}
-use Rattle.pj_names.specs.AskingLaws.{ComesTo, left_from}
+use Rattle.pj_names.proofs.AskingLaws.{ComesTo, left_from}
 use Rattle.pj_names.specs.Told.{Told}
 use Rattle.pj_symbols.specs.declared.class.Class.{Class as DeclaredClass}
 use Rattle.pj_written.specs.Names.{next_candidate}

@@ -1,3 +1,5 @@
-pub mod ByName
+-- definitions
 pub mod Candidates
 pub mod Imports
+-- for private clauses
+pub mod ByName

@@ -28,7 +28,7 @@ fn is_known(file: &File<'_>, name: &ClassName) -> bool
 }
 
 /// The class of a name outside the file, if it is there.
-#[tactic(auto, using(pj_names::specs::AskingLaws::asking_steps))]
+#[tactic(auto, using(pj_names::proofs::AskingLaws::asking_steps))]
 fn asked_class<O: Oracle>(oracle: &mut O, name: ClassName) -> Result<Option<ClassName>, AskFault>
     ensures { Asks (asked_class name) (O.tells oracle.old) (O.tells oracle.new) result }
 {
@@ -38,7 +38,7 @@ fn asked_class<O: Oracle>(oracle: &mut O, name: ClassName) -> Result<Option<Clas
 }
 
 /// The class of a text, if it is there. A class of the file is never asked, nor is `java.lang.Object`.
-#[tactic(auto, using(pj_names::specs::AskingLaws::asking_steps))]
+#[tactic(auto, using(pj_names::proofs::AskingLaws::asking_steps))]
 pub fn found_class<O: Oracle>(
     alloc: Global,
     file: &File<'_>,
@@ -57,7 +57,7 @@ pub fn found_class<O: Oracle>(
 }
 
 /// The first candidate of a dotted name that is there.
-#[tactic(auto, using(pj_names::specs::AskingLaws::asking_loops))]
+#[tactic(auto, using(pj_names::proofs::AskingLaws::asking_loops))]
 pub fn first_candidate<O: Oracle>(
     alloc: Global,
     file: &File<'_>,
@@ -82,7 +82,7 @@ pub fn first_candidate<O: Oracle>(
 
 /// The class of a dotted name: the first candidate that is there, and else the name as it is written. A text that is no name
 /// of a class has none.
-#[tactic(auto, using(pj_names::specs::AskingLaws::asking_steps))]
+#[tactic(auto, using(pj_names::proofs::AskingLaws::asking_steps))]
 pub fn dotted_class<O: Oracle>(
     alloc: Global,
     file: &File<'_>,

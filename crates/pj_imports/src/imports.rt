@@ -124,7 +124,7 @@ fn one_among(hits: &[Option<ClassName>]) -> Result<Ty, NoMemory>
 }
 
 /// The class of an import of one name, without arguments.
-#[tactic(auto, using(pj_names::specs::AskingLaws::asking_steps))]
+#[tactic(auto, using(pj_names::proofs::AskingLaws::asking_steps))]
 fn imported<O: Oracle>(
     alloc: Global,
     file: &File<'_>,
@@ -142,7 +142,7 @@ fn imported<O: Oracle>(
 }
 
 /// The class of the name that one import on demand gives.
-#[tactic(auto, using(pj_names::specs::AskingLaws::asking_steps))]
+#[tactic(auto, using(pj_names::proofs::AskingLaws::asking_steps))]
 fn by_import<O: Oracle>(
     alloc: Global,
     file: &File<'_>,
@@ -159,7 +159,7 @@ fn by_import<O: Oracle>(
 }
 
 /// What each of some imports on demand gives for the name.
-#[tactic(auto, using(pj_names::specs::AskingLaws::asking_loops))]
+#[tactic(auto, using(pj_names::proofs::AskingLaws::asking_loops))]
 fn by_each<O: Oracle>(
     alloc: Global,
     file: &File<'_>,
@@ -179,7 +179,7 @@ fn by_each<O: Oracle>(
 }
 
 /// What each import on demand of the file gives for the name.
-#[tactic(auto, using(pj_names::specs::AskingLaws::asking_steps))]
+#[tactic(auto, using(pj_names::proofs::AskingLaws::asking_steps))]
 fn by_imports<O: Oracle>(
     alloc: Global,
     file: &File<'_>,
@@ -193,7 +193,7 @@ fn by_imports<O: Oracle>(
 }
 
 /// The class of the name in `java.lang` (JLS 7.3).
-#[tactic(auto, using(pj_names::specs::AskingLaws::asking_steps))]
+#[tactic(auto, using(pj_names::proofs::AskingLaws::asking_steps))]
 fn in_java_lang<O: Oracle>(
     alloc: Global,
     file: &File<'_>,
@@ -208,7 +208,7 @@ fn in_java_lang<O: Oracle>(
 }
 
 /// The class that imports on demand and `java.lang` give: all of them are asked, also after two hits that differ.
-#[tactic(auto, using(pj_names::specs::AskingLaws::asking_steps))]
+#[tactic(auto, using(pj_names::proofs::AskingLaws::asking_steps))]
 fn on_demand<O: Oracle>(
     alloc: Global,
     file: &File<'_>,
@@ -245,7 +245,7 @@ fn name_in_package(alloc: Global, file: &File<'_>, simple: &str) -> Result<Text,
 }
 
 /// The class of the name in the package of the file, and else what is imported on demand.
-#[tactic(auto, using(pj_names::specs::AskingLaws::asking_steps))]
+#[tactic(auto, using(pj_names::proofs::AskingLaws::asking_steps))]
 fn in_package<O: Oracle>(
     alloc: Global,
     file: &File<'_>,
@@ -271,7 +271,7 @@ fn single_import(file: &File<'_>, sort: ImportSort, simple: &str) -> Option<Node
 
 /// What a simple name means behind the scopes of the file: imports of the name, of types and then static ones, the package,
 /// and imports on demand (JLS 6.4.1, 7.5).
-#[tactic(auto, using(pj_names::specs::AskingLaws::asking_steps))]
+#[tactic(auto, using(pj_names::proofs::AskingLaws::asking_steps))]
 pub fn outside<O: Oracle>(
     alloc: Global,
     file: &File<'_>,

@@ -1,4 +1,5 @@
 pub mod Enclosing
 pub mod Listed
 pub mod Looked
+pub mod NameTurns
 pub mod Taken

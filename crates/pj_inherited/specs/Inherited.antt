@@ -33,10 +33,6 @@ outside_supertypes name = bind (ask name) (λ answer. Return (listed_names (of_a
 abbrev pub own_name : Name → Name
 own_name name = name
 
--- whether the class that a walk begins with is left out
-abbrev pub left_out : Bool → Name → Name → Bool
-left_out own_counts class name = if own_counts then false else same_text class name
-
 -- the class `T$S`, where it is there; of `java.lang.Object`, and of a class that is left out, nothing is looked for
 abbrev pub member_in : List DeclaredClass → (Name → Bool) → List ℕ → Name → Asking (Option Name)
 member_in classes is_left_out simple class = if is_object class || is_left_out class then Return None else found_class classes (class ++ 36 ∷ simple)

@@ -1,5 +1,4 @@
 -- definitions
 pub mod Around
 pub mod Inherited
--- laws of loops
 pub mod NameWalks

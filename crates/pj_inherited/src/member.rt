@@ -4,7 +4,8 @@ ghost use Rattle.std.specs.Prelude.{◌≡◌, ◌||◌};
 ghost use Rattle.pj_names.specs.ClassName.{is_object};
 ghost use Rattle.pj_names.specs.Told.{Asks};
 ghost use Rattle.pj_imports.specs.Candidates.{file_classes};
-ghost use Rattle.pj_inherited.specs.Inherited.{left_out, member_in};
+ghost use Rattle.pj_inherited.specs.Inherited.{member_in};
+ghost use Rattle.pj_inherited.specs.NameWalks.{left_out};
 
 use pj_imports::{File, found_class};
 use pj_names::{AskFault, ClassName, Oracle};
@@ -27,7 +28,7 @@ fn is_passed_over(own_counts: bool, class: &ClassName, next: &ClassName) -> bool
 
 /// The member class `next$simple`, if it is there, where a walk that began with `class` gave `next`. Of `java.lang.Object` none is
 /// looked for, nor of the class that the walk began with where its own members do not count.
-#[tactic(auto, using(pj_names::specs::AskingLaws::asking_steps))]
+#[tactic(auto, using(pj_names::proofs::AskingLaws::asking_steps))]
 pub fn member_in<O: Oracle>(
     alloc: Global,
     file: &File<'_>,

@@ -72,7 +72,7 @@ fn supertype_names(alloc: Global, answer: &Answer) -> Result<ClassNames, NoMemor
 }
 
 /// The names of the direct supertypes of a class outside the file, which is asked.
-#[tactic(auto, using(pj_names::specs::AskingLaws::asking_steps))]
+#[tactic(auto, using(pj_names::proofs::AskingLaws::asking_steps))]
 pub fn outside_supertypes<O: Oracle>(
     alloc: Global,
     oracle: &mut O,

@@ -1,5 +1,5 @@
 -- Modifiers that are written (JLS 8.1.1, 8.3.1, 8.4.3, 8.8.3, 9.1.1, 9.3, 9.4).
-use Rattle.std.specs.Prelude.{ℕ, Bool, true, false, not, ◌&&◌, ◌||◌, Option, None, Some, if◌then◌else◌, List, [], ◌∷◌, codes, nat_eq}
+use Rattle.std.specs.Prelude.{ℕ, Bool, false, not, ◌&&◌, ◌||◌, Option, None, Some, if◌then◌else◌, List, [], ◌∷◌, codes, nat_eq}
 use Rattle.std.specs.Option.{option_map_or, option_and_then}
 use Rattle.std.specs.Cmp.Lexicographic.{pointwise}
 use Rattle.pj_nodes.specs.Kinds.{is_kind}

@@ -1,5 +1,5 @@
 -- Modifiers that hold by the rules of Java, beside those that are written. A rule is named by its section of the JLS.
-use Rattle.std.specs.Prelude.{ℕ, Bool, true, false, not, ◌&&◌, ◌||◌, Option, None, Some, List}
+use Rattle.std.specs.Prelude.{Bool, true, false, not, ◌&&◌, ◌||◌, Option}
 use Rattle.std.specs.List.{list_any}
 use Rattle.std.specs.Option.{option_map_or, option_and_then}
 use Rattle.pj_nodes.specs.Kinds.{is_kind}

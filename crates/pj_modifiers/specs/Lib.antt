@@ -1,3 +1,4 @@
+-- definitions
 pub mod Explicit
 pub mod Implied
 pub mod Sets

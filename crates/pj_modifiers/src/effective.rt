@@ -10,6 +10,7 @@ use pj_symbols::{Nesting, nesting_of};
 use pj_tree::{Kind, Node, SyntaxTree};
 use pj_xvalue::Modifier;
 
+/// Whether a member is public since it stands in an interface (JLS 9.3, 9.4, 9.5).
 fn is_public_member(tree: &SyntaxTree<'_>, n: Node) -> bool
     requires inside { n.0 < length tree.now.nodes }
     ensures { result ≡ is_public_member tree.now n }
@@ -17,6 +18,7 @@ fn is_public_member(tree: &SyntaxTree<'_>, n: Node) -> bool
     in_interface(tree, n) && !is_explicit_at(tree, n, Modifier::Private)
 }
 
+/// The modifiers that a field has without their being written (JLS 9.3).
 fn field_implied(tree: &SyntaxTree<'_>, n: Node, modifier: Modifier) -> bool
     requires inside { n.0 < length tree.now.nodes }
     ensures { result ≡ field_implied tree.now n modifier }
@@ -29,6 +31,7 @@ fn field_implied(tree: &SyntaxTree<'_>, n: Node, modifier: Modifier) -> bool
     }
 }
 
+/// Whether a method is abstract since it stands in an interface without a body (JLS 9.4).
 fn is_abstract_member(tree: &SyntaxTree<'_>, n: Node) -> bool
     requires inside { n.0 < length tree.now.nodes }
     ensures { result ≡ is_abstract_member tree.now n }
@@ -40,6 +43,7 @@ fn is_abstract_member(tree: &SyntaxTree<'_>, n: Node) -> bool
         && !is_explicit_at(tree, n, Modifier::Private)
 }
 
+/// The modifiers that a method has without their being written (JLS 9.4).
 fn method_implied(tree: &SyntaxTree<'_>, n: Node, modifier: Modifier) -> bool
     requires inside { n.0 < length tree.now.nodes }
     ensures { result ≡ method_implied tree.now n modifier }
@@ -51,6 +55,7 @@ fn method_implied(tree: &SyntaxTree<'_>, n: Node, modifier: Modifier) -> bool
     }
 }
 
+/// Whether a class with this nesting stands in no other one.
 fn is_top_level_class(nesting: Nesting) -> bool
     ensures { result ≡ is_top_level_class nesting }
 {
@@ -60,6 +65,7 @@ fn is_top_level_class(nesting: Nesting) -> bool
     }
 }
 
+/// Whether the class is a top level class.
 fn is_top_level(tree: &SyntaxTree<'_>, n: Node) -> bool
     requires inside { n.0 < length tree.now.nodes }
     ensures { result ≡ is_top_level tree.now n }
@@ -67,6 +73,7 @@ fn is_top_level(tree: &SyntaxTree<'_>, n: Node) -> bool
     is_top_level_class(nesting_of(tree, n))
 }
 
+/// Whether a class is static without its being written (JLS 8.5.1, 8.9, 8.10, 9.5).
 fn is_implied_static(tree: &SyntaxTree<'_>, n: Node) -> bool
     requires inside { n.0 < length tree.now.nodes }
     ensures { result ≡ is_implied_static tree.now n }
@@ -74,6 +81,7 @@ fn is_implied_static(tree: &SyntaxTree<'_>, n: Node) -> bool
     in_interface(tree, n) || (is_static_class(tree, n) && !is_top_level(tree, n))
 }
 
+/// Whether a class is final without its being written (JLS 8.9, 8.10).
 fn is_implied_final(tree: &SyntaxTree<'_>, n: Node) -> bool
     requires inside { n.0 < length tree.now.nodes }
     ensures { result ≡ is_implied_final tree.now n }
@@ -82,6 +90,7 @@ fn is_implied_final(tree: &SyntaxTree<'_>, n: Node) -> bool
         || (is_kind(tree, Kind::EnumDeclaration, n) && !has_constant_body(tree, n))
 }
 
+/// The modifiers that a class or interface has without their being written.
 fn class_implied(tree: &SyntaxTree<'_>, n: Node, modifier: Modifier) -> bool
     requires inside { n.0 < length tree.now.nodes }
     ensures { result ≡ class_implied tree.now n modifier }
@@ -95,6 +104,7 @@ fn class_implied(tree: &SyntaxTree<'_>, n: Node, modifier: Modifier) -> bool
     }
 }
 
+/// The modifiers of an enum constant (JLS 8.9.3).
 fn constant_implied(modifier: Modifier) -> bool
     ensures { result ≡ constant_implied modifier }
 {
@@ -104,6 +114,7 @@ fn constant_implied(modifier: Modifier) -> bool
     }
 }
 
+/// The modifiers of the field of a record component (JLS 8.10.3).
 fn component_implied(modifier: Modifier) -> bool
     ensures { result ≡ component_implied modifier }
 {
@@ -113,6 +124,7 @@ fn component_implied(modifier: Modifier) -> bool
     }
 }
 
+/// The modifiers that a constructor has without their being written (JLS 8.9.2).
 fn constructor_implied(tree: &SyntaxTree<'_>, n: Node, modifier: Modifier) -> bool
     requires inside { n.0 < length tree.now.nodes }
     ensures { result ≡ constructor_implied tree.now n modifier }
@@ -123,6 +135,7 @@ fn constructor_implied(tree: &SyntaxTree<'_>, n: Node, modifier: Modifier) -> bo
     }
 }
 
+/// Whether the variable is that of a resource (JLS 14.20.3).
 fn is_in_resource(tree: &SyntaxTree<'_>, n: Node) -> bool
     requires inside { n.0 < length tree.now.nodes }
     ensures { result ≡ is_in_resource tree.now n }
@@ -133,6 +146,7 @@ fn is_in_resource(tree: &SyntaxTree<'_>, n: Node) -> bool
     }
 }
 
+/// The modifiers that a local variable has without their being written (JLS 14.20.3).
 fn local_implied(tree: &SyntaxTree<'_>, n: Node, modifier: Modifier) -> bool
     requires inside { n.0 < length tree.now.nodes }
     ensures { result ≡ local_implied tree.now n modifier }
@@ -143,6 +157,7 @@ fn local_implied(tree: &SyntaxTree<'_>, n: Node, modifier: Modifier) -> bool
     }
 }
 
+/// The modifiers that the parameter of a `catch` has without their being written (JLS 14.20).
 fn catch_implied(tree: &SyntaxTree<'_>, n: Node, modifier: Modifier) -> bool
     requires inside { n.0 < length tree.now.nodes }
     ensures { result ≡ catch_implied tree.now n modifier }
@@ -153,6 +168,7 @@ fn catch_implied(tree: &SyntaxTree<'_>, n: Node, modifier: Modifier) -> bool
     }
 }
 
+/// The modifiers that a declaration of this kind has without their being written.
 fn implied_by(kind: Kind, tree: &SyntaxTree<'_>, n: Node, modifier: Modifier) -> bool
     requires inside { n.0 < length tree.now.nodes }
     ensures { result ≡ implied_by kind tree.now n modifier }
@@ -173,6 +189,7 @@ fn implied_by(kind: Kind, tree: &SyntaxTree<'_>, n: Node, modifier: Modifier) ->
     }
 }
 
+/// Whether a modifier holds of the node, written or not.
 fn is_effective_at(tree: &SyntaxTree<'_>, n: Node, modifier: Modifier) -> bool
     requires inside { n.0 < length tree.now.nodes }
     ensures { result ≡ is_effective_at tree.now n modifier }

@@ -76,6 +76,7 @@ pub fn has_constant_body(tree: &SyntaxTree<'_>, n: Node) -> bool
     }
 }
 
+/// Whether an enum constant in the body of an enum has a class body.
 fn constant_body_among(tree: &SyntaxTree<'_>, body: Node) -> bool
     requires inside { body.0 < length tree.now.nodes }
     ensures { result ≡ constant_body_among tree.now body }

@@ -1,5 +1,5 @@
 -- Kinds of nodes, and of the nodes above.
-use Rattle.std.specs.Prelude.{ℕ, ◌==◌, Bool, false, Option}
+use Rattle.std.specs.Prelude.{◌==◌, Bool, false, Option}
 use Rattle.std.specs.Option.{option_and_then, option_map_or}
 use denote.Enum.Declared.{tag_of}
 use Rattle.pj_tree.specs.Tree.{Tree, kind_of, parent_of}

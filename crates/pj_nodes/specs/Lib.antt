@@ -1,3 +1,4 @@
+-- definitions
 pub mod Children
 pub mod Kinds
 pub mod Words

@@ -5,6 +5,7 @@ ghost use Rattle.pj_nodes.specs.Words.{words_of, first_of, last_of, has};
 
 use pj_tree::{Node, OwnTokens, SyntaxTree};
 
+/// The first word, or no text where there is none.
 fn first_of<'t>(words: OwnTokens<'t>) -> &'t str
     ensures { result.now ≡ first_of words.entry }
 {
@@ -23,6 +24,7 @@ pub fn first_word<'t>(tree: &'t SyntaxTree<'_>, n: Node) -> &'t str
     first_of(tree.own(n))
 }
 
+/// The last word, or no text where there is none.
 fn last_of<'t>(words: OwnTokens<'t>) -> &'t str
     ensures { result.now ≡ last_of [] words.entry }
 {
@@ -41,6 +43,7 @@ pub fn last_word<'t>(tree: &'t SyntaxTree<'_>, n: Node) -> &'t str
     last_of(tree.own(n))
 }
 
+/// Whether a text is among the words.
 fn has(words: OwnTokens<'_>, text: &str) -> bool
     ensures { result ≡ has text.now words.entry }
 {

@@ -1,5 +1,5 @@
 -- The last byte of a text.
-use Rattle.std.proofs.Common.{ℕ, zero, suc, ◌≡◌, ◌-◌, ◌≤◌, Bool, List, [], ◌∷◌, length, get_or, refl, ap, sym, ◌∙◌, arith}
+use Rattle.std.proofs.Common.{ℕ, suc, ◌≡◌, ◌-◌, ◌≤◌, Bool, List, [], ◌∷◌, length, get_or, refl, ap, ◌∙◌, arith}
 use Rattle.pj_properties.specs.Literals.{ends_in}
 
 pub ends_in_last : (p : ℕ → Bool) (xs : List ℕ) → 1 ≤ length xs → ends_in p xs ≡ p (get_or xs (length xs - 1) 0)

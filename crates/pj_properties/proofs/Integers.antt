@@ -1,5 +1,5 @@
 -- Integers that fit 64 bits.
-use Rattle.std.proofs.Common.{ℕ, ℤ, pos, negsuc, ◌≡◌, ◌<◌, ◌≤◌, ◌^◌, Bool, true, false, cond, Option, None, Some, refl, ap, sym, ◌∙◌, arith, inl, inr, FitsSigned}
+use Rattle.std.proofs.Common.{ℕ, ℤ, pos, negsuc, ◌≡◌, ◌<◌, ◌≤◌, ◌^◌, true, false, cond, Option, None, Some, ap, sym, ◌∙◌, arith, inl, inr, FitsSigned}
 use Rattle.std.specs.Int.{w64}
 use Rattle.std.specs.Option.{SomeIff}
 use Rattle.std.proofs.lemmas.Bool.{cases_Bool, ltb-true, ltb-false}

@@ -1,9 +1,9 @@
 -- What holds of nodes or does not.
-use Rattle.std.specs.Prelude.{ℕ, ◌==◌, nat_lt, Bool, true, false, not, ◌&&◌, ◌||◌, Option, None, Some, is_some, unwrap_or, List, [], length, codes, nat_eq}
+use Rattle.std.specs.Prelude.{ℕ, ◌==◌, nat_lt, Bool, true, false, not, ◌&&◌, ◌||◌, is_some, List, [], length, codes, nat_eq}
 use Rattle.std.specs.List.{list_any, starts_with}
-use Rattle.std.specs.Option.{option_map, option_map_or, option_and_then}
+use Rattle.std.specs.Option.{option_map_or, option_and_then}
 use denote.Enum.Declared.{tag_of}
-use Rattle.pj_tree.specs.Tree.{Tree, kind_of, parent_of, children_of, text_of}
+use Rattle.pj_tree.specs.Tree.{Tree, kind_of, children_of, text_of}
 use Rattle.pj_tree.specs.declared.kind.Kind.{Kind}
 use Rattle.pj_tree.specs.declared.kind.Kind.TheVariants as k
 use Rattle.pj_tree.specs.declared.node.Node.{Node}

@@ -1,3 +1,4 @@
+-- definitions
 pub mod Flags
 pub mod Literals
 pub mod Numbers

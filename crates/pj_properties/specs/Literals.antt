@@ -1,8 +1,7 @@
 -- What literals tell by how they are written. Each is a list of bytes, of which those that count are ASCII.
-use Rattle.std.specs.Prelude.{ℕ, ◌^◌, ℤ, pos, negsuc, ◌==◌, nat_lt, nat_le, Bool, true, false, not, ◌&&◌, ◌||◌, Option, None, Some, if◌then◌else◌, List, [], ◌∷◌, codes, nat_eq}
+use Rattle.std.specs.Prelude.{ℕ, ◌^◌, ℤ, pos, negsuc, ◌==◌, nat_lt, nat_le, Bool, false, not, ◌&&◌, ◌||◌, Option, None, Some, if◌then◌else◌, List, [], ◌∷◌}
 use Rattle.std.specs.List.{list_any}
 use Rattle.std.specs.Str.{chars}
-use Rattle.std.specs.Cmp.Lexicographic.{pointwise}
 use Rattle.pj_literals.specs.IntegerValue.{integer_value}
 
 -- ---- numbers (JLS 3.10.1, 3.10.2)

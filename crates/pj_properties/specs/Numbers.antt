@@ -1,5 +1,5 @@
 -- The numbers that nodes tell.
-use Rattle.std.specs.Prelude.{ℕ, ℤ, pos, Option, None, Some, length}
+use Rattle.std.specs.Prelude.{ℕ, ℤ, pos, Option, Some, length}
 use Rattle.std.specs.Option.{option_map, option_map_or, option_and_then}
 use Rattle.std.specs.Str.{chars}
 use Rattle.pj_tree.specs.Tree.{Tree, children_of, text_of}

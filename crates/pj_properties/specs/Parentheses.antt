@@ -1,6 +1,6 @@
 -- How many parentheses stand directly around an expression (JLS 15.8.5), by the tokens of the file.
 use Rattle.std.specs.Prelude.{ℕ, ◌+◌, ◌-◌, nat_lt, nat_le, min, Bool, true, false, not, ◌&&◌, Option, None, Some, is_some, if◌then◌else◌, List, [], ◌∷◌, filter, reverse}
-use Rattle.std.specs.Option.{option_map, option_map_or, option_and_then}
+use Rattle.std.specs.Option.{option_map_or}
 use Rattle.pj_tree.specs.Tree.{Tree, kind_of, parent_of, span_of}
 use Rattle.pj_tree.specs.declared.kind.Kind.{Kind}
 use Rattle.pj_tree.specs.declared.kind.Kind.TheVariants as k

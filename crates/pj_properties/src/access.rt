@@ -6,6 +6,7 @@ ghost use Rattle.pj_properties.specs.Texts.{is_left_side, is_stepped, is_written
 use pj_nodes::{first_child, has_word, is_kind};
 use pj_tree::{Kind, Node, SyntaxTree};
 
+/// Whether the node is the left side of the assignment above it (JLS 15.26).
 fn is_left_side(tree: &SyntaxTree<'_>, above: Node, n: Node) -> bool
     requires inside { above.0 < length tree.now.nodes }
     ensures { result ≡ is_left_side tree.now above n }
@@ -19,6 +20,7 @@ fn is_left_side(tree: &SyntaxTree<'_>, above: Node, n: Node) -> bool
     }
 }
 
+/// Whether the node above is `++` or `--` (JLS 15.14.2, 15.14.3, 15.15.1, 15.15.2).
 fn is_stepped(tree: &SyntaxTree<'_>, above: Node) -> bool
     requires inside { above.0 < length tree.now.nodes }
     ensures { result ≡ is_stepped tree.now above }
@@ -27,6 +29,7 @@ fn is_stepped(tree: &SyntaxTree<'_>, above: Node) -> bool
         && (has_word(tree, above, "++") || has_word(tree, above, "--"))
 }
 
+/// Whether the variable is written there.
 fn is_written(tree: &SyntaxTree<'_>, n: Node) -> bool
     requires inside { n.0 < length tree.now.nodes }
     ensures { result ≡ is_written tree.now n }
@@ -37,6 +40,7 @@ fn is_written(tree: &SyntaxTree<'_>, n: Node) -> bool
     }
 }
 
+/// `WRITE` at the left side of an assignment and at the operand of `++` or `--`, and else `READ`.
 pub fn access_type(tree: &SyntaxTree<'_>, n: Node) -> &'static str
     requires inside { n.0 < length tree.now.nodes }
     ensures { result.now ≡ access_type tree.now n }

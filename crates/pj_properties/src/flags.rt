@@ -21,6 +21,7 @@ use pj_parse::{Parsed, Pool};
 use pj_symbols::{Nesting, Symbols, VariableKind, nesting_of, variable_kind};
 use pj_tree::{Kind, Node, SyntaxTree};
 
+/// The text of a word.
 fn word_text(word: Word) -> &'static str
     ensures { result.now ≡ word_text word }
 {
@@ -37,6 +38,7 @@ fn word_text(word: Word) -> &'static str
     }
 }
 
+/// Whether a node has no children.
 fn is_childless(tree: &SyntaxTree<'_>, n: Node) -> bool
     requires inside { n.0 < length tree.now.nodes }
     ensures { result ≡ is_childless tree.now n }
@@ -44,18 +46,21 @@ fn is_childless(tree: &SyntaxTree<'_>, n: Node) -> bool
     !first_child(tree, n).is_some()
 }
 
+/// Whether two classes stand in the same way.
 fn same_nesting(nesting: Nesting, other: Nesting) -> bool
     ensures { result ≡ same_nesting nesting other }
 {
     nesting == other
 }
 
+/// Whether two variables are of the same kind.
 fn same_variable(kind: VariableKind, other: VariableKind) -> bool
     ensures { result ≡ same_variable kind other }
 {
     kind == other
 }
 
+/// Whether the node is a class that is written with `class`.
 fn is_regular_class(tree: &SyntaxTree<'_>, n: Node) -> bool
     requires inside { n.0 < length tree.now.nodes }
     ensures { result ≡ is_regular_class tree.now n }
@@ -63,6 +68,7 @@ fn is_regular_class(tree: &SyntaxTree<'_>, n: Node) -> bool
     is_kind(tree, Kind::ClassDeclaration, n) && !is_interface(tree, n)
 }
 
+/// Whether the node is an interface that is written with `interface`.
 fn is_regular_interface(tree: &SyntaxTree<'_>, n: Node) -> bool
     requires inside { n.0 < length tree.now.nodes }
     ensures { result ≡ is_regular_interface tree.now n }
@@ -70,6 +76,7 @@ fn is_regular_interface(tree: &SyntaxTree<'_>, n: Node) -> bool
     is_kind(tree, Kind::ClassDeclaration, n) && is_interface(tree, n)
 }
 
+/// Whether the value of a string literal is the empty text.
 fn has_empty_value(tree: &SyntaxTree<'_>, pool: &Pool, n: Node) -> bool
     requires pool { IsPoolOf tree.now pool.now }
     ensures { result ≡ has_empty_value tree.now n }
@@ -81,6 +88,7 @@ fn has_empty_value(tree: &SyntaxTree<'_>, pool: &Pool, n: Node) -> bool
     }
 }
 
+/// Whether a method reference ends in `new` (JLS 15.13).
 fn is_constructor_reference(tree: &SyntaxTree<'_>, n: Node) -> bool
     requires inside { n.0 < length tree.now.nodes }
     ensures { result ≡ is_constructor_reference tree.now n }
@@ -88,6 +96,7 @@ fn is_constructor_reference(tree: &SyntaxTree<'_>, n: Node) -> bool
     last_word(tree, n) == "new"
 }
 
+/// Whether the class that is created is written with `<>` (JLS 15.9).
 fn has_diamond(tree: &SyntaxTree<'_>, n: Node) -> bool
     requires inside { n.0 < length tree.now.nodes }
     ensures { result ≡ has_diamond tree.now n }
@@ -101,6 +110,7 @@ fn has_diamond(tree: &SyntaxTree<'_>, n: Node) -> bool
     }
 }
 
+/// Whether the label of a switch is `default`.
 fn is_default_label(tree: &SyntaxTree<'_>, n: Node) -> bool
     requires inside { n.0 < length tree.now.nodes }
     ensures { result ≡ is_default_label tree.now n }
@@ -108,6 +118,7 @@ fn is_default_label(tree: &SyntaxTree<'_>, n: Node) -> bool
     has_word(tree, n, "default")
 }
 
+/// Whether a branch of a switch has such a label.
 fn is_default_branch(tree: &SyntaxTree<'_>, n: Node) -> bool
     requires inside { n.0 < length tree.now.nodes }
     ensures { result ≡ is_default_branch tree.now n }
@@ -118,6 +129,7 @@ fn is_default_branch(tree: &SyntaxTree<'_>, n: Node) -> bool
     }
 }
 
+/// Whether a switch has such a branch.
 fn has_default(tree: &SyntaxTree<'_>, n: Node) -> bool
     requires inside { n.0 < length tree.now.nodes }
     ensures { result ≡ has_default tree.now n }

@@ -23,6 +23,7 @@ fn is_either(small: u8, large: u8, byte: u8) -> bool
     byte == small || byte == large
 }
 
+/// Whether the byte behind a first `0` is `x` or `X`.
 fn is_hexadecimal_mark(mark: Option<u8>) -> bool
     ensures { result ≡ is_hexadecimal_mark mark }
 {
@@ -32,12 +33,14 @@ fn is_hexadecimal_mark(mark: Option<u8>) -> bool
     }
 }
 
+/// Whether a number is written in hexadecimal digits.
 fn is_hexadecimal(text: &str) -> bool
     ensures { result ≡ is_hexadecimal text.now }
 {
     is_hexadecimal_mark(mark_of(text))
 }
 
+/// Whether a byte shows that a number which is not hexadecimal is a floating point number.
 fn is_decimal_sign(byte: u8) -> bool
     ensures { result ≡ is_decimal_sign byte }
 {
@@ -82,30 +85,35 @@ fn ends_in(text: &str, small: u8, large: u8) -> bool
     }
 }
 
+/// Whether a number is of type `int` (JLS 3.10.1).
 pub fn is_int_literal(text: &str) -> bool
     ensures { result ≡ is_int_literal text.now }
 {
     !is_floating(text) && !ends_in(text, b'l', b'L')
 }
 
+/// Whether a number is of type `long` (JLS 3.10.1).
 pub fn is_long_literal(text: &str) -> bool
     ensures { result ≡ is_long_literal text.now }
 {
     !is_floating(text) && ends_in(text, b'l', b'L')
 }
 
+/// Whether a number is of type `float` (JLS 3.10.2).
 pub fn is_float_literal(text: &str) -> bool
     ensures { result ≡ is_float_literal text.now }
 {
     is_floating(text) && ends_in(text, b'f', b'F')
 }
 
+/// Whether a number is of type `double` (JLS 3.10.2).
 pub fn is_double_literal(text: &str) -> bool
     ensures { result ≡ is_double_literal text.now }
 {
     is_floating(text) && !ends_in(text, b'f', b'F')
 }
 
+/// The radix of a number that begins with `0`, by the byte behind.
 fn radix_behind(is_floating: bool, mark: u8) -> i64
     ensures { result ≡ pos (radix_behind is_floating mark) }
 {
@@ -120,6 +128,7 @@ fn radix_behind(is_floating: bool, mark: u8) -> i64
     }
 }
 
+/// The radix of a number, by the byte behind a first `0` where there is one.
 fn radix_by(is_floating: bool, mark: Option<u8>) -> i64
     ensures { result ≡ pos (radix_by is_floating mark) }
 {
@@ -147,6 +156,7 @@ pub fn constant_integer(text: &str) -> Option<i64>
     }
 }
 
+/// Whether a literal is a text block (JLS 3.10.6).
 pub fn is_text_block(text: &str) -> bool
     ensures { result ≡ is_text_block text.now }
 {

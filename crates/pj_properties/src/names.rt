@@ -10,6 +10,7 @@ use pj_nodes::{child_of, first_word, has_word, last_word};
 use pj_parse::Pool;
 use pj_tree::{Kind, Node, OwnTokens, SyntaxTree};
 
+/// Whether an import is one on demand (JLS 7.5.2, 7.5.4).
 fn is_on_demand(tree: &SyntaxTree<'_>, n: Node) -> bool
     requires inside { n.0 < length tree.now.nodes }
     ensures { result ≡ is_on_demand tree.now n }
@@ -30,6 +31,7 @@ fn last_name<'t>(words: OwnTokens<'t>) -> &'t str
     last
 }
 
+/// The name that an import brings into scope; one on demand names none.
 pub fn imported_simple_name<'t>(tree: &'t SyntaxTree<'_>, n: Node) -> Option<&'t str>
     requires inside { n.0 < length tree.now.nodes }
     ensures { option_copied result ≡ imported_simple_name tree.now n }
@@ -41,6 +43,7 @@ pub fn imported_simple_name<'t>(tree: &'t SyntaxTree<'_>, n: Node) -> Option<&'t
     }
 }
 
+/// The text before the last dot, or no text where there is no dot.
 fn before_last_dot<'t>(text: &'t str) -> &'t str
     ensures { result.now ≡ before_last_dot text.now }
 {
@@ -50,6 +53,7 @@ fn before_last_dot<'t>(text: &'t str) -> &'t str
     }
 }
 
+/// The name before the last one that is imported, or the whole name of an import on demand.
 pub fn imported_package<'t>(tree: &'t SyntaxTree<'_>, pool: &'t Pool, n: Node) -> Option<&'t str>
     requires inside { n.0 < length tree.now.nodes }
     requires pool { IsPoolOf tree.now pool.now }
@@ -67,6 +71,7 @@ pub fn imported_package<'t>(tree: &'t SyntaxTree<'_>, pool: &'t Pool, n: Node) -
     }
 }
 
+/// The name of the variable that is declared.
 pub fn variable_name<'t>(tree: &'t SyntaxTree<'_>, n: Node) -> Option<&'t str>
     requires inside { n.0 < length tree.now.nodes }
     ensures { option_copied result ≡ variable_name tree.now n }
@@ -77,6 +82,7 @@ pub fn variable_name<'t>(tree: &'t SyntaxTree<'_>, n: Node) -> Option<&'t str>
     }
 }
 
+/// The last name of the class type that a node has.
 pub fn type_name<'t>(tree: &'t SyntaxTree<'_>, n: Node) -> Option<&'t str>
     requires inside { n.0 < length tree.now.nodes }
     ensures { option_copied result ≡ type_name tree.now n }
@@ -87,6 +93,7 @@ pub fn type_name<'t>(tree: &'t SyntaxTree<'_>, n: Node) -> Option<&'t str>
     }
 }
 
+/// The name of a member of an annotation, which is `value` where only the value is written (JLS 9.7.3).
 pub fn pair_name<'t>(tree: &'t SyntaxTree<'_>, n: Node) -> &'t str
     requires inside { n.0 < length tree.now.nodes }
     ensures { result.now ≡ pair_name tree.now n }
@@ -109,6 +116,7 @@ fn second_of_three<'t>(words: OwnTokens<'t>) -> Option<&'t str>
     Some(second)
 }
 
+/// The label of a `break` or `continue`, where there is one.
 pub fn jump_label<'t>(tree: &'t SyntaxTree<'_>, n: Node) -> Option<&'t str>
     requires inside { n.0 < length tree.now.nodes }
     ensures { option_copied result ≡ second_of_three (words_of tree.now n) }

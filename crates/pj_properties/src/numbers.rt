@@ -16,6 +16,7 @@ use pj_parse::{Parsed, Pool};
 use pj_symbols::Symbols;
 use pj_tree::{Kind, Node, SyntaxTree};
 
+/// How many parameters a method or constructor has.
 fn arity(tree: &SyntaxTree<'_>, n: Node) -> u32
     requires inside { n.0 < length tree.now.nodes }
     ensures { result ≡ arity tree.now n }
@@ -26,6 +27,7 @@ fn arity(tree: &SyntaxTree<'_>, n: Node) -> u32
     }
 }
 
+/// How many parameters a lambda expression has.
 fn lambda_arity(tree: &SyntaxTree<'_>, n: Node) -> u32
     requires inside { n.0 < length tree.now.nodes }
     ensures { result ≡ lambda_arity tree.now n }
@@ -36,6 +38,7 @@ fn lambda_arity(tree: &SyntaxTree<'_>, n: Node) -> u32
     }
 }
 
+/// How many arguments a call has.
 fn argument_count(tree: &SyntaxTree<'_>, n: Node) -> u32
     requires inside { n.0 < length tree.now.nodes }
     ensures { result ≡ argument_count tree.now n }
@@ -46,6 +49,7 @@ fn argument_count(tree: &SyntaxTree<'_>, n: Node) -> u32
     }
 }
 
+/// How many dimensions are written directly below a node.
 fn dimension_count(tree: &SyntaxTree<'_>, n: Node) -> u32
     requires inside { n.0 < length tree.now.nodes }
     ensures { result ≡ dimension_count tree.now n }
@@ -56,6 +60,7 @@ fn dimension_count(tree: &SyntaxTree<'_>, n: Node) -> u32
     }
 }
 
+/// How many dimensions the array type has that a node has.
 fn array_depth(tree: &SyntaxTree<'_>, n: Node) -> u32
     requires inside { n.0 < length tree.now.nodes }
     ensures { result ≡ array_depth tree.now n }

@@ -8,6 +8,7 @@ ghost use Rattle.pj_properties.specs.Flags.{begins_with, is_prefix, is_compound}
 
 use pj_tree::{Node, OwnTokens, SyntaxTree};
 
+/// Whether a word is no parenthesis.
 fn is_sign(word: &str) -> bool
     ensures { result ≡ is_sign word.now }
 {
@@ -81,6 +82,7 @@ pub fn is_prefix(tree: &SyntaxTree<'_>, n: Node) -> bool
     }
 }
 
+/// Whether an operator begins with a text.
 fn begins_with(operator: &str, text: &str) -> bool
     ensures { result ≡ begins_with operator.now text.now }
 {

@@ -12,6 +12,7 @@ use pj_nodes::second_child;
 use pj_parse::Parsed;
 use pj_tree::{Kind, Node, Span, SyntaxTree};
 
+/// Whether a token is `(`.
 fn is_left(kind: TokenKind) -> bool
     ensures { result ≡ is_left kind }
 {
@@ -21,6 +22,7 @@ fn is_left(kind: TokenKind) -> bool
     }
 }
 
+/// Whether a token is `)`.
 fn is_right(kind: TokenKind) -> bool
     ensures { result ≡ is_right kind }
 {
@@ -30,6 +32,7 @@ fn is_right(kind: TokenKind) -> bool
     }
 }
 
+/// Whether a token is a comment.
 fn is_comment(kind: TokenKind) -> bool
     ensures { result ≡ is_comment kind }
 {
@@ -94,6 +97,7 @@ fn closed(tokens: &[Token<'_>], above: Span, span: Span) -> usize
     closed_first(&tokens[place..], above.to)
 }
 
+/// How many pairs of parentheses stand directly around a span within the one above.
 fn pairs_within(tokens: &[Token<'_>], above: Span, span: Span) -> usize
     requires in_order { IsNonDecreasingBy (λ (t : Token). t.span.from) tokens.now }
     ensures value { result ≡ pairs_within (map seen tokens.now) above span }
@@ -110,6 +114,7 @@ fn syntactic_at(tree: &SyntaxTree<'_>, above: Node) -> usize
     syntactic(tree.kind(above), tree, above)
 }
 
+/// How many of these pairs are a part of the construct above, and no parentheses around an expression.
 fn syntactic(kind: Kind, tree: &SyntaxTree<'_>, above: Node) -> usize
     requires inside { above.0 < length tree.now.nodes }
     ensures { result ≡ syntactic kind tree.now above }
@@ -132,6 +137,7 @@ fn syntactic(kind: Kind, tree: &SyntaxTree<'_>, above: Node) -> usize
     }
 }
 
+/// How many pairs of parentheses stand around a node within the node above.
 fn depth_below(parsed: &Parsed<'_>, n: Node, above: Node) -> usize
     requires inside { n.0 < length parsed.now.tree.nodes }
     requires inside_above { above.0 < length parsed.now.tree.nodes }

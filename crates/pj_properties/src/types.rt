@@ -7,6 +7,7 @@ use pj_nodes::{child_of, has_child, has_word, is_kind, second_child};
 use pj_symbols::declaration_of;
 use pj_tree::{Kind, Node, SyntaxTree};
 
+/// Whether a parameter is written with `...`.
 fn has_ellipsis(tree: &SyntaxTree<'_>, n: Node) -> bool
     requires inside { n.0 < length tree.now.nodes }
     ensures { result ≡ has_ellipsis tree.now n }
@@ -31,6 +32,7 @@ pub fn is_varargs(tree: &SyntaxTree<'_>, n: Node) -> bool
     }
 }
 
+/// Whether one of the parameters is of variable arity.
 fn varargs_among(tree: &SyntaxTree<'_>, parameters: Node) -> bool
     requires inside { parameters.0 < length tree.now.nodes }
     ensures { result ≡ varargs_among tree.now parameters }
@@ -54,6 +56,7 @@ pub fn is_varargs_method(tree: &SyntaxTree<'_>, n: Node) -> bool
     }
 }
 
+/// Whether a kind is one of types.
 fn is_type(kind: Kind) -> bool
     ensures { result ≡ is_type kind }
 {
@@ -67,6 +70,7 @@ fn is_type(kind: Kind) -> bool
     }
 }
 
+/// Whether the type of a variable is written in its declaration.
 fn has_type(tree: &SyntaxTree<'_>, declaration: Node) -> bool
     requires inside { declaration.0 < length tree.now.nodes }
     ensures { result ≡ has_type tree.now declaration }
@@ -85,6 +89,7 @@ pub fn is_inferred(tree: &SyntaxTree<'_>, declaration: Node) -> bool
     !has_type(tree, declaration)
 }
 
+/// Whether the declaration is one of a local variable or a lambda parameter, and has no written type.
 fn is_inferred_in(tree: &SyntaxTree<'_>, declaration: Node) -> bool
     requires inside { declaration.0 < length tree.now.nodes }
     ensures { result ≡ is_inferred_in tree.now declaration }
@@ -105,6 +110,7 @@ pub fn is_variable_inferred(tree: &SyntaxTree<'_>, n: Node) -> bool
     }
 }
 
+/// Whether the written type in a declaration is an array.
 fn has_array_type(tree: &SyntaxTree<'_>, declaration: Node) -> bool
     requires inside { declaration.0 < length tree.now.nodes }
     ensures { result ≡ has_array_type tree.now declaration }
@@ -115,6 +121,7 @@ fn has_array_type(tree: &SyntaxTree<'_>, declaration: Node) -> bool
     }
 }
 
+/// Whether that holds of the declaration of the variable.
 fn has_array_declaration(tree: &SyntaxTree<'_>, n: Node) -> bool
     requires inside { n.0 < length tree.now.nodes }
     ensures { result ≡ has_array_declaration tree.now n }

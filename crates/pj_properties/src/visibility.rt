@@ -8,6 +8,7 @@ use pj_symbols::{Nesting, VariableKind, nesting_of, variable_kind};
 use pj_tree::{Node, SyntaxTree};
 use pj_xvalue::Modifier;
 
+/// The visibility of a member, by the modifiers that hold of it.
 pub fn member_visibility(tree: &SyntaxTree<'_>, n: Node) -> &'static str
     requires inside { n.0 < length tree.now.nodes }
     ensures { result.now ≡ member_visibility tree.now n }
@@ -23,6 +24,7 @@ pub fn member_visibility(tree: &SyntaxTree<'_>, n: Node) -> &'static str
     }
 }
 
+/// The visibility of a class that stands so.
 fn class_visibility_in(nesting: Nesting, tree: &SyntaxTree<'_>, n: Node) -> &'static str
     requires inside { n.0 < length tree.now.nodes }
     ensures { result.now ≡ class_visibility_in nesting tree.now n }
@@ -34,6 +36,7 @@ fn class_visibility_in(nesting: Nesting, tree: &SyntaxTree<'_>, n: Node) -> &'st
     }
 }
 
+/// The visibility of a class.
 pub fn class_visibility(tree: &SyntaxTree<'_>, n: Node) -> &'static str
     requires inside { n.0 < length tree.now.nodes }
     ensures { result.now ≡ class_visibility tree.now n }
@@ -41,6 +44,7 @@ pub fn class_visibility(tree: &SyntaxTree<'_>, n: Node) -> &'static str
     class_visibility_in(nesting_of(tree, n), tree, n)
 }
 
+/// The visibility of a variable of a kind.
 fn variable_visibility_of(kind: VariableKind, tree: &SyntaxTree<'_>, n: Node) -> &'static str
     requires inside { n.0 < length tree.now.nodes }
     ensures { result.now ≡ variable_visibility_of kind tree.now n }
@@ -53,6 +57,7 @@ fn variable_visibility_of(kind: VariableKind, tree: &SyntaxTree<'_>, n: Node) ->
     }
 }
 
+/// The visibility of a variable.
 pub fn variable_visibility(tree: &SyntaxTree<'_>, n: Node) -> &'static str
     requires inside { n.0 < length tree.now.nodes }
     ensures { result.now ≡ variable_visibility tree.now n }

@@ -1,7 +1,8 @@
+-- definitions
 pub mod Classes
 pub mod Kinds
 pub mod Names
 pub mod Symbols
 pub mod Variables
--- private clauses alone cite this
+-- for private clauses
 pub mod Order

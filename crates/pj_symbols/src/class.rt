@@ -56,6 +56,7 @@ fn nesting_below(above: Option<Kind>) -> Nesting
     }
 }
 
+/// How a class stands below a node of this kind.
 fn nesting_in(above: Kind) -> Nesting
     ensures { result ≡ nesting_in above }
 {

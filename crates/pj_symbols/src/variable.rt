@@ -70,6 +70,7 @@ fn local_kind(above: Option<Kind>) -> VariableKind
     }
 }
 
+/// What a local variable is below a node of this kind.
 fn local_kind_in(above: Kind) -> VariableKind
     ensures { result ≡ local_kind_in above }
 {

@@ -7,8 +7,8 @@ use Rattle.std.specs.Prelude.{if◌then◌else◌}
 use Rattle.pj_tree.specs.Tree.{Tree}
 use Rattle.pj_tree.specs.declared.node.Node.{Node}
 use Rattle.pj_names.specs.Asking.{Asking, Return, bind, each}
-use Rattle.pj_names.specs.AskingLaws.{ComesTo, comes-then, left_from}
-use Rattle.pj_names.specs.MeaningLaws.{gather}
+use Rattle.pj_names.proofs.AskingLaws.{ComesTo, comes-then, left_from}
+use Rattle.pj_names.proofs.MeaningLaws.{gather}
 use Rattle.pj_names.specs.Told.{Asks, Told}
 use Rattle.pj_names.specs.declared.oracle.AskFault.{AskFault}
 use Rattle.std.specs.Prelude.{Ok, Result}

@@ -14,6 +14,7 @@ use Rattle.pj_written.specs.Words.{below_child}
 use Rattle.pj_written.specs.Written.{written_name}
 use Rattle.pj_imports.specs.Candidates.{file_classes}
 use Rattle.pj_inherited.specs.Inherited as inheriting
+use Rattle.pj_inherited.specs.NameWalks.{left_out}
 use Rattle.pj_type_names.specs.Resolved as writing
 use Rattle.pj_type_names.specs.TypeName as names
 
@@ -41,7 +42,7 @@ module _ (t : Tree) (left : ℕ) (busy : List ℕ) where
   header_names class = names.header_names t (file_classes t) supers class
 
   abbrev pub first_member : Bool → Name → List ℕ → Asking (Option Name)
-  first_member own_counts class simple = inheriting.first_member (file_classes t) supers (inheriting.left_out own_counts class) class simple
+  first_member own_counts class simple = inheriting.first_member (file_classes t) supers (left_out own_counts class) class simple
 
   abbrev pub member : Name → List ℕ → Asking JavaType
   member class simple = names.member t (file_classes t) supers class simple

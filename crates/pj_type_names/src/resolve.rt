@@ -42,7 +42,7 @@ const MOST_CLASSES: u64 = 4294967294;
 
 /// The direct supertypes of a class.
 #[cycle(resolving)]
-#[tactic(auto, using(pj_names::specs::AskingLaws::asking_steps))]
+#[tactic(auto, using(pj_names::proofs::AskingLaws::asking_steps))]
 fn direct_supertypes<O: Oracle>(
     alloc: Global,
     stage: &Stage<'_, '_>,
@@ -60,7 +60,7 @@ fn direct_supertypes<O: Oracle>(
 
 /// The same where a header may be entered: of a class of the file by its header alone.
 #[cycle(resolving)]
-#[tactic(auto, using(pj_names::specs::AskingLaws::asking_steps))]
+#[tactic(auto, using(pj_names::proofs::AskingLaws::asking_steps))]
 fn supertypes_by<O: Oracle>(
     alloc: Global,
     stage: &Stage<'_, '_>,
@@ -82,7 +82,7 @@ fn supertypes_by<O: Oracle>(
 
 /// The direct supertypes of a class of the file: a class whose header is being resolved has none.
 #[cycle(resolving)]
-#[tactic(auto, using(pj_names::specs::AskingLaws::asking_steps))]
+#[tactic(auto, using(pj_names::proofs::AskingLaws::asking_steps))]
 fn of_file<O: Oracle>(
     alloc: Global,
     stage: &Stage<'_, '_>,
@@ -115,7 +115,7 @@ fn of_file<O: Oracle>(
 
 /// The direct supertypes that a header gives: all of it is resolved, its bounds and then its supertypes.
 #[cycle(resolving)]
-#[tactic(auto, using(pj_names::specs::AskingLaws::asking_steps))]
+#[tactic(auto, using(pj_names::proofs::AskingLaws::asking_steps))]
 fn header_supertypes<O: Oracle>(
     alloc: Global,
     stage: &Stage<'_, '_>,
@@ -133,7 +133,7 @@ fn header_supertypes<O: Oracle>(
 
 /// The bounds of all type parameters of a class.
 #[cycle(resolving)]
-#[tactic(auto, using(pj_names::specs::AskingLaws::asking_steps))]
+#[tactic(auto, using(pj_names::proofs::AskingLaws::asking_steps))]
 fn header_bounds<O: Oracle>(
     alloc: Global,
     stage: &Stage<'_, '_>,
@@ -152,7 +152,7 @@ fn header_bounds<O: Oracle>(
 
 /// The names of the supertypes that a header writes or implies.
 #[cycle(resolving)]
-#[tactic(auto, using(pj_names::specs::AskingLaws::asking_steps))]
+#[tactic(auto, using(pj_names::proofs::AskingLaws::asking_steps))]
 fn header_names<O: Oracle>(
     alloc: Global,
     stage: &Stage<'_, '_>,
@@ -171,7 +171,7 @@ fn header_names<O: Oracle>(
 
 /// The supertypes that a header writes.
 #[cycle(resolving)]
-#[tactic(auto, using(pj_names::specs::AskingLaws::asking_steps))]
+#[tactic(auto, using(pj_names::proofs::AskingLaws::asking_steps))]
 fn header_types<O: Oracle>(
     alloc: Global,
     stage: &Stage<'_, '_>,
@@ -189,7 +189,7 @@ fn header_types<O: Oracle>(
 
 /// Written types, one after the other, with so many signs of a signature open around each.
 #[cycle(resolving)]
-#[tactic(auto, using(pj_names::specs::AskingLaws::asking_loops))]
+#[tactic(auto, using(pj_names::proofs::AskingLaws::asking_loops))]
 fn types_of<O: Oracle>(
     alloc: Global,
     stage: &Stage<'_, '_>,
@@ -214,7 +214,7 @@ fn types_of<O: Oracle>(
 /// The first member class of a name along the list of supertypes of a class; its own is left out where it is told by its
 /// declaration.
 #[cycle(resolving)]
-#[tactic(auto, using(pj_names::specs::AskingLaws::asking_steps))]
+#[tactic(auto, using(pj_names::proofs::AskingLaws::asking_steps))]
 fn first_member<O: Oracle>(
     alloc: Global,
     stage: &Stage<'_, '_>,
@@ -243,7 +243,7 @@ fn first_member<O: Oracle>(
 
 /// The member class of a class, of its own or inherited. One that is not there is the class `C$S`.
 #[cycle(resolving)]
-#[tactic(auto, using(pj_names::specs::AskingLaws::asking_steps))]
+#[tactic(auto, using(pj_names::proofs::AskingLaws::asking_steps))]
 fn member_type<O: Oracle>(
     alloc: Global,
     stage: &Stage<'_, '_>,
@@ -265,7 +265,7 @@ fn member_type<O: Oracle>(
 
 /// The member class that a class of the file inherits.
 #[cycle(resolving)]
-#[tactic(auto, using(pj_names::specs::AskingLaws::asking_steps))]
+#[tactic(auto, using(pj_names::proofs::AskingLaws::asking_steps))]
 fn inherited<O: Oracle>(
     alloc: Global,
     stage: &Stage<'_, '_>,
@@ -284,7 +284,7 @@ fn inherited<O: Oracle>(
 
 /// A bound of a type parameter: a variable within a bound has the bound `java.lang.Object`.
 #[cycle(resolving)]
-#[tactic(auto, using(pj_names::specs::AskingLaws::asking_steps))]
+#[tactic(auto, using(pj_names::proofs::AskingLaws::asking_steps))]
 fn bound_type<O: Oracle>(
     alloc: Global,
     stage: &Stage<'_, '_>,
@@ -306,7 +306,7 @@ fn bound_type<O: Oracle>(
 
 /// A type parameter as a variable with the first of its bounds.
 #[cycle(resolving)]
-#[tactic(auto, using(pj_names::specs::AskingLaws::asking_steps))]
+#[tactic(auto, using(pj_names::proofs::AskingLaws::asking_steps))]
 fn variable_by<O: Oracle>(
     alloc: Global,
     stage: &Stage<'_, '_>,
@@ -331,7 +331,7 @@ fn variable_by<O: Oracle>(
 
 /// A type parameter as a variable with its first bound.
 #[cycle(resolving)]
-#[tactic(auto, using(pj_names::specs::AskingLaws::asking_steps))]
+#[tactic(auto, using(pj_names::proofs::AskingLaws::asking_steps))]
 fn variable<O: Oracle>(
     alloc: Global,
     stage: &Stage<'_, '_>,
@@ -350,7 +350,7 @@ fn variable<O: Oracle>(
 
 /// The type that a declaration of the file has as a simple name.
 #[cycle(resolving)]
-#[tactic(auto, using(pj_names::specs::AskingLaws::asking_steps))]
+#[tactic(auto, using(pj_names::proofs::AskingLaws::asking_steps))]
 fn declared_type<O: Oracle>(
     alloc: Global,
     stage: &Stage<'_, '_>,
@@ -372,7 +372,7 @@ fn declared_type<O: Oracle>(
 
 /// The type of what the file declares, and what stands behind its scopes where it declares none.
 #[cycle(resolving)]
-#[tactic(auto, using(pj_names::specs::AskingLaws::asking_steps))]
+#[tactic(auto, using(pj_names::proofs::AskingLaws::asking_steps))]
 fn declared_or<O: Oracle>(
     alloc: Global,
     stage: &Stage<'_, '_>,
@@ -393,7 +393,7 @@ fn declared_or<O: Oracle>(
 
 /// What a simple name means at a place, where the file declares what was found: what is inherited further in goes before it.
 #[cycle(resolving)]
-#[tactic(auto, using(pj_names::specs::AskingLaws::asking_steps))]
+#[tactic(auto, using(pj_names::proofs::AskingLaws::asking_steps))]
 fn found_or<O: Oracle>(
     alloc: Global,
     stage: &Stage<'_, '_>,
@@ -417,7 +417,7 @@ fn found_or<O: Oracle>(
 
 /// What a simple name means at a place.
 #[cycle(resolving)]
-#[tactic(auto, using(pj_names::specs::AskingLaws::asking_steps))]
+#[tactic(auto, using(pj_names::proofs::AskingLaws::asking_steps))]
 fn simple_name<O: Oracle>(
     alloc: Global,
     stage: &Stage<'_, '_>,
@@ -441,7 +441,7 @@ fn simple_name<O: Oracle>(
 
 /// The first member class that one of the classes around a place inherits, of those that stand further in than what was found.
 #[cycle(resolving)]
-#[tactic(auto, using(pj_names::specs::AskingLaws::asking_steps))]
+#[tactic(auto, using(pj_names::proofs::AskingLaws::asking_steps))]
 fn first_inherited<O: Oracle>(
     alloc: Global,
     stage: &Stage<'_, '_>,
@@ -466,7 +466,7 @@ fn first_inherited<O: Oracle>(
 }
 
 /// The class of a name with a package, by its candidates.
-#[tactic(auto, using(pj_names::specs::AskingLaws::asking_steps))]
+#[tactic(auto, using(pj_names::proofs::AskingLaws::asking_steps))]
 fn packaged_class<O: Oracle>(
     alloc: Global,
     file: &File<'_>,
@@ -484,7 +484,7 @@ fn packaged_class<O: Oracle>(
 
 /// The class of a name with dots, without arguments.
 #[cycle(resolving)]
-#[tactic(auto, using(pj_names::specs::AskingLaws::asking_steps))]
+#[tactic(auto, using(pj_names::proofs::AskingLaws::asking_steps))]
 fn class_of<O: Oracle>(
     alloc: Global,
     stage: &Stage<'_, '_>,
@@ -511,7 +511,7 @@ fn class_of<O: Oracle>(
 
 /// The class of the parts of a name: the first is a simple name, and each further one a member class.
 #[cycle(resolving)]
-#[tactic(auto, using(pj_names::specs::AskingLaws::asking_steps))]
+#[tactic(auto, using(pj_names::proofs::AskingLaws::asking_steps))]
 fn class_along<O: Oracle>(
     alloc: Global,
     stage: &Stage<'_, '_>,
@@ -533,7 +533,7 @@ fn class_along<O: Oracle>(
 
 /// The member class of a type that the further parts of a name lead to.
 #[cycle(resolving)]
-#[tactic(auto, using(pj_names::specs::AskingLaws::asking_loops))]
+#[tactic(auto, using(pj_names::proofs::AskingLaws::asking_loops))]
 fn members_along<O: Oracle>(
     alloc: Global,
     stage: &Stage<'_, '_>,
@@ -553,7 +553,7 @@ fn members_along<O: Oracle>(
 
 /// The member class of a type: of an unknown type and of a type variable none is known.
 #[cycle(resolving)]
-#[tactic(auto, using(pj_names::specs::AskingLaws::asking_steps))]
+#[tactic(auto, using(pj_names::proofs::AskingLaws::asking_steps))]
 fn member_of<O: Oracle>(
     alloc: Global,
     stage: &Stage<'_, '_>,
@@ -572,7 +572,7 @@ fn member_of<O: Oracle>(
 
 /// What type arguments stand for, one after the other.
 #[cycle(resolving)]
-#[tactic(auto, using(pj_names::specs::AskingLaws::asking_loops))]
+#[tactic(auto, using(pj_names::proofs::AskingLaws::asking_loops))]
 fn argument_types<O: Oracle>(
     alloc: Global,
     stage: &Stage<'_, '_>,
@@ -596,7 +596,7 @@ fn argument_types<O: Oracle>(
 
 /// The type arguments of a list, from left to right.
 #[cycle(resolving)]
-#[tactic(auto, using(pj_names::specs::AskingLaws::asking_steps))]
+#[tactic(auto, using(pj_names::proofs::AskingLaws::asking_steps))]
 fn listed_arguments<O: Oracle>(
     alloc: Global,
     stage: &Stage<'_, '_>,
@@ -621,7 +621,7 @@ fn listed_arguments<O: Oracle>(
 
 /// The type arguments of a class type.
 #[cycle(resolving)]
-#[tactic(auto, using(pj_names::specs::AskingLaws::asking_steps))]
+#[tactic(auto, using(pj_names::proofs::AskingLaws::asking_steps))]
 fn arguments<O: Oracle>(
     alloc: Global,
     stage: &Stage<'_, '_>,
@@ -641,7 +641,7 @@ fn arguments<O: Oracle>(
 
 /// A type argument, where at most so many lists of arguments stand in one another.
 #[cycle(resolving)]
-#[tactic(auto, using(pj_names::specs::AskingLaws::asking_steps))]
+#[tactic(auto, using(pj_names::proofs::AskingLaws::asking_steps))]
 fn argument<O: Oracle>(
     alloc: Global,
     stage: &Stage<'_, '_>,
@@ -663,7 +663,7 @@ fn argument<O: Oracle>(
 
 /// A type argument: `? extends X` is X, and `?` and `? super X` are `java.lang.Object`.
 #[cycle(resolving)]
-#[tactic(auto, using(pj_names::specs::AskingLaws::asking_steps))]
+#[tactic(auto, using(pj_names::proofs::AskingLaws::asking_steps))]
 fn argument_by<O: Oracle>(
     alloc: Global,
     stage: &Stage<'_, '_>,
@@ -693,7 +693,7 @@ fn argument_by<O: Oracle>(
 
 /// The class that a class type names, without arguments.
 #[cycle(resolving)]
-#[tactic(auto, using(pj_names::specs::AskingLaws::asking_steps))]
+#[tactic(auto, using(pj_names::proofs::AskingLaws::asking_steps))]
 fn class_written<O: Oracle>(
     alloc: Global,
     stage: &Stage<'_, '_>,
@@ -711,7 +711,7 @@ fn class_written<O: Oracle>(
 
 /// A type with the arguments of a class type: where it is not known, or is a type variable, they are not resolved.
 #[cycle(resolving)]
-#[tactic(auto, using(pj_names::specs::AskingLaws::asking_steps))]
+#[tactic(auto, using(pj_names::proofs::AskingLaws::asking_steps))]
 fn with_arguments<O: Oracle>(
     alloc: Global,
     stage: &Stage<'_, '_>,
@@ -737,7 +737,7 @@ fn with_arguments<O: Oracle>(
 
 /// A class with its arguments.
 #[cycle(resolving)]
-#[tactic(auto, using(pj_names::specs::AskingLaws::asking_steps))]
+#[tactic(auto, using(pj_names::proofs::AskingLaws::asking_steps))]
 fn class_type<O: Oracle>(
     alloc: Global,
     stage: &Stage<'_, '_>,
@@ -757,7 +757,7 @@ fn class_type<O: Oracle>(
 
 /// What stands before the brackets of a type, by its kind.
 #[cycle(resolving)]
-#[tactic(auto, using(pj_names::specs::AskingLaws::asking_steps))]
+#[tactic(auto, using(pj_names::proofs::AskingLaws::asking_steps))]
 fn bare_type<O: Oracle>(
     alloc: Global,
     stage: &Stage<'_, '_>,
@@ -782,7 +782,7 @@ fn bare_type<O: Oracle>(
 
 /// A type with its brackets, with at most so many lists of arguments in one another.
 #[cycle(resolving)]
-#[tactic(auto, using(pj_names::specs::AskingLaws::asking_steps))]
+#[tactic(auto, using(pj_names::proofs::AskingLaws::asking_steps))]
 fn type_by<O: Oracle>(
     alloc: Global,
     stage: &Stage<'_, '_>,
@@ -805,7 +805,7 @@ fn type_by<O: Oracle>(
 /// The type that is written in a node, with so many signs of a signature open around it, and so many pairs of brackets behind. One
 /// past the bounds of signatures is not known, as a whole.
 #[cycle(resolving)]
-#[tactic(auto, using(pj_names::specs::AskingLaws::asking_steps))]
+#[tactic(auto, using(pj_names::proofs::AskingLaws::asking_steps))]
 fn type_written<O: Oracle>(
     alloc: Global,
     stage: &Stage<'_, '_>,
@@ -829,7 +829,7 @@ fn type_written<O: Oracle>(
 }
 
 /// The class of a text at a place, where the text is a name of a class. There no header is being resolved.
-#[tactic(auto, using(pj_names::specs::AskingLaws::asking_steps))]
+#[tactic(auto, using(pj_names::proofs::AskingLaws::asking_steps))]
 fn class_at<O: Oracle>(
     alloc: Global,
     file: &File<'_>,
@@ -853,7 +853,7 @@ fn class_at<O: Oracle>(
 }
 
 /// The type that a name means at a place: a simple name or one with dots.
-#[tactic(auto, using(pj_names::specs::AskingLaws::asking_steps))]
+#[tactic(auto, using(pj_names::proofs::AskingLaws::asking_steps))]
 pub fn type_name<O: Oracle>(
     alloc: Global,
     file: &File<'_>,
@@ -872,7 +872,7 @@ pub fn type_name<O: Oracle>(
 
 /// The type that is written in a node, where the headers of some classes are being resolved, with so many brackets behind the
 /// name that it is the type of.
-#[tactic(auto, using(pj_names::specs::AskingLaws::asking_steps))]
+#[tactic(auto, using(pj_names::proofs::AskingLaws::asking_steps))]
 pub fn written_type<O: Oracle>(
     alloc: Global,
     file: &File<'_>,
@@ -903,7 +903,7 @@ pub fn written_type<O: Oracle>(
 }
 
 /// A bound of a type parameter, where the headers of some classes are being resolved.
-#[tactic(auto, using(pj_names::specs::AskingLaws::asking_steps))]
+#[tactic(auto, using(pj_names::proofs::AskingLaws::asking_steps))]
 pub fn written_bound<O: Oracle>(
     alloc: Global,
     file: &File<'_>,

@@ -5,7 +5,7 @@ use Rattle.std.specs.Option.{option_map, option_map_or}
 use Rattle.pj_tree.specs.Tree.{Tree}
 use Rattle.pj_tree.specs.declared.node.Node.{Node}
 use Rattle.pj_names.specs.Asking.{Asking, Return, bind, first_hit, or_else}
-use Rattle.pj_names.specs.MeaningLaws.{bind-bind}
+use Rattle.pj_names.proofs.MeaningLaws.{bind-bind}
 use Rattle.pj_types.specs.Members.{FoundField}
 use Rattle.pj_declared.specs.Nearest.{declared_by, is_nearer, nearer, nearest, variable_meant}
 use Rattle.pj_declared.specs.declared.named.Named.{Named}

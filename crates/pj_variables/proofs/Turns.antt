@@ -6,7 +6,7 @@ use Rattle.pj_tree.specs.declared.node.Node.{Node}
 use Rattle.pj_names.specs.declared.oracle.AskFault.{AskFault}
 use Rattle.pj_names.specs.ClassName.{Name, is_class_name}
 use Rattle.pj_names.specs.Asking.{Asking, Return, first_hit, or_else}
-use Rattle.pj_names.specs.AskingLaws.{ComesTo, asks-refused, comes-ends, left_from}
+use Rattle.pj_names.proofs.AskingLaws.{ComesTo, asks-refused, comes-ends, left_from}
 use Rattle.pj_names.specs.Told.{Asks, Told}
 use Rattle.pj_members.specs.Fields.{find_field}
 use Rattle.pj_declared.specs.declared.nearest.Declared.{Declared}

@@ -20,7 +20,7 @@ use pj_types::Field;
 use std::alloc::Global;
 
 /// The first field of the name along the supertypes of a class around the place.
-#[tactic(auto, using(pj_names::specs::AskingLaws::asking_steps))]
+#[tactic(auto, using(pj_names::proofs::AskingLaws::asking_steps))]
 fn field_around<O: Oracle>(
     alloc: Global,
     file: &File<'_>,
@@ -37,7 +37,7 @@ fn field_around<O: Oracle>(
 }
 
 /// The first field that one of the classes around a place has or inherits, of those that stand further in than what was found.
-#[tactic(auto, using(pj_names::specs::AskingLaws::asking_steps))]
+#[tactic(auto, using(pj_names::proofs::AskingLaws::asking_steps))]
 pub fn first_inherited<O: Oracle>(
     alloc: Global,
     file: &File<'_>,
@@ -61,7 +61,7 @@ pub fn first_inherited<O: Oracle>(
 }
 
 /// The first field of the name along the supertypes of the class that an import names.
-#[tactic(auto, using(pj_names::specs::AskingLaws::asking_steps))]
+#[tactic(auto, using(pj_names::proofs::AskingLaws::asking_steps))]
 fn imported_field<O: Oracle>(
     alloc: Global,
     file: &File<'_>,
@@ -81,7 +81,7 @@ fn imported_field<O: Oracle>(
 }
 
 /// The first field that one of some imports gives.
-#[tactic(auto, using(pj_names::specs::AskingLaws::asking_loops))]
+#[tactic(auto, using(pj_names::proofs::AskingLaws::asking_loops))]
 fn by_each<O: Oracle>(
     alloc: Global,
     file: &File<'_>,
@@ -102,7 +102,7 @@ fn by_each<O: Oracle>(
 }
 
 /// The field that the static imports of the file give for a name.
-#[tactic(auto, using(pj_names::specs::AskingLaws::asking_steps))]
+#[tactic(auto, using(pj_names::proofs::AskingLaws::asking_steps))]
 pub fn by_static_imports<O: Oracle>(
     alloc: Global,
     file: &File<'_>,

@@ -47,7 +47,7 @@ fn of_field(field: Option<Field>) -> Option<Variable>
 }
 
 /// What the file declares, and else what a static import gives.
-#[tactic(auto, using(pj_names::specs::AskingLaws::asking_steps))]
+#[tactic(auto, using(pj_names::proofs::AskingLaws::asking_steps))]
 fn declared_or_imported<O: Oracle>(
     alloc: Global,
     file: &File<'_>,
@@ -67,7 +67,7 @@ fn declared_or_imported<O: Oracle>(
 }
 
 /// What a class around the place inherits that stands further in than what the file declares, and else that.
-#[tactic(auto, using(pj_names::specs::AskingLaws::asking_steps))]
+#[tactic(auto, using(pj_names::proofs::AskingLaws::asking_steps))]
 fn found_or_inherited<O: Oracle>(
     alloc: Global,
     file: &File<'_>,

@@ -1,14 +1,14 @@
 -- Texts that are cut at a dot.
 use Rattle.std.proofs.Common.{◌≡◌, ℕ, zero, suc, ◌+◌, ◌-◌, ◌≤◌, ◌<◌, true, false, eqb, List, [], ◌∷◌, ◌++◌, length, get_or, take, drop, Option, Some, None, MatchOption, refl, sym, ap, ◌∙◌, append_assoc, ⊎_elim, arith, Bor, eq-eqb, ne_eqb, length-drop, get_or-drop}
 use Rattle.std.specs.Str.Pattern.{RFindsChar}
-use Rattle.std.specs.Option.{option_map, option_map_or}
+use Rattle.std.specs.Option.{option_map}
 use Rattle.std.specs.Path.{rfind_below, rsplit_once}
 use Rattle.std.proofs.lemmas.Str.Pattern.{NoCharPasses-char}
 use Rattle.std.proofs.lemmas.Bool.{cases_eq, cond-true, cond-false}
 use Rattle.std.proofs.lemmas.Str.{len_utf8_ascii}
 use Rattle.pj_names.specs.ClassName.{in_first_part, parts}
 use Rattle.pj_written.specs.Seen.{pair_of}
-use Rattle.pj_written.specs.Spelling.{as_solidus, internal}
+use Rattle.pj_written.specs.Spelling.{internal}
 
 below-None : (c : ℕ) (text : List ℕ) (n : ℕ) → ((i : ℕ) → i < n → get_or text i 0 ≡ c → ⊥) → rfind_below c text n ≡ None
 below-None c text zero h = refl

@@ -1,5 +1,5 @@
 -- Nodes that are all among those of a tree: children, and lists made of them.
-use Rattle.std.proofs.Common.{ℕ, zero, suc, ◌<◌, ◌≤◌, ◌+◌, ◌≡◌, Bool, true, false, cond, List, [], ◌∷◌, ◌++◌, length, Option, Some, None, map, filter, subst, sym, ◌∙◌, arith}
+use Rattle.std.proofs.Common.{ℕ, ◌<◌, ◌+◌, ◌≡◌, Bool, true, false, cond, List, [], ◌∷◌, ◌++◌, length, Option, Some, None, map, filter, subst, sym, arith}
 use Rattle.std.specs.Prelude.{find}
 use Rattle.std.specs.List.{All, enumerate_from}
 use Rattle.std.specs.Option.{IfSome, option_and_then}

@@ -1,5 +1,5 @@
 -- Small steps: lists and types, one member further.
-use Rattle.std.proofs.Common.{ℕ, suc, ◌+◌, ◌<◌, ◌≡◌, Bool, true, false, cond, List, [], ◌∷◌, ◌++◌, length, map, refl, sym, ap, ◌∙◌, append_assoc, append-nil}
+use Rattle.std.proofs.Common.{ℕ, ◌≡◌, Bool, true, false, cond, List, [], ◌∷◌, ◌++◌, map, refl, sym, ap, ◌∙◌, append_assoc, append-nil}
 use Rattle.pj_names.specs.JavaType.{JavaType, Arguments, NoMore, Argument, java_type, type_list}
 use Rattle.pj_names.specs.declared.ty.Ty.{Ty}
 use Rattle.pj_signatures.specs.Types.{arguments_of}

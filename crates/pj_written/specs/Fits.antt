@@ -5,10 +5,10 @@
 -- before anything is asked. What counts are the brackets and the lists that stand in the type that results: of `A<X>.B<Y>` the
 -- last list, and nothing of what stands behind `? super`. A list that has an argument counts whatever that is, since `?` stands for
 -- `java.lang.Object` there; `<>` has none.
-use Rattle.std.specs.Prelude.{ℕ, zero, suc, ◌+◌, ◌==◌, ◌&&◌, ◌||◌, Bool, true, false, Option, None, Some, if◌then◌else◌, List, [], ◌∷◌, length, codes, nat_le, ◌≡◌, refl}
+use Rattle.std.specs.Prelude.{ℕ, zero, suc, ◌+◌, ◌==◌, ◌&&◌, ◌||◌, Bool, true, false, if◌then◌else◌, List, [], length, codes, nat_le, ◌≡◌, refl}
 use Rattle.std.specs.List.{list_all}
 use Rattle.std.specs.Option.{option_map_or}
-use Rattle.pj_tree.specs.Tree.{Tree, children_of}
+use Rattle.pj_tree.specs.Tree.{Tree}
 use Rattle.pj_tree.specs.declared.kind.Kind.TheVariants as k
 use Rattle.pj_tree.specs.declared.node.Node.{Node}
 use Rattle.pj_nodes.specs.Kinds.{is_kind}

@@ -1,8 +1,8 @@
 -- The access flags of a class of the file and of its members (JVMS 4.1, 4.5, 4.6), by what is written.
-use Rattle.std.specs.Prelude.{ℕ, ◌+◌, ◌&&◌, ◌||◌, Bool, true, false, not, Option, None, Some, if◌then◌else◌, List, [], ◌∷◌, codes, filter}
+use Rattle.std.specs.Prelude.{ℕ, ◌+◌, ◌||◌, Bool, false, not, if◌then◌else◌, List, [], ◌∷◌, codes, filter}
 use Rattle.std.specs.List.{list_any}
-use Rattle.std.specs.Option.{option_map_or, option_and_then}
-use Rattle.pj_tree.specs.Tree.{Tree, children_of}
+use Rattle.std.specs.Option.{option_map_or}
+use Rattle.pj_tree.specs.Tree.{Tree}
 use Rattle.pj_tree.specs.declared.kind.Kind.TheVariants as k
 use Rattle.pj_tree.specs.declared.node.Node.{Node}
 use Rattle.pj_nodes.specs.Children.{child_of}

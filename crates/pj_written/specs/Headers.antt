@@ -1,5 +1,5 @@
 -- What the headers of the classes of a file write (JLS 8.1.2, 8.1.4, 8.1.5, 8.9, 8.10, 9.1.3, 9.6, 15.9.5).
-use Rattle.std.specs.Prelude.{ℕ, Bool, true, false, Option, None, Some, if◌then◌else◌, List, [], ◌∷◌, ◌++◌, map, filter, codes}
+use Rattle.std.specs.Prelude.{ℕ, Bool, true, false, Option, Some, if◌then◌else◌, List, [], ◌∷◌, ◌++◌, codes}
 use Rattle.std.specs.Option.{option_map_or, option_and_then}
 use Rattle.pj_tree.specs.Tree.{Tree, kind_of, parent_of, children_of}
 use Rattle.pj_tree.specs.declared.kind.Kind.{Kind}

@@ -1,3 +1,4 @@
+-- definitions
 pub mod Words
 pub mod Names
 pub mod Types

@@ -1,5 +1,5 @@
 -- Names of classes with dots, as they are written (JLS 6.2, 6.5.5).
-use Rattle.std.specs.Prelude.{ℕ, ◌&&◌, Bool, true, false, not, Option, None, Some, if◌then◌else◌, List, [], ◌∷◌, ◌++◌, filter, codes, nat_le}
+use Rattle.std.specs.Prelude.{ℕ, ◌&&◌, Bool, false, not, Option, None, Some, if◌then◌else◌, List, [], ◌∷◌, ◌++◌, filter, codes, nat_le}
 use Rattle.std.specs.Option.{option_map_or}
 use Rattle.std.specs.Path.{rsplit_once}
 use Rattle.pj_written.specs.Words.{same_text}

@@ -1,5 +1,5 @@
 -- How the types of a declaration are spelled as signatures (JVMS 4.7.9.1), after they are resolved.
-use Rattle.std.specs.Prelude.{ℕ, ◌==◌, Option, None, Some, if◌then◌else◌, List, [], ◌∷◌, ◌++◌, map, codes}
+use Rattle.std.specs.Prelude.{ℕ, ◌==◌, if◌then◌else◌, List, [], ◌∷◌, ◌++◌, map, codes}
 use Rattle.pj_names.specs.ClassName.{Name}
 use Rattle.pj_names.specs.JavaType.{JavaType, Arguments, Primitive, Void, Null, Class, Array, Variable, Unknown, NoMore, Argument}
 use Rattle.pj_signatures.specs.Signature.{letter}

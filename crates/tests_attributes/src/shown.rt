@@ -6,8 +6,8 @@ ghost use Rattle.pj_parse.specs.PoolText.{IsPoolOf};
 
 use pj_attrs::{Facts, tokens_are_in_order};
 use pj_base::NoMemory;
-use pj_lex::Source;
 use pj_parse::{Parsed, parse};
+use pj_source::Source;
 use pj_symbols::Symbols;
 use pj_tree::{Node, SyntaxTree};
 use pj_xvalue::{Attributes, Value};

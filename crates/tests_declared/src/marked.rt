@@ -6,8 +6,8 @@
 ghost use Rattle.std.specs.Prelude.{◌≡◌, ◌<◌, length, IfSome};
 
 use pj_declared::{Declarations, Declared, ImportSort};
-use pj_lex::Source;
 use pj_parse::parse;
+use pj_source::Source;
 use pj_tree::{Node, SyntaxTree};
 use std::alloc::Global;
 use std::process::Abort;

@@ -4,9 +4,9 @@ ghost use Rattle.std.specs.Prelude.{◌≡◌, ◌<◌, length, IfSome};
 ghost use Rattle.pj_symbols.specs.Symbols.{FindsClasses};
 
 use pj_base::NoMemory;
-use pj_lex::Source;
 use pj_names::ClassNames;
 use pj_parse::parse;
+use pj_source::Source;
 use pj_symbols::Symbols;
 use pj_tree::{Kind, Node, SyntaxTree};
 use pj_written::{

@@ -1,4 +1,4 @@
-use Rattle.pj_names.specs.AskingLaws.{asks-then}
+use Rattle.pj_names.proofs.AskingLaws.{asks-then}
 use Rattle.pj_file_oracle.proofs.anonymous.by_node.Goals as goal
 
 pub returns : goal.returns

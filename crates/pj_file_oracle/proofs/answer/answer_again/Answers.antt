@@ -1,7 +1,7 @@
 use Rattle.std.proofs.Common.{rules, refl, sym, subst}
 use Rattle.pj_names.specs.declared.answer.Answer.{Answer}
-use Rattle.pj_names.specs.AskingLaws.{asks-stop}
-use Rattle.pj_names.specs.Held.{asks-late}
+use Rattle.pj_names.proofs.AskingLaws.{asks-stop}
+use Rattle.pj_names.proofs.Held.{asks-late}
 use Rattle.pj_file_oracle.specs.Answered.{IsAnswered}
 use Rattle.pj_file_oracle.specs.FileAnswer.{file_answer}
 use Rattle.pj_file_oracle.proofs.Answered.{all-stay, answered-found, answered-new, answered-put, asks-again, asks-named}

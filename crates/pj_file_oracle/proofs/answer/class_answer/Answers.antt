@@ -1,6 +1,6 @@
 use Rattle.std.proofs.Common.{rules, ap, ◌∙◌}
 use Rattle.std.specs.Prelude.{Ok}
-use Rattle.pj_names.specs.AskingLaws.{asks-refused, asks-return, asks-stop, asks-then}
+use Rattle.pj_names.proofs.AskingLaws.{asks-refused, asks-return, asks-stop, asks-then}
 use Rattle.pj_tree.specs.Tree.{Tree}
 use Rattle.pj_file_oracle.specs.FileAnswer.{found_with}
 use Rattle.pj_file_oracle.proofs.answer.class_answer.Goals as goal

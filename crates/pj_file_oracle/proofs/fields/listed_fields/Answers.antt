@@ -1,7 +1,7 @@
 use Rattle.std.proofs.Common.{ap, subst, sym, ◌∙◌}
 use Rattle.pj_names.specs.Asking.{each}
-use Rattle.pj_names.specs.AskingLaws.{ComesTo, comes-begin}
-use Rattle.pj_names.specs.MeaningLaws.{each-gather, gather}
+use Rattle.pj_names.proofs.AskingLaws.{ComesTo, comes-begin}
+use Rattle.pj_names.proofs.MeaningLaws.{each-gather, gather}
 use Rattle.pj_file_oracle.specs.Members.{field_of}
 use Rattle.pj_file_oracle.proofs.fields.listed_fields.Goals as goal
 

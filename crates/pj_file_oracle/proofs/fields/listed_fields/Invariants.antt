@@ -1,7 +1,7 @@
 use Rattle.std.proofs.Common.{drop}
 use Rattle.pj_names.specs.Asking.{each}
-use Rattle.pj_names.specs.AskingLaws.{ComesTo}
-use Rattle.pj_names.specs.MeaningLaws.{gather}
+use Rattle.pj_names.proofs.AskingLaws.{ComesTo}
+use Rattle.pj_names.proofs.MeaningLaws.{gather}
 use Rattle.pj_file_oracle.specs.Members.{field_of}
 use Rattle.pj_file_oracle.proofs.fields.listed_fields.Given as goal
 

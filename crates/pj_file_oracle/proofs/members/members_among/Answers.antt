@@ -1,5 +1,5 @@
 use Rattle.std.proofs.Common.{ap, subst, sym, ◌∙◌}
-use Rattle.pj_names.specs.AskingLaws.{ComesTo, comes-begin}
+use Rattle.pj_names.proofs.AskingLaws.{ComesTo, comes-begin}
 use Rattle.pj_file_oracle.specs.Members.{member_lists, members_among}
 use Rattle.pj_file_oracle.proofs.Lists.{behind, behind-turn, members-begin}
 use Rattle.pj_file_oracle.proofs.members.members_among.Goals as goal

@@ -1,5 +1,5 @@
 use Rattle.std.proofs.Common.{drop}
-use Rattle.pj_names.specs.AskingLaws.{ComesTo}
+use Rattle.pj_names.proofs.AskingLaws.{ComesTo}
 use Rattle.pj_file_oracle.specs.Members.{member_lists, members_among}
 use Rattle.pj_file_oracle.proofs.Lists.{behind}
 use Rattle.pj_file_oracle.proofs.members.members_among.Given as goal

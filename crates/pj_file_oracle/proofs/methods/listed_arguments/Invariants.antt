@@ -1,8 +1,8 @@
 use Rattle.std.proofs.Common.{drop}
 use Rattle.pj_names.specs.Asking.{each}
-use Rattle.pj_names.specs.AskingLaws.{ComesTo}
+use Rattle.pj_names.proofs.AskingLaws.{ComesTo}
 use Rattle.pj_names.specs.JavaType.{type_list}
-use Rattle.pj_names.specs.MeaningLaws.{gather}
+use Rattle.pj_names.proofs.MeaningLaws.{gather}
 use Rattle.pj_file_oracle.specs.Members.{argument_of}
 use Rattle.pj_file_oracle.proofs.methods.listed_arguments.Given as goal
 

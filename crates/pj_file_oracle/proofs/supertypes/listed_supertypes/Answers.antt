@@ -1,8 +1,8 @@
 use Rattle.std.proofs.Common.{List, ap, subst, sym, ◌∙◌}
 use Rattle.pj_names.specs.Asking.{each}
-use Rattle.pj_names.specs.AskingLaws.{ComesTo, comes-begin}
+use Rattle.pj_names.proofs.AskingLaws.{ComesTo, comes-begin}
 use Rattle.pj_names.specs.JavaType.{java_type, type_list}
-use Rattle.pj_names.specs.MeaningLaws.{each-gather, gather}
+use Rattle.pj_names.proofs.MeaningLaws.{each-gather, gather}
 use Rattle.pj_names.specs.declared.ty.Ty.{Ty}
 use Rattle.pj_file_oracle.specs.Supertypes.{supertype}
 use Rattle.pj_file_oracle.proofs.Lists.{gather-turn}

@@ -1,6 +1,6 @@
 use Rattle.std.proofs.Common.{ap}
 use Rattle.std.specs.Prelude.{Ok}
-use Rattle.pj_names.specs.AskingLaws.{asks-return, asks-then}
+use Rattle.pj_names.proofs.AskingLaws.{asks-return, asks-then}
 use Rattle.pj_file_oracle.specs.Supertypes.{supertype}
 use Rattle.pj_file_oracle.proofs.supertypes.supertype.Goals as goal
 

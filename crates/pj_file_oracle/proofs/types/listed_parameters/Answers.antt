@@ -1,7 +1,7 @@
 use Rattle.std.proofs.Common.{List, ap, subst, sym, ◌∙◌}
 use Rattle.pj_names.specs.Asking.{each}
-use Rattle.pj_names.specs.AskingLaws.{ComesTo, comes-begin}
-use Rattle.pj_names.specs.MeaningLaws.{each-gather, gather}
+use Rattle.pj_names.proofs.AskingLaws.{ComesTo, comes-begin}
+use Rattle.pj_names.proofs.MeaningLaws.{each-gather, gather}
 use Rattle.pj_written.specs.Seen.{all_parameters, parameter_view}
 use Rattle.pj_written.specs.declared.spelling.Parameter.{Parameter}
 use Rattle.pj_file_oracle.specs.Types.{parameter_of}

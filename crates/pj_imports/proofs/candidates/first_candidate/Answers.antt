@@ -1,5 +1,5 @@
 use Rattle.std.proofs.Common.{rules, ◌≡◌, ◌<◌, ◌+◌, ◌-◌, arith, length, refl, subst, sym, ◌∙◌}
-use Rattle.pj_names.specs.AskingLaws.{ComesTo, asks-refused, asks-return, asks-stop, comes-begin, comes-ends, comes-then}
+use Rattle.pj_names.proofs.AskingLaws.{ComesTo, asks-refused, asks-return, asks-stop, comes-begin, comes-ends, comes-then}
 use Rattle.pj_written.specs.Names.{next_candidate}
 use Rattle.pj_imports.specs.Candidates.{file_classes, first_candidate}
 use Rattle.pj_imports.proofs.Turns.{candidate-begin, candidate-next, candidate-none, candidate-turn}

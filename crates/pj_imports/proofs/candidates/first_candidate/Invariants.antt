@@ -1,5 +1,5 @@
 use Rattle.std.proofs.Common.{◌+◌, ◌-◌, length}
-use Rattle.pj_names.specs.AskingLaws.{ComesTo}
+use Rattle.pj_names.proofs.AskingLaws.{ComesTo}
 use Rattle.pj_imports.specs.Candidates.{file_classes, first_candidate}
 use Rattle.pj_imports.proofs.Turns.{rest_from}
 use Rattle.pj_imports.proofs.candidates.first_candidate.Given as goal

@@ -1,7 +1,7 @@
 use Rattle.std.proofs.Common.{◌∙◌, ap, subst, sym}
 use Rattle.pj_names.specs.Asking.{each}
-use Rattle.pj_names.specs.AskingLaws.{ComesTo, comes-begin}
-use Rattle.pj_names.specs.MeaningLaws.{each-gather, gather}
+use Rattle.pj_names.proofs.AskingLaws.{ComesTo, comes-begin}
+use Rattle.pj_names.proofs.MeaningLaws.{each-gather, gather}
 use Rattle.pj_imports.specs.Candidates.{file_classes}
 use Rattle.pj_imports.specs.Imports.{by_import}
 use Rattle.pj_imports.proofs.imports.by_each.Goals as goal

@@ -1,7 +1,7 @@
 use Rattle.std.proofs.Common.{drop}
 use Rattle.pj_names.specs.Asking.{each}
-use Rattle.pj_names.specs.AskingLaws.{ComesTo}
-use Rattle.pj_names.specs.MeaningLaws.{gather}
+use Rattle.pj_names.proofs.AskingLaws.{ComesTo}
+use Rattle.pj_names.proofs.MeaningLaws.{gather}
 use Rattle.pj_imports.specs.Candidates.{file_classes}
 use Rattle.pj_imports.specs.Imports.{by_import}
 use Rattle.pj_imports.proofs.imports.by_each.Given as goal

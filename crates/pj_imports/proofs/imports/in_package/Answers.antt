@@ -1,5 +1,5 @@
 use Rattle.std.proofs.Common.{rules, refl}
-use Rattle.pj_names.specs.AskingLaws.{asks-refused, asks-return, asks-then}
+use Rattle.pj_names.proofs.AskingLaws.{asks-refused, asks-return, asks-then}
 use Rattle.pj_imports.proofs.imports.in_package.Goals as goal
 
 pub returns-in_err-name : goal.returns-in_err-name

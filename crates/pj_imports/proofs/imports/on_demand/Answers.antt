@@ -1,6 +1,6 @@
 use Rattle.std.proofs.Common.{rules, ◌≡◌, ◌++◌, [], ◌∷◌, ap, ◌∙◌}
 use Rattle.std.specs.Prelude.{Ok}
-use Rattle.pj_names.specs.AskingLaws.{asks-refused, asks-return, asks-stop, asks-then}
+use Rattle.pj_names.proofs.AskingLaws.{asks-refused, asks-return, asks-stop, asks-then}
 use Rattle.pj_imports.specs.Imports.{one_among}
 use Rattle.pj_imports.proofs.imports.on_demand.Goals as goal
 

@@ -3,7 +3,7 @@ use Rattle.std.specs.Prelude.{◌||◌}
 use Rattle.pj_names.specs.ClassName.{is_object}
 use Rattle.pj_names.specs.Told.{Asks}
 use Rattle.pj_imports.specs.Candidates.{file_classes}
-use Rattle.pj_inherited.specs.Inherited.{left_out}
+use Rattle.pj_inherited.specs.NameWalks.{left_out}
 use Rattle.pj_inherited.proofs.Looked.{member-looked}
 use Rattle.pj_inherited.proofs.member.member_in.Goals as goal
 

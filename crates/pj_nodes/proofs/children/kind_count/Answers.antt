@@ -1,4 +1,4 @@
-use Rattle.std.proofs.Common.{ℕ, ◌≡◌, ap, ◌∙◌, subst, sym, length, arith, rules, zero-add}
+use Rattle.std.proofs.Common.{ap, ◌∙◌, subst, sym, length, arith, zero-add}
 use Rattle.std.specs.Prelude.{count_by}
 use Rattle.pj_nodes.specs.Kinds.{is_kind}
 use Rattle.pj_nodes.proofs.Inside.{AreInside, are_inside}

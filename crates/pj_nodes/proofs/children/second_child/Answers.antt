@@ -1,8 +1,6 @@
-use Rattle.std.proofs.Common.{ℕ, ◌≡◌, ◌<◌, List, [], ◌∷◌, length, Option, None, Some, subst, sym, rules, arith}
+use Rattle.std.proofs.Common.{ℕ, ◌≡◌, ◌<◌, List, [], ◌∷◌, length, Option, Some, subst, sym, rules, arith}
 use Rattle.std.proofs.lemmas.Grind.{common_steps}
-use Rattle.std.specs.List.{All}
 use Rattle.std.specs.Option.{IfSome}
-use Rattle.pj_tree.specs.Tree.{children_of}
 use Rattle.pj_tree.specs.declared.node.Node.{Node}
 use Rattle.pj_nodes.specs.Children.{second_in}
 use Rattle.pj_nodes.proofs.Inside.{AreInside, are_inside}

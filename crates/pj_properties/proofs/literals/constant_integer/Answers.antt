@@ -1,4 +1,4 @@
-use Rattle.std.proofs.Common.{◌≡◌, ℤ, Option, None, ap, sym, ◌∙◌, cond}
+use Rattle.std.proofs.Common.{None, ap, sym, ◌∙◌, cond}
 use Rattle.std.specs.Str.{chars}
 use Rattle.pj_literals.specs.IntegerValue.{integer_value}
 use Rattle.pj_properties.specs.Literals.{if_fitting, is_floating}

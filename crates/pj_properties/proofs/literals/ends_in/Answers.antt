@@ -1,4 +1,4 @@
-use Rattle.std.proofs.Common.{ℕ, ◌≡◌, ◌≤◌, List, length, ap, sym, ◌∙◌, subst}
+use Rattle.std.proofs.Common.{ap, sym, ◌∙◌}
 use Rattle.pj_properties.specs.Literals.{either, ends_in}
 use Rattle.pj_properties.proofs.Endings.{ends_in_last}
 use Rattle.pj_properties.proofs.literals.ends_in.Goals as goal

@@ -1,4 +1,4 @@
-use Rattle.std.proofs.Common.{◌≡◌, ap, sym, ◌∙◌}
+use Rattle.std.proofs.Common.{ap, sym, ◌∙◌}
 use Rattle.pj_properties.proofs.Dots.{front_of, before_dot}
 use Rattle.pj_properties.proofs.names.before_last_dot.Goals as goal
 

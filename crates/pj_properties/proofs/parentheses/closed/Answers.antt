@@ -1,4 +1,4 @@
-use Rattle.std.proofs.Common.{ℕ, ◌≡◌, ◌<◌, ◌≤◌, List, length, map, drop, ap, sym, ◌∙◌, arith, rules, true, false, get_or, nat_lt, not}
+use Rattle.std.proofs.Common.{◌≡◌, List, map, drop, ap, sym, ◌∙◌, arith, rules, true, false, nat_lt, not}
 use Rattle.std.proofs.Math.Dec.{ltb}
 use Rattle.std.specs.Prelude.{◌&&◌, nat_le}
 use Rattle.std.specs.List.Sorted.{IsPartitionPoint}

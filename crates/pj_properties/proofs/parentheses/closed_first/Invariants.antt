@@ -1,4 +1,4 @@
-use Rattle.std.proofs.Common.{◌≡◌, ◌+◌, ◌≤◌, length, map, drop}
+use Rattle.std.proofs.Common.{◌≡◌, ◌+◌, ◌≤◌, map, drop}
 use Rattle.std.specs.Prelude.{◌&&◌, nat_le}
 use Rattle.pj_grammar.specs.Words.{seen}
 use Rattle.pj_properties.specs.Parentheses.{run, is_right}

@@ -1,4 +1,4 @@
-use Rattle.pj_names.specs.Expand.{asks-inner}
+use Rattle.pj_names.proofs.ExpandLaws.{asks-inner}
 use Rattle.pj_file_oracle.specs.FileAnswer.{file_answer}
 use Rattle.pj_variables.specs.VariableName.{variable_name}
 use Rattle.pj_scopes.proofs.names.resolve_name.Goals as goal

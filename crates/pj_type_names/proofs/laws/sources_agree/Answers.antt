@@ -1,4 +1,4 @@
-use Rattle.pj_names.specs.MeaningLaws.{agreement}
+use Rattle.pj_names.proofs.MeaningLaws.{agreement}
 use Rattle.pj_type_names.specs.TypeName.{type_name, written_bound, written_type}
 use Rattle.pj_type_names.proofs.laws.sources_agree.Goals as goal
 

@@ -1,15 +1,16 @@
 use Rattle.std.proofs.Common.{rules, arith, ◌≡◌, ◌<◌, ◌+◌, ◌-◌, List, ap, false, length, true, refl, subst, sym, ◌∙◌}
 use Rattle.std.specs.Prelude.{Ok, if◌then◌else◌, [], ◌∷◌, ◌++◌}
 use Rattle.pj_names.specs.Asking.{Return, each, first_hit}
-use Rattle.pj_names.specs.AskingLaws.{ComesTo, asks-refused, asks-return, asks-settled, asks-stop, asks-then, comes-begin, comes-ends, comes-then}
+use Rattle.pj_names.proofs.AskingLaws.{ComesTo, asks-refused, asks-return, asks-settled, asks-stop, asks-then, comes-begin, comes-ends, comes-then}
 use Rattle.pj_names.specs.ClassName.{is_object}
 use Rattle.pj_names.specs.JavaType.{Variable, java_type, type_list}
-use Rattle.pj_names.specs.MeaningLaws.{each-gather, gather}
+use Rattle.pj_names.proofs.MeaningLaws.{each-gather, gather}
 use Rattle.pj_names.specs.Told.{longest, longest_is}
 use Rattle.pj_names.specs.declared.ty.Ty.{Ty}
 use Rattle.pj_imports.specs.Candidates.{file_classes}
-use Rattle.pj_inherited.specs.Inherited.{left_out, member_in}
-use Rattle.pj_inherited.specs.NameWalks.{Standing, names-begin, names-end, names-missed, names-turn, to_come}
+use Rattle.pj_inherited.specs.Inherited.{member_in}
+use Rattle.pj_inherited.specs.NameWalks.{Standing, left_out}
+use Rattle.pj_inherited.proofs.NameTurns.{names-begin, names-end, names-missed, names-turn, to_come}
 use Rattle.pj_written.specs.Fits.{fits, most_signs_is}
 use Rattle.pj_written.specs.Headers.{all_bounds, written_supertypes}
 use Rattle.pj_type_names.specs.Searching as resolution

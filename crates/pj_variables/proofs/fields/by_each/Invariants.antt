@@ -1,6 +1,6 @@
 use Rattle.std.proofs.Common.{drop}
 use Rattle.pj_names.specs.Asking.{first_hit}
-use Rattle.pj_names.specs.AskingLaws.{ComesTo}
+use Rattle.pj_names.proofs.AskingLaws.{ComesTo}
 use Rattle.pj_variables.specs.VariableName.{imported_field}
 use Rattle.pj_variables.proofs.fields.by_each.Given as goal
 

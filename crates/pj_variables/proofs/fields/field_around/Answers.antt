@@ -1,5 +1,5 @@
 use Rattle.std.proofs.Common.{refl}
-use Rattle.pj_names.specs.AskingLaws.{asks-return}
+use Rattle.pj_names.proofs.AskingLaws.{asks-return}
 use Rattle.pj_variables.proofs.Turns.{around-named, around-none, asks-as}
 use Rattle.pj_variables.proofs.fields.field_around.Goals as goal
 

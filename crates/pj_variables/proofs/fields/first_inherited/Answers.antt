@@ -1,6 +1,6 @@
 use Rattle.std.proofs.Common.{rules, arith, ap, refl}
 use Rattle.pj_names.specs.Asking.{first_hit}
-use Rattle.pj_names.specs.AskingLaws.{asks-refused, asks-return, comes-begin, comes-ends, comes-then}
+use Rattle.pj_names.proofs.AskingLaws.{asks-refused, asks-return, comes-begin, comes-ends, comes-then}
 use Rattle.pj_variables.specs.VariableName.{field_around}
 use Rattle.pj_variables.proofs.Turns.{comes-as, searched-end, searched-turn}
 use Rattle.pj_variables.proofs.fields.first_inherited.Goals as goal

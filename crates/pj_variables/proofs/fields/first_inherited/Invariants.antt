@@ -1,6 +1,6 @@
 use Rattle.std.proofs.Common.{◌<◌, length}
 use Rattle.pj_names.specs.Asking.{first_hit}
-use Rattle.pj_names.specs.AskingLaws.{ComesTo}
+use Rattle.pj_names.proofs.AskingLaws.{ComesTo}
 use Rattle.pj_inherited.specs.Around.{searched}
 use Rattle.pj_variables.specs.VariableName.{field_around}
 use Rattle.pj_variables.proofs.fields.first_inherited.Given as goal

@@ -1,5 +1,5 @@
 use Rattle.std.proofs.Common.{rules, ◌≡◌, ◌∙◌, ap, refl, sym}
-use Rattle.pj_names.specs.AskingLaws.{asks-refused, asks-return, asks-then}
+use Rattle.pj_names.proofs.AskingLaws.{asks-refused, asks-return, asks-then}
 use Rattle.pj_imports.specs.Candidates.{dotted_class, file_classes}
 use Rattle.pj_variables.specs.StaticImports.{imported_class}
 use Rattle.pj_variables.proofs.Turns.{asks-as}

@@ -1,4 +1,4 @@
-use Rattle.pj_names.specs.MeaningLaws.{agreement}
+use Rattle.pj_names.proofs.MeaningLaws.{agreement}
 use Rattle.pj_variables.specs.VariableName.{variable_name}
 use Rattle.pj_variables.proofs.laws.sources_agree.Goals as goal
 

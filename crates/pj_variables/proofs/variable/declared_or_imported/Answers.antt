@@ -1,6 +1,6 @@
 use Rattle.std.proofs.Common.{rules, ap}
 use Rattle.std.specs.Prelude.{Ok}
-use Rattle.pj_names.specs.AskingLaws.{asks-refused, asks-return, asks-then}
+use Rattle.pj_names.proofs.AskingLaws.{asks-refused, asks-return, asks-then}
 use Rattle.pj_variables.specs.Searched.{declared_or}
 use Rattle.pj_variables.proofs.Turns.{asks-as}
 use Rattle.pj_variables.proofs.variable.declared_or_imported.Goals as goal

@@ -1,5 +1,5 @@
 use Rattle.std.proofs.Common.{refl}
-use Rattle.pj_names.specs.AskingLaws.{asks-return, asks-then}
+use Rattle.pj_names.proofs.AskingLaws.{asks-return, asks-then}
 use Rattle.pj_variables.proofs.variable.found_or_inherited.Goals as goal
 
 pub returns-in-Some-clause-asks : goal.returns-in-Some-clause-asks

@@ -1,4 +1,4 @@
-use Rattle.std.proofs.Common.{◌≡◌, ◌-◌, IfOk, arith, ap, ◌∙◌, sym, subst}
+use Rattle.std.proofs.Common.{◌≡◌, IfOk, arith, ap, ◌∙◌, sym, subst}
 use Rattle.pj_written.specs.declared.written.Written.{Written}
 use Rattle.pj_written.specs.Written.{extended, innermost, name_within}
 use Rattle.pj_written.proofs.Deeper.{name-none, name-some}

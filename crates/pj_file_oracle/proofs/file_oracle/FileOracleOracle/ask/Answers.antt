@@ -1,4 +1,4 @@
-use Rattle.pj_names.specs.Expand.{asks-answer}
+use Rattle.pj_names.proofs.ExpandLaws.{asks-answer}
 use Rattle.pj_file_oracle.specs.FileAnswer.{file_answer}
 use Rattle.pj_file_oracle.proofs.file_oracle.FileOracleOracle.ask.Goals as goal
 
