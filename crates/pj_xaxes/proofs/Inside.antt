@@ -10,7 +10,7 @@ use Rattle.pj_tree.specs.Tree.{Tree}
 use Rattle.pj_xvalue.specs.declared.axis.Axis.{Axis}
 use Rattle.pj_xvalue.specs.Items.{ItemValue, IsOfTree}
 use Rattle.pj_xvalue.specs.OfTree.{OfTree}
-use Rattle.pj_xvalue.specs.OfTreeLaws.{of_tree-each, each-of_tree}
+use Rattle.pj_xvalue.proofs.OfTreeLaws.{of_tree-each, each-of_tree}
 use Rattle.pj_xaxes.specs.Axes.{node, on_axis, is_reverse, all_nodes, turned, axis_nodes}
 use Rattle.pj_xaxes.specs.Order.{document_order, put, put_by, ordered}
 

@@ -1,4 +1,6 @@
+-- definitions
 pub mod Axes
 pub mod Order
+-- for private clauses
 pub mod Search
 pub mod Standing

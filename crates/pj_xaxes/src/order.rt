@@ -19,6 +19,7 @@ struct Position {
     attribute: Option<u32>,
 }
 
+/// Where an item stands in document order.
 fn order_position(item: &Item<'_>) -> Position
     ensures { result ≡ standing (position_of (value_of_item item.now)) }
 {

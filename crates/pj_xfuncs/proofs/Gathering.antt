@@ -2,8 +2,8 @@
 use Rattle.std.proofs.Common.{◌≡◌, ◌∙◌, ℕ, suc, ◌+◌, ◌<◌, ◌≤◌, ℤ, pos, ◌+ℤ◌, Result, Ok, Err, Bool, true, false, cond, List, [], ◌∷◌, ◌++◌, map, take, drop, length, get_or, reverse, refl, sym, ap, ◌||◌, if◌then◌else◌, add-one}
 use Rattle.std.specs.List.{list_any}
 use Rattle.pj_xvalue.specs.declared.fault.XCode.{XCode}
-use Rattle.pj_xfuncs.specs.Arguments.{and_then, integer_before, integers}
-use Rattle.pj_xfuncs.specs.Gathered.{integers_behind, sum_behind}
+use Rattle.pj_xvalue.specs.Arguments.{and_then}
+use Rattle.pj_xfuncs.specs.Gathered.{sum_behind}
 use Rattle.pj_xfuncs.specs.Numbers.{held, sum_from}
 use Rattle.std.proofs.lemmas.List.{reverse-append, at_drop_more, at_drop_all, append-nil, append_assoc, map-append, take_more}
 use Rattle.pj_xvalue.specs.declared.item.Item.{Item}
@@ -81,19 +81,6 @@ values-reverse (x ∷ items) =
     ∙ ap (λ (t : List ItemValue). t ++ value_of_item x ∷ []) (values-reverse items) ∙ sym (reverse-append (value_of_item x ∷ []) (values_of items))
 
 -- ---- integers
-
-behind-more : (numbers : List ℤ) (z : ℤ) (r : Result (List ℤ) XCode) → integers_behind numbers (and_then r (λ more. Ok (z ∷ more))) ≡ integers_behind (numbers ++ z ∷ []) r
-behind-more numbers z (Ok more) = ap (λ (t : List ℤ). let r : Result (List ℤ) XCode = Ok t in r) (sym (append_assoc numbers (z ∷ []) more))
-behind-more numbers z (Err code) = refl
-
-pub integers-more : (numbers new : List ℤ) (whole : Result (List ℤ) XCode) (items : List Item) (i : ℕ) (x : Item) (z : ℤ) → i < length items → x ≡ get_or items i x → value_of_item x ≡ Integer z → new ≡ numbers ++ z ∷ []
-    → integers_behind numbers (integers (values_of (drop i items))) ≡ whole → integers_behind new (integers (values_of (drop (i + 1) items))) ≡ whole
-integers-more numbers new whole items i x z lt is value put h =
-    ap (λ (t : List ℤ). integers_behind t (integers (values_of (drop (i + 1) items)))) put
-    ∙ sym (behind-more numbers z (integers (values_of (drop (i + 1) items))))
-    ∙ ap (λ (v : ItemValue). integers_behind numbers (integer_before v (integers (values_of (drop (i + 1) items))))) (sym value)
-    ∙ ap (λ (y : Item). integers_behind numbers (integer_before (value_of_item y) (integers (values_of (drop (i + 1) items))))) is
-    ∙ sym (at_drop_more (λ (t : List Item). integers_behind numbers (integers (values_of t))) items i x lt) ∙ h
 
 code-behind : (code : XCode) (numbers : List ℤ) → sum_behind (Err code) numbers ≡ Err code
 code-behind code [] = refl

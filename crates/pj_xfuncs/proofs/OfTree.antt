@@ -13,14 +13,14 @@ use Rattle.pj_xvalue.specs.Atomic.{has_node, only_atomic}
 use Rattle.pj_xvalue.specs.Boolean.{effective_boolean}
 use Rattle.pj_xvalue.specs.Items.{ItemValue, String, Integer, Boolean, IsOfTree, values_of}
 use Rattle.pj_xvalue.specs.OfTree.{OfTree, ArgumentsOfTree}
-use Rattle.pj_xvalue.specs.OfTreeLaws.{of_tree-nil, of_tree-one, of_tree-append, of_tree-each, each-of_tree, of_tree-head, of_tree-tail, arguments-head, arguments-tail}
+use Rattle.pj_xvalue.proofs.OfTreeLaws.{of_tree-nil, of_tree-one, of_tree-append, of_tree-each, each-of_tree, of_tree-head, of_tree-tail, arguments-head, arguments-tail}
 use Rattle.pj_xvalue.specs.Replies.{outcome}
 use Rattle.pj_xpatterns.specs.Meaning.{Text, Pattern, pieces_between}
-use Rattle.pj_xfuncs.specs.Arguments.{IsGiven, and_then, atomic, all_integers, item_or_nothing, optional_integer, optional_atomic, optional_string, string, integer, text_in}
+use Rattle.pj_xvalue.specs.Arguments.{IsGiven, and_then, atomic, all_integers, item_or_nothing, optional_integer, optional_atomic, optional_string, string, integer, text_in}
 use Rattle.pj_xfuncs.specs.General.{texts_joined}
 use Rattle.pj_xfuncs.specs.Library.{called, by_number, of_none, of_one, of_two, of_three, of_four, of_several, is_concat}
 use Rattle.pj_xfuncs.specs.Numbers.{held, sum_from, sum_or, best_item, magnitude, lesser, greater}
-use Rattle.pj_xfuncs.specs.Patterns.{flags_in, known, matches, never_empty, plain, replace, tokenize, tokens}
+use Rattle.pj_xpatterns.specs.Patterns.{flags_in, known, matches, never_empty, plain, replace, tokenize, tokens}
 use Rattle.pj_xfuncs.specs.Sequences.{kept_from, first_occurrences, is_from, is_within, places_from, same}
 use Rattle.pj_xfuncs.specs.Strings.{Characters, before, behind, place_of, tested, cut}
 

@@ -1,12 +1,8 @@
 -- What a loop has gathered, before what it has yet to go over.
 use Rattle.std.specs.Prelude.{ℤ, ◌+ℤ◌, List, [], ◌∷◌, ◌++◌, Result, Ok, Err}
 use Rattle.pj_xvalue.specs.declared.fault.XCode.{XCode}
-use Rattle.pj_xfuncs.specs.Arguments.{Text, and_then}
+use Rattle.pj_xvalue.specs.Arguments.{Text, and_then}
 use Rattle.pj_xfuncs.specs.Numbers.{held}
-
-abbrev pub integers_behind : List ℤ → Result (List ℤ) XCode → Result (List ℤ) XCode
-integers_behind before (Ok rest) = Ok (before ++ rest)
-integers_behind before (Err code) = Err code
 
 abbrev pub text_behind : Text → Result Text XCode → Result Text XCode
 text_behind before (Ok rest) = Ok (before ++ rest)

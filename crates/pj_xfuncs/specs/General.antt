@@ -4,7 +4,7 @@ use Rattle.pj_xvalue.specs.declared.fault.XCode.{XCode}
 use Rattle.pj_xvalue.specs.Atomic.{only_atomic, text_of}
 use Rattle.pj_xvalue.specs.Boolean.{effective_boolean}
 use Rattle.pj_xvalue.specs.Items.{ItemValue, String, Integer}
-use Rattle.pj_xfuncs.specs.Arguments.{Text, and_then, atomic_text, string, text_in, one, truth}
+use Rattle.pj_xvalue.specs.Arguments.{Text, and_then, atomic_text, string, text_in, one, truth}
 
 -- `count` (15.4.1)
 abbrev pub count : List ItemValue → Result (List ItemValue) XCode

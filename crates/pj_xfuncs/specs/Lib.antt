@@ -1,12 +1,12 @@
-pub mod Arguments
-pub mod Gathered
+-- definitions
 pub mod General
 pub mod Library
 pub mod Numbers
-pub mod Patterns
+pub mod Sequences
+pub mod Strings
+-- for private clauses
+pub mod Gathered
 pub mod Places
 pub mod Seen
-pub mod Sequences
 pub mod Spaces
-pub mod Strings
 pub mod Translate

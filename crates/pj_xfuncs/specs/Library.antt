@@ -6,12 +6,12 @@ use Rattle.pj_xvalue.specs.declared.function.Function.{Function}
 use Rattle.pj_xvalue.specs.declared.function.Function.TheVariants as f
 use Rattle.pj_xvalue.specs.Items.{ItemValue}
 use Rattle.pj_xpatterns.specs.Meaning.{Pattern}
-use Rattle.pj_xfuncs.specs.Arguments.{truth}
+use Rattle.pj_xvalue.specs.Arguments.{truth}
 use Rattle.pj_xfuncs.specs.General.{count, exists, is_empty, boolean, negated, string_value, data_of, concatenated, string_join}
 use Rattle.pj_xfuncs.specs.Numbers.{sum, sum_with, minimum, maximum, absolute}
 use Rattle.pj_xfuncs.specs.Sequences.{reversed, subsequence_from, subsequence, distinct_values, index_of}
 use Rattle.pj_xfuncs.specs.Strings.{contains, starts, ends, substring_before, substring_after, substring_from, substring, string_length, normalize_space, upper_case, lower_case, translate}
-use Rattle.pj_xfuncs.specs.Patterns.{matches, replace, tokenize}
+use Rattle.pj_xpatterns.specs.Patterns.{matches, replace, tokenize}
 
 -- no function of the library takes so many arguments
 abbrev pub none : Result (List ItemValue) XCode

@@ -3,7 +3,7 @@ use Rattle.std.specs.Prelude.{◌^◌, ℤ, pos, negsuc, nat_abs, Bool, List, []
 use Rattle.pj_xvalue.specs.declared.fault.XCode.{XCode}
 use Rattle.pj_xvalue.specs.declared.fault.XCode.TheVariants.{FOAR0002}
 use Rattle.pj_xvalue.specs.Items.{ItemValue, Integer}
-use Rattle.pj_xfuncs.specs.Arguments.{and_then, all_integers, optional_atomic, optional_integer, one}
+use Rattle.pj_xvalue.specs.Arguments.{and_then, all_integers, optional_atomic, optional_integer, one}
 
 -- whether 64 bits hold the integer
 abbrev pub fits : ℤ → Bool

@@ -6,7 +6,7 @@ use Rattle.std.specs.Cmp.Lexicographic.{pointwise}
 use Rattle.pj_xvalue.specs.declared.fault.XCode.{XCode}
 use Rattle.pj_xvalue.specs.Atomic.{only_atomic}
 use Rattle.pj_xvalue.specs.Items.{ItemValue, String, Integer, Boolean}
-use Rattle.pj_xfuncs.specs.Arguments.{and_then, atomic, integer}
+use Rattle.pj_xvalue.specs.Arguments.{and_then, atomic, integer}
 
 -- `reverse` (15.1.9)
 abbrev pub reversed : List ItemValue → Result (List ItemValue) XCode

@@ -5,7 +5,7 @@ use Rattle.std.specs.Option.{option_map_or}
 use Rattle.std.specs.Char.{to_ascii_uppercase, to_ascii_lowercase}
 use Rattle.pj_xvalue.specs.declared.fault.XCode.{XCode}
 use Rattle.pj_xvalue.specs.Items.{ItemValue, String, Integer}
-use Rattle.pj_xfuncs.specs.Arguments.{Text, and_then, optional_string, string, integer, one, truth}
+use Rattle.pj_xvalue.specs.Arguments.{Text, and_then, optional_string, string, integer, one, truth}
 use Rattle.pj_xfuncs.specs.Sequences.{at_places, is_from, is_within}
 
 abbrev pub Characters : Type 0

@@ -3,23 +3,22 @@ ghost use Rattle.std.specs.Prelude.{◌≡◌, map, encode_utf8_all, IfOk, strin
 ghost use Rattle.std.specs.Char.{to_ascii_uppercase, to_ascii_lowercase};
 ghost use Rattle.pj_xvalue.specs.Items.{values_of};
 ghost use Rattle.pj_xvalue.specs.Replies.{outcome};
-ghost use Rattle.pj_xfuncs.specs.Arguments.{IsGiven};
+ghost use Rattle.pj_xvalue.specs.Arguments.{IsGiven};
 ghost use Rattle.pj_xfuncs.specs.Strings.{lower_case as lower_case_of, upper_case as upper_case_of};
 
-use crate::arguments::{optional_string, spelled};
 use crate::characters::characters;
 use pj_base::NoMemory;
-use pj_xvalue::{Sequence, XFault};
+use pj_xvalue::{Sequence, XFault, optional_string_argument, string_singleton};
 use std::alloc::Global;
 
 /// `upper-case`.
 pub(crate) fn upper_case<'t>(alloc: Global, text: &Sequence<'_>) -> Result<Sequence<'t>, XFault>
     ensures { IsGiven (upper_case_of (values_of text.now)) (outcome values_of result) }
 {
-    let whole = optional_string(text)?;
+    let whole = optional_string_argument(text)?;
     let all = characters(alloc, whole)?;
     let changed = raised(alloc, &all)?;
-    Ok(spelled(alloc, changed)?)
+    Ok(string_singleton(alloc, changed)?)
 }
 
 /// The characters with the letters of ASCII in upper case.
@@ -39,10 +38,10 @@ fn raised(alloc: Global, characters: &[char]) -> Result<String, NoMemory>
 pub(crate) fn lower_case<'t>(alloc: Global, text: &Sequence<'_>) -> Result<Sequence<'t>, XFault>
     ensures { IsGiven (lower_case_of (values_of text.now)) (outcome values_of result) }
 {
-    let whole = optional_string(text)?;
+    let whole = optional_string_argument(text)?;
     let all = characters(alloc, whole)?;
     let changed = lowered(alloc, &all)?;
-    Ok(spelled(alloc, changed)?)
+    Ok(string_singleton(alloc, changed)?)
 }
 
 /// The characters with the letters of ASCII in lower case.

@@ -3,33 +3,35 @@ ghost use Rattle.std.specs.Prelude.{◌≡◌, IfOk, map, string_bytes};
 ghost use Rattle.pj_xvalue.specs.Atomic.{text_of};
 ghost use Rattle.pj_xvalue.specs.Items.{value_of_item, values_of};
 ghost use Rattle.pj_xvalue.specs.Replies.{outcome};
-ghost use Rattle.pj_xfuncs.specs.Arguments.{IsGiven, atomic_text, text_in};
+ghost use Rattle.pj_xvalue.specs.Arguments.{IsGiven, atomic_text, text_in};
 ghost use Rattle.pj_xfuncs.specs.General.{boolean as boolean_of, concatenated, count as count_of, data_of, exists as exists_of, is_empty as is_empty_of, joined_with, negated as negated_of, string_join as string_join_of, string_value, texts_joined};
 
-use crate::arguments::{counted, spelled, string, truth};
 use pj_base::{Copied, NoMemory};
-use pj_xvalue::{Item, Sequence, XCode, XFault, boolean_value, has_node};
+use pj_xvalue::{
+    Item, Sequence, XCode, XFault, boolean_singleton, boolean_value, count_singleton, has_node,
+    string_argument, string_singleton,
+};
 use std::alloc::Global;
 
 /// `count`.
 pub(crate) fn count<'t>(alloc: Global, items: &Sequence<'_>) -> Result<Sequence<'t>, XFault>
     ensures { IsGiven (count_of (values_of items.now)) (outcome values_of result) }
 {
-    Ok(counted(alloc, items.len())?)
+    Ok(count_singleton(alloc, items.len())?)
 }
 
 /// `exists`.
 pub(crate) fn exists<'t>(alloc: Global, items: &Sequence<'_>) -> Result<Sequence<'t>, XFault>
     ensures { IsGiven (exists_of (values_of items.now)) (outcome values_of result) }
 {
-    Ok(truth(alloc, !items.is_empty())?)
+    Ok(boolean_singleton(alloc, !items.is_empty())?)
 }
 
 /// `empty`.
 pub(crate) fn is_empty<'t>(alloc: Global, items: &Sequence<'_>) -> Result<Sequence<'t>, XFault>
     ensures { IsGiven (is_empty_of (values_of items.now)) (outcome values_of result) }
 {
-    Ok(truth(alloc, items.is_empty())?)
+    Ok(boolean_singleton(alloc, items.is_empty())?)
 }
 
 /// `boolean`.
@@ -37,7 +39,7 @@ pub(crate) fn boolean<'t>(alloc: Global, items: &Sequence<'_>) -> Result<Sequenc
     ensures { IsGiven (boolean_of (values_of items.now)) (outcome values_of result) }
 {
     let value = boolean_value(items)?;
-    Ok(truth(alloc, value)?)
+    Ok(boolean_singleton(alloc, value)?)
 }
 
 /// `not`.
@@ -45,7 +47,7 @@ pub(crate) fn negated<'t>(alloc: Global, items: &Sequence<'_>) -> Result<Sequenc
     ensures { IsGiven (negated_of (values_of items.now)) (outcome values_of result) }
 {
     let value = boolean_value(items)?;
-    Ok(truth(alloc, !value)?)
+    Ok(boolean_singleton(alloc, !value)?)
 }
 
 /// `string` of an argument.
@@ -53,7 +55,7 @@ pub(crate) fn string_of<'t>(alloc: Global, items: &Sequence<'_>) -> Result<Seque
     ensures { IsGiven (string_value (values_of items.now)) (outcome values_of result) }
 {
     let text = text_of(alloc, items.as_slice())?;
-    Ok(spelled(alloc, text)?)
+    Ok(string_singleton(alloc, text)?)
 }
 
 /// At most one item as text.
@@ -102,7 +104,7 @@ pub(crate) fn concat<'t>(alloc: Global, arguments: &[Sequence<'_>]) -> Result<Se
     ensures { IsGiven (concatenated (map values_of arguments.now)) (outcome values_of result) }
 {
     let text = texts_joined(alloc, arguments)?;
-    Ok(spelled(alloc, text)?)
+    Ok(string_singleton(alloc, text)?)
 }
 
 /// The texts of the arguments, one after the other.
@@ -138,9 +140,9 @@ pub(crate) fn string_join<'t>(
     if has_node(items.as_slice()) {
         return Err(XFault::Code(XCode::FOTY0012));
     }
-    let between = string(separator)?;
+    let between = string_argument(separator)?;
     let text = joined(alloc, items.as_slice(), between)?;
-    Ok(spelled(alloc, text)?)
+    Ok(string_singleton(alloc, text)?)
 }
 
 /// The texts of the items, with the separator between each two.

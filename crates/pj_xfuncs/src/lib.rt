@@ -1,12 +1,10 @@
 //! XPath: the functions that need neither the tree nor the focus.
 #![tactic(auto)]
 
-mod arguments;
 mod cases;
 mod characters;
 mod general;
 mod library;
-mod matching;
 mod numbers;
 mod places;
 mod seen;

@@ -3,15 +3,13 @@ ghost use Rattle.std.specs.Prelude.{◌≡◌, ℕ, IfOk, map};
 ghost use Rattle.pj_xvalue.specs.Items.{values_of};
 ghost use Rattle.pj_xvalue.specs.OfTree.{OfTree, ArgumentsOfTree};
 ghost use Rattle.pj_xvalue.specs.Replies.{outcome};
-ghost use Rattle.pj_xfuncs.specs.Arguments.{IsGiven};
+ghost use Rattle.pj_xvalue.specs.Arguments.{IsGiven};
 ghost use Rattle.pj_xfuncs.specs.Library.{by_number as by_number_of, called, is_concat, of_four as of_four_of, of_none as of_none_of, of_one as of_one_of, of_several as of_several_of, of_three as of_three_of, of_two as of_two_of};
 
-use crate::arguments::truth;
 use crate::cases::{lower_case, upper_case};
 use crate::general::{
     boolean, concat, count, data, exists, is_empty, negated, string_join, string_of,
 };
-use crate::matching::{matches, replace, tokenize};
 use crate::numbers::{magnitude, maximum, minimum, sum, sum_with};
 use crate::sequences::{distinct_values, index_of, reversed, subsequence, subsequence_from};
 use crate::spaces::normalize_space;
@@ -20,8 +18,8 @@ use crate::strings::{
     substring_from,
 };
 use crate::translate::translate;
-use pj_xpatterns::Patterns;
-use pj_xvalue::{Arguments, Function, Sequence, XCode, XFault};
+use pj_xpatterns::{Patterns, matches, replace, tokenize};
+use pj_xvalue::{Arguments, Function, Sequence, XCode, XFault, boolean_singleton};
 use std::alloc::Global;
 
 /// What the function gives for its arguments, where the library has these patterns (XPath Functions and Operators).
@@ -57,6 +55,7 @@ fn given<'t>(
     by_number(alloc, function, arguments, patterns)
 }
 
+/// Whether the function is `concat`, which takes any number of arguments.
 fn is_concat(function: Function) -> bool
     ensures { result ≡ is_concat function }
 {
@@ -98,8 +97,8 @@ fn of_none<'t>(alloc: Global, function: Function) -> Result<Sequence<'t>, XFault
     ensures { IsGiven (of_none_of function) (outcome values_of result) }
 {
     match function {
-        Function::True => Ok(truth(alloc, true)?),
-        Function::False => Ok(truth(alloc, false)?),
+        Function::True => Ok(boolean_singleton(alloc, true)?),
+        Function::False => Ok(boolean_singleton(alloc, false)?),
         _ => Err(XFault::Code(XCode::XPTY0004)),
     }
 }

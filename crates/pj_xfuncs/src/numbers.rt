@@ -2,22 +2,24 @@
 ghost use Rattle.std.specs.Prelude.{◌≡◌, ◌+ℤ◌, nat_abs, pos};
 ghost use Rattle.pj_xvalue.specs.Items.{values_of};
 ghost use Rattle.pj_xvalue.specs.Replies.{outcome};
-ghost use Rattle.pj_xfuncs.specs.Arguments.{IsGiven, item_or_nothing};
+ghost use Rattle.pj_xvalue.specs.Arguments.{IsGiven, item_or_nothing};
 ghost use Rattle.pj_xfuncs.specs.Gathered.{added};
 ghost use Rattle.pj_xfuncs.specs.Numbers.{absolute, best, greater as greater_of, held, lesser as lesser_of, maximum as maximum_of, minimum as minimum_of, sum as sum_of, sum_from, sum_with as sum_with_of};
 
-use crate::arguments::{all_integers, number, optional_integer};
 use crate::general::copied_items;
-use pj_xvalue::{Item, Sequence, XCode, XFault, has_node};
+use pj_xvalue::{
+    Item, Sequence, XCode, XFault, has_node, integer_singleton, integers_argument,
+    optional_integer_argument,
+};
 use std::alloc::Global;
 
 /// `sum` of one argument.
 pub(crate) fn sum<'t>(alloc: Global, items: &Sequence<'_>) -> Result<Sequence<'t>, XFault>
     ensures { IsGiven (sum_of (values_of items.now)) (outcome values_of result) }
 {
-    let numbers = all_integers(alloc, items)?;
+    let numbers = integers_argument(alloc, items)?;
     let total = sum_from(numbers.as_slice())?;
-    Ok(number(alloc, total)?)
+    Ok(integer_singleton(alloc, total)?)
 }
 
 /// `sum` with what is the sum of nothing.
@@ -28,7 +30,7 @@ pub(crate) fn sum_with<'t>(
 ) -> Result<Sequence<'t>, XFault>
     ensures { IsGiven (sum_with_of (values_of items.now) (values_of zero.now)) (outcome values_of result) }
 {
-    let numbers = all_integers(alloc, items)?;
+    let numbers = integers_argument(alloc, items)?;
     if has_node(zero.as_slice()) {
         return Err(XFault::Code(XCode::FOTY0012));
     }
@@ -37,7 +39,7 @@ pub(crate) fn sum_with<'t>(
         return Ok(nothing);
     }
     let total = sum_from(numbers.as_slice())?;
-    Ok(number(alloc, total)?)
+    Ok(integer_singleton(alloc, total)?)
 }
 
 /// At most one item.
@@ -86,10 +88,10 @@ fn plus(total: i64, z: i64) -> Result<i64, XCode>
 pub(crate) fn minimum<'t>(alloc: Global, items: &Sequence<'_>) -> Result<Sequence<'t>, XFault>
     ensures { IsGiven (minimum_of (values_of items.now)) (outcome values_of result) }
 {
-    let numbers = all_integers(alloc, items)?;
+    let numbers = integers_argument(alloc, items)?;
     match numbers.as_slice() {
         [] => Ok(Sequence::new(alloc)),
-        [first, rest @ ..] => Ok(number(alloc, least(*first, rest))?),
+        [first, rest @ ..] => Ok(integer_singleton(alloc, least(*first, rest))?),
     }
 }
 
@@ -115,10 +117,10 @@ fn lesser(a: i64, b: i64) -> i64
 pub(crate) fn maximum<'t>(alloc: Global, items: &Sequence<'_>) -> Result<Sequence<'t>, XFault>
     ensures { IsGiven (maximum_of (values_of items.now)) (outcome values_of result) }
 {
-    let numbers = all_integers(alloc, items)?;
+    let numbers = integers_argument(alloc, items)?;
     match numbers.as_slice() {
         [] => Ok(Sequence::new(alloc)),
-        [first, rest @ ..] => Ok(number(alloc, greatest(*first, rest))?),
+        [first, rest @ ..] => Ok(integer_singleton(alloc, greatest(*first, rest))?),
     }
 }
 
@@ -144,11 +146,11 @@ fn greater(a: i64, b: i64) -> i64
 pub(crate) fn magnitude<'t>(alloc: Global, items: &Sequence<'_>) -> Result<Sequence<'t>, XFault>
     ensures { IsGiven (absolute (values_of items.now)) (outcome values_of result) }
 {
-    match optional_integer(items)? {
+    match optional_integer_argument(items)? {
         None => Ok(Sequence::new(alloc)),
         Some(z) => {
             let value = absolute(z)?;
-            Ok(number(alloc, value)?)
+            Ok(integer_singleton(alloc, value)?)
         }
     }
 }

@@ -51,6 +51,7 @@ impl<'a> Seen<'a> {
         }
     }
 
+    /// Meets a truth value, and tells whether it was met before.
     fn meet_boolean(&mut self, value: bool) -> bool
         ensures was { result ≡ has_boolean self.old.has_true self.old.has_false value }
         ensures met { (b : Bool) → has_boolean self.new.has_true self.new.has_false b ≡ (has_boolean self.old.has_true self.old.has_false b || same_boolean b value) }
@@ -69,6 +70,7 @@ impl<'a> Seen<'a> {
     }
 }
 
+/// Meets a text, and tells whether it was met before.
 fn meet_text<'a>(texts: &mut BTreeSet<&'a str>, text: &'a str) -> Result<bool, NoMemory>
     ensures was { IfOk result (λ was. was ≡ has_text texts.old text.now) }
     ensures met { OnOk result ((other : List ℕ) → has_text texts.new other ≡ (has_text texts.old other || pointwise nat_eq other text.now)) }
@@ -76,6 +78,7 @@ fn meet_text<'a>(texts: &mut BTreeSet<&'a str>, text: &'a str) -> Result<bool, N
     Ok(!texts.insert(text)?)
 }
 
+/// Meets an integer, and tells whether it was met before.
 fn meet_integer(integers: &mut BTreeSet<i64>, value: i64) -> Result<bool, NoMemory>
     ensures was { IfOk result (λ was. was ≡ has_integer integers.old value) }
     ensures met { OnOk result ((other : ℤ) → has_integer integers.new other ≡ (has_integer integers.old other || int_eq other value)) }

@@ -2,15 +2,14 @@
 ghost use Rattle.std.specs.Prelude.{◌≡◌, ◌+◌, ◌++◌, ◌∷◌, [], pos, reverse, IfOk, OnOk, if◌then◌else◌};
 ghost use Rattle.pj_xvalue.specs.Items.{Integer, value_of_item, values_of};
 ghost use Rattle.pj_xvalue.specs.Replies.{outcome};
-ghost use Rattle.pj_xfuncs.specs.Arguments.{IsGiven};
+ghost use Rattle.pj_xvalue.specs.Arguments.{IsGiven};
 ghost use Rattle.pj_xfuncs.specs.Sequences.{at_places, distinct_values as distinct_values_of, first_occurrences, index_of as index_of_of, is_from, is_within, places_from, reversed as reversed_of, same as same_of, subsequence as subsequence_of, subsequence_from as subsequence_from_of};
 
-use crate::arguments::{atomic, integer};
 use crate::general::copied_items;
 use crate::places::{before, behind, first_of, within};
 use crate::seen::Seen;
 use pj_base::{Copied, NoMemory};
-use pj_xvalue::{Item, Sequence, XCode, XFault, has_node};
+use pj_xvalue::{Item, Sequence, XCode, XFault, atomic_argument, has_node, integer_argument};
 use std::alloc::Global;
 
 /// `reverse`.
@@ -28,6 +27,7 @@ fn items_reversed<'t>(alloc: Global, items: &[Item<'t>]) -> Result<Sequence<'t>,
     Ok(all)
 }
 
+/// The items in reverse order.
 fn slice_reversed<'t>(alloc: Global, items: &[Item<'t>]) -> Result<Sequence<'t>, NoMemory>
     ensures { IfOk result (λ all. all ≡ reverse items.now) }
 {
@@ -44,7 +44,7 @@ pub(crate) fn subsequence_from<'t>(
 ) -> Result<Sequence<'t>, XFault>
     ensures { IsGiven (subsequence_from_of (values_of items.now) (values_of start.now)) (outcome values_of result) }
 {
-    let first = integer(start)?;
+    let first = integer_argument(start)?;
     Ok(items_from(alloc, items.as_slice(), first)?)
 }
 
@@ -57,8 +57,8 @@ pub(crate) fn subsequence<'t>(
 ) -> Result<Sequence<'t>, XFault>
     ensures { IsGiven (subsequence_of (values_of items.now) (values_of start.now) (values_of length.now)) (outcome values_of result) }
 {
-    let first = integer(start)?;
-    let number = integer(length)?;
+    let first = integer_argument(start)?;
+    let number = integer_argument(length)?;
     Ok(items_within(alloc, items.as_slice(), first, number)?)
 }
 
@@ -141,7 +141,7 @@ pub(crate) fn index_of<'t>(
     if has_node(items.as_slice()) {
         return Err(XFault::Code(XCode::FOTY0012));
     }
-    let value = atomic(sought)?;
+    let value = atomic_argument(sought)?;
     Ok(places_of(alloc, items.as_slice(), value)?)
 }
 

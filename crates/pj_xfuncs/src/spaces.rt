@@ -3,14 +3,13 @@ ghost use Rattle.std.specs.Prelude.{◌≡◌, encode_utf8_all, IfOk, string_byt
 ghost use Rattle.std.specs.List.{join_with_byte};
 ghost use Rattle.pj_xvalue.specs.Items.{values_of};
 ghost use Rattle.pj_xvalue.specs.Replies.{outcome};
-ghost use Rattle.pj_xfuncs.specs.Arguments.{IsGiven};
+ghost use Rattle.pj_xvalue.specs.Arguments.{IsGiven};
 ghost use Rattle.pj_xfuncs.specs.Spaces.{behind_space};
 ghost use Rattle.pj_xfuncs.specs.Strings.{is_space as is_space_of, normalize_space as normalize_space_of, words};
 
-use crate::arguments::{optional_string, spelled};
 use crate::characters::characters;
 use pj_base::NoMemory;
-use pj_xvalue::{Sequence, XFault};
+use pj_xvalue::{Sequence, XFault, optional_string_argument, string_singleton};
 use std::alloc::Global;
 
 /// `normalize-space` of an argument.
@@ -20,10 +19,10 @@ pub(crate) fn normalize_space<'t>(
 ) -> Result<Sequence<'t>, XFault>
     ensures { IsGiven (normalize_space_of (values_of text.now)) (outcome values_of result) }
 {
-    let whole = optional_string(text)?;
+    let whole = optional_string_argument(text)?;
     let all = characters(alloc, whole)?;
     let words = words_joined(alloc, &all)?;
-    Ok(spelled(alloc, words)?)
+    Ok(string_singleton(alloc, words)?)
 }
 
 /// The words of the text with one space between each two.
@@ -72,6 +71,7 @@ impl Between {
     }
 }
 
+/// Whether a character is white space (XML 1.0, 2.3).
 fn is_space(c: char) -> bool
     ensures { result ≡ is_space_of c }
 {

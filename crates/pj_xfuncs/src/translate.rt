@@ -2,14 +2,13 @@
 ghost use Rattle.std.specs.Prelude.{◌≡◌, ℕ, flat_map, encode_utf8_all, IfOk, OnOk, option_to_list, string_bytes};
 ghost use Rattle.pj_xvalue.specs.Items.{values_of};
 ghost use Rattle.pj_xvalue.specs.Replies.{outcome};
-ghost use Rattle.pj_xfuncs.specs.Arguments.{IsGiven};
+ghost use Rattle.pj_xvalue.specs.Arguments.{IsGiven};
 ghost use Rattle.pj_xfuncs.specs.Strings.{at_place_in, other_of, translate as translate_of};
 ghost use Rattle.pj_xfuncs.specs.Translate.{AreFirstPlaces, or_here, place_in};
 
-use crate::arguments::{optional_string, spelled, string};
 use crate::characters::characters;
 use pj_base::NoMemory;
-use pj_xvalue::{Sequence, XFault};
+use pj_xvalue::{Sequence, XFault, optional_string_argument, string_argument, string_singleton};
 use std::alloc::Global;
 use std::collections::BTreeMap;
 
@@ -22,14 +21,14 @@ pub(crate) fn translate<'t>(
 ) -> Result<Sequence<'t>, XFault>
     ensures { IsGiven (translate_of (values_of text.now) (values_of from.now) (values_of to.now)) (outcome values_of result) }
 {
-    let whole = optional_string(text)?;
-    let sought = string(from)?;
-    let others = string(to)?;
+    let whole = optional_string_argument(text)?;
+    let sought = string_argument(from)?;
+    let others = string_argument(to)?;
     let all = characters(alloc, whole)?;
     let keys = characters(alloc, sought)?;
     let values = characters(alloc, others)?;
     let changed = translated(alloc, &all, &keys, &values)?;
-    Ok(spelled(alloc, changed)?)
+    Ok(string_singleton(alloc, changed)?)
 }
 
 /// Each character of the text by the one that stands for it.

@@ -1,3 +1,4 @@
 pub mod Forms
 pub mod Lookups
 pub mod PatternFacts
+pub mod Pieces

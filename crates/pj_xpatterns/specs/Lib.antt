@@ -1,6 +1,8 @@
-pub mod Forms
-pub mod Keys
+-- definitions
 pub mod Meaning
-pub mod Pieces
+pub mod Patterns
 pub mod Refusing
 pub mod Written
+-- for private clauses
+pub mod Forms
+pub mod Keys

@@ -38,18 +38,21 @@ impl PatternFlags {
     }
 }
 
+/// Whether each letter is a flag.
 fn are_flags(letters: &[u8]) -> bool
     ensures { result ≡ list_all is_flag letters.now }
 {
     letters.iter().all(|letter| is_flag(*letter))
 }
 
+/// Whether a letter is a flag (XPath Functions and Operators, 7.6.1.1).
 fn is_flag(letter: u8) -> bool
     ensures { result ≡ is_flag letter }
 {
     letter == b'i' || letter == b'm' || letter == b's'
 }
 
+/// Whether a letter is among some.
 fn has_letter(letter: u8, letters: &[u8]) -> bool
     ensures { result ≡ has_letter letter letters.now }
 {

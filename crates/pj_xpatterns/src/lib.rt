@@ -1,12 +1,14 @@
-//! XPath: the patterns of `matches`, `replace` and `tokenize`, each compiled once.
+//! XPath: `matches`, `replace` and `tokenize`, and their patterns, each compiled once.
 #![tactic(auto)]
 
 mod compiled;
 mod flags;
+mod matching;
 mod own;
 mod patterns;
 mod written;
 
 pub use compiled::{CompiledPattern, PatternFault};
 pub use flags::PatternFlags;
+pub use matching::{matches, replace, tokenize};
 pub use patterns::Patterns;

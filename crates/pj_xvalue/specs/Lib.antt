@@ -1,12 +1,15 @@
+-- definitions
+pub mod Arguments
 pub mod Atomic
 pub mod Attributes
 pub mod Boolean
 pub mod Comparison
-pub mod Deciding
 pub mod Expressions
 pub mod Functions
 pub mod Items
 pub mod Modifiers
+pub mod Names
 pub mod OfTree
-pub mod OfTreeLaws
 pub mod Replies
+-- laws
+pub mod Deciding

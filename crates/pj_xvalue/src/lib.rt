@@ -1,9 +1,11 @@
 //! XPath: values, and the expressions that the parser makes and the evaluator reads.
 //!
 //! Items and sequences with their effective boolean value and their general comparison, the errors, the axes and
-//! functions, expressions, and the two traits by which an evaluator asks for attributes and for the functions of PMD.
+//! functions with their names, what parameters take of arguments, expressions, and the two traits by which an evaluator asks for
+//! attributes and for the functions of PMD.
 #![tactic(auto)]
 
+mod arguments;
 mod axis;
 mod boolean;
 mod calls;
@@ -12,13 +14,19 @@ mod expr;
 mod fault;
 mod function;
 mod item;
-mod law;
+mod laws;
 mod modifiers;
+mod name;
 mod operator;
 mod pmd_function;
 mod sequence;
 mod value;
 
+pub use arguments::{
+    atomic_argument, boolean_singleton, count_singleton, integer_argument, integer_singleton,
+    integers_argument, optional_integer_argument, optional_string_argument, singleton,
+    string_argument, string_singleton,
+};
 pub use axis::Axis;
 pub use boolean::boolean_value;
 pub use calls::{Attributes, Calls};
@@ -27,8 +35,9 @@ pub use expr::{Additive, Expr, Multiplicative, NodeTest, Quantifier, SetOperator
 pub use fault::{XCode, XFault};
 pub use function::Function;
 pub use item::{Arguments, BoundVars, Item, Sequence};
-pub use law::pairs_decide;
+pub use laws::pairs_decide;
 pub use modifiers::{Modifier, Modifiers};
+pub use name::{Callee, axis_named, function_named};
 pub use operator::Compare;
 pub use pmd_function::PmdFunction;
 pub use sequence::{are_nodes, has_node, have_no_attribute};

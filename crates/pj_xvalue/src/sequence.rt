@@ -6,18 +6,21 @@ ghost use Rattle.pj_xvalue.specs.Items.{value_of_item, values_of, is_node, is_at
 
 use crate::item::Item;
 
+/// Whether each item is a node.
 fn is_each_node(items: &[Item<'_>]) -> bool
     ensures { result ≡ list_all (λ item. is_node (value_of_item item)) items.now }
 {
     items.iter().all(|item| item.is_node())
 }
 
+/// Whether an item is a node.
 fn is_some_node(items: &[Item<'_>]) -> bool
     ensures { result ≡ list_any (λ item. is_node (value_of_item item)) items.now }
 {
     items.iter().any(|item| item.is_node())
 }
 
+/// Whether no item is an attribute.
 fn is_each_no_attribute(items: &[Item<'_>]) -> bool
     ensures { result ≡ list_all (λ item. not (is_attribute (value_of_item item))) items.now }
 {

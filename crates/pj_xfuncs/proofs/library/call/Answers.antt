@@ -2,7 +2,7 @@ use Rattle.std.proofs.Common.{List, map, subst}
 use Rattle.pj_xvalue.specs.declared.item.Item.{Item}
 use Rattle.pj_xvalue.specs.Items.{values_of}
 use Rattle.pj_xvalue.specs.Replies.{outcome}
-use Rattle.pj_xfuncs.specs.Arguments.{IsGiven}
+use Rattle.pj_xvalue.specs.Arguments.{IsGiven}
 use Rattle.pj_xfuncs.specs.Library.{called}
 use Rattle.pj_xfuncs.proofs.OfTree.{returned-of_tree}
 use Rattle.pj_xfuncs.proofs.library.call.Goals as goal

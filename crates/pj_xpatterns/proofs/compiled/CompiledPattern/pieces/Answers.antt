@@ -3,7 +3,7 @@ use Rattle.std.proofs.Math.Logic.{∥∥₁_elim}
 use Rattle.std.proofs.Props.{props}
 use Rattle.regex.specs.Patterns.{Re, find_all_str}
 use Rattle.regex.specs.Search.{gaps}
-use Rattle.pj_xpatterns.specs.Pieces.{texts_left}
+use Rattle.pj_xpatterns.proofs.Pieces.{texts_left}
 use Rattle.pj_xpatterns.proofs.PatternFacts.{pieces-compiled}
 use Rattle.pj_xpatterns.proofs.compiled.CompiledPattern.pieces.Goals as goal
 

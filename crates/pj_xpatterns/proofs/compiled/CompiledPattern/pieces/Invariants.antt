@@ -1,5 +1,5 @@
 use Rattle.std.proofs.Common.{◌≡◌, ◌++◌}
-use Rattle.pj_xpatterns.specs.Pieces.{texts_left}
+use Rattle.pj_xpatterns.proofs.Pieces.{texts_left}
 use Rattle.pj_xpatterns.proofs.compiled.CompiledPattern.pieces.Given as goal
 
 abbrev pub invariant-loop-piece : goal.invariant-loop-piece

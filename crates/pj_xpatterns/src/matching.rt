@@ -4,17 +4,21 @@ ghost use Rattle.std.specs.List.{list_any};
 ghost use Rattle.std.specs.Option.{option_map};
 ghost use Rattle.pj_xvalue.specs.Items.{String as StringValue, values_of};
 ghost use Rattle.pj_xvalue.specs.Replies.{outcome};
-ghost use Rattle.pj_xfuncs.specs.Arguments.{IsGiven, seen_as};
-ghost use Rattle.pj_xfuncs.specs.Patterns.{flags_in as flags_in_of, is_mark, known as known_of, matches as matches_of, never_empty, plain, replace as replace_of, tokenize as tokenize_of};
+ghost use Rattle.pj_xvalue.specs.Arguments.{IsGiven, seen_as};
+ghost use Rattle.pj_xpatterns.specs.Patterns.{flags_in as flags_in_of, is_mark, known as known_of, matches as matches_of, never_empty, plain, replace as replace_of, tokenize as tokenize_of};
 
-use crate::arguments::{one, optional_string, string, truth};
+use crate::compiled::CompiledPattern;
+use crate::flags::PatternFlags;
+use crate::patterns::Patterns;
 use pj_base::{Names, NoMemory};
-use pj_xpatterns::{CompiledPattern, PatternFlags, Patterns};
-use pj_xvalue::{Item, Sequence, XCode, XFault};
+use pj_xvalue::{
+    Item, Sequence, XCode, XFault, boolean_singleton, optional_string_argument, singleton,
+    string_argument,
+};
 use std::alloc::Global;
 
 /// `matches`.
-pub(crate) fn matches<'t>(
+pub fn matches<'t>(
     alloc: Global,
     patterns: &Patterns,
     text: &Sequence<'_>,
@@ -23,16 +27,16 @@ pub(crate) fn matches<'t>(
 ) -> Result<Sequence<'t>, XFault>
     ensures { IsGiven (matches_of patterns.now (values_of text.now) (values_of pattern.now) (option_map (λ items. values_of items.now) flags.entry)) (outcome values_of result) }
 {
-    let input = optional_string(text)?;
-    let sought = string(pattern)?;
+    let input = optional_string_argument(text)?;
+    let sought = string_argument(pattern)?;
     let wanted = flags_in(flags)?;
     let compiled = known(alloc, patterns, sought, wanted)?;
     let is_found = compiled.is_found(alloc, input)?;
-    Ok(truth(alloc, is_found)?)
+    Ok(boolean_singleton(alloc, is_found)?)
 }
 
 /// `replace`.
-pub(crate) fn replace<'t>(
+pub fn replace<'t>(
     alloc: Global,
     patterns: &Patterns,
     text: &Sequence<'_>,
@@ -42,17 +46,17 @@ pub(crate) fn replace<'t>(
 ) -> Result<Sequence<'t>, XFault>
     ensures { IsGiven (replace_of patterns.now (values_of text.now) (values_of pattern.now) (values_of replacement.now) (option_map (λ items. values_of items.now) flags.entry)) (outcome values_of result) }
 {
-    let input = optional_string(text)?;
-    let sought = string(pattern)?;
-    let by = plain(string(replacement)?)?;
+    let input = optional_string_argument(text)?;
+    let sought = string_argument(pattern)?;
+    let by = plain(string_argument(replacement)?)?;
     let wanted = flags_in(flags)?;
     let compiled = never_empty(alloc, known(alloc, patterns, sought, wanted)?)?;
     let replaced = compiled.replaced(alloc, by, input)?;
-    Ok(one(alloc, Item::Str(replaced))?)
+    Ok(singleton(alloc, Item::Str(replaced))?)
 }
 
 /// `tokenize`.
-pub(crate) fn tokenize<'t>(
+pub fn tokenize<'t>(
     alloc: Global,
     patterns: &Patterns,
     text: &Sequence<'_>,
@@ -61,8 +65,8 @@ pub(crate) fn tokenize<'t>(
 ) -> Result<Sequence<'t>, XFault>
     ensures { IsGiven (tokenize_of patterns.now (values_of text.now) (values_of pattern.now) (option_map (λ items. values_of items.now) flags.entry)) (outcome values_of result) }
 {
-    let input = optional_string(text)?;
-    let sought = string(pattern)?;
+    let input = optional_string_argument(text)?;
+    let sought = string_argument(pattern)?;
     let wanted = flags_in(flags)?;
     let compiled = never_empty(alloc, known(alloc, patterns, sought, wanted)?)?;
     if input.is_empty() {
@@ -78,7 +82,7 @@ fn flags_in(flags: Option<&Sequence<'_>>) -> Result<PatternFlags, XCode>
 {
     match flags {
         None => Ok(PatternFlags::NONE),
-        Some(items) => match PatternFlags::of(string(items)?) {
+        Some(items) => match PatternFlags::of(string_argument(items)?) {
             Some(flags) => Ok(flags),
             None => Err(XCode::XPTY0004),
         },
@@ -123,12 +127,14 @@ fn plain(text: &str) -> Result<&str, XCode>
     Ok(text)
 }
 
+/// Whether such a byte is among some.
 fn has_mark(bytes: &[u8]) -> bool
     ensures { result ≡ list_any is_mark bytes.now }
 {
     bytes.iter().any(|byte| is_mark(*byte))
 }
 
+/// Whether a byte means something in what matches are replaced by.
 fn is_mark(byte: u8) -> bool
     ensures { result ≡ is_mark byte }
 {

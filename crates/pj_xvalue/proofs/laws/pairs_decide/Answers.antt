@@ -1,5 +1,5 @@
 use Rattle.pj_xvalue.proofs.Pairs.{to_compares, from_compares, to_fails, from_fails, to_none, from_none}
-use Rattle.pj_xvalue.proofs.law.pairs_decide.Goals as goal
+use Rattle.pj_xvalue.proofs.laws.pairs_decide.Goals as goal
 
 pub returns-clause-compares : goal.returns-clause-compares
 returns-clause-compares c = λ op left right. (to_compares op left right, from_compares op left right)

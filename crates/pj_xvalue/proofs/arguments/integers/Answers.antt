@@ -1,8 +1,8 @@
 use Rattle.std.proofs.Common.{◌≡◌, ◌++◌, ◌∷◌, [], ap, arith, rules}
 use Rattle.pj_xvalue.specs.Items.{value_of_item, values_of}
-use Rattle.pj_xfuncs.specs.Arguments.{integers}
-use Rattle.pj_xfuncs.proofs.Gathering.{integers-more}
-use Rattle.pj_xfuncs.proofs.arguments.integers.Goals as goal
+use Rattle.pj_xvalue.specs.Arguments.{integers}
+use Rattle.pj_xvalue.proofs.Integers.{integers-more}
+use Rattle.pj_xvalue.proofs.arguments.integers.Goals as goal
 
 pub loop-item-preserved : goal.loop-item-preserved
 loop-item-preserved c =

@@ -1,11 +1,11 @@
 -- What stays of the tree.
-use Rattle.std.specs.Prelude.{◌≡◌, ℕ, List, [], ◌∷◌, ◌++◌, map, length, refl, Bool, true, false, not, ◌&&◌, IsTrue}
-use Rattle.std.specs.List.{All, AllByRecursion, list_all}
+use Rattle.std.specs.Prelude.{◌≡◌, ℕ, List, [], ◌∷◌, ◌++◌, map, length, IsTrue}
+use Rattle.std.specs.List.{All, AllByRecursion}
 use Rattle.std.proofs.Common.{sym, ◌∙◌, ap, subst, ◌<◌, get_or}
 use Rattle.std.proofs.lemmas.List.Elements.{All-from_recursion, recursion_from_All, All-nil, All-cons, All-append}
 use Rattle.std.proofs.lemmas.List.{length-map, get_or-map}
 use Rattle.pj_xvalue.specs.declared.item.Item.{Item}
-use Rattle.pj_xvalue.specs.Items.{ItemValue, Document, Element, Attribute, String, Integer, Boolean, is_node, are_atomic, value_of_item, values_of, IsOfTree, AreOfTree}
+use Rattle.pj_xvalue.specs.Items.{ItemValue, Document, Element, Attribute, String, Integer, Boolean, are_atomic, value_of_item, values_of, IsOfTree, AreOfTree}
 use Rattle.pj_xvalue.specs.OfTree.{OfTree, ArgumentsOfTree, VariablesOfTree}
 
 pub of_tree-nil : (n : ℕ) → OfTree n []

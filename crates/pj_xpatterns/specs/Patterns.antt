@@ -6,7 +6,7 @@ use Rattle.pj_xvalue.specs.declared.fault.XCode.TheVariants.{FORX0003, XPTY0004}
 use Rattle.pj_xvalue.specs.Items.{ItemValue, String}
 use Rattle.pj_xpatterns.specs.declared.flags.PatternFlags.{PatternFlags}
 use Rattle.pj_xpatterns.specs.Meaning.{Pattern, flags_of, no_flags, has, is_found, pieces_between, with_replaced}
-use Rattle.pj_xfuncs.specs.Arguments.{Text, and_then, optional_string, string, one, truth}
+use Rattle.pj_xvalue.specs.Arguments.{Text, and_then, optional_string, string, one, truth}
 
 abbrev pub flags_or_code : Option PatternFlags → Result PatternFlags XCode
 flags_or_code (Some flags) = Ok flags
