@@ -9,7 +9,7 @@ use Rattle.pj_ll.specs.Predictive.{RuleFacts, fact_at, IsIn, nullable_of, first_
 use Rattle.pj_ll.specs.Parsing.{IsNext, IsStacked, AreStacked, IsStack}
 use Rattle.pj_ll.proofs.Lists.{some_one, in_left, in_right, cond_in, and_both}
 use Rattle.pj_ll.proofs.Sets.{nullable_both, first_append}
-use Rattle.pj_ll.proofs.Composing.{line_there}
+use Rattle.pj_ll.proofs.Lines.{line_there}
 
 next_stays : (fs : List RuleFacts) (ss : List Symbol) (a : ℕ) → IsNext [] ss (Some a) → IsIn (first_of fs ss) a
 next_stays fs [] a h = absurd (let z = h in cc)

@@ -7,7 +7,8 @@ use Rattle.pj_ll.specs.Grammar.{Entry, Grammar, line_of, grammar_of}
 use Rattle.pj_ll.specs.Leads.{Leads, stay, take_terminal, close, expand}
 use Rattle.pj_ll.specs.Predictive.{RuleFacts, fact_at, AreFollowed, AreBelow, HaveNoLeftOut, IsPredictive}
 use Rattle.pj_ll.specs.Parsing.{AreStacked}
-use Rattle.pj_ll.proofs.Composing.{join, frame, line_at}
+use Rattle.pj_ll.specs.Composing.{join, frame}
+use Rattle.pj_ll.proofs.Lines.{line_at}
 
 -- the symbols derive some terminals
 pub record Finishes (g : Grammar) (ss : List Symbol) : Type 0 where

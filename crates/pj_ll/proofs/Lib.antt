@@ -1,8 +1,9 @@
 pub mod Lists
 pub mod Sets
-pub mod Composing
+pub mod Lines
 pub mod Chosen
 pub mod Moving
+pub mod Kept
 pub mod Finishing
 pub mod Stacking
 pub mod Choices

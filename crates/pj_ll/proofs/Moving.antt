@@ -4,7 +4,7 @@ use Rattle.std.specs.Prelude.{slice_get}
 use Rattle.pj_ll.specs.declared.grammar.Symbol.{Symbol}
 use Rattle.pj_ll.specs.declared.grammar.Symbol.TheVariants.{Terminal, LeftOut, Close}
 use Rattle.pj_ll.specs.Grammar.{Entry, Grammar, Line, grammar_of}
-use Rattle.pj_ll.proofs.Composing.{line_there}
+use Rattle.pj_ll.proofs.Lines.{line_there}
 use Rattle.pj_ll.specs.Leads.{Leads, stay, take_terminal, close, expand, Behind, at_start, behind, start}
 use Rattle.pj_ll.specs.Predictive.{RuleFacts, IsPredictive}
 use Rattle.pj_ll.specs.Parsing.{IsNext, Moves, rests, closes_one, replaces, IsSettled, IsStacked, AreStacked, IsStack}

@@ -14,7 +14,8 @@ use Rattle.pj_ll.specs.Predictive.{RuleFacts, IsPredictive}
 use Rattle.pj_ll.specs.Stack.{behind_top}
 use Rattle.pj_ll.specs.Parsing.{IsNext, IsStack, HasMoved, HasComeTo, HasEnded}
 use Rattle.pj_ll.proofs.Lists.{some_same, take_push}
-use Rattle.pj_ll.proofs.Composing.{join, and_move, behind_leads, moves_lead}
+use Rattle.pj_ll.specs.Composing.{join, and_move, behind_leads}
+use Rattle.pj_ll.proofs.Lines.{moves_lead}
 use Rattle.pj_ll.proofs.Chosen.{none_first, start_stacked}
 use Rattle.pj_ll.proofs.Moving.{same_way, taken, left_out_on_top, ended, one_behind}
 use Rattle.pj_ll.proofs.Finishing.{finish_stack}

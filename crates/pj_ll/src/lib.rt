@@ -3,7 +3,7 @@
 //!
 //! What a grammar derives is the relation `Leads` of `specs/Leads.antt`, and how a run of the parser ends is said in
 //! `specs/Outcome.antt`, for every grammar. `specs/Predictive.antt` says for which grammars and select sets the parser is
-//! exact; `proofs/Decided.antt` has the test by which a table of productions is shown to be such a grammar.
+//! exact; `specs/Test.antt` has the test by which a table of productions is shown to be such a grammar.
 //!
 //! `parse` keeps the symbols that are still to come on a stack on the heap, so nesting in the text costs no stack of calls. Its
 //! time is linear in the terminals; no clause says this.
@@ -17,6 +17,6 @@ mod stack;
 mod table;
 
 pub use grammar::{Piece, Symbol};
-pub use laws::{one_derivation, one_end};
+pub use laws::{derived_is_not_left_out, one_derivation, one_end, tested_tables_are_predictive};
 pub use parser::{End, Run, parse};
 pub use table::Table;

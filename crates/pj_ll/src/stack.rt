@@ -12,7 +12,7 @@ use std::marker::Model;
 /// The symbols that are still to come. Clauses see the next one first.
 #[derive(Drop)]
 pub struct Stack {
-    // the next symbol stands last
+    /// The next symbol stands last.
     symbols: Vec<Symbol>,
     ends: usize,
 }

@@ -15,7 +15,7 @@ use std::marker::Model;
 #[derive(Drop)]
 pub struct Table {
     productions: Vec<Production>,
-    // for each rule the choices by their columns
+    /// For each rule the choices by their columns.
     rows: Vec<Vec<Option<u16>>>,
 }
 

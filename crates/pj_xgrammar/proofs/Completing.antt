@@ -8,7 +8,7 @@ use Rattle.pj_ll.specs.declared.grammar.Symbol.{Symbol}
 use Rattle.pj_ll.specs.declared.grammar.Symbol.TheVariants.{Terminal, Rule, LeftOut, Close}
 use Rattle.pj_ll.specs.Grammar.{Grammar, Line}
 use Rattle.pj_ll.specs.Leads.{Leads, stay, take_terminal, close, expand}
-use Rattle.pj_ll.proofs.Composing.{join, frame}
+use Rattle.pj_ll.specs.Composing.{join, frame}
 use Rattle.pj_xtokens.specs.Tokens.{Lexed}
 use Rattle.pj_xtokens.specs.declared.token.Sign.TheVariants as s
 use Rattle.pj_xgrammar.specs.declared.terminal.Behind.{Behind}

@@ -1,5 +1,8 @@
+pub mod Apart
 pub mod Completing
+pub mod Deeper
 pub mod Endings
+pub mod LeftOutNumbers
 pub mod Lifting
 pub mod Numbers
 pub mod OneOutcome
@@ -7,6 +10,7 @@ pub mod OneRun
 pub mod Outcomes
 pub mod Reading
 pub mod RuleFacts
+pub mod RunsFirst
 pub mod SameTable
 pub mod Standing
 pub mod Tried

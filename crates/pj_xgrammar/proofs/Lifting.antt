@@ -1,7 +1,7 @@
 -- From the terminals of tokens to the tokens.
 use Rattle.std.proofs.Common.{◌≡◌, ℕ, List, [], ◌∷◌, ◌++◌, refl, sym, ap, subst, ◌∙◌, append_assoc}
 use Rattle.pj_ll.specs.Leads.{Leads, take_terminal, start, IsSentence}
-use Rattle.pj_ll.proofs.Composing.{join}
+use Rattle.pj_ll.specs.Composing.{join}
 use Rattle.pj_xtokens.specs.Tokens.{Lexed}
 use Rattle.pj_xgrammar.specs.declared.terminal.Behind.{Behind}
 use Rattle.pj_xgrammar.specs.declared.terminal.Behind.TheVariants as b

@@ -1,8 +1,8 @@
 -- From how a run of the parser over terminals ends to the outcome for the tokens.
-use Rattle.std.proofs.Common.{◌≡◌, ℕ, zero, suc, ◌+◌, ◌<◌, ◌≤◌, ◌⊎◌, inl, inr, ⊎_elim, List, [], ◌∷◌, ◌++◌, map, length, take, get_or, Option, None, Some, refl, sym, ap, subst, ◌∙◌, append_assoc, arith}
-use Rattle.std.specs.Prelude.{slice_get}
+use Rattle.std.proofs.Common.{◌≡◌, ℕ, zero, suc, ◌+◌, ◌<◌, ◌≤◌, ◌⊎◌, inl, inr, ⊎_elim, Bool, true, false, cond, List, [], ◌∷◌, ◌++◌, map, length, take, get_or, Option, None, Some, refl, sym, ap, subst, ◌∙◌, append_assoc, arith}
+use Rattle.std.specs.Prelude.{nat_eq, slice_get}
 use Rattle.std.proofs.lemmas.List.{length-append}
-use Rattle.std.proofs.lemmas.Bool.{cases_lt}
+use Rattle.std.proofs.lemmas.Bool.{cases_lt, false≢true}
 use Rattle.std.specs.Option.{option_map}
 use Rattle.std.proofs.lemmas.Option.{slice_get_within, slice_get-map, slice_get-get_or}
 use Rattle.std.proofs.Math.Seq.{take-append_seam, take-append-add}
@@ -10,15 +10,17 @@ use Rattle.pj_ll.specs.declared.parser.End.{End}
 use Rattle.pj_ll.specs.declared.parser.End.TheVariants as e
 use Rattle.pj_ll.specs.Leads.{IsSentence}
 use Rattle.pj_ll.specs.Outcome as ll
-use Rattle.pj_ll.proofs.Composing.{behind_leads}
+use Rattle.pj_ll.specs.Composing.{behind_leads}
 use Rattle.pj_xtokens.specs.Tokens.{Lexed}
+use Rattle.pj_xtokens.specs.declared.token.TokenKind.{TokenKind}
+use Rattle.pj_xtokens.specs.declared.token.TokenKind.TheVariants as kinds
 use Rattle.pj_xgrammar.specs.declared.terminal.Behind.{Behind}
 use Rattle.pj_xgrammar.specs.declared.terminal.Behind.TheVariants as b
-use Rattle.pj_xgrammar.specs.Terminals.{first_behind, behind_of, numbers_before, numbers}
+use Rattle.pj_xgrammar.specs.Terminals.{begins_step, first_behind, behind_of, kind_behind, numbers_before, numbers}
 use Rattle.pj_xgrammar.specs.XPath.{xpath_grammar}
-use Rattle.pj_xgrammar.specs.Expressions.{CanGoOn, IsWhole, CannotFollow, IsLeftOutFirst, IsTooDeepFirst, IsLeftOut, IsTooDeep, AreClear, IsOutcome, LeadTo}
-use Rattle.pj_xgrammar.specs.Following.{IsReadAt, CouldFollow}
-use Rattle.pj_xgrammar.proofs.Reading.{number, numbers_append}
+use Rattle.pj_xgrammar.specs.Expressions.{CanGoOn, IsWhole, CannotFollow, IsLeftOutFirst, IsTooDeepFirst, IsLeftOut, IsTooDeep, AreClear, is_left_out_kind, is_left_out_token, stands_apart, IsOutcome, LeadTo}
+use Rattle.pj_xgrammar.specs.Following.{IsReadAt, CouldFollow, HasOutcome}
+use Rattle.pj_xgrammar.proofs.Reading.{number, numbers_append, is_calm, keep, keeps}
 use Rattle.pj_xgrammar.proofs.Widening.{reached}
 use Rattle.pj_xgrammar.proofs.Lifting.{Goes, numbers_at, up, down, lifted}
 
@@ -68,16 +70,63 @@ before_goes tokens i le go =
 pub whole : (tokens : List Lexed) → ll.IsWhole xpath_grammar (numbers tokens) 200 → IsWhole tokens
 whole tokens w = record { expression = w.sentence; clear = subst (λ n. AreClear tokens (n + 1)) (length_numbers b.End tokens) w.clear }
 
-pub left_out : (tokens : List Lexed) (i : ℕ) → ll.IsLeftOutFirst xpath_grammar (numbers tokens) 200 i → IsLeftOutFirst tokens i
-left_out tokens i o =
+left_out_within : (tokens : List Lexed) (i : ℕ) → ll.IsLeftOutFirst xpath_grammar (numbers tokens) 200 i → i < length tokens
+left_out_within tokens i o =
     let (t, at, it) = o.left_out in
-    let within : i < length tokens = subst (λ n. i < n) (length_numbers b.End tokens) (slice_get_within (numbers tokens) i t at) in
-    record { before = before_goes tokens i (omega arith) o.before; left_out = o.left_out; clear = o.clear }
+    subst (λ n. i < n) (length_numbers b.End tokens) (slice_get_within (numbers tokens) i t at)
 
-pub too_deep : (tokens : List Lexed) (i : ℕ) → ll.IsTooDeepFirst xpath_grammar (numbers tokens) 200 i → IsTooDeepFirst tokens i
-too_deep tokens i o =
+pub left_out : (tokens : List Lexed) (i : ℕ) → ll.IsLeftOutFirst xpath_grammar (numbers tokens) 200 i → (IsTooDeep tokens i → stands_apart tokens i ≡ false) →
+    IsLeftOutFirst tokens i
+left_out tokens i o reached =
+    let within = left_out_within tokens i o in
+    record { before = before_goes tokens i (omega arith) o.before; left_out = inl o.left_out; reached = reached; clear = o.clear }
+
+-- what is left out stands behind white space or a comment, before which too much is open
+pub deep_before : (tokens : List Lexed) (i : ℕ) → ll.IsLeftOutFirst xpath_grammar (numbers tokens) 200 i → IsTooDeep tokens i → stands_apart tokens i ≡ true →
+    IsTooDeepFirst tokens i
+deep_before tokens i o deep apart =
+    let within = left_out_within tokens i o in
+    record { within = omega arith; before = before_goes tokens i (omega arith) o.before; deep = deep; reached = λ _. apart; clear = o.clear }
+
+-- nothing is left out there but a number, if one stands there behind white space or a comment
+pub too_deep : (tokens : List Lexed) (i : ℕ) → ll.IsTooDeepFirst xpath_grammar (numbers tokens) 200 i →
+    (is_left_out_token (slice_get tokens i) ≡ true → stands_apart tokens i ≡ true) → IsTooDeepFirst tokens i
+too_deep tokens i o number_apart =
     let within : i ≤ length tokens = subst (λ n. i ≤ n) (length_numbers b.End tokens) o.within in
-    record { within = within; before = before_goes tokens i within o.before; deep = o.deep; here = o.here; clear = o.clear }
+    record { within = within; before = before_goes tokens i within o.before; deep = o.deep; reached = λ out. apart out; clear = o.clear }
+  where
+    apart : IsLeftOut tokens i → stands_apart tokens i ≡ true
+    apart (inl out) = absurd (o.here out)
+    apart (inr is) = number_apart is
+
+-- a number stands there right behind the token before it
+pub number_where_deep : (tokens : List Lexed) (i : ℕ) → ll.IsTooDeepFirst xpath_grammar (numbers tokens) 200 i → is_left_out_token (slice_get tokens i) ≡ true →
+    stands_apart tokens i ≡ false → IsLeftOutFirst tokens i
+number_where_deep tokens i o is joined =
+    let within : i ≤ length tokens = subst (λ n. i ≤ n) (length_numbers b.End tokens) o.within in
+    record { before = before_goes tokens i within o.before; left_out = inr is; reached = λ _. joined; clear = o.clear }
+
+-- a number stands where the run stopped
+pub number_where_stopped : (tokens : List Lexed) (i : ℕ) → ll.StopsAt xpath_grammar (numbers tokens) 200 i → is_left_out_token (slice_get tokens i) ≡ true →
+    IsLeftOutFirst tokens i
+number_where_stopped tokens i o is =
+    let within : i ≤ length tokens = subst (λ n. i ≤ n) (length_numbers b.End tokens) o.within in
+    record {
+      before = before_goes tokens i within o.before;
+      left_out = inr is;
+      reached = λ deep. absurd (o.clear.not_too_deep i (omega arith) deep);
+      clear = record { not_left_out = λ j lt. o.clear.not_left_out j (omega arith); not_too_deep = λ j lt. o.clear.not_too_deep j (omega arith) };
+    }
+
+pub no_token_there : (tokens : List Lexed) (i : ℕ) → length tokens ≤ i → slice_get tokens i ≡ None
+no_token_there [] i past = refl
+no_token_there (x ∷ tokens) zero past = absurd (omega arith)
+no_token_there (x ∷ tokens) (suc i) past = no_token_there tokens i (omega arith)
+
+-- nothing is left out where the run stopped, if no number stands there
+kept_where_stopped : (tokens : List Lexed) (i : ℕ) → ll.StopsAt xpath_grammar (numbers tokens) 200 i → is_left_out_token (slice_get tokens i) ≡ false → IsLeftOut tokens i → ⊥
+kept_where_stopped tokens i o plain (inl out) = o.clear.not_left_out i (omega arith) out
+kept_where_stopped tokens i o plain (inr is) = false≢true (sym plain ∙ is)
 
 -- the end cannot follow
 pub stops_at_end : (tokens : List Lexed) (i : ℕ) → ll.StopsAt xpath_grammar (numbers tokens) 200 i → length tokens ≤ i → CannotFollow tokens i
@@ -89,6 +138,7 @@ stops_at_end tokens i o past =
       before = before_goes tokens i within o.before;
       token = λ lt. absurd (omega arith);
       at_end = λ is sentence. o.at_end (is ∙ sym count) sentence;
+      kept = λ out. kept_where_stopped tokens i o (ap is_left_out_token (no_token_there tokens i past)) out;
       clear = o.clear;
     }
 
@@ -109,6 +159,30 @@ place (y ∷ tokens) zero x there = record { before = []; behind = tokens; is = 
 place (y ∷ tokens) (suc i) x there =
     let p = place tokens i x there in
     record { before = y ∷ p.before; behind = p.behind; is = ap (λ l. y ∷ l) p.is; at = ap suc p.at }
+
+behind_of_front : (before : List Lexed) (x : Lexed) (behind : List Lexed) (i : ℕ) → length before ≡ i → slice_get (before ++ x ∷ behind) (suc i) ≡ slice_get behind 0
+behind_of_front [] x behind zero is = refl
+behind_of_front [] x behind (suc i) is = absurd (omega arith)
+behind_of_front (y ∷ before) x behind zero is = absurd (omega arith)
+behind_of_front (y ∷ before) x behind (suc i) is = behind_of_front before x behind i (omega arith)
+
+-- a number is a literal for the token before it
+literal_behind : (kind : TokenKind) (text : List ℕ) → is_left_out_kind kind ≡ true → kind_behind kind text ≡ b.Literal
+literal_behind kinds.Decimal text is = refl
+literal_behind kinds.Double text is = refl
+literal_behind kinds.Name text is = absurd (false≢true is)
+literal_behind kinds.Integer text is = absurd (false≢true is)
+literal_behind kinds.String text is = absurd (false≢true is)
+literal_behind (kinds.Sign s) text is = absurd (false≢true is)
+
+-- before which that is what it is before an ordinary name
+literal_keeps : (n : ℕ) → keeps n b.Literal ≡ true
+literal_keeps n = by (nat_eq n 0) (nat_eq n 15)
+  where
+    by : (c d : Bool) → cond c (is_calm b.Literal) (cond d (begins_step b.Literal) true) ≡ true
+    by true d = refl
+    by false true = refl
+    by false false = refl
 
 module _ (tokens : List Lexed) (i : ℕ) (x : Lexed) (p : Place tokens i x) where
   us : List ℕ
@@ -142,15 +216,17 @@ module _ (tokens : List Lexed) (i : ℕ) (x : Lexed) (p : Place tokens i x) wher
       omega arith
 
   -- the token could not follow whatever stood behind it
-  stops_here : ll.StopsAt xpath_grammar (numbers tokens) 200 i → (Goes (take i (numbers tokens) ++ number x b.Name ∷ []) → ⊥) → CannotFollow tokens i
+  stops_here : ll.StopsAt xpath_grammar (numbers tokens) 200 i → is_left_out_token (slice_get tokens i) ≡ false → (Goes (take i (numbers tokens) ++ number x b.Name ∷ []) → ⊥) →
+      CannotFollow tokens i
   unfolding us
-  stops_here o no_other =
+  stops_here o plain no_other =
       let within = is_within in
       record {
         within = omega arith;
         before = before_goes tokens i (omega arith) o.before;
         token = λ lt go. no_other (subst (λ l. Goes (l ++ number x b.Name ∷ [])) (sym numbers_to) (down p.before x (subst CanGoOn tokens_past go)));
         at_end = λ is. absurd (omega arith);
+        kept = λ out. kept_where_stopped tokens i o plain out;
         clear = o.clear;
       }
 
@@ -189,13 +265,32 @@ module _ (tokens : List Lexed) (i : ℕ) (x : Lexed) (p : Place tokens i x) wher
       below_or : (j : ℕ) → j < i + 1 + 1 → (j < i + 1) ⊎ (j ≡ i + 1)
       below_or j lt = ⊎_elim (λ (h : j < i + 1). inl h) (λ (h : i + 1 ≤ j). inr (let e : j ≡ i + 1 = omega arith in e)) (cases_lt j (i + 1))
 
-      left_out_no : (j : ℕ) → j ≡ i + 1 → IsLeftOut tokens j → ⊥
+      left_out_no : (j : ℕ) → j ≡ i + 1 → ll.IsLeftOutAt xpath_grammar (numbers tokens) j → ⊥
       left_out_no j is (t, at, (ps, (ss, d))) =
           not_before o (subst Goes (ap (λ n. take n (numbers tokens)) is ∙ numbers_past) (reached (take j (numbers tokens)) ps _ d))
 
       too_deep_no : (j : ℕ) → j ≡ i + 1 → IsTooDeep tokens j → ⊥
       too_deep_no j is (ps, (ss, stands, deeper)) =
           not_before o (subst Goes (ap (λ n. take n (numbers tokens)) is ∙ numbers_past) (reached (take j (numbers tokens)) ps ss (behind_leads xpath_grammar stands)))
+
+  token_behind : slice_get tokens (i + 1) ≡ slice_get p.behind 0
+  token_behind =
+      let next : i + 1 ≡ suc i = omega arith in
+      ap (slice_get tokens) next ∙ ap (λ l. slice_get l (suc i)) p.is ∙ behind_of_front p.before x p.behind i p.at
+
+  -- a number behind the token would leave it as it is before an ordinary name
+  no_number : ll.StopsAt xpath_grammar (numbers tokens) 200 i → Goes (us ++ number x b.Name ∷ []) → (behind : List Lexed) → p.behind ≡ behind →
+      is_left_out_token (slice_get behind 0) ≡ true → ⊥
+  unfolding us here
+  no_number o other [] none is = false≢true is
+  no_number o other (y ∷ behind) some is =
+      let literal : behind_of y ≡ b.Literal = literal_behind y.kind y.text is in
+      let same : number x b.Name ≡ here = sym (keep x b.Literal (literal_keeps (number x b.Name))) ∙ ap (number x) (sym literal) ∙ ap (λ l. number x (first_behind b.End l)) (sym some) in
+      not_before o (subst (λ t. Goes (us ++ t ∷ [])) same other)
+
+  kept_behind : ll.StopsAt xpath_grammar (numbers tokens) 200 i → Goes (us ++ number x b.Name ∷ []) → IsLeftOut tokens (i + 1) → ⊥
+  kept_behind o other (inl out) = (clear_further o).not_left_out (i + 1) (omega arith) out
+  kept_behind o other (inr is) = no_number o other p.behind refl (ap is_left_out_token (sym token_behind) ∙ is)
 
   stops_behind : ll.StopsAt xpath_grammar (numbers tokens) 200 i → Goes (take i (numbers tokens) ++ number x b.Name ∷ []) → CannotFollow tokens (i + 1)
   unfolding us
@@ -208,21 +303,15 @@ module _ (tokens : List Lexed) (i : ℕ) (x : Lexed) (p : Place tokens i x) wher
           numbers p.behind,
           subst (IsSentence xpath_grammar) (all_numbers ∙ sym (append_assoc us (here ∷ []) (numbers p.behind))) sentence,
         );
+        kept = λ out. kept_behind o (subst (λ l. Goes (l ++ number x b.Name ∷ [])) numbers_to other) out;
         clear = clear_further o;
       }
 
 -- ---- the outcome that is given
 
--- where the run did not stop, it is that of the run
-pub not_stopped : (tokens : List Lexed) (end : End) → ((i : ℕ) → end ≡ e.Stops i → ⊥) → ll.IsEnd xpath_grammar (numbers tokens) 200 end → IsOutcome tokens end
-not_stopped tokens e.Whole other o = whole tokens o
-not_stopped tokens (e.Stops i) other o = absurd (other i refl)
-not_stopped tokens (e.LeftOut i) other o = left_out tokens i o
-not_stopped tokens (e.TooDeep i) other o = too_deep tokens i o
-
 pub stopped_here : (tokens : List Lexed) (i : ℕ) (x : Lexed) → slice_get tokens i ≡ Some x → ll.StopsAt xpath_grammar (numbers tokens) 200 i →
-    (CouldFollow (numbers tokens) i x → ⊥) → CannotFollow tokens i
-stopped_here tokens i x at o other = stops_here tokens i x (place tokens i x at) o other
+    is_left_out_kind x.kind ≡ false → (CouldFollow (numbers tokens) i x → ⊥) → CannotFollow tokens i
+stopped_here tokens i x at o plain other = stops_here tokens i x (place tokens i x at) o (ap is_left_out_token at ∙ plain) other
 
 pub stopped_behind : (tokens : List Lexed) (i : ℕ) (x : Lexed) → slice_get tokens i ≡ Some x → ll.StopsAt xpath_grammar (numbers tokens) 200 i →
     CouldFollow (numbers tokens) i x → CannotFollow tokens (i + 1)
@@ -238,15 +327,54 @@ read_at (y ∷ tokens) zero x at = (first_behind b.End tokens, ap (λ o. read_of
     read_of (Some z) = Some (number z (first_behind b.End tokens))
 read_at (y ∷ tokens) (suc i) x at = read_at tokens i x at
 
--- the productions are those of the run
-pub same_leads : (tokens : List Lexed) (ps : List ℕ) (end : End) → ll.LeadTo xpath_grammar (numbers tokens) ps end → LeadTo tokens ps end
+-- ---- the productions that lead to it
+
+-- those of the run, where it is that of the run
+same_leads : (tokens : List Lexed) (ps : List ℕ) (end : End) → ll.LeadTo xpath_grammar (numbers tokens) ps end → LeadTo tokens ps end
 same_leads tokens ps e.Whole d = d
 same_leads tokens ps (e.Stops i) d = (i, omega arith, omega arith, d)
 same_leads tokens ps (e.LeftOut i) d = d
 same_leads tokens ps (e.TooDeep i) d = d
 
-pub leads_before : (tokens : List Lexed) (ps : List ℕ) (i : ℕ) → ll.LeadTo xpath_grammar (numbers tokens) ps (e.Stops i) → LeadTo tokens ps (e.Stops (i + 1))
-leads_before tokens ps i d = (i, omega arith, omega arith, d)
+as_run : (tokens : List Lexed) (end : End) → IsOutcome tokens end → HasOutcome tokens end end
+as_run tokens end is = record { is = is; leads = λ ps d. same_leads tokens ps end d }
+
+pub of_whole : (tokens : List Lexed) → ll.IsEnd xpath_grammar (numbers tokens) 200 e.Whole → HasOutcome tokens e.Whole e.Whole
+of_whole tokens o = as_run tokens e.Whole (whole tokens o)
+
+module _ (tokens : List Lexed) (i : ℕ) where
+  pub of_too_deep : ll.IsTooDeepFirst xpath_grammar (numbers tokens) 200 i → (is_left_out_token (slice_get tokens i) ≡ true → stands_apart tokens i ≡ true) →
+      HasOutcome tokens (e.TooDeep i) (e.TooDeep i)
+  of_too_deep o apart = as_run tokens (e.TooDeep i) (too_deep tokens i o apart)
+
+  pub of_too_deep_number : ll.IsTooDeepFirst xpath_grammar (numbers tokens) 200 i → is_left_out_token (slice_get tokens i) ≡ true → stands_apart tokens i ≡ false →
+      HasOutcome tokens (e.TooDeep i) (e.LeftOut i)
+  of_too_deep_number o is joined = record { is = number_where_deep tokens i o is joined; leads = λ ps d. d }
+
+  pub of_stop_number : (x : Lexed) → slice_get tokens i ≡ Some x → ll.StopsAt xpath_grammar (numbers tokens) 200 i → is_left_out_kind x.kind ≡ true →
+      HasOutcome tokens (e.Stops i) (e.LeftOut i)
+  of_stop_number x at o is = record { is = number_where_stopped tokens i o (ap is_left_out_token at ∙ is); leads = λ ps d. d }
+
+  pub of_stop_at_end : ll.StopsAt xpath_grammar (numbers tokens) 200 i → length tokens ≤ i → HasOutcome tokens (e.Stops i) (e.Stops i)
+  of_stop_at_end o past = as_run tokens (e.Stops i) (stops_at_end tokens i o past)
+
+  pub of_stop_here : (x : Lexed) → slice_get tokens i ≡ Some x → ll.StopsAt xpath_grammar (numbers tokens) 200 i → is_left_out_kind x.kind ≡ false →
+      (CouldFollow (numbers tokens) i x → ⊥) → HasOutcome tokens (e.Stops i) (e.Stops i)
+  of_stop_here x at o plain other = as_run tokens (e.Stops i) (stopped_here tokens i x at o plain other)
+
+  pub of_stop_behind : (x : Lexed) → slice_get tokens i ≡ Some x → ll.StopsAt xpath_grammar (numbers tokens) 200 i → CouldFollow (numbers tokens) i x →
+      HasOutcome tokens (e.Stops i) (e.Stops (i + 1))
+  of_stop_behind x at o could = record { is = stopped_behind tokens i x at o could; leads = λ ps d. (i, omega arith, omega arith, d) }
+
+  pub of_left_out_joined : ll.IsLeftOutFirst xpath_grammar (numbers tokens) 200 i → stands_apart tokens i ≡ false → HasOutcome tokens (e.LeftOut i) (e.LeftOut i)
+  of_left_out_joined o joined = as_run tokens (e.LeftOut i) (left_out tokens i o (λ _. joined))
+
+  pub of_left_out_shallow : ll.IsLeftOutFirst xpath_grammar (numbers tokens) 200 i → (IsTooDeep tokens i → ⊥) → HasOutcome tokens (e.LeftOut i) (e.LeftOut i)
+  of_left_out_shallow o shallow = as_run tokens (e.LeftOut i) (left_out tokens i o (λ deep. absurd (shallow deep)))
+
+  pub of_left_out_deep : ll.IsLeftOutFirst xpath_grammar (numbers tokens) 200 i → IsTooDeep tokens i → stands_apart tokens i ≡ true →
+      HasOutcome tokens (e.LeftOut i) (e.TooDeep i)
+  of_left_out_deep o deep apart = record { is = deep_before tokens i o deep apart; leads = λ ps d. d }
 
 -- an element of a list that is there, mapped
 pub mapped_at : {A : Type 0} (f : A → Lexed) (xs : List A) (i : ℕ) (x : A) → i < length xs → x ≡ get_or xs i x → slice_get (map f xs) i ≡ Some (f x)

@@ -9,7 +9,7 @@ use Rattle.pj_ll.specs.declared.grammar.Symbol.{Symbol}
 use Rattle.pj_ll.specs.declared.grammar.Symbol.TheVariants.{Terminal, Rule, LeftOut, Close}
 use Rattle.pj_ll.specs.Grammar.{Line}
 use Rattle.pj_ll.specs.Leads.{Leads, stay, take_terminal, close, expand, start, CanGoOn}
-use Rattle.pj_ll.proofs.Composing.{join, frame, and_take}
+use Rattle.pj_ll.specs.Composing.{join, frame, and_take}
 use Rattle.pj_xgrammar.specs.declared.word.Phrase.{Phrase}
 use Rattle.pj_xgrammar.specs.declared.word.Phrase.TheVariants as p
 use Rattle.pj_xgrammar.specs.declared.terminal.Behind.TheVariants as b

@@ -1,13 +1,16 @@
 -- Which tokens are an expression, which can begin one, and the first fault of those that are none.
 --
 -- A place is a number of tokens, from 0: that of the token there, and the number of all tokens for the end.
-use Rattle.std.specs.Prelude.{◌≡◌, ℕ, ◌+◌, ◌<◌, ◌≤◌, List, ◌++◌, length, take}
+use Rattle.std.specs.Prelude.{◌≡◌, ℕ, zero, suc, ◌+◌, ◌<◌, ◌≤◌, ◌⊎◌, Bool, true, false, nat_lt, List, ◌++◌, length, take, Option, Some, None, slice_get}
 use Rattle.pj_ll.specs.Leads.{Derives, IsSentence}
 use Rattle.pj_ll.specs.Outcome as terminals
 use Rattle.pj_ll.specs.Outcome.{IsLeftOutAt, IsTooDeepAt, AreClearBelow, LeadBehind}
 use Rattle.pj_ll.specs.declared.parser.End.{End}
 use Rattle.pj_ll.specs.declared.parser.End.TheVariants as ends
+use Rattle.pj_xtokens.specs.Size.{size}
 use Rattle.pj_xtokens.specs.Tokens.{Lexed}
+use Rattle.pj_xtokens.specs.declared.token.TokenKind.{TokenKind}
+use Rattle.pj_xtokens.specs.declared.token.TokenKind.TheVariants as kind
 use Rattle.pj_xgrammar.specs.Terminals.{numbers}
 use Rattle.pj_xgrammar.specs.XPath.{xpath_grammar}
 
@@ -26,43 +29,68 @@ IsExpression tokens = IsSentence xpath_grammar (numbers tokens)
 abbrev pub CanGoOn : List Lexed → Type 0
 CanGoOn tokens = (more : List Lexed) × IsExpression (tokens ++ more)
 
--- a construct that is left out begins at the place
+-- decimal and double numbers
+abbrev pub is_left_out_kind : TokenKind → Bool
+is_left_out_kind kind.Decimal = true
+is_left_out_kind kind.Double = true
+is_left_out_kind _ = false
+
+-- whether the token, if there is one, is such a number
+abbrev pub is_left_out_token : Option Lexed → Bool
+is_left_out_token None = false
+is_left_out_token (Some x) = is_left_out_kind x.kind
+
+-- A construct that is left out begins at the place: one that the grammar has there, or a decimal or double number, wherever it stands.
 abbrev pub IsLeftOut : List Lexed → ℕ → Type 0
-IsLeftOut tokens i = IsLeftOutAt xpath_grammar (numbers tokens) i
+IsLeftOut tokens i = IsLeftOutAt xpath_grammar (numbers tokens) i ⊎ (is_left_out_token (slice_get tokens i) ≡ true)
 
 -- at the place more is open than may be
 abbrev pub IsTooDeep : List Lexed → ℕ → Type 0
 IsTooDeep tokens i = IsTooDeepAt xpath_grammar (numbers tokens) greatest_nesting i
 
--- at each place below, nothing is left out and not too much is open
+-- at each place below, nothing that the grammar has there is left out, and not too much is open
 abbrev pub AreClear : List Lexed → ℕ → Type 0
 AreClear tokens i = AreClearBelow xpath_grammar (numbers tokens) greatest_nesting i
+
+-- whether white space or comments stand between the two, where both are there
+abbrev pub are_apart : Option Lexed → Option Lexed → Bool
+are_apart before None = false
+are_apart None (Some y) = false
+are_apart (Some x) (Some y) = nat_lt (x.from + size x.text) y.from
+
+-- whether they stand before the token at the place, behind another one
+abbrev pub stands_apart : List Lexed → ℕ → Bool
+stands_apart tokens zero = false
+stands_apart tokens (suc i) = are_apart (slice_get tokens i) (slice_get tokens (suc i))
 
 -- the tokens are an expression
 pub record IsWhole (tokens : List Lexed) : Type 0 where
   pub expression : IsExpression tokens
   pub clear : AreClear tokens (length tokens + 1)
 
--- the tokens before the place begin an expression, but the one there, or the end, cannot follow them
+-- the tokens before the place begin an expression, but the one there, or the end, cannot follow them; nothing is left out there
 pub record CannotFollow (tokens : List Lexed) (i : ℕ) : Type 0 where
   pub within : i ≤ length tokens
   pub before : CanGoOn (take i tokens)
   pub token : i < length tokens → ¬ CanGoOn (take (i + 1) tokens)
   pub at_end : i ≡ length tokens → ¬ IsExpression tokens
+  pub kept : ¬ IsLeftOut tokens i
   pub clear : AreClear tokens (i + 1)
 
--- the first place at which something is left out; nothing before it nests too deep
+-- The first place at which something is left out; nothing before it nests too deep. What nests too deep is reached where the token before ends; so
+-- where too much is open at this place, what is left out begins right there.
 pub record IsLeftOutFirst (tokens : List Lexed) (i : ℕ) : Type 0 where
   pub before : CanGoOn (take i tokens)
   pub left_out : IsLeftOut tokens i
+  pub reached : IsTooDeep tokens i → stands_apart tokens i ≡ false
   pub clear : AreClear tokens i
 
--- the first place at which too much is open; nothing before it or there is left out
+-- the first place at which too much is open; nothing before it is left out, and what is left out there begins behind white space or a comment
 pub record IsTooDeepFirst (tokens : List Lexed) (i : ℕ) : Type 0 where
   pub within : i ≤ length tokens
   pub before : CanGoOn (take i tokens)
   pub deep : IsTooDeep tokens i
-  pub here : ¬ IsLeftOut tokens i
+  pub reached : IsLeftOut tokens i → stands_apart tokens i ≡ true
   pub clear : AreClear tokens i
 
 abbrev pub IsOutcome : List Lexed → End → Type 0
@@ -70,6 +98,13 @@ IsOutcome tokens ends.Whole = IsWhole tokens
 IsOutcome tokens (ends.Stops i) = CannotFollow tokens i
 IsOutcome tokens (ends.LeftOut i) = IsLeftOutFirst tokens i
 IsOutcome tokens (ends.TooDeep i) = IsTooDeepFirst tokens i
+
+-- the place at which an outcome is reached; that of an expression is the end
+abbrev pub place_of : List Lexed → End → ℕ
+place_of tokens ends.Whole = length tokens
+place_of tokens (ends.Stops i) = i
+place_of tokens (ends.LeftOut i) = i
+place_of tokens (ends.TooDeep i) = i
 
 -- the productions are those that are used up to the last of the first tokens
 abbrev pub LeadBehindFirst : List Lexed → ℕ → List ℕ → Type 0

@@ -1,14 +1,16 @@
--- Whether a token could stand at the place at which a run of the parser stopped, if another token stood behind it. Private
--- clauses alone cite this.
-use Rattle.std.specs.Prelude.{◌≡◌, ℕ, Bool, true, List, [], ◌∷◌, ◌++◌, take, nat_lt, Some, slice_get}
+-- From a run of the parser over terminals to the outcome of the tokens: whether a token could stand at the place at which the run stopped, if
+-- another token stood behind it, and whether a run ended where too much is open. Private clauses alone cite this.
+use Rattle.std.specs.Prelude.{◌≡◌, ℕ, Bool, true, false, List, [], ◌∷◌, ◌++◌, take, nat_lt, Some, slice_get}
 use Rattle.pj_ll.specs.Leads.{CanGoOn}
+use Rattle.pj_ll.specs.Outcome as ll
 use Rattle.pj_ll.specs.declared.parser.End.{End}
 use Rattle.pj_ll.specs.declared.parser.End.TheVariants as ends
 use Rattle.pj_xtokens.specs.Tokens.{Lexed}
 use Rattle.pj_xgrammar.specs.declared.terminal.Behind.{Behind}
 use Rattle.pj_xgrammar.specs.declared.terminal.Behind.TheVariants as b
-use Rattle.pj_xgrammar.specs.Terminals.{terminal_of, terminal_number}
+use Rattle.pj_xgrammar.specs.Terminals.{terminal_of, terminal_number, numbers}
 use Rattle.pj_xgrammar.specs.XPath.{xpath_grammar}
+use Rattle.pj_xgrammar.specs.Expressions.{IsOutcome, LeadTo}
 
 -- at the place stands what the token is before something
 abbrev pub IsReadAt : List ℕ → ℕ → Lexed → Type 0
@@ -28,3 +30,15 @@ is_past ends.Whole place = true
 is_past (ends.Stops i) place = nat_lt place i
 is_past (ends.LeftOut i) place = nat_lt place i
 is_past (ends.TooDeep i) place = nat_lt place i
+
+-- a run ended where too much is open
+abbrev pub is_too_deep : End → Bool
+is_too_deep ends.Whole = false
+is_too_deep (ends.Stops i) = false
+is_too_deep (ends.LeftOut i) = false
+is_too_deep (ends.TooDeep i) = true
+
+-- An outcome of the tokens, where a run over their terminals ended so; the productions of the run lead to it.
+pub record HasOutcome (tokens : List Lexed) (end outcome : End) : Type 0 where
+  pub is : IsOutcome tokens outcome
+  pub leads : (productions : List ℕ) → ll.LeadTo xpath_grammar (numbers tokens) productions end → LeadTo tokens productions outcome

@@ -1,8 +1,10 @@
--- the terminals, the grammar, and what tokens are an expression
+-- definitions
 pub mod Words
 pub mod Terminals
 pub mod Notation
 pub mod XPath
 pub mod Expressions
--- private clauses alone cite this
+-- laws of predictive grammars for this one
+pub mod Predictive
+-- for private clauses
 pub mod Following

@@ -199,7 +199,7 @@ xpath r.NodeTest =
     ∷ (t "element" ∷ R r.KindTail ∷ [])
     ∷ []
 xpath r.KindTail =
-    (t "(" ∷ t ")" ∷ [])
+    (t "(" ∷ close ∷ t ")" ∷ [])
     ∷ nothing
     ∷ []
 -- 39, 40: PredicateList

@@ -143,7 +143,7 @@ const TREAT_AS: u16 = PHRASES + P::TreatAs as u16;
 /// The productions by their numbers, those of each rule together: the rule, the symbols, and behind them the terminals at which
 /// the production is chosen, and whether it is chosen at the end.
 #[rattlefmt::skip]
-pub(crate) static PIECES: [Piece; 1855] = [
+pub(crate) static PIECES: [Piece; 1856] = [
     // Expr
     Production(R::Expr as u16), Rule(R::ExprSingle as u16), Rule(R::ExprTail as u16),
         On(NAME), On(INTEGER), On(DECIMAL), On(DOUBLE), On(STRING), On(LONE_SLASH), On(LEFT_PARENTHESIS),
@@ -474,7 +474,8 @@ pub(crate) static PIECES: [Piece; 1855] = [
     Production(R::NodeTest as u16), Terminal(NODE), Rule(R::KindTail as u16), On(NODE),
     Production(R::NodeTest as u16), Terminal(ELEMENT), Rule(R::KindTail as u16), On(ELEMENT),
     // KindTail
-    Production(R::KindTail as u16), Terminal(LEFT_PARENTHESIS), Terminal(RIGHT_PARENTHESIS), On(LEFT_PARENTHESIS),
+    Production(R::KindTail as u16), Terminal(LEFT_PARENTHESIS), Close, Terminal(RIGHT_PARENTHESIS),
+        On(LEFT_PARENTHESIS),
     Production(R::KindTail as u16),
         On(DECIMAL), On(DOUBLE), On(RIGHT_PARENTHESIS), On(LEFT_BRACKET), On(RIGHT_BRACKET), On(COMMA), On(SLASH),
         On(SLASH_SLASH), On(BANG), On(BANG_EQUAL), On(STAR), On(PLUS), On(MINUS), On(LESS), On(LESS_LESS),

@@ -4,6 +4,5 @@ pub mod Chains
 pub mod Digits
 pub mod Values
 pub mod SameTable
-pub mod Names
 pub mod Tables
 pub mod Fitting

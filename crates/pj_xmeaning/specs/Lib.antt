@@ -1,14 +1,13 @@
--- what a derivation means
+-- definitions
 pub mod Meaning
 pub mod Actions
 pub mod Values
 pub mod Parts
 pub mod Trees
-pub mod Names
 pub mod Literals
 pub mod Slots
--- the law
-pub mod Fitting
--- what the code's table says
-pub mod Forms
 pub mod Seen
+-- laws
+pub mod Fitting
+-- for private clauses
+pub mod Forms

@@ -60,6 +60,10 @@ abbrev pub values : List Beginning → List RuleValue → List RuleValue
 values [] others = others
 values (b ∷ more) others = acted (action_of b.production) (first_text b.tokens) (values more others)
 
+-- the expression of the productions of a derivation, with the tokens at which they begin
+abbrev pub expression_of : List Beginning → Tree
+expression_of steps = expression (top (values steps []))
+
 -- the expression that the tokens spell by the productions of a leftmost derivation
 unfoldable pub meaning : List ℕ → List Lexed → Tree
-meaning productions tokens = expression (top (values (beginnings productions (slot.Rule ∷ []) tokens) []))
+meaning productions tokens = expression_of (beginnings productions (slot.Rule ∷ []) tokens)

@@ -6,12 +6,12 @@ use Rattle.pj_xvalue.specs.declared.axis.Axis.TheVariants as axis
 use Rattle.pj_xvalue.specs.declared.expr.NodeTest.{NodeTest}
 use Rattle.pj_xvalue.specs.declared.expr.NodeTest.TheVariants.{Name, AnyName, AnyNode, AnyElement}
 use Rattle.pj_xmeaning.specs.Literals.{integer_of, string_of}
-use Rattle.pj_xmeaning.specs.Names.{callee_of, axis_of}
+use Rattle.pj_xvalue.specs.Names.{callee_of, axis_of}
 use Rattle.pj_xmeaning.specs.Trees as tree
 use Rattle.pj_xmeaning.specs.Trees.{Tree, Construct, node, alone, binder, operated}
 use Rattle.pj_xmeaning.specs.Parts.{RuleValue, Nothing, One, Many, Sums, Products, Sets, Compared, Bound, Word, Test, Parentheses, AxisTest, Called, empty_sequence, expression, expressions, sums, products, sets, bindings, word, test}
-use Rattle.pj_xmeaning.specs.declared.name.Callee.{Callee}
-use Rattle.pj_xmeaning.specs.declared.name.Callee.TheVariants as callee
+use Rattle.pj_xvalue.specs.declared.name.Callee.{Callee}
+use Rattle.pj_xvalue.specs.declared.name.Callee.TheVariants as callee
 use Rattle.pj_xmeaning.specs.declared.action.Action.{Action}
 use Rattle.pj_xmeaning.specs.declared.action.Action.TheVariants as action
 use Rattle.pj_xmeaning.specs.declared.action.Leaf.{Leaf}

@@ -24,7 +24,7 @@ pub struct Begun<'a, 't> {
 /// The tokens and rules of productions that are still to come, which contracts see from the next one on.
 #[derive(Drop)]
 struct Ahead {
-    // the next one stands last
+    /// The next one stands last.
     slots: Vec<Slot>,
 }
 

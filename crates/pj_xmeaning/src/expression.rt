@@ -6,10 +6,11 @@ ghost use Rattle.pj_xtokens.specs.Answer.{lexed_of};
 ghost use Rattle.pj_xmeaning.specs.Trees.{tree_of};
 ghost use Rattle.pj_xmeaning.specs.Parts.{value_of, values_of};
 ghost use Rattle.pj_xmeaning.specs.Values.{made, left, acted};
-ghost use Rattle.pj_xmeaning.specs.Meaning.{first_text, meaning};
+ghost use Rattle.pj_xmeaning.specs.Meaning.{first_text, expression_of};
+ghost use Rattle.pj_xmeaning.specs.Seen.{beginning_of};
 
 use crate::action::Action;
-use crate::beginning::beginnings;
+use crate::beginning::Begun;
 use crate::change::{change, single};
 use crate::clause::{binding, bound, choice};
 use crate::leaf::leaf;
@@ -82,13 +83,15 @@ fn first_text<'t>(tokens: &[Token<'t>]) -> &'t str
     }
 }
 
-/// The expression that the tokens spell by a leftmost derivation.
-pub fn meaning(alloc: Global, productions: &[u16], tokens: &[Token<'_>]) -> Result<Expr, NoMemory>
-    ensures { IfOk result (λ expr. tree_of expr ≡ meaning productions.now (map lexed_of tokens.now)) }
+/// The expression that tokens spell by the productions of their leftmost derivation, which is made from the last one on.
+pub fn meaning(alloc: Global, steps: &[Begun<'_, '_>]) -> Result<Expr, NoMemory>
+    ensures { IfOk result (λ expr. tree_of expr ≡ expression_of (map beginning_of steps.now)) }
 {
-    let mut steps = beginnings(alloc, productions, tokens)?;
+    let mut left = steps.len();
     let mut parts = Vec::new(alloc);
-    'steps: while let Some(step) = steps.pop() {
+    'steps: while left > 0 {
+        left -= 1;
+        let step = steps[left];
         act(
             alloc,
             action_of(step.production),

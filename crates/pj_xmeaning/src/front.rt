@@ -9,7 +9,7 @@ use std::marker::Model;
 /// A list that grows at its front, which contracts see as the list of its members.
 #[derive(Drop)]
 pub struct Front<T> {
-    // the first member stands last
+    /// The first member stands last.
     reversed: Vec<T>,
 }
 

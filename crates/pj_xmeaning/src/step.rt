@@ -2,16 +2,15 @@
 
 ghost use Rattle.std.specs.Prelude.{◌≡◌, map, Some, IfOk};
 ghost use Rattle.pj_xmeaning.specs.Trees.{tree_of};
-ghost use Rattle.pj_xmeaning.specs.Names.{callee_of, axis_of};
+ghost use Rattle.pj_xvalue.specs.Names.{callee_of, axis_of};
 ghost use Rattle.pj_xmeaning.specs.Parts.{value_of};
 ghost use Rattle.pj_xmeaning.specs.Values.{kind_test, called, filtered, child_step, named, along, axis_step, descendants, rooted, relative, step_value};
 
 use crate::action::{Kind, Step};
 use crate::front::Front;
-use crate::name::{Callee, axis_named, function_named};
 use crate::part::Part;
 use pj_base::{NoMemory, Text};
-use pj_xvalue::{Axis, Expr, NodeTest};
+use pj_xvalue::{Axis, Callee, Expr, NodeTest, axis_named, function_named};
 use std::alloc::Global;
 
 /// The test of `node` or `element` before parentheses, else that for the name (XPath 2.0, 2.5.4 and 3.2.1.2).

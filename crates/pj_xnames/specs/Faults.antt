@@ -4,9 +4,9 @@ use Rattle.std.specs.Prelude.{ℕ, Bool, true, false, ◌||◌, List, [], ◌∷
 use Rattle.pj_xvalue.specs.Attributes.{is_among}
 use Rattle.pj_xvalue.specs.Expressions.{Scope, Written, with_variable, is_pattern, are_flags, is_replacement}
 use Rattle.pj_xvalue.specs.Functions.{takes, pmd_takes}
-use Rattle.pj_xmeaning.specs.declared.name.Callee.{Callee}
-use Rattle.pj_xmeaning.specs.declared.name.Callee.TheVariants as callee
-use Rattle.pj_xmeaning.specs.Names.{callee_of}
+use Rattle.pj_xvalue.specs.declared.name.Callee.{Callee}
+use Rattle.pj_xvalue.specs.declared.name.Callee.TheVariants as callee
+use Rattle.pj_xvalue.specs.Names.{callee_of}
 use Rattle.pj_xnames.specs.declared.role.Role.{Role}
 use Rattle.pj_xnames.specs.declared.role.Role.TheVariants as role
 use Rattle.pj_xnames.specs.Mentions as mention

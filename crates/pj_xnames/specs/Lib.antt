@@ -1,9 +1,9 @@
--- what a text names, and the first fault of it
+-- definitions
 pub mod Mentions
 pub mod Faults
 pub mod Namings
 pub mod Meaning
 pub mod Seen
--- inside the code
+-- for private clauses
 pub mod Readings
 pub mod Bound

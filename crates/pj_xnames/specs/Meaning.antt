@@ -11,6 +11,10 @@ abbrev pub namings : List Beginning → List Naming → List Naming
 namings [] others = others
 namings (b ∷ more) others = acted (action_of b.production) b.tokens (namings more others)
 
+-- what is named by the productions of a derivation, with the tokens at which they begin
+abbrev pub named_by : List Beginning → List Mention
+named_by steps = mentions_of (top (namings steps []))
+
 -- what the tokens name, by the productions of a leftmost derivation
 unfoldable pub mentions : List ℕ → List Lexed → List Mention
-mentions productions tokens = mentions_of (top (namings (beginnings productions (slot.Rule ∷ []) tokens) []))
+mentions productions tokens = named_by (beginnings productions (slot.Rule ∷ []) tokens)

@@ -3,9 +3,9 @@ use Rattle.std.specs.Prelude.{ℕ, List, [], ◌∷◌, Option, Some, None}
 use Rattle.pj_xvalue.specs.declared.function.Function.{Function}
 use Rattle.pj_xvalue.specs.declared.function.Function.TheVariants as f
 use Rattle.pj_xvalue.specs.Expressions.{Written}
-use Rattle.pj_xmeaning.specs.declared.name.Callee.{Callee}
-use Rattle.pj_xmeaning.specs.declared.name.Callee.TheVariants as callee
-use Rattle.pj_xmeaning.specs.Names.{callee_of}
+use Rattle.pj_xvalue.specs.declared.name.Callee.{Callee}
+use Rattle.pj_xvalue.specs.declared.name.Callee.TheVariants as callee
+use Rattle.pj_xvalue.specs.Names.{callee_of}
 use Rattle.pj_xnames.specs.declared.role.Role.{Role}
 use Rattle.pj_xnames.specs.declared.role.Role.TheVariants as role
 

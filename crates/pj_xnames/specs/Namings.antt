@@ -1,5 +1,5 @@
 -- What a rule's text names, made by its production from what the rules in the production name.
-use Rattle.std.specs.Prelude.{ℕ, ◌+◌, Bool, true, false, List, [], ◌∷◌, ◌++◌, length, drop, Option, Some, None, if◌then◌else◌}
+use Rattle.std.specs.Prelude.{ℕ, ◌+◌, Bool, true, false, List, [], ◌∷◌, ◌++◌, ◌-◌, length, take, drop, Option, Some, None, if◌then◌else◌}
 use Rattle.pj_xvalue.specs.Expressions.{Written, Literal, Number, Name, Other}
 use Rattle.pj_xtokens.specs.Tokens.{Lexed}
 use Rattle.pj_xtokens.specs.declared.token.TokenKind.{TokenKind}
@@ -7,8 +7,8 @@ use Rattle.pj_xtokens.specs.declared.token.TokenKind.TheVariants as kind
 use Rattle.pj_xtokens.specs.declared.token.Sign.TheVariants as sign
 use Rattle.pj_xmeaning.specs.Literals.{string_of}
 use Rattle.pj_xmeaning.specs.Meaning.{behind_first, first_text}
-use Rattle.pj_xmeaning.specs.Names.{callee_of}
-use Rattle.pj_xmeaning.specs.declared.name.Callee.{Callee}
+use Rattle.pj_xvalue.specs.Names.{callee_of}
+use Rattle.pj_xvalue.specs.declared.name.Callee.{Callee}
 use Rattle.pj_xmeaning.specs.Fitting.{taken}
 use Rattle.pj_xmeaning.specs.declared.action.Action.{Action}
 use Rattle.pj_xmeaning.specs.declared.action.Action.TheVariants as action
@@ -23,6 +23,8 @@ use Rattle.pj_xmeaning.specs.declared.action.Rest.TheVariants as rest
 use Rattle.pj_xmeaning.specs.declared.action.Step.{Step}
 use Rattle.pj_xmeaning.specs.declared.action.Step.TheVariants as step
 use Rattle.pj_xnames.specs.declared.role.Role.{Role}
+use Rattle.pj_xnames.specs.declared.part.Extent.{Extent}
+use Rattle.pj_xnames.specs.declared.part.Extent.TheVariants.{Whole, Open, Awaiting}
 use Rattle.pj_xnames.specs.Mentions.{Mention, Variable, Call, Argument, Binds, Ends, roles_named}
 
 -- An expression or a part of one: the offset at which it begins, how it is written, where that is a literal or a variable alone, and what it
@@ -42,10 +44,10 @@ pub data Naming : Type 0 where
   Word : List ℕ → Naming
   -- an expression, or a part that is no list
   One : Operand → Naming
-  -- expressions in a row, and whether they are there up to the end of the list
-  Many : List Operand → Bool → Naming
-  -- the arguments of a call, whether they are there up to the `)`, and what the predicates behind them name
-  Called : List Operand → Bool → List Mention → Naming
+  -- expressions in a row, and how far their list is there
+  Many : List Operand → Extent → Naming
+  -- the arguments of a call, how far their list is there, and what the predicates behind them name
+  Called : List Operand → Extent → List Mention → Naming
   -- variables, and what their expressions name
   Bound : List (List ℕ × List Mention) → Naming
 
@@ -59,8 +61,8 @@ mentions_in (operand ∷ more) = operand.mentions ++ mentions_in more
 -- what the rule's text names, in its order
 abbrev pub mentions_of : Naming → List Mention
 mentions_of (One operand) = operand.mentions
-mentions_of (Many operands all) = mentions_in operands
-mentions_of (Called arguments all predicates) = mentions_in arguments ++ predicates
+mentions_of (Many operands extent) = mentions_in operands
+mentions_of (Called arguments extent predicates) = mentions_in arguments ++ predicates
 mentions_of _ = []
 
 -- one operand alone is written as it is
@@ -71,7 +73,7 @@ written_in _ = Other
 -- how the text is written, where it is an operand or a list of one
 abbrev pub written_of : Naming → Written
 written_of (One operand) = operand.written
-written_of (Many operands all) = written_in operands
+written_of (Many operands extent) = written_in operands
 written_of _ = Other
 
 -- whether the text is empty or is not there
@@ -92,14 +94,24 @@ operand_of _ = []
 
 -- the operands of a list; where it is none, no operands
 abbrev pub operands_of : Naming → List Operand
-operands_of (Many operands all) = operands
+operands_of (Many operands extent) = operands
 operands_of _ = []
 
--- whether the list is there up to its end
-abbrev pub is_whole : Naming → Bool
-is_whole Nothing = true
-is_whole (Many operands all) = all
-is_whole _ = false
+-- how far the list is there; where it is none, the tokens end before it
+abbrev pub extent_of : Naming → Extent
+extent_of Nothing = Whole
+extent_of (Many operands extent) = extent
+extent_of _ = Awaiting
+
+-- how far a list is there of which the tokens end behind this operand, or before it
+abbrev pub extent_behind : Naming → Extent
+extent_behind Missing = Awaiting
+extent_behind _ = Open
+
+-- how far a list is there, of an operand before others
+abbrev pub extent_from : Naming → Naming → Extent
+extent_from first Missing = extent_behind first
+extent_from first others = extent_of others
 
 -- the variables, if there are any
 abbrev pub bound_of : Naming → List (List ℕ × List Mention)
@@ -159,21 +171,25 @@ in_roles roles [] = []
 in_roles [] (argument ∷ more) = argument.mentions ++ in_roles [] more
 in_roles (role ∷ roles) (argument ∷ more) = Argument role argument.written argument.from ∷ (argument.mentions ++ in_roles roles more)
 
--- A call of which the `)` is not there: with how many arguments it calls is not known, but there may be no function of the name at all.
-abbrev pub open_call : Option Callee → List ℕ → ℕ → List Operand → List Mention
-open_call None name from arguments = Call name (length arguments) from ∷ mentions_in arguments
-open_call (Some callee) name from arguments = mentions_in arguments
+-- How many of so many expressions are there to their ends: the last one of an open list may go on.
+abbrev pub count_ended : Extent → ℕ → ℕ
+count_ended Open count = count - 1
+count_ended _ count = count
+
+-- A call of which the `)` is not there: with how many arguments it calls is not known, but there may be no function of the name at all, and the
+-- arguments behind which a `,` stands are whole.
+abbrev pub open_call : Option Callee → List ℕ → ℕ → List Operand → Extent → List Mention
+open_call None name from arguments extent = Call name (length arguments) from ∷ mentions_in arguments
+open_call (Some callee) name from arguments extent = in_roles (take (count_ended extent (length arguments)) (roles_named name)) arguments
 
 -- A call, with what its arguments and the predicates behind it name. Behind an open list of arguments there are no predicates.
-abbrev pub call : List ℕ → ℕ → List Operand → Bool → List Mention → List Mention
-call name from arguments all predicates =
-    if all
-    then Call name (length arguments) from ∷ (in_roles (roles_named name) arguments ++ predicates)
-    else open_call (callee_of name) name from arguments ++ predicates
+abbrev pub call : List ℕ → ℕ → List Operand → Extent → List Mention → List Mention
+call name from arguments Whole predicates = Call name (length arguments) from ∷ (in_roles (roles_named name) arguments ++ predicates)
+call name from arguments extent predicates = open_call (callee_of name) name from arguments extent ++ predicates
 
 -- a name and what stands behind it: arguments, or predicates
 abbrev pub named : List Lexed → List ℕ → Naming → Naming
-named tokens name (Called arguments all predicates) = one tokens Other (call name (first_from tokens) arguments all predicates)
+named tokens name (Called arguments extent predicates) = one tokens Other (call name (first_from tokens) arguments extent predicates)
 named tokens name behind = one tokens Other (mentions_of behind)
 
 -- Each variable is seen by the expressions behind its own, and by the body.
@@ -217,9 +233,9 @@ single_naming _ tokens value = one tokens Other (mentions_of value)
 
 -- what a production makes of two values: a call's arguments and predicates, a test with its predicates, or an operand before others
 abbrev pub rest_naming : Rest → List Lexed → Naming → Naming → Naming
-rest_naming rest.Called tokens first others = Called (operands_of first) (is_whole first) (mentions_of others)
+rest_naming rest.Called tokens first others = Called (operands_of first) (extent_of first) (mentions_of others)
 rest_naming rest.AxisTest tokens first others = one tokens Other (mentions_of others)
-rest_naming _ tokens first others = Many (operand_of first ++ operands_of others) (is_whole others)
+rest_naming _ tokens first others = Many (operand_of first ++ operands_of others) (extent_from first others)
 
 -- a step or a primary expression with what stands behind it
 abbrev pub step_naming : Step → List Lexed → Naming → Naming → Naming

@@ -58,8 +58,8 @@ seen_naming part.Missing = naming.Missing
 seen_naming part.Nothing = naming.Nothing
 seen_naming (part.Word name) = naming.Word name.now
 seen_naming (part.One piece) = naming.One (seen_operand piece)
-seen_naming (part.Many pieces all) = naming.Many (seen_operands pieces.items) all
-seen_naming (part.Called arguments all predicates) = naming.Called (seen_operands arguments.items) all (seen_mentions predicates.items)
+seen_naming (part.Many pieces extent) = naming.Many (seen_operands pieces.items) extent
+seen_naming (part.Called arguments extent predicates) = naming.Called (seen_operands arguments.items) extent (seen_mentions predicates.items)
 seen_naming (part.Bound variables) = naming.Bound (seen_variables variables.items)
 
 -- the values of rules that follow each other, of which the first one stands last

@@ -1,19 +1,19 @@
 //! Calls of functions, and what else begins with a name.
 
-ghost use Rattle.std.specs.Prelude.{◌≡◌, ◌++◌, ◌∷◌, [], drop, map, IfOk, option_to_list, slice_get};
+ghost use Rattle.std.specs.Prelude.{◌≡◌, ◌++◌, ◌∷◌, [], drop, take, map, IfOk, option_to_list, slice_get};
 ghost use Rattle.pj_xtokens.specs.Answer.{lexed_of};
-ghost use Rattle.pj_xmeaning.specs.Names.{callee_of};
+ghost use Rattle.pj_xvalue.specs.Names.{callee_of};
 ghost use Rattle.pj_xnames.specs.Namings.{in_roles, open_call, call, named};
 ghost use Rattle.pj_xnames.specs.Readings.{seen_mention, seen_mentions, seen_operand, seen_operands, seen_naming};
 
 use crate::named::{Named, Spelling};
 use crate::operand::one;
-use crate::part::{Part, Piece, before, mentions_in};
+use crate::part::{Extent, Part, Piece, before, mentions_in};
 use crate::role::{Role, roles_named};
 use crate::token::first_from;
 use pj_base::NoMemory;
-use pj_xmeaning::function_named;
 use pj_xtokens::Token;
+use pj_xvalue::function_named;
 use std::alloc::Global;
 
 /// A mention before others.
@@ -68,20 +68,39 @@ fn in_roles<'t>(
     Ok(all)
 }
 
-/// What a call names of which the `)` is not there.
+/// The first ones of the roles, at most so many.
+fn roles_to(roles: &[Role], count: usize) -> &[Role]
+    ensures { result.now ≡ take count roles.now }
+{
+    if count < roles.len() {
+        &roles[..count]
+    } else {
+        roles
+    }
+}
+
+/// What a call names of which the `)` is not there, before other mentions: the arguments that are there to their ends behind what their roles want.
 fn open_call<'t>(
     alloc: Global,
     name: &'t str,
     from: u32,
     arguments: Vec<Piece<'t>>,
+    extent: Extent,
+    behind: Vec<Named<'t>>,
 ) -> Result<Vec<Named<'t>>, NoMemory>
-    ensures { IfOk result (λ mentions. seen_mentions mentions.items ≡ open_call (callee_of name.now) name.now from (seen_operands arguments.entry.items)) }
+    ensures { IfOk result (λ mentions. seen_mentions mentions.items ≡ open_call (callee_of name.now) name.now from (seen_operands arguments.entry.items) extent ++ seen_mentions behind.entry.items) }
 {
     let count = arguments.len();
-    let mentions = mentions_in(alloc, arguments)?;
     match function_named(name) {
-        None => put(Named::Call(name, count, from), mentions),
-        Some(_) => Ok(mentions),
+        None => {
+            let mentions = before(mentions_in(alloc, arguments)?, behind)?;
+            put(Named::Call(name, count, from), mentions)
+        }
+        Some(_) => in_roles(
+            roles_to(roles_named(name), extent.count_ended(count)),
+            arguments,
+            behind,
+        ),
     }
 }
 
@@ -91,17 +110,21 @@ fn call<'t>(
     name: &'t str,
     from: u32,
     arguments: Vec<Piece<'t>>,
-    all: bool,
+    extent: Extent,
     predicates: Vec<Named<'t>>,
 ) -> Result<Vec<Named<'t>>, NoMemory>
-    ensures { IfOk result (λ mentions. seen_mentions mentions.items ≡ call name.now from (seen_operands arguments.entry.items) all (seen_mentions predicates.entry.items)) }
+    ensures { IfOk result (λ mentions. seen_mentions mentions.items ≡ call name.now from (seen_operands arguments.entry.items) extent (seen_mentions predicates.entry.items)) }
 {
-    if !all {
-        return before(open_call(alloc, name, from, arguments)?, predicates);
+    match extent {
+        Extent::Whole => {
+            let count = arguments.len();
+            let mentions = in_roles(roles_named(name), arguments, predicates)?;
+            put(Named::Call(name, count, from), mentions)
+        }
+        Extent::Open | Extent::Awaiting => {
+            open_call(alloc, name, from, arguments, extent, predicates)
+        }
     }
-    let count = arguments.len();
-    let mentions = in_roles(roles_named(name), arguments, predicates)?;
-    put(Named::Call(name, count, from), mentions)
 }
 
 /// A name and what stands behind it: arguments, or predicates.
@@ -114,9 +137,14 @@ pub fn named<'t>(
     ensures { IfOk result (λ made. seen_naming made ≡ named (map lexed_of tokens.now) name.now (seen_naming behind.entry)) }
 {
     let mentions = match behind {
-        Part::Called(arguments, all, predicates) => {
-            call(alloc, name, first_from(tokens), arguments, all, predicates)?
-        }
+        Part::Called(arguments, extent, predicates) => call(
+            alloc,
+            name,
+            first_from(tokens),
+            arguments,
+            extent,
+            predicates,
+        )?,
         other => other.into_mentions(alloc)?,
     };
     Ok(one(tokens, Spelling::Other, mentions))

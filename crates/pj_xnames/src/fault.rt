@@ -2,8 +2,8 @@
 
 ghost use Rattle.std.specs.Prelude.{◌≡◌, ℕ, List, map, IfOk, OnOk};
 ghost use Rattle.std.specs.Option.{option_map};
-ghost use Rattle.pj_xtokens.specs.Answer.{lexed_of};
-ghost use Rattle.pj_xnames.specs.Meaning.{mentions};
+ghost use Rattle.pj_xmeaning.specs.Seen.{beginning_of};
+ghost use Rattle.pj_xnames.specs.Meaning.{named_by};
 ghost use Rattle.pj_xnames.specs.Bound.{names_of, IsCounted};
 ghost use Rattle.pj_xnames.specs.Faults.{callee_takes, is_function, is_bound, fault_in, scope_behind, first_fault};
 ghost use Rattle.pj_xnames.specs.Seen.{fault_of};
@@ -14,8 +14,8 @@ use crate::mentions::mentions;
 use crate::named::Named;
 use crate::written::{fits_role, is_given};
 use pj_base::{Names, NoMemory};
-use pj_xmeaning::{Callee, function_named};
-use pj_xtokens::Token;
+use pj_xmeaning::Begun;
+use pj_xvalue::{Callee, function_named};
 use std::alloc::Global;
 
 /// A fault of what is named. Offsets are bytes of the text, from 0.
@@ -29,6 +29,7 @@ pub enum NameFault<'t> {
     Variable(&'t str, u32),
 }
 
+/// Whether there is such a function, and it takes so many arguments.
 fn takes(callee: Option<Callee>, count: usize) -> bool
     ensures { result ≡ callee_takes callee count }
 {
@@ -117,12 +118,11 @@ fn first_of<'t>(
 /// set gives these variables.
 pub fn first_fault<'t>(
     alloc: Global,
-    productions: &[u16],
-    tokens: &[Token<'t>],
+    steps: &[Begun<'_, 't>],
     variables: &Names,
 ) -> Result<Option<NameFault<'t>>, NoMemory>
-    ensures { IfOk result (λ fault. option_map fault_of fault ≡ first_fault variables.now (mentions productions.now (map lexed_of tokens.now))) }
+    ensures { IfOk result (λ fault. option_map fault_of fault ≡ first_fault variables.now (named_by (map beginning_of steps.now))) }
 {
-    let mentions = mentions(alloc, productions, tokens)?;
+    let mentions = mentions(alloc, steps)?;
     first_of(alloc, mentions, variables)
 }

@@ -4,7 +4,7 @@ ghost use Rattle.std.specs.Prelude.{◌≡◌, ◌∷◌, ◌++◌, drop, map, I
 ghost use Rattle.pj_xtokens.specs.Answer.{lexed_of};
 ghost use Rattle.pj_xvalue.specs.Expressions.{Other};
 ghost use Rattle.pj_xmeaning.specs.Fitting.{taken};
-ghost use Rattle.pj_xnames.specs.Namings.{Many, one, mentions_of, operand_of, operands_of, is_whole, leaf_naming, change_naming, single_naming, rest_naming, step_naming, made, acted};
+ghost use Rattle.pj_xnames.specs.Namings.{Many, one, mentions_of, operand_of, operands_of, extent_from, leaf_naming, change_naming, single_naming, rest_naming, step_naming, made, acted};
 ghost use Rattle.pj_xnames.specs.Readings.{seen_naming, seen_namings};
 
 use crate::call::named;
@@ -80,14 +80,14 @@ fn single<'t>(
 
 /// An expression before others.
 fn further<'t>(alloc: Global, first: Part<'t>, others: Part<'t>) -> Result<Part<'t>, NoMemory>
-    ensures { IfOk result (λ made. seen_naming made ≡ Many (operand_of (seen_naming first.entry) ++ operands_of (seen_naming others.entry)) (is_whole (seen_naming others.entry))) }
+    ensures { IfOk result (λ made. seen_naming made ≡ Many (operand_of (seen_naming first.entry) ++ operands_of (seen_naming others.entry)) (extent_from (seen_naming first.entry) (seen_naming others.entry))) }
 {
-    let whole = others.is_whole();
+    let extent = first.extent_before(&others);
     let mut all = others.into_pieces(alloc);
     if let Some(piece) = first.into_piece() {
         all.push(piece)?;
     }
-    Ok(Part::Many(all, whole))
+    Ok(Part::Many(all, extent))
 }
 
 /// What a production makes of two values that are no expression together.
@@ -102,9 +102,9 @@ fn rest<'t>(
 {
     match rest {
         Rest::Called => {
-            let whole = first.is_whole();
+            let extent = first.extent();
             let arguments = first.into_pieces(alloc);
-            Ok(Part::Called(arguments, whole, others.into_mentions(alloc)?))
+            Ok(Part::Called(arguments, extent, others.into_mentions(alloc)?))
         }
         Rest::AxisTest => other(alloc, tokens, others),
         _ => further(alloc, first, others),

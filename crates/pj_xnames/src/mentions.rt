@@ -1,29 +1,26 @@
 //! What the tokens of a text name.
 
 ghost use Rattle.std.specs.Prelude.{◌≡◌, map, IfOk};
-ghost use Rattle.pj_xtokens.specs.Answer.{lexed_of};
-ghost use Rattle.pj_xnames.specs.Meaning.{mentions};
+ghost use Rattle.pj_xmeaning.specs.Seen.{beginning_of};
+ghost use Rattle.pj_xnames.specs.Meaning.{named_by};
 ghost use Rattle.pj_xnames.specs.Readings.{seen_mentions};
 
 use crate::made::act;
 use crate::named::Named;
 use crate::parts::take;
 use pj_base::NoMemory;
-use pj_xmeaning::{action_of, beginnings};
-use pj_xtokens::Token;
+use pj_xmeaning::{Begun, action_of};
 use std::alloc::Global;
 
 /// What the tokens name, from the last on, by the productions of a leftmost derivation.
-pub fn mentions<'t>(
-    alloc: Global,
-    productions: &[u16],
-    tokens: &[Token<'t>],
-) -> Result<Vec<Named<'t>>, NoMemory>
-    ensures { IfOk result (λ all. seen_mentions all.items ≡ mentions productions.now (map lexed_of tokens.now)) }
+pub fn mentions<'t>(alloc: Global, steps: &[Begun<'_, 't>]) -> Result<Vec<Named<'t>>, NoMemory>
+    ensures { IfOk result (λ all. seen_mentions all.items ≡ named_by (map beginning_of steps.now)) }
 {
-    let mut steps = beginnings(alloc, productions, tokens)?;
+    let mut left = steps.len();
     let mut parts = Vec::new(alloc);
-    'steps: while let Some(step) = steps.pop() {
+    'steps: while left > 0 {
+        left -= 1;
+        let step = steps[left];
         act(alloc, action_of(step.production), step.from, &mut parts)?;
     }
     take(&mut parts).into_mentions(alloc)

@@ -2,7 +2,7 @@
 
 ghost use Rattle.std.specs.Prelude.{◌≡◌, ◌++◌, IfOk, option_to_list};
 ghost use Rattle.std.specs.Option.{option_map};
-ghost use Rattle.pj_xnames.specs.Namings.{mentions_in, mentions_of, written_in, written_of, is_empty, is_whole, word_of, operand_of, operands_of, bound_of};
+ghost use Rattle.pj_xnames.specs.Namings.{mentions_in, mentions_of, written_in, written_of, count_ended, extent_behind, extent_from, extent_of, is_empty, word_of, operand_of, operands_of, bound_of};
 ghost use Rattle.pj_xnames.specs.Readings.{seen_written, seen_mentions, seen_operand, seen_operands, seen_variables, seen_naming};
 
 use crate::named::{Named, Spelling};
@@ -20,6 +20,29 @@ pub struct Piece<'t> {
     pub mentions: Vec<Named<'t>>,
 }
 
+/// How far a list of expressions is there.
+#[derive(Clone, Copy, Debug, PartialEq, Eq)]
+pub enum Extent {
+    /// Up to its end.
+    Whole,
+    /// Up to an expression that may go on.
+    Open,
+    /// Up to the place where its next expression would begin: behind a `,`, or before the first one.
+    Awaiting,
+}
+
+impl Extent {
+    /// How many of so many expressions are there to their ends.
+    pub fn count_ended(self, count: usize) -> usize
+        ensures { result ≡ count_ended self count }
+    {
+        match self {
+            Extent::Open => count.saturating_sub(1),
+            Extent::Whole | Extent::Awaiting => count,
+        }
+    }
+}
+
 /// What a rule's text names. Its lists stand in the reverse order.
 #[derive(Drop)]
 pub enum Part<'t> {
@@ -31,10 +54,10 @@ pub enum Part<'t> {
     Word(&'t str),
     /// An expression, or a part that is no list.
     One(Piece<'t>),
-    /// Expressions in a row, and whether these are all of them.
-    Many(Vec<Piece<'t>>, bool),
-    /// The arguments of a call, whether these are all of them, and what the predicates behind them name.
-    Called(Vec<Piece<'t>>, bool, Vec<Named<'t>>),
+    /// Expressions in a row, and how far their list is there.
+    Many(Vec<Piece<'t>>, Extent),
+    /// The arguments of a call, how far their list is there, and what the predicates behind them name.
+    Called(Vec<Piece<'t>>, Extent, Vec<Named<'t>>),
     /// Variables, and what their expressions name.
     Bound(Vec<(&'t str, Vec<Named<'t>>)>),
 }
@@ -89,14 +112,34 @@ impl<'t> Part<'t> {
         }
     }
 
-    /// Whether it is a list that is there whole.
-    pub fn is_whole(&self) -> bool
-        ensures { result ≡ is_whole (seen_naming self.now) }
+    /// How far the list is there; where it is none, the tokens end before it.
+    pub fn extent(&self) -> Extent
+        ensures { result ≡ extent_of (seen_naming self.now) }
     {
         match self {
-            Part::Nothing => true,
-            Part::Many(_, all) => *all,
-            _ => false,
+            Part::Nothing => Extent::Whole,
+            Part::Many(_, extent) => *extent,
+            _ => Extent::Awaiting,
+        }
+    }
+
+    /// How far a list is there of which the tokens end behind this operand, or before it.
+    fn extent_behind(&self) -> Extent
+        ensures { result ≡ extent_behind (seen_naming self.now) }
+    {
+        match self {
+            Part::Missing => Extent::Awaiting,
+            _ => Extent::Open,
+        }
+    }
+
+    /// How far a list is there, of this operand before others.
+    pub fn extent_before(&self, others: &Part<'t>) -> Extent
+        ensures { result ≡ extent_from (seen_naming self.now) (seen_naming others.now) }
+    {
+        match others {
+            Part::Missing => self.extent_behind(),
+            _ => others.extent(),
         }
     }
 

@@ -3,8 +3,7 @@
 ghost use Rattle.std.specs.Prelude.{◌≡◌};
 ghost use Rattle.pj_xnames.specs.Mentions.{roles_of, roles_in, roles_named};
 
-use pj_xmeaning::{Callee, function_named};
-use pj_xvalue::Function;
+use pj_xvalue::{Callee, Function, function_named};
 
 /// What an argument of a function has to be (XQuery 1.0 and XPath 2.0 Functions and Operators, 7.6).
 #[derive(Clone, Copy, Debug, PartialEq, Eq)]

@@ -35,6 +35,7 @@ pub fn first_from(tokens: &[Token<'_>]) -> u32
     }
 }
 
+/// Whether a token is `(`.
 fn is_parenthesis(kind: TokenKind) -> bool
     ensures { result ≡ is_parenthesis kind }
 {
@@ -54,6 +55,7 @@ pub fn begins_with_parenthesis(tokens: &[Token<'_>]) -> bool
     }
 }
 
+/// Whether a token is a name.
 fn is_name(kind: TokenKind) -> bool
     ensures { result ≡ is_name kind }
 {

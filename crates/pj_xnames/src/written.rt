@@ -37,12 +37,14 @@ fn is_pattern<'t>(written: Spelling<'t>, variables: &Names, bound: &BoundNames<'
     }
 }
 
+/// Whether a byte is one of the flags of a pattern.
 fn is_flag(byte: u8) -> bool
     ensures { result ≡ list_any (nat_eq byte) (codes "ims") }
 {
     byte == b'i' || byte == b'm' || byte == b's'
 }
 
+/// Whether each byte is one.
 fn all_flags(bytes: &[u8]) -> bool
     ensures { result ≡ list_all (λ byte. list_any (nat_eq byte) (codes "ims")) bytes.now }
 {
@@ -62,12 +64,14 @@ fn are_flags(alloc: Global, written: Spelling<'_>) -> Result<bool, NoMemory>
     }
 }
 
+/// Whether a byte means itself in what matches are replaced by.
 fn is_plain(byte: u8) -> bool
     ensures { result ≡ not (list_any (nat_eq byte) (codes "$\\")) }
 {
     byte != b'$' && byte != b'\\'
 }
 
+/// Whether each byte does.
 fn all_plain(bytes: &[u8]) -> bool
     ensures { result ≡ list_all (λ byte. not (list_any (nat_eq byte) (codes "$\\"))) bytes.now }
 {

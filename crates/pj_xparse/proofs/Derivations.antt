@@ -9,7 +9,8 @@ use Rattle.pj_xmeaning.specs.Trees.{Tree}
 use Rattle.pj_xnames.specs.Faults.{first_fault}
 use Rattle.pj_xnames.specs.Meaning.{mentions}
 use Rattle.pj_xnames.specs.Mentions.{Mention}
-use Rattle.pj_xderived.proofs.Whole.{read_derives, derivation_reads}
+use Rattle.pj_xparse.specs.Operands.{Operand}
+use Rattle.pj_xparse.specs.Reads.{AreRead}
 use Rattle.pj_xparse.specs.Spells.{Spells}
 
 -- The tokens of the text are derived by productions by which they mean the expression; no place nests too deep; what is named has no fault.
@@ -22,22 +23,32 @@ pub record IsDerived (variables : List (List ℕ)) (text : List ℕ) (tree : Tre
   pub named : first_fault variables (mentions productions tokens) ≡ None
   pub means : tree ≡ meaning productions tokens
 
-pub derivation_of : {variables : List (List ℕ)} {text : List ℕ} {tree : Tree} → Spells variables text tree → IsDerived variables text tree
-derivation_of {variables} s =
-    let d = read_derives s.tokens s.said s.says in
+-- what tokens read is derived
+abbrev pub ReadingsAreDerived : Type 0
+ReadingsAreDerived = (tokens : List Lexed) (a : Operand) → AreRead tokens a →
+    (productions : List ℕ) × AreDerived tokens productions × AreClear tokens (length tokens + 1) × (meaning productions tokens ≡ a.tree) × (mentions productions tokens ≡ a.names)
+
+-- what is derived of tokens is what they read
+abbrev pub DerivedAreReadings : Type 0
+DerivedAreReadings = (tokens : List Lexed) (productions : List ℕ) → AreDerived tokens productions → AreClear tokens (length tokens + 1) →
+    (a : Operand) × AreRead tokens a × (meaning productions tokens ≡ a.tree) × (mentions productions tokens ≡ a.names)
+
+pub derivation_of : ReadingsAreDerived → {variables : List (List ℕ)} {text : List ℕ} {tree : Tree} → Spells variables text tree → IsDerived variables text tree
+derivation_of derives {variables} s =
+    let (productions, derived, clear, means, names) = derives s.tokens s.said s.says in
     record {
       tokens = s.tokens;
-      productions = d.productions;
+      productions = productions;
       read = s.read;
-      derived = d.derived;
-      clear = d.clear;
-      named = subst (λ (ms : List Mention). first_fault variables ms ≡ None) (sym d.names) s.named;
-      means = s.means ∙ sym d.means;
+      derived = derived;
+      clear = clear;
+      named = subst (λ (ms : List Mention). first_fault variables ms ≡ None) (sym names) s.named;
+      means = s.means ∙ sym means;
     }
 
-pub spelled_by : {variables : List (List ℕ)} {text : List ℕ} {tree : Tree} → IsDerived variables text tree → Spells variables text tree
-spelled_by {variables} d =
-    let (said, says, means, names) = derivation_reads d.tokens d.productions d.derived d.clear in
+pub spelled_by : DerivedAreReadings → {variables : List (List ℕ)} {text : List ℕ} {tree : Tree} → IsDerived variables text tree → Spells variables text tree
+spelled_by reads {variables} d =
+    let (said, says, means, names) = reads d.tokens d.productions d.derived d.clear in
     record {
       tokens = d.tokens;
       said = said;

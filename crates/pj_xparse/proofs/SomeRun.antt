@@ -4,16 +4,14 @@ use Rattle.pj_ll.specs.declared.parser.End.{End}
 use Rattle.pj_ll.specs.declared.parser.End.TheVariants.{Whole, Stops, LeftOut, TooDeep}
 use Rattle.pj_ll.specs.declared.grammar.Symbol.{Symbol}
 use Rattle.pj_ll.specs.declared.grammar.Symbol.TheVariants as s
-use Rattle.pj_ll.specs.Grammar.{Grammar}
+use Rattle.pj_ll.specs.Grammar.{Entry, Grammar, grammar_of}
 use Rattle.pj_ll.specs.Leads.{Leads, stay, take_terminal, close, expand, start, CanGoOn, at_start, behind}
 use Rattle.pj_ll.specs.Outcome.{IsEnd, LeadBehind}
-use Rattle.pj_ll.proofs.SomeEnd.{some_end}
+use Rattle.pj_ll.specs.Predictive.{RuleFacts, IsPredictive}
 use Rattle.pj_xtokens.specs.Tokens.{Lexed}
 use Rattle.pj_xgrammar.specs.Expressions.{IsRun}
 use Rattle.pj_xgrammar.specs.Terminals.{numbers}
 use Rattle.pj_xgrammar.specs.XPath.{xpath_grammar}
-use Rattle.pj_xgrammar.proofs.RuleFacts.{xpath_facts}
-use Rattle.pj_xgrammar.proofs.SameTable.{is_predictive, table_is}
 
 -- some productions lead to a terminal, past those before it
 record Reaches (g : Grammar) (ss : List Symbol) (before : List ℕ) (t : ℕ) : Type 0 where
@@ -59,8 +57,11 @@ run_with tokens (Stops i) it = let (ps, l) = behind_last xpath_grammar (take i (
 run_with tokens (LeftOut i) it = let (ps, l) = behind_last xpath_grammar (take i (numbers tokens)) it.before in (ps, record { end = LeftOut i; ends = it; leads = l })
 run_with tokens (TooDeep i) it = let (ps, l) = behind_last xpath_grammar (take i (numbers tokens)) it.before in (ps, record { end = TooDeep i; ends = it; leads = l })
 
--- each list of tokens has a run
-pub some_run : (tokens : List Lexed) → (productions : List ℕ) × IsRun tokens productions
-some_run tokens =
-    let (end, it) = subst (λ g. (end : End) × IsEnd g (numbers tokens) 200 end) table_is (some_end xpath_facts _ is_predictive (numbers tokens) 200) in
-    run_with tokens end it
+-- each list of tokens has a run, where a run over terminals has an end in a predictive grammar, and the grammar is one
+pub some_run : ((facts : List RuleFacts) (entries : List Entry) (terminals : List ℕ) (deepest : ℕ) → IsPredictive facts entries → (end : End) × IsEnd (grammar_of entries) terminals deepest end) →
+    ((facts : List RuleFacts) × ((entries : List Entry) × (grammar_of entries ≡ xpath_grammar) × IsPredictive facts entries)) →
+    (tokens : List Lexed) → (productions : List ℕ) × IsRun tokens productions
+some_run some_end predictive tokens =
+    let (facts, (entries, same, it)) = predictive in
+    let (end, ends) = subst (λ g. (end : End) × IsEnd g (numbers tokens) 200 end) same (some_end facts entries (numbers tokens) 200 it) in
+    run_with tokens end ends

@@ -1,3 +1,8 @@
--- what a text spells, and its first fault
+-- definitions
 pub mod Spells
+pub mod Reads
+pub mod Operands
 pub mod Faults
+-- laws
+pub mod Derived
+pub mod WellSpelled

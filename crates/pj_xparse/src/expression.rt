@@ -10,12 +10,13 @@ ghost use Rattle.pj_xparse.specs.Spells.{Spells};
 ghost use Rattle.pj_xparse.specs.declared.fault.XSyntax.TheVariants.{Memory};
 
 use crate::fault::XSyntax;
+use crate::laws::{derivations_are_readings, meanings_are_expressions};
 use crate::syntax::syntax_fault;
 use pj_base::{Names, NoMemory, Text};
-use pj_xgrammar::derivation;
-use pj_xmeaning::meaning;
+use pj_xgrammar::{Parser, derivation};
+use pj_xmeaning::{beginnings, meaning};
 use pj_xnames::{NameFault, first_fault};
-use pj_xtokens::tokens;
+use pj_xtokens::{gaps_stand_in_front, tokens, tokens_are_not_empty};
 use pj_xvalue::Expr;
 use std::alloc::Global;
 
@@ -36,13 +37,19 @@ fn named_fault(alloc: Global, fault: NameFault<'_>) -> Result<XSyntax, NoMemory>
     }
 }
 
-/// The expression that the text spells, where the rule set gives these variables, or the text's first fault.
+/// The expression that the text spells, where the rule set gives these variables, or the text's first fault. The parser serves as many
+/// texts as there are.
 ///
 /// A fault of what is named stands before the place where the tokens have theirs, so it comes first: an unknown function, an
 /// unbound variable, or an argument that is no pattern, no replacement or no flags. Of the tokens, `Outside` comes at one offset
 /// before `Deep`, and that before `Expected`. `Token` comes where the tokens before the offset are an expression or begin one.
 /// Offsets are bytes from 0. `Memory` comes only for want of memory, which a text of 2^32 bytes or more wants too.
-pub fn parse(alloc: Global, text: &str, variables: &Names) -> Result<Expr, XSyntax>
+pub fn parse_with(
+    alloc: Global,
+    parser: &Parser,
+    text: &str,
+    variables: &Names,
+) -> Result<Expr, XSyntax>
     ensures spells { IfOk result (λ expr. Spells variables.now (chars text.now) (tree_of expr)) }
     ensures expression { IfOk result (IsExpression variables.now) }
     ensures fault { IfErr result (λ fault. fault ≢ Memory → IsFault variables.now (chars text.now) fault) }
@@ -52,14 +59,31 @@ pub fn parse(alloc: Global, text: &str, variables: &Names) -> Result<Expr, XSynt
     }
     let found = tokens(alloc, text)?;
     let tokens = found.list.as_slice();
-    let run = derivation(alloc, tokens)?;
+    gaps_stand_in_front();
+    tokens_are_not_empty();
+    let run = derivation(alloc, parser, tokens)?;
     let productions = run.productions.as_slice();
-    if let Some(fault) = first_fault(alloc, productions, tokens, variables)? {
+    let begun = beginnings(alloc, productions, tokens)?;
+    let steps = begun.as_slice();
+    if let Some(fault) = first_fault(alloc, steps, variables)? {
         return Err(named_fault(alloc, fault)?);
     }
     if let Some(fault) = syntax_fault(tokens, found.end, run.end) {
         return Err(fault);
     }
-    let expr = meaning(alloc, productions, tokens)?;
+    derivations_are_readings();
+    meanings_are_expressions();
+    let expr = meaning(alloc, steps)?;
     Ok(expr)
+}
+
+/// The expression that the text spells, where the rule set gives these variables, or the text's first fault, as `parse_with` says it.
+/// The parser is made for this text alone.
+pub fn parse(alloc: Global, text: &str, variables: &Names) -> Result<Expr, XSyntax>
+    ensures spells { IfOk result (λ expr. Spells variables.now (chars text.now) (tree_of expr)) }
+    ensures expression { IfOk result (IsExpression variables.now) }
+    ensures fault { IfErr result (λ fault. fault ≢ Memory → IsFault variables.now (chars text.now) fault) }
+{
+    let parser = Parser::new(alloc)?;
+    parse_with(alloc, &parser, text, variables)
 }

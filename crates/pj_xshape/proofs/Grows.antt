@@ -1,9 +1,9 @@
 -- A word behind a text does not make it nest less.
-use Rattle.std.proofs.Common.{ℕ, ◌+◌, ◌≤◌, Bool, true, false, if◌then◌else◌, List, [], ◌∷◌, length, nat_lt, nat_eq, le_refl, arith}
+use Rattle.std.proofs.Common.{ℕ, ◌+◌, ◌≤◌, Bool, true, false, if◌then◌else◌, List, [], ◌∷◌, length, max, nat_lt, nat_eq, le_refl, arith}
 use Rattle.std.specs.Prelude.{⊤}
 use Rattle.pj_xmeaning.specs.Trees as tree
 use Rattle.pj_xmeaning.specs.Trees.{Tree, Trees, Construct, Node, NoMore, More}
-use Rattle.pj_xshape.specs.Nesting.{Nested, operand_before, chain_before, clauses_before, choice_before, steps_before, nested_by, nested_of, nested_each}
+use Rattle.pj_xshape.specs.Nesting.{Nested, operand_before, chain_before, clauses_before, choice_before, step_before, further_before, steps_before, nested_by, nested_of, nested_each}
 
 pub record Grows (text : Nested) : Type 0 where
   pub nesting : text.nesting false ≤ text.nesting true
@@ -34,9 +34,26 @@ choice_grows : (texts : List Nested) → AllGrow texts → choice_before false t
 choice_grows [] h = omega arith
 choice_grows (text ∷ texts) h = omega (arith, clauses_grow texts h.1)
 
+either_grows : (b : Bool) (n n' m m' : ℕ) → n ≤ n' → m ≤ m' → (if b then n else m) ≤ (if b then n' else m')
+either_grows true n n' m m' h g = h
+either_grows false n n' m m' h g = g
+
+mutual
+  step_grows : (text : Nested) (texts : List Nested) → Grows text → AllGrow texts → step_before false text texts ≤ step_before true text texts
+  step_grows text [] h hs = operand_grows 15 text h
+  step_grows text (next ∷ texts) h hs = omega (arith, further_grow next texts hs.0 hs.1)
+
+  further_grow : (text : Nested) (texts : List Nested) → Grows text → AllGrow texts → further_before false text texts ≤ further_before true text texts
+  further_grow text [] h hs = operand_grows 15 text h
+  further_grow text (next ∷ texts) h hs =
+      either_grows text.is_descendants (step_before false next texts) (step_before true next texts)
+      (max (operand_before false 15 text) (further_before false next texts)) (max (operand_before false 15 text) (further_before true next texts))
+      (step_grows next texts hs.0 hs.1) (omega (arith, further_grow next texts hs.0 hs.1))
+
 steps_grow : (texts : List Nested) → AllGrow texts → steps_before false texts ≤ steps_before true texts
 steps_grow [] h = omega arith
-steps_grow (text ∷ texts) h = omega (arith, chain_grows false 15 texts h.1)
+steps_grow (text ∷ []) h = omega arith
+steps_grow (text ∷ next ∷ texts) h = omega (arith, further_grow next texts h.1.0 h.1.1)
 
 comma_grows : (texts : List Nested) → AllGrow texts → nested_by tree.Comma texts false ≤ nested_by tree.Comma texts true
 comma_grows texts h = bare_grows (nat_eq (length texts) 0) 1 (chain_before false false 1 texts) (chain_before true false 1 texts) (chain_grows false 1 texts h)

@@ -10,7 +10,7 @@ use Rattle.pj_xmeaning.specs.Trees as tree
 use Rattle.pj_xmeaning.specs.Trees.{Tree, Construct, tree_step}
 use Rattle.pj_xshape.specs.Shapes.{part_by, part_of_tree}
 use Rattle.pj_xshape.proofs.Bound.{names_of, parts_of}
-use Rattle.pj_xshape.proofs.Nodes.{part_of_node}
+use Rattle.pj_xshape.specs.Nodes.{part_of_node}
 use Rattle.pj_xshape.proofs.Seen.{seen_binder, seen_choice, seen_pair, seen_signed, seen_operated, seen_filter, seen_alone}
 
 -- a name or an operator with what its tree is seen as

@@ -3,7 +3,7 @@ use Rattle.std.proofs.Common.{◌≡◌, ap, ◌≤◌, Bool}
 use Rattle.pj_xmeaning.specs.Trees.{Tree, Trees, Node, NoMore, More}
 use Rattle.pj_xshape.specs.Shapes.{level_by, part_of_tree, parts_of_trees}
 use Rattle.pj_xshape.specs.Nesting.{nested_of, nested_each}
-use Rattle.pj_xshape.proofs.Within.{IsWithin, AreWithin, as_many_within, nesting_within}
+use Rattle.pj_xshape.proofs.Within.{IsWithin, AreWithin, as_many_within, descendants_free, nesting_within}
 
 mutual
   unfolding part_of_tree parts_of_trees nested_of nested_each
@@ -11,6 +11,7 @@ mutual
   pub tree_within : (t : Tree) → IsWithin (part_of_tree t) (nested_of t)
   tree_within (Node construct parts) = record {
     level = ap (level_by construct) (as_many_within (parts_of_trees parts) (nested_each parts) (trees_within parts));
+    free = descendants_free construct (parts_of_trees parts) (nested_each parts) (trees_within parts);
     nesting = nesting_within construct (parts_of_trees parts) (nested_each parts) (trees_within parts);
   }
 

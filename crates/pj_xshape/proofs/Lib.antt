@@ -1,6 +1,4 @@
 -- proofs of the laws of shapes
-pub mod Layers
-pub mod Nodes
 pub mod Fitted
 pub mod Bound
 pub mod Seen

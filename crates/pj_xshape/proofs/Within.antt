@@ -1,15 +1,19 @@
 -- The nesting that is said of parts is no more than that of their texts.
-use Rattle.std.proofs.Common.{◌≡◌, refl, sym, subst, ℕ, ◌+◌, ◌≤◌, Bool, true, false, if◌then◌else◌, List, [], ◌∷◌, length, nat_lt, nat_eq, arith}
+use Rattle.std.proofs.Common.{◌≡◌, refl, sym, subst, ℕ, ◌+◌, ◌≤◌, Bool, true, false, if◌then◌else◌, List, [], ◌∷◌, length, max, nat_lt, nat_eq, arith}
 use Rattle.std.specs.Prelude.{⊤}
+use Rattle.std.proofs.lemmas.Bool.{eqb-true, false≢true}
 use Rattle.pj_xvalue.specs.Expressions.{Part, operand, operands, predicates_nesting, steps_nesting}
+use Rattle.pj_xvalue.specs.declared.axis.Axis.TheVariants as axis
+use Rattle.pj_xvalue.specs.declared.expr.NodeTest.TheVariants as test
 use Rattle.pj_xmeaning.specs.Trees as tree
 use Rattle.pj_xmeaning.specs.Trees.{Construct}
-use Rattle.pj_xshape.specs.Shapes.{clauses_nesting, choice_nesting, filter_nesting, nesting_by}
-use Rattle.pj_xshape.specs.Nesting.{Nested, operand_before, chain_before, clauses_before, choice_before, enclosed, filter_inside, steps_before, nested_by}
+use Rattle.pj_xshape.specs.Shapes.{clauses_nesting, choice_nesting, filter_nesting, nesting_by, part_by}
+use Rattle.pj_xshape.specs.Nesting.{Nested, operand_before, chain_before, clauses_before, choice_before, enclosed, filter_inside, step_before, further_before, steps_before, is_descendants_by, nested_by}
 
 -- what is seen of an expression beside what is seen of its text
 pub record IsWithin (part : Part) (text : Nested) : Type 0 where
   pub level : text.level ≡ part.level
+  pub free : text.is_descendants ≡ true → operand 15 part ≡ 0
   pub nesting : (behind : Bool) → part.nesting ≤ text.nesting behind
 
 abbrev pub AreWithin : List Part → List Nested → Type 0
@@ -78,12 +82,38 @@ filter_within (part ∷ parts) [] h = absurd h
 filter_within (part ∷ parts) (text ∷ texts) h =
     omega (arith, operand_within false 16 part text h.0, predicates_within parts texts h.1)
 
+either_within : (b : Bool) (n x y : ℕ) → (b ≡ true → n ≤ x) → (b ≡ false → n ≤ y) → n ≤ (if b then x else y)
+either_within true n x y p q = p refl
+either_within false n x y p q = q refl
+
+mutual
+  step_within : (behind : Bool) (part : Part) (parts : List Part) (text : Nested) (texts : List Nested) → IsWithin part text → AreWithin parts texts →
+      operands 15 (part ∷ parts) ≤ step_before behind text texts
+  step_within behind part [] text [] h hs = omega (arith, operand_within behind 15 part text h)
+  step_within behind part [] text (next ∷ texts) h hs = absurd hs
+  step_within behind part (other ∷ parts) text [] h hs = absurd hs
+  step_within behind part (other ∷ parts) text (next ∷ texts) h hs =
+      omega (arith, operand_within false 15 part text h, further_within behind other parts next texts hs.0 hs.1)
+
+  further_within : (behind : Bool) (part : Part) (parts : List Part) (text : Nested) (texts : List Nested) → IsWithin part text → AreWithin parts texts →
+      operands 15 (part ∷ parts) ≤ further_before behind text texts
+  further_within behind part [] text [] h hs = omega (arith, operand_within behind 15 part text h)
+  further_within behind part [] text (next ∷ texts) h hs = absurd hs
+  further_within behind part (other ∷ parts) text [] h hs = absurd hs
+  further_within behind part (other ∷ parts) text (next ∷ texts) h hs =
+      either_within text.is_descendants (operands 15 (part ∷ other ∷ parts)) (step_before behind next texts) (max (operand_before false 15 text) (further_before behind next texts))
+      (λ e. omega (arith, h.free e, step_within behind other parts next texts hs.0 hs.1))
+      (λ e. omega (arith, operand_within false 15 part text h, further_within behind other parts next texts hs.0 hs.1))
+
 steps_within : (behind : Bool) (parts : List Part) (texts : List Nested) → AreWithin parts texts → steps_nesting parts ≤ steps_before behind texts
 steps_within behind [] [] h = omega arith
 steps_within behind [] (text ∷ texts) h = absurd h
 steps_within behind (part ∷ parts) [] h = absurd h
-steps_within behind (part ∷ parts) (text ∷ texts) h =
-    omega (arith, operand_within false 14 part text h.0, operands_within behind false 15 parts texts h.1)
+steps_within behind (part ∷ []) (text ∷ []) h = omega (arith, operand_within false 14 part text h.0)
+steps_within behind (part ∷ []) (text ∷ next ∷ texts) h = absurd h.1
+steps_within behind (part ∷ other ∷ parts) (text ∷ []) h = absurd h.1
+steps_within behind (part ∷ other ∷ parts) (text ∷ next ∷ texts) h =
+    omega (arith, operand_within false 14 part text h.0, further_within behind other parts next texts h.1.0 h.1.1)
 
 when_empty : (empty : Bool) (n m : ℕ) → n ≤ m → (if empty then 1 else n) ≤ (if empty then 1 else m)
 when_empty true n m h = omega arith
@@ -113,9 +143,19 @@ nesting_within (tree.Unary sign) parts texts h behind = omega (arith, operands_w
 nesting_within tree.SimpleMap parts texts h behind = operands_within behind false 13 parts texts h
 nesting_within tree.Path parts texts h behind = steps_within behind parts texts h
 nesting_within tree.Root parts texts h behind = omega arith
-nesting_within (tree.Step axis test) parts texts h behind = predicates_within parts texts h
-nesting_within (tree.AttributeStep test) parts texts h behind = predicates_within parts texts h
+nesting_within (tree.Step a t) parts texts h behind = omega (arith, predicates_within parts texts h)
+nesting_within (tree.AttributeStep t) parts texts h behind = omega (arith, predicates_within parts texts h)
 nesting_within tree.Filter parts texts h behind = filter_within parts texts h
 nesting_within (tree.Call function) parts texts h behind = omega (arith, operands_within false false 1 parts texts h)
 nesting_within (tree.PmdCall function) parts texts h behind = omega (arith, operands_within false false 1 parts texts h)
 nesting_within _ parts texts h behind = omega arith
+
+-- the step that `//` stands for has nothing that nests, but the parentheses of its test
+pub descendants_free : (construct : Construct) (parts : List Part) (texts : List Nested) → AreWithin parts texts → is_descendants_by construct (length texts) ≡ true →
+    operand 15 (part_by construct parts) ≡ 0
+descendants_free (tree.Step axis.DescendantOrSelf test.AnyNode) [] [] h e = refl
+descendants_free (tree.Step axis.DescendantOrSelf test.AnyNode) [] (text ∷ texts) h e = absurd h
+descendants_free (tree.Step axis.DescendantOrSelf test.AnyNode) (part ∷ parts) [] h e = absurd h
+descendants_free (tree.Step axis.DescendantOrSelf test.AnyNode) (part ∷ parts) (text ∷ texts) h e =
+    let none : length (text ∷ texts) ≡ 0 = eqb-true (length (text ∷ texts)) 0 e in absurd (omega arith)
+descendants_free _ parts texts h e = absurd (false≢true e)

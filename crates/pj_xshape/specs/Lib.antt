@@ -1,4 +1,6 @@
--- what the trees of expressions look like
+-- definitions
 pub mod Shapes
 pub mod Nesting
 pub mod Spelled
+pub mod Nodes
+pub mod Layers

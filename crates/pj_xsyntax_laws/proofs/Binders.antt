@@ -15,7 +15,7 @@ use Rattle.pj_xvalue.specs.declared.expr.Quantifier.{Quantifier}
 use Rattle.pj_xvalue.specs.declared.expr.Quantifier.TheVariants as quantifier
 use Rattle.pj_xvalue.specs.Expressions.{Scope, Other, with_variable}
 use Rattle.pj_xmeaning.specs.Trees as tree
-use Rattle.pj_xmeaning.specs.Trees.{Tree, Trees, Construct, Node, NoMore, More, trees}
+use Rattle.pj_xmeaning.specs.Trees.{Tree, Trees, Node, NoMore, More, trees}
 use Rattle.pj_xmeaning.specs.Parts as part
 use Rattle.pj_xmeaning.specs.Parts.{One}
 use Rattle.pj_xmeaning.specs.Values.{binder_construct}
@@ -27,7 +27,7 @@ use Rattle.pj_xmeaning.specs.declared.action.Change.TheVariants as change
 use Rattle.pj_xnames.specs.Mentions.{Mention}
 use Rattle.pj_xnames.specs.Namings as naming
 use Rattle.pj_xnames.specs.Namings.{scoped}
-use Rattle.pj_xderived.specs.Derived.{IsRead}
+use Rattle.pj_xparse.specs.Derived.{IsRead}
 use Rattle.pj_xshape.specs.Spelled.{IsText}
 use Rattle.pj_xshape.specs.Nesting.{Nested, operand_before, clauses_before, nested_of, nested_each}
 use Rattle.pj_xsyntax_laws.specs.Printed.{operand, clauses, dollar, comma, name, sign, keyword, printed_of, printed_each}

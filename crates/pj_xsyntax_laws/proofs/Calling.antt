@@ -1,10 +1,12 @@
 -- What calls and scopes name stands in its order.
-use Rattle.std.proofs.Common.{◌≡◌, ℕ, ◌+◌, ◌*◌, ◌<◌, ◌≤◌, Bool, true, false, List, [], ◌∷◌, ◌++◌, length, Option, Some, None, arith}
-use Rattle.pj_xmeaning.specs.declared.name.Callee.{Callee}
-use Rattle.pj_xmeaning.specs.Names.{callee_of}
+use Rattle.std.proofs.Common.{◌≡◌, ℕ, ◌+◌, ◌*◌, ◌<◌, ◌≤◌, List, [], ◌∷◌, ◌++◌, length, take, Option, Some, None, arith}
+use Rattle.pj_xvalue.specs.declared.name.Callee.{Callee}
+use Rattle.pj_xvalue.specs.Names.{callee_of}
 use Rattle.pj_xnames.specs.declared.role.Role.{Role}
 use Rattle.pj_xnames.specs.Mentions.{Mention, Variable, Call, Ends, roles_named}
-use Rattle.pj_xnames.specs.Namings.{Operand, in_roles, open_call, call, scoped}
+use Rattle.pj_xnames.specs.Namings.{Operand, count_ended, in_roles, open_call, call, scoped}
+use Rattle.pj_xnames.specs.declared.part.Extent.{Extent}
+use Rattle.pj_xnames.specs.declared.part.Extent.TheVariants.{Whole, Open, Awaiting}
 use Rattle.pj_xsyntax_laws.proofs.Ordered.{InOrder, none_in_order, widened, joined}
 use Rattle.pj_xsyntax_laws.proofs.Placed.{Operands, IsCalled, Variables, operands_name}
 
@@ -30,23 +32,25 @@ roles_name low high (role ∷ roles) (o ∷ os) (middle, e, c, d, p) =
     record { ordered = (omega arith, omega arith, omega arith, (widened (2 * o.from + 0 + 1) high (omega arith) (omega arith) rest).ordered) }
 
 module _ (low high from : ℕ) (at : 2 * from ≡ low) (name : List ℕ) (arguments : List Operand) (predicates : List Mention) where
-  pub open_names : (found : Option Callee) → IsCalled low high arguments predicates → InOrder (low + 1) high (open_call found name from arguments ++ predicates)
-  open_names None p =
+  pub open_names : (found : Option Callee) (extent : Extent) → IsCalled low high arguments predicates → InOrder (low + 1) high (open_call found name from arguments extent ++ predicates)
+  open_names None extent p =
       let opened = p.opened in
       let within = p.within in
       joined (omega arith) (omega arith) within (call_first name (length arguments) from (omega arith) (omega arith)
       (widened (2 * from + 2) p.end (omega arith) (omega arith) (operands_name (low + 2) p.end arguments p.inside))) p.behind
-  open_names (Some callee) p =
+  open_names (Some callee) extent p =
       let opened = p.opened in
-      joined (omega arith) (omega arith) p.within (widened (low + 1) p.end (omega arith) (omega arith) (operands_name (low + 2) p.end arguments p.inside)) p.behind
+      let roles = take (count_ended extent (length arguments)) (roles_named name) in
+      joined (omega arith) (omega arith) p.within (widened (low + 1) p.end (omega arith) (omega arith) (roles_name (low + 2) p.end roles arguments p.inside)) p.behind
 
-  pub call_names : (all : Bool) → IsCalled low high arguments predicates → InOrder (low + 1) high (call name from arguments all predicates)
-  call_names true p =
+  pub call_names : (extent : Extent) → IsCalled low high arguments predicates → InOrder (low + 1) high (call name from arguments extent predicates)
+  call_names Whole p =
       let opened = p.opened in
       let within = p.within in
       call_first name (length arguments) from (omega arith) (omega arith)
       (joined (omega arith) (omega arith) within (widened (2 * from + 2) p.end (omega arith) (omega arith) (roles_name (low + 2) p.end (roles_named name) arguments p.inside)) p.behind)
-  call_names false p = open_names (callee_of name) p
+  call_names Open p = open_names (callee_of name) Open p
+  call_names Awaiting p = open_names (callee_of name) Awaiting p
 
 -- each variable's expression stands before those behind it, and before the body
 pub scoped_names : (low middle middle' high count : ℕ) (vs : List (List ℕ × List Mention)) (body : List Mention) → low ≤ middle → middle ≤ middle' → middle ≤ high → Variables low middle vs →

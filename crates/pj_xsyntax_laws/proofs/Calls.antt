@@ -1,5 +1,5 @@
 -- Calls of functions.
-use Rattle.std.proofs.Common.{◌≡◌, ◌∙◌, ℕ, suc, ◌+◌, List, [], ◌∷◌, ◌++◌, true, false, Some, None, length, refl, sym, ap, subst, arith, append_assoc}
+use Rattle.std.proofs.Common.{◌≡◌, ◌∙◌, ℕ, suc, ◌+◌, List, [], ◌∷◌, ◌++◌, false, Some, None, length, refl, sym, ap, subst, arith, append_assoc}
 use Rattle.std.specs.Prelude.{IsTrue}
 use Rattle.std.specs.Str.{encode_utf8_all}
 use Rattle.std.proofs.Math.Nat.{add-zero}
@@ -14,17 +14,18 @@ use Rattle.pj_xvalue.specs.declared.function.Function.{Function}
 use Rattle.pj_xvalue.specs.declared.pmd_function.PmdFunction.{PmdFunction}
 use Rattle.pj_xvalue.specs.Functions.{takes, pmd_takes}
 use Rattle.pj_xvalue.specs.Expressions.{Scope, Other, arguments_fit}
-use Rattle.pj_xmeaning.specs.Names.{callee_of}
+use Rattle.pj_xvalue.specs.Names.{callee_of}
 use Rattle.pj_xmeaning.specs.Trees as tree
-use Rattle.pj_xmeaning.specs.Trees.{Tree, Trees, Node, NoMore, More, trees}
+use Rattle.pj_xmeaning.specs.Trees.{Tree, Trees, Node}
 use Rattle.pj_xmeaning.specs.Parts.{One, expressions}
 use Rattle.pj_xmeaning.specs.Values.{filtered, called}
-use Rattle.pj_xmeaning.specs.declared.name.Callee.{Callee}
+use Rattle.pj_xvalue.specs.declared.name.Callee.{Callee}
 use Rattle.pj_xnames.specs.Faults.{callee_takes, is_function}
 use Rattle.pj_xnames.specs.Mentions.{Mention, roles_in, roles_named}
 use Rattle.pj_xnames.specs.Namings as naming
-use Rattle.pj_xnames.specs.Namings.{Operand, first_from, mentions_of, operands_of, is_whole, in_roles, call}
-use Rattle.pj_xderived.specs.Derived.{IsRead}
+use Rattle.pj_xnames.specs.Namings.{Operand, mentions_of, operands_of, extent_of, in_roles, call}
+use Rattle.pj_xnames.specs.declared.part.Extent.TheVariants as extent
+use Rattle.pj_xparse.specs.Derived.{IsRead}
 use Rattle.pj_xshape.specs.Shapes.{part_of_tree}
 use Rattle.pj_xshape.specs.Nesting.{nested_of, nested_each, chain_before}
 use Rattle.pj_xsyntax_laws.specs.Printed.{enclosed, joined, left, right, comma, named, printed_of, printed_each, function_name, pmd_function_name}
@@ -40,7 +41,7 @@ use Rattle.pj_xsyntax_laws.proofs.Tables.{function-word, function-meaning, funct
 use Rattle.pj_xsyntax_laws.proofs.Readings.{operand_at, Primary, Reads, EachReads, AllNames, no_names, more_names, many, whole, list_of, list_is}
 
 -- what a call names, where there is such a function
-call-whole : (name : List ℕ) (from : ℕ) (os : List Operand) (predicates : List Mention) → call name from (operands_of (whole os)) (is_whole (whole os)) predicates ≡ call name from os true predicates
+call-whole : (name : List ℕ) (from : ℕ) (os : List Operand) (predicates : List Mention) → call name from (operands_of (whole os)) (extent_of (whole os)) predicates ≡ call name from os extent.Whole predicates
 call-whole name from [] predicates = refl
 call-whole name from (o ∷ os) predicates = refl
 
@@ -49,7 +50,7 @@ names-length no_names = refl
 names-length (more_names n ns) = ap suc (names-length ns)
 
 clean-callee : {scope : Scope} {ts : List Tree} {os : List Operand} {o : Callee} (name : List ℕ) (from : ℕ) (predicates : List Mention) → callee_of name ≡ Some o → AllNames scope ts os
-    → IsTrue (callee_takes (Some o) (length (written_all ts))) → IsTrue (roles_fit (roles_in (Some o)) scope (written_all ts)) → Clean scope predicates → Clean scope (call name from os true predicates)
+    → IsTrue (callee_takes (Some o) (length (written_all ts))) → IsTrue (roles_fit (roles_in (Some o)) scope (written_all ts)) → Clean scope predicates → Clean scope (call name from os extent.Whole predicates)
 clean-callee {scope} {ts} {os} {o} name from predicates means names takes fits f =
     let known : IsTrue (is_function name (length os)) = ap (λ c. callee_takes c (length os)) means ∙ ap (callee_takes (Some o)) (names-length names) ∙ takes in
     let roles : Clean scope (in_roles (roles_named name) os) = subst (λ c. Clean scope (in_roles (roles_in c) os)) (sym means) (clean-roles (roles_in (Some o)) names fits) in
@@ -79,7 +80,7 @@ module _ {scope : Scope} {o : Callee} (text : List ℕ) (ts : Trees) (no_word : 
         let bytes = encode_utf8_all text in
         let first = from in
         let derived = ruled p.name_step (f-rule plain (f-rule tail_line f-none (sym (append-nil tail_words))) refl) in
-        let operand = operand_at first Other (call bytes first arguments.operands true (mentions_of (whole listing.operands))) in
+        let operand = operand_at first Other (call bytes first arguments.operands extent.Whole (mentions_of (whole listing.operands))) in
         let named_so = subst (λ ms. Ruled around behind 40 from words (One (filtered (called (callee_of bytes) (expressions (many (list_of ts)))) (expressions (many preds)))) (naming.One (operand_at first Other ms)))
         (call-whole bytes first arguments.operands (mentions_of (whole listing.operands))) derived in
         let meant : called (callee_of bytes) (expressions (many (list_of ts))) ≡ made = ap (λ c. called c (expressions (many (list_of ts)))) means ∙ ap (called (Some o)) (expressions-many (list_of ts)) ∙ same in

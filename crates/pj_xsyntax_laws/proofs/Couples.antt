@@ -14,7 +14,7 @@ use Rattle.pj_xvalue.specs.declared.expr.Sign.TheVariants as signed
 use Rattle.pj_xvalue.specs.Expressions.{Scope, Other}
 use Rattle.pj_xmeaning.specs.Meaning.{first_text}
 use Rattle.pj_xmeaning.specs.Trees as tree
-use Rattle.pj_xmeaning.specs.Trees.{Tree, Trees, Construct, Node, NoMore, More}
+use Rattle.pj_xmeaning.specs.Trees.{Tree, Trees, Node, NoMore, More}
 use Rattle.pj_xmeaning.specs.Parts.{One}
 use Rattle.pj_xmeaning.specs.Values.{operation_value, change_value}
 use Rattle.pj_xmeaning.specs.declared.action.Action.TheVariants as action
@@ -23,8 +23,8 @@ use Rattle.pj_xmeaning.specs.declared.action.Single.TheVariants as single
 use Rattle.pj_xmeaning.specs.declared.action.Operation.{Operation}
 use Rattle.pj_xmeaning.specs.declared.action.Operation.TheVariants as operation
 use Rattle.pj_xnames.specs.Namings as naming
-use Rattle.pj_xnames.specs.Namings.{Operand, first_from, mentions_of, change_naming}
-use Rattle.pj_xderived.specs.Derived.{IsRead}
+use Rattle.pj_xnames.specs.Namings.{Operand, first_from, change_naming}
+use Rattle.pj_xparse.specs.Derived.{IsRead}
 use Rattle.pj_xshape.specs.Nesting.{operand_before, nested_of}
 use Rattle.pj_xsyntax_laws.specs.Printed.{operand, printed_of, printed_each, compare_word, signed_word, keyword}
 use Rattle.pj_xsyntax_laws.proofs.Productions as p

@@ -13,7 +13,7 @@ use Rattle.pj_xmeaning.specs.Values as value
 use Rattle.pj_xmeaning.specs.declared.action.Action.{Action}
 use Rattle.pj_xnames.specs.Namings as naming
 use Rattle.pj_xnames.specs.Namings.{Naming}
-use Rattle.pj_xderived.specs.Derived.{IsRead, Derived, Fill, by, none, token, rule, close}
+use Rattle.pj_xparse.specs.Derived.{IsRead, Derived, Fill, by, none, token, rule, close}
 use Rattle.pj_xsyntax_laws.proofs.Productions.{Production}
 
 -- the rule derives the words, with this value and naming

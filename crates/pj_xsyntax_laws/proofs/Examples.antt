@@ -11,6 +11,12 @@ lone_slash : printed (node And (alone Root ∷ node Or (alone Root ∷ alone Con
 unfolding printed_of printed_each
 lone_slash = refl
 
-path : printed (node Path (alone Root ∷ node (Step axis.Child AnyName) (node (Call f.Position) [] ∷ []) ∷ alone (Step axis.Parent AnyNode) ∷ [])) ≡ codes "/ child :: * [ position ( ) ] / parent :: node ( ) "
+path : printed (node Path (alone Root ∷ node (Step axis.Child AnyName) (node (Call f.Position) [] ∷ []) ∷ alone (Step axis.Parent AnyNode) ∷ [])) ≡ codes "/ child :: * [ position ( ) ] / .. "
 unfolding printed_of printed_each
 path = refl
+
+-- `//` stands for one step `descendant-or-self::node()`, and not for the last
+descendants : printed (node Path (alone Root ∷ alone (Step axis.DescendantOrSelf AnyNode) ∷ alone (Step axis.Child AnyName) ∷ alone (Step axis.DescendantOrSelf AnyNode) ∷ [])) ≡
+    codes "// child :: * / descendant-or-self :: node ( ) "
+unfolding printed_of printed_each
+descendants = refl

@@ -1,8 +1,7 @@
 -- The values of the rules that are still to come stand behind each other, from the next token on.
 use Rattle.std.proofs.Common.{◌≡◌, ℕ, zero, suc, ◌+◌, ◌*◌, ◌≤◌, Bool, true, false, List, [], ◌∷◌, ◌++◌, length, drop, sym, refl, subst, arith}
 use Rattle.std.specs.Prelude.{◌&&◌}
-use Rattle.std.proofs.lemmas.Bool.{false≢true}
-use Rattle.pj_ll.proofs.Lists.{and_first, and_second}
+use Rattle.std.proofs.lemmas.Bool.{and_parts, false≢true}
 use Rattle.pj_xtokens.specs.Tokens.{Lexed}
 use Rattle.pj_xmeaning.specs.Fitting.{taken}
 use Rattle.pj_xmeaning.specs.declared.action.Action.{Action}
@@ -179,12 +178,12 @@ count_of_none _ e = absurd (false≢true e)
 -- an action takes the values of its production's rules
 fits_count : (g : Grade) (a : Action) (gs : List Grade) (b : Bool) → fits g a gs b ≡ true → length gs ≡ taken a
 fits_count g (action.Leaf a) gs b e = count_of_none gs e
-fits_count g (action.Change a) gs b e = count_of_one gs (and_first (one_rule gs) (fits_change g a (head gs)) e)
-fits_count g (action.Single a) gs b e = count_of_one gs (and_first (one_rule gs) (is_solid g) e)
-fits_count g (action.Rest a) gs b e = count_of_two gs (and_first (two_rules gs) (fits_rest a (head gs) b) e)
+fits_count g (action.Change a) gs b e = count_of_one gs (and_parts (one_rule gs) (fits_change g a (head gs)) e).0
+fits_count g (action.Single a) gs b e = count_of_one gs (and_parts (one_rule gs) (is_solid g) e).0
+fits_count g (action.Rest a) gs b e = count_of_two gs (and_parts (two_rules gs) (fits_rest a (head gs) b) e).0
 fits_count g (action.Operation a) gs b e = count_of_two gs e
 fits_count g (action.Binder a) gs b e = count_of_two gs e
-fits_count g (action.Step a) gs b e = count_of_two gs (and_first (two_rules gs) (is_solid g) e)
+fits_count g (action.Step a) gs b e = count_of_two gs (and_parts (two_rules gs) (is_solid g) e).0
 fits_count g action.If gs b e = count_of_three gs e
 fits_count g action.Binding gs b e = count_of_three gs e
 
@@ -197,8 +196,8 @@ pub filled : (whole : Bool) (high : ℕ) (g : Grade) (a : Action) (ss rest : Lis
     (whole ≡ false → low + 2 ≤ high) → (low + 2 ≤ high → 2 * first_from tokens ≡ low) → Fills whole high (ss ++ rest) low ws → Fills whole high (Rule g ∷ rest) low (acted a tokens ws)
 filled whole high g a ss rest tokens low ws e gap at f =
     let b = begun whole high low gap ss rest ws f in
-    let fit = and_first (fits g a (rules_in ss) (token_first ss)) (implies (is_solid g) (begins ss)) e in
-    let solid = implied (is_solid g) (begins ss) (and_second (fits g a (rules_in ss) (token_first ss)) (implies (is_solid g) (begins ss)) e) in
+    let fit = (and_parts (fits g a (rules_in ss) (token_first ss)) (implies (is_solid g) (begins ss)) e).0 in
+    let solid = implied (is_solid g) (begins ss) (and_parts (fits g a (rules_in ss) (token_first ss)) (implies (is_solid g) (begins ss)) e).1 in
     let within : low ≤ b.middle = rows_within (rules_in ss) low b.middle ws b.rows in
     let end : b.middle ≤ high = fills_within whole high b.others in
     rule g b.middle within (λ is. b.solid (solid is))

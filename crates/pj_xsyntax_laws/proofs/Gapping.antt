@@ -1,11 +1,11 @@
 -- The tokens of words with white space and comments between them, and that these change no expression.
-use Rattle.std.proofs.Common.{◌≡◌, ℕ, ◌+◌, List, [], ◌∷◌, ◌++◌, refl, sym, arith}
+use Rattle.std.proofs.Common.{◌≡◌, ℕ, ◌+◌, false, List, [], ◌∷◌, ◌++◌, refl, sym, arith}
 use Rattle.std.proofs.Math.Nat.{zero-add}
 use Rattle.pj_xtokens.specs.Gaps.{Past, here, white}
 use Rattle.pj_xtokens.specs.Size.{size}
 use Rattle.pj_xtokens.specs.Tokens.{Tokens, ended, token}
 use Rattle.pj_xtokens.specs.declared.token.End.TheVariants as ends
-use Rattle.pj_xtokens.proofs.Ends.{size-append}
+use Rattle.pj_xsyntax_laws.proofs.Sizes.{size-append}
 use Rattle.pj_xgrammar.specs.Terminals.{first_behind, begins_step}
 use Rattle.pj_xgrammar.specs.declared.terminal.Behind.TheVariants as b
 use Rattle.pj_xmeaning.specs.Trees.{Tree}
@@ -13,38 +13,39 @@ use Rattle.pj_xparse.specs.Spells.{Spells}
 use Rattle.pj_xsyntax_laws.specs.Abbreviations.{WrittenOut, done, kept}
 use Rattle.pj_xsyntax_laws.specs.Gapped.{Piece, words_in, gapped, located, IsGap, ArePieces}
 use Rattle.pj_xsyntax_laws.specs.Spaced.{AreSpelled, placed, spaced}
-use Rattle.pj_xsyntax_laws.proofs.Expanding.{written_out_spells}
+use Rattle.pj_xsyntax_laws.proofs.Expanding.{TokensAreOne, written_out_spells}
 use Rattle.pj_xsyntax_laws.proofs.Fronts.{opens_none, solid_front, not_joined}
 use Rattle.pj_xsyntax_laws.proofs.Placing.{size-word, tokens_from}
 use Rattle.pj_xsyntax_laws.proofs.Stopping.{longest_before_space}
+use Rattle.pj_xsyntax_laws.proofs.WordKinds.{SpelledAreTold}
 
 -- ---- tokens
 
--- the words from an offset on, behind white space and comments
-pieces_from : (total from : ℕ) (ps : List Piece) (text : List ℕ) → ArePieces ps → Past text (gapped ps) → from + size (gapped ps) ≡ total
+-- the words from an offset on, behind white space and comments, where the scanner's states tell what each token is
+pieces_from : SpelledAreTold → (total from : ℕ) (ps : List Piece) (text : List ℕ) → ArePieces ps → Past text (gapped ps) → from + size (gapped ps) ≡ total
     → Tokens total text (located from ps) (ends.Text total)
-pieces_from total from [] text f p e = ended text p
-pieces_from total from (w ∷ ws) text f p e =
+pieces_from told total from [] text f p e = ended text p
+pieces_from told total from (w ∷ ws) text f p e =
     let rest = w.gap ++ gapped ws in
     let n = size-word w.word.text rest in
     let m = size-append w.gap (gapped ws) in
     let behind : from + size w.word.text + 1 + size w.gap + size (gapped ws) ≡ total = omega (arith, e, n, m) in
     token text (w.word.text ++ 32 ∷ rest) w.word.text (32 ∷ rest) w.word.kind from (located (from + size w.word.text + 1 + size w.gap) ws) (ends.Text total)
-    p (solid_front w.word.text rest w.word.kind f.0) (opens_none w.word.text rest w.word.kind f.0) refl (longest_before_space w.word.text rest w.word.kind f.0) e (not_joined w.word.kind rest)
-    (pieces_from total (from + size w.word.text + 1 + size w.gap) ws (32 ∷ rest) f.2 (white 32 (32 ∷ rest) rest (gapped ws) refl refl (f.1 (gapped ws))) behind)
+    p (solid_front told w.word.text rest w.word.kind f.0) (opens_none told w.word.text rest w.word.kind f.0) refl (longest_before_space told w.word.text rest w.word.kind f.0) e (not_joined w.word.kind rest)
+    (pieces_from told total (from + size w.word.text + 1 + size w.gap) ws (32 ∷ rest) f.2 (white 32 (32 ∷ rest) rest (gapped ws) refl refl (f.1 (gapped ws))) behind)
 
-pub gapped_tokens : (front : List ℕ) (ps : List Piece) → IsGap front → ArePieces ps
+pub gapped_tokens : SpelledAreTold → (front : List ℕ) (ps : List Piece) → IsGap front → ArePieces ps
     → Tokens (size (front ++ gapped ps)) (front ++ gapped ps) (located (size front) ps) (ends.Text (size (front ++ gapped ps)))
-gapped_tokens front ps g f = pieces_from (size (front ++ gapped ps)) (size front) ps (front ++ gapped ps) f (g (gapped ps)) (sym (size-append front (gapped ps)))
+gapped_tokens told front ps g f = pieces_from told (size (front ++ gapped ps)) (size front) ps (front ++ gapped ps) f (g (gapped ps)) (sym (size-append front (gapped ps)))
 
 words_spelled : (ps : List Piece) → ArePieces ps → AreSpelled (words_in ps)
 words_spelled [] f = tt
 words_spelled (p ∷ ps) f = (f.0, words_spelled ps f.2)
 
-spaced_tokens : (ps : List Piece) → ArePieces ps → Tokens (size (spaced (words_in ps))) (spaced (words_in ps)) (placed 0 (words_in ps)) (ends.Text (size (spaced (words_in ps))))
-spaced_tokens ps f =
+spaced_tokens : SpelledAreTold → (ps : List Piece) → ArePieces ps → Tokens (size (spaced (words_in ps))) (spaced (words_in ps)) (placed 0 (words_in ps)) (ends.Text (size (spaced (words_in ps))))
+spaced_tokens told ps f =
     let text = spaced (words_in ps) in
-    tokens_from (size text) 0 (words_in ps) text (words_spelled ps f) (here text text refl) (zero-add (size text))
+    tokens_from told (size text) 0 (words_in ps) text (words_spelled ps f) (here text text refl) (zero-add (size text))
 
 -- ---- the same tokens but for their offsets
 
@@ -56,14 +57,14 @@ begins_back : (n m : ℕ) (ps : List Piece) → begins_step (first_behind b.End 
 begins_back n m [] = refl
 begins_back n m (p ∷ ps) = refl
 
-closer : (n m : ℕ) (ps : List Piece) → WrittenOut [] (located n ps) (placed m (words_in ps))
+closer : (n m : ℕ) (ps : List Piece) → WrittenOut false [] (located n ps) (placed m (words_in ps))
 closer n m [] = done
 closer n m (p ∷ ps) =
     let n' : ℕ = n + size p.word.text + 1 + size p.gap in
     let m' : ℕ = m + size p.word.text + 1 in
     kept m (λ e. begins_same n' m' ps) (closer n' m' ps)
 
-apart : (n m : ℕ) (ps : List Piece) → WrittenOut [] (placed m (words_in ps)) (located n ps)
+apart : (n m : ℕ) (ps : List Piece) → WrittenOut false [] (placed m (words_in ps)) (located n ps)
 apart n m [] = done
 apart n m (p ∷ ps) =
     let n' : ℕ = n + size p.word.text + 1 + size p.gap in
@@ -72,13 +73,13 @@ apart n m (p ∷ ps) =
 
 -- ---- expressions
 
-module _ (variables : List (List ℕ)) (front : List ℕ) (ps : List Piece) (tree : Tree) (g : IsGap front) (f : ArePieces ps) where
+module _ (told : SpelledAreTold) (one_tokens : TokensAreOne) (variables : List (List ℕ)) (front : List ℕ) (ps : List Piece) (tree : Tree) (g : IsGap front) (f : ArePieces ps) where
   pub without_gaps : Spells variables (front ++ gapped ps) tree → Spells variables (spaced (words_in ps)) tree
   without_gaps =
-      written_out_spells variables (front ++ gapped ps) (spaced (words_in ps)) (located (size front) ps) (placed 0 (words_in ps)) tree
-      (gapped_tokens front ps g f) (spaced_tokens ps f) (closer (size front) 0 ps)
+      written_out_spells one_tokens variables (front ++ gapped ps) (spaced (words_in ps)) (located (size front) ps) (placed 0 (words_in ps)) tree
+      (gapped_tokens told front ps g f) (spaced_tokens told ps f) (closer (size front) 0 ps)
 
   pub with_gaps : Spells variables (spaced (words_in ps)) tree → Spells variables (front ++ gapped ps) tree
   with_gaps =
-      written_out_spells variables (spaced (words_in ps)) (front ++ gapped ps) (placed 0 (words_in ps)) (located (size front) ps) tree
-      (spaced_tokens ps f) (gapped_tokens front ps g f) (apart (size front) 0 ps)
+      written_out_spells one_tokens variables (spaced (words_in ps)) (front ++ gapped ps) (placed 0 (words_in ps)) (located (size front) ps) tree
+      (spaced_tokens told ps f) (gapped_tokens told front ps g f) (apart (size front) 0 ps)

@@ -1,11 +1,11 @@
 -- The grades of the rules, and that each production keeps them.
 use Rattle.std.proofs.Common.{◌≡◌, ℕ, zero, suc, Bool, true, false, List, [], ◌∷◌, ◌++◌, Option, Some, None, refl, sym, ap, ◌∙◌}
 use Rattle.std.specs.Prelude.{◌&&◌, slice_get}
-use Rattle.std.proofs.lemmas.Bool.{false≢true}
+use Rattle.std.proofs.lemmas.Bool.{and_parts, false≢true}
+use Rattle.std.proofs.lemmas.Option.{same_Some}
 use Rattle.pj_ll.specs.declared.grammar.Symbol.{Symbol}
 use Rattle.pj_ll.specs.declared.grammar.Symbol.TheVariants as symbol
 use Rattle.pj_ll.specs.Grammar.{Line}
-use Rattle.pj_ll.proofs.Lists.{and_first, and_second, some_one}
 use Rattle.pj_xgrammar.specs.XPath.{xpath, rules, xpath_grammar}
 use Rattle.pj_xmeaning.specs.Actions.{actions_of, actions}
 use Rattle.pj_xmeaning.specs.Meaning.{action_in, action_of}
@@ -65,8 +65,8 @@ fits_at : (lines : List Line) (xs : List Action) (p : ℕ) (line : Line) → all
 unfolding all_fit
 fits_at [] xs p line e at = absurd (let z = at in cc)
 fits_at (other ∷ lines) [] p line e at = absurd (false≢true e)
-fits_at (other ∷ lines) (a ∷ xs) zero line e at = ap (λ l. fits_line l a) (sym (some_one at)) ∙ and_first (fits_line other a) (all_fit lines xs) e
-fits_at (other ∷ lines) (a ∷ xs) (suc p) line e at = fits_at lines xs p line (and_second (fits_line other a) (all_fit lines xs) e) at
+fits_at (other ∷ lines) (a ∷ xs) zero line e at = ap (λ l. fits_line l a) (sym (same_Some other line at)) ∙ (and_parts (fits_line other a) (all_fit lines xs) e).0
+fits_at (other ∷ lines) (a ∷ xs) (suc p) line e at = fits_at lines xs p line (and_parts (fits_line other a) (all_fit lines xs) e).1 at
 
 pub production_fits : (p : ℕ) (line : Line) → slice_get xpath_grammar p ≡ Some line → fits_parts (grade_of line.rule) (action_of p) (parts line.symbols) ≡ true
 unfolding action_of fits_line

@@ -1,3 +1,4 @@
+pub mod Sizes
 pub mod Stopping
 pub mod Fronts
 pub mod Placing
@@ -14,7 +15,6 @@ pub mod Filling
 pub mod Grades
 pub mod Running
 pub mod TokenOffsets
-pub mod Outcomes
 pub mod RunNames
 pub mod Firsts
 pub mod NamedFirst
@@ -55,3 +55,4 @@ pub mod Looks
 pub mod Expanding
 pub mod Prefixes
 pub mod Gapping
+pub mod Axes

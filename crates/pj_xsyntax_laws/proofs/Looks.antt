@@ -1,5 +1,5 @@
 -- Tokens where abbreviations are written out: what they are for the token before them, and as which terminals they are taken.
-use Rattle.std.proofs.Common.{◌≡◌, ℕ, ◌≤◌, Bool, true, false, cond, ◌||◌, List, [], ◌∷◌, Option, Some, None, refl, sym, ◌∙◌, ap, subst, codes, eq-eqb}
+use Rattle.std.proofs.Common.{◌≡◌, ℕ, suc, ◌≤◌, Bool, true, false, cond, ◌||◌, List, [], ◌∷◌, Option, Some, None, refl, sym, ◌∙◌, ap, subst, codes, eq-eqb, arith}
 use Rattle.std.specs.Prelude.{not, nat_eq, nat_lt}
 use Rattle.std.proofs.lemmas.Bool.{false≢true}
 use Rattle.pj_ll.specs.declared.grammar.Symbol.{Symbol}
@@ -23,8 +23,27 @@ use Rattle.pj_xgrammar.specs.declared.terminal.Terminal.TheVariants as terminal
 use Rattle.pj_xgrammar.specs.Terminals.{first_behind, kind_behind, begins_step, is_dollar, is_parenthesis, is_brace, is_as, is_of, makes_phrase, word_terminal, sign_terminal, kind_terminal, terminal_of, terminal_number}
 use Rattle.pj_xmeaning.specs.Meaning.{first_text}
 use Rattle.pj_xmeaning.specs.Literals.{string_of}
-use Rattle.pj_xderived.specs.Reads.{Takes, token, IsAmong, here, further}
+use Rattle.pj_xparse.specs.Reads.{Takes, token, IsAmong, here, further}
 use Rattle.pj_xsyntax_laws.specs.Abbreviations.{sign, word, WrittenOut, done, kept, descendants, attribute, parent, union, literal}
+
+-- ---- how deep it is
+
+-- The tokens are read where so many things are open; written out, where this many are: one fewer, if kind tests, whose parentheses nest, are written out.
+pub data HasRoom : Bool → ℕ → ℕ → Type 0 where
+  flat : {d : ℕ} → HasRoom false d d
+  one_more : {d : ℕ} → HasRoom true (suc d) d
+
+pub deeper : {nests : Bool} {d e : ℕ} → HasRoom nests d e → HasRoom nests (suc d) (suc e)
+deeper flat = flat
+deeper one_more = one_more
+
+fewer : {nests : Bool} {d e : ℕ} → HasRoom nests d e → d ≤ greatest_nesting → e ≤ greatest_nesting
+fewer flat few = few
+fewer one_more few = omega arith
+
+room_for : {nests : Bool} {d e : ℕ} → nests ≡ true → HasRoom nests d e → d ≤ greatest_nesting → suc e ≤ greatest_nesting
+room_for is flat few = absurd (false≢true is)
+room_for is one_more few = few
 
 -- ---- before a phrase's word, and before a `/`
 
@@ -53,12 +72,12 @@ both_quiet phrase a c h g = quiet phrase a h ∙ sym (quiet phrase c g)
 abbrev pub LooksEnd : List Lexed → Type 0
 LooksEnd end = (phrase : Phrase) → makes_phrase phrase b.End ≡ makes_phrase phrase (first_behind b.End end)
 
-pub phrase_same : {end xs ys : List Lexed} → LooksEnd end → WrittenOut end xs ys → (phrase : Phrase) → makes_phrase phrase (first_behind b.End xs) ≡ makes_phrase phrase (first_behind b.End ys)
+pub phrase_same : {nests : Bool} {end xs ys : List Lexed} → LooksEnd end → WrittenOut nests end xs ys → (phrase : Phrase) → makes_phrase phrase (first_behind b.End xs) ≡ makes_phrase phrase (first_behind b.End ys)
 phrase_same q done phrase = q phrase
 phrase_same q (kept from slash more) phrase = refl
-phrase_same q (descendants from a c d e f g i more) phrase = both_quiet phrase (b.Sign s.SlashSlash) (b.Sign s.Slash) (refl, refl, refl, refl, refl) (refl, refl, refl, refl, refl)
+phrase_same q (descendants room from a c d e f g i more) phrase = both_quiet phrase (b.Sign s.SlashSlash) (b.Sign s.Slash) (refl, refl, refl, refl, refl) (refl, refl, refl, refl, refl)
 phrase_same q (attribute from a c more) phrase = both_quiet phrase (b.Sign s.At) b.Name (refl, refl, refl, refl, refl) (refl, refl, refl, refl, refl)
-phrase_same q (parent from a c d e f more) phrase = both_quiet phrase (b.Sign s.DotDot) b.Name (refl, refl, refl, refl, refl) (refl, refl, refl, refl, refl)
+phrase_same q (parent room from a c d e f more) phrase = both_quiet phrase (b.Sign s.DotDot) b.Name (refl, refl, refl, refl, refl) (refl, refl, refl, refl, refl)
 phrase_same q (union from a more) phrase = both_quiet phrase (b.Sign s.Bar) b.Name (refl, refl, refl, refl, refl) (refl, refl, refl, refl, refl)
 phrase_same q (literal from a e more) phrase = refl
 
@@ -119,18 +138,18 @@ stays n =
     not (nat_eq n (number_of (codes "//")) || (nat_eq n (number_of (codes "@")) || (nat_eq n (number_of (codes "..")) || (nat_eq n (number_of (codes "|")) || nat_eq n 4))))
 
 -- the terminal is taken of the written out tokens, too
-pub record On (end : List Lexed) (depth : ℕ) (x : Symbol) (xs ys out : List Lexed) : Type 0 where
+pub record On (nests : Bool) (end : List Lexed) (depth : ℕ) (x : Symbol) (xs ys out : List Lexed) : Type 0 where
   pub rest : List Lexed
   pub takes : Takes depth x out rest
-  pub more : WrittenOut end ys rest
+  pub more : WrittenOut nests end ys rest
   pub text : first_text xs ≡ first_text out
 
 no_stay : (m n : ℕ) → m ≡ n → stays n ≡ true → stays m ≡ false → ⊥
 no_stay m n e h g = false≢true (sym g ∙ subst (λ k. stays k ≡ true) (sym e) h)
 
 -- a token that is as it was
-still : {end : List Lexed} → LooksEnd end → {depth n : ℕ} {xs ys : List Lexed} (x : Lexed) (from : ℕ) → (x.kind ≡ kind.Sign s.Slash → begins_step (first_behind b.End xs) ≡ begins_step (first_behind b.End ys))
-    → WrittenOut end xs ys → terminal_number (terminal_of x (first_behind b.End xs)) ≡ n → depth ≤ greatest_nesting → On end depth (Terminal n) (x ∷ xs) xs (lexed x.kind x.text from ∷ ys)
+still : {nests : Bool} {end : List Lexed} → LooksEnd end → {depth n : ℕ} {xs ys : List Lexed} (x : Lexed) (from : ℕ) → (x.kind ≡ kind.Sign s.Slash → begins_step (first_behind b.End xs) ≡ begins_step (first_behind b.End ys))
+    → WrittenOut nests end xs ys → terminal_number (terminal_of x (first_behind b.End xs)) ≡ n → depth ≤ greatest_nesting → On nests end depth (Terminal n) (x ∷ xs) xs (lexed x.kind x.text from ∷ ys)
 still q {xs = xs} {ys} x from slash more e few = record {
   rest = ys;
   takes = token (ap terminal_number (sym (kind_same x.kind x.text (first_behind b.End xs) (first_behind b.End ys) (phrase_same q more) slash)) ∙ e) few;
@@ -138,109 +157,109 @@ still q {xs = xs} {ys} x from slash more e few = record {
   text = refl;
 }
 
-pub on : {end : List Lexed} → LooksEnd end → {depth : ℕ} {x : Symbol} {xs ys out : List Lexed} → Takes depth x xs ys → symbol_is stays x ≡ true → WrittenOut end xs out → On end depth x xs ys out
-on q (token {x = x} e few) h (kept from slash more) = still q x from slash more e few
-on q (token {number = n} e few) h (descendants from a c d f g i j more) = absurd (no_stay (number_of (codes "//")) n e h refl)
-on q (token {number = n} e few) h (attribute from a c more) = absurd (no_stay (number_of (codes "@")) n e h refl)
-on q (token {number = n} e few) h (parent from a c d f g more) = absurd (no_stay (number_of (codes "..")) n e h refl)
-on q (token {number = n} e few) h (union from a more) = absurd (no_stay (number_of (codes "|")) n e h refl)
-on q (token {number = n} e few) h (literal from a l more) = absurd (no_stay 4 n e h refl)
+pub on : {nests : Bool} {end : List Lexed} → LooksEnd end → {deep depth : ℕ} {x : Symbol} {xs ys out : List Lexed} → Takes deep x xs ys → HasRoom nests deep depth → symbol_is stays x ≡ true → WrittenOut nests end xs out → On nests end depth x xs ys out
+on q (token {x = x} e few) p h (kept from slash more) = still q x from slash more e (fewer p few)
+on q (token {number = n} e few) p h (descendants room from a c d f g i j more) = absurd (no_stay (number_of (codes "//")) n e h refl)
+on q (token {number = n} e few) p h (attribute from a c more) = absurd (no_stay (number_of (codes "@")) n e h refl)
+on q (token {number = n} e few) p h (parent room from a c d f g more) = absurd (no_stay (number_of (codes "..")) n e h refl)
+on q (token {number = n} e few) p h (union from a more) = absurd (no_stay (number_of (codes "|")) n e h refl)
+on q (token {number = n} e few) p h (literal from a l more) = absurd (no_stay 4 n e h refl)
 
 -- ---- tokens that may be
 
 -- `//`
 pub data Slashes (depth : ℕ) : List Lexed → List Lexed → Type 0 where
   slashes_kept : {xs ys : List Lexed} → Takes depth (t "//") xs ys → Slashes depth xs ys
-  as_steps : {ys : List Lexed} (a c d e f g i : ℕ) → depth ≤ greatest_nesting →
+  as_steps : {ys : List Lexed} (a c d e f g i : ℕ) → suc depth ≤ greatest_nesting → depth ≤ greatest_nesting →
       Slashes depth
       (sign s.Slash "/" a ∷ word "descendant-or-self" c ∷ sign s.ColonColon "::" d ∷ word "node" e ∷ sign s.LeftParenthesis "(" f ∷ sign s.RightParenthesis ")" g ∷ sign s.Slash "/" i ∷ ys)
       ys
 
-pub record OnSlashes (end : List Lexed) (depth : ℕ) (ys out : List Lexed) : Type 0 where
+pub record OnSlashes (nests : Bool) (end : List Lexed) (depth : ℕ) (ys out : List Lexed) : Type 0 where
   pub rest : List Lexed
   pub way : Slashes depth out rest
-  pub more : WrittenOut end ys rest
+  pub more : WrittenOut nests end ys rest
 
 wrong : {A : Type 0} (m n : ℕ) → m ≡ n → nat_eq m n ≡ false → A
 wrong m n e h = absurd (false≢true (sym h ∙ eq-eqb m n e))
 
-pub on_slashes : {end : List Lexed} → LooksEnd end → {depth : ℕ} {xs ys out : List Lexed} → Takes depth (t "//") xs ys → WrittenOut end xs out → OnSlashes end depth ys out
-on_slashes q (token {x = x} e few) (kept from slash more) = let o = still q x from slash more e few in record { rest = o.rest; way = slashes_kept o.takes; more = o.more }
-on_slashes q (token e few) (descendants {ys = rest} from a c d f g i j more) = record { rest = rest; way = as_steps a c d f g i j few; more = more }
-on_slashes q (token e few) (attribute from a c more) = wrong (number_of (codes "@")) (number_of (codes "//")) e refl
-on_slashes q (token e few) (parent from a c d f g more) = wrong (number_of (codes "..")) (number_of (codes "//")) e refl
-on_slashes q (token e few) (union from a more) = wrong (number_of (codes "|")) (number_of (codes "//")) e refl
-on_slashes q (token e few) (literal from a l more) = wrong 4 (number_of (codes "//")) e refl
+pub on_slashes : {nests : Bool} {end : List Lexed} → LooksEnd end → {deep depth : ℕ} {xs ys out : List Lexed} → Takes deep (t "//") xs ys → HasRoom nests deep depth → WrittenOut nests end xs out → OnSlashes nests end depth ys out
+on_slashes q (token {x = x} e few) p (kept from slash more) = let o = still q x from slash more e (fewer p few) in record { rest = o.rest; way = slashes_kept o.takes; more = o.more }
+on_slashes q (token e few) p (descendants {ys = rest} room from a c d f g i j more) = record { rest = rest; way = as_steps a c d f g i j (room_for room p few) (fewer p few); more = more }
+on_slashes q (token e few) p (attribute from a c more) = wrong (number_of (codes "@")) (number_of (codes "//")) e refl
+on_slashes q (token e few) p (parent room from a c d f g more) = wrong (number_of (codes "..")) (number_of (codes "//")) e refl
+on_slashes q (token e few) p (union from a more) = wrong (number_of (codes "|")) (number_of (codes "//")) e refl
+on_slashes q (token e few) p (literal from a l more) = wrong 4 (number_of (codes "//")) e refl
 
 -- `@`
 pub data At (depth : ℕ) : List Lexed → List Lexed → Type 0 where
   at_kept : {xs ys : List Lexed} → Takes depth (t "@") xs ys → At depth xs ys
   as_axis : {ys : List Lexed} (a c : ℕ) → depth ≤ greatest_nesting → At depth (word "attribute" a ∷ sign s.ColonColon "::" c ∷ ys) ys
 
-pub record OnAt (end : List Lexed) (depth : ℕ) (ys out : List Lexed) : Type 0 where
+pub record OnAt (nests : Bool) (end : List Lexed) (depth : ℕ) (ys out : List Lexed) : Type 0 where
   pub rest : List Lexed
   pub way : At depth out rest
-  pub more : WrittenOut end ys rest
+  pub more : WrittenOut nests end ys rest
 
-pub on_at : {end : List Lexed} → LooksEnd end → {depth : ℕ} {xs ys out : List Lexed} → Takes depth (t "@") xs ys → WrittenOut end xs out → OnAt end depth ys out
-on_at q (token {x = x} e few) (kept from slash more) = let o = still q x from slash more e few in record { rest = o.rest; way = at_kept o.takes; more = o.more }
-on_at q (token e few) (attribute {ys = rest} from a c more) = record { rest = rest; way = as_axis a c few; more = more }
-on_at q (token e few) (descendants from a c d f g i j more) = wrong (number_of (codes "//")) (number_of (codes "@")) e refl
-on_at q (token e few) (parent from a c d f g more) = wrong (number_of (codes "..")) (number_of (codes "@")) e refl
-on_at q (token e few) (union from a more) = wrong (number_of (codes "|")) (number_of (codes "@")) e refl
-on_at q (token e few) (literal from a l more) = wrong 4 (number_of (codes "@")) e refl
+pub on_at : {nests : Bool} {end : List Lexed} → LooksEnd end → {deep depth : ℕ} {xs ys out : List Lexed} → Takes deep (t "@") xs ys → HasRoom nests deep depth → WrittenOut nests end xs out → OnAt nests end depth ys out
+on_at q (token {x = x} e few) p (kept from slash more) = let o = still q x from slash more e (fewer p few) in record { rest = o.rest; way = at_kept o.takes; more = o.more }
+on_at q (token e few) p (attribute {ys = rest} from a c more) = record { rest = rest; way = as_axis a c (fewer p few); more = more }
+on_at q (token e few) p (descendants room from a c d f g i j more) = wrong (number_of (codes "//")) (number_of (codes "@")) e refl
+on_at q (token e few) p (parent room from a c d f g more) = wrong (number_of (codes "..")) (number_of (codes "@")) e refl
+on_at q (token e few) p (union from a more) = wrong (number_of (codes "|")) (number_of (codes "@")) e refl
+on_at q (token e few) p (literal from a l more) = wrong 4 (number_of (codes "@")) e refl
 
 -- `..`
 pub data Dots (depth : ℕ) : List Lexed → List Lexed → Type 0 where
   dots_kept : {xs ys : List Lexed} → Takes depth (t "..") xs ys → Dots depth xs ys
-  as_parent : {ys : List Lexed} (a c d e f : ℕ) → depth ≤ greatest_nesting →
+  as_parent : {ys : List Lexed} (a c d e f : ℕ) → suc depth ≤ greatest_nesting → depth ≤ greatest_nesting →
       Dots depth (word "parent" a ∷ sign s.ColonColon "::" c ∷ word "node" d ∷ sign s.LeftParenthesis "(" e ∷ sign s.RightParenthesis ")" f ∷ ys) ys
 
-pub record OnDots (end : List Lexed) (depth : ℕ) (ys out : List Lexed) : Type 0 where
+pub record OnDots (nests : Bool) (end : List Lexed) (depth : ℕ) (ys out : List Lexed) : Type 0 where
   pub rest : List Lexed
   pub way : Dots depth out rest
-  pub more : WrittenOut end ys rest
+  pub more : WrittenOut nests end ys rest
 
-pub on_dots : {end : List Lexed} → LooksEnd end → {depth : ℕ} {xs ys out : List Lexed} → Takes depth (t "..") xs ys → WrittenOut end xs out → OnDots end depth ys out
-on_dots q (token {x = x} e few) (kept from slash more) = let o = still q x from slash more e few in record { rest = o.rest; way = dots_kept o.takes; more = o.more }
-on_dots q (token e few) (parent {ys = rest} from a c d f g more) = record { rest = rest; way = as_parent a c d f g few; more = more }
-on_dots q (token e few) (descendants from a c d f g i j more) = wrong (number_of (codes "//")) (number_of (codes "..")) e refl
-on_dots q (token e few) (attribute from a c more) = wrong (number_of (codes "@")) (number_of (codes "..")) e refl
-on_dots q (token e few) (union from a more) = wrong (number_of (codes "|")) (number_of (codes "..")) e refl
-on_dots q (token e few) (literal from a l more) = wrong 4 (number_of (codes "..")) e refl
+pub on_dots : {nests : Bool} {end : List Lexed} → LooksEnd end → {deep depth : ℕ} {xs ys out : List Lexed} → Takes deep (t "..") xs ys → HasRoom nests deep depth → WrittenOut nests end xs out → OnDots nests end depth ys out
+on_dots q (token {x = x} e few) p (kept from slash more) = let o = still q x from slash more e (fewer p few) in record { rest = o.rest; way = dots_kept o.takes; more = o.more }
+on_dots q (token e few) p (parent {ys = rest} room from a c d f g more) = record { rest = rest; way = as_parent a c d f g (room_for room p few) (fewer p few); more = more }
+on_dots q (token e few) p (descendants room from a c d f g i j more) = wrong (number_of (codes "//")) (number_of (codes "..")) e refl
+on_dots q (token e few) p (attribute from a c more) = wrong (number_of (codes "@")) (number_of (codes "..")) e refl
+on_dots q (token e few) p (union from a more) = wrong (number_of (codes "|")) (number_of (codes "..")) e refl
+on_dots q (token e few) p (literal from a l more) = wrong 4 (number_of (codes "..")) e refl
 
 -- `|`
 pub data Bar (depth : ℕ) : List Lexed → List Lexed → Type 0 where
   bar_kept : {xs ys : List Lexed} → Takes depth (t "|") xs ys → Bar depth xs ys
   as_union : {ys : List Lexed} (a : ℕ) → depth ≤ greatest_nesting → Bar depth (word "union" a ∷ ys) ys
 
-pub record OnBar (end : List Lexed) (depth : ℕ) (ys out : List Lexed) : Type 0 where
+pub record OnBar (nests : Bool) (end : List Lexed) (depth : ℕ) (ys out : List Lexed) : Type 0 where
   pub rest : List Lexed
   pub way : Bar depth out rest
-  pub more : WrittenOut end ys rest
+  pub more : WrittenOut nests end ys rest
 
-pub on_bar : {end : List Lexed} → LooksEnd end → {depth : ℕ} {xs ys out : List Lexed} → Takes depth (t "|") xs ys → WrittenOut end xs out → OnBar end depth ys out
-on_bar q (token {x = x} e few) (kept from slash more) = let o = still q x from slash more e few in record { rest = o.rest; way = bar_kept o.takes; more = o.more }
-on_bar q (token e few) (union {ys = rest} from a more) = record { rest = rest; way = as_union a few; more = more }
-on_bar q (token e few) (descendants from a c d f g i j more) = wrong (number_of (codes "//")) (number_of (codes "|")) e refl
-on_bar q (token e few) (attribute from a c more) = wrong (number_of (codes "@")) (number_of (codes "|")) e refl
-on_bar q (token e few) (parent from a c d f g more) = wrong (number_of (codes "..")) (number_of (codes "|")) e refl
-on_bar q (token e few) (literal from a l more) = wrong 4 (number_of (codes "|")) e refl
+pub on_bar : {nests : Bool} {end : List Lexed} → LooksEnd end → {deep depth : ℕ} {xs ys out : List Lexed} → Takes deep (t "|") xs ys → HasRoom nests deep depth → WrittenOut nests end xs out → OnBar nests end depth ys out
+on_bar q (token {x = x} e few) p (kept from slash more) = let o = still q x from slash more e (fewer p few) in record { rest = o.rest; way = bar_kept o.takes; more = o.more }
+on_bar q (token e few) p (union {ys = rest} from a more) = record { rest = rest; way = as_union a (fewer p few); more = more }
+on_bar q (token e few) p (descendants room from a c d f g i j more) = wrong (number_of (codes "//")) (number_of (codes "|")) e refl
+on_bar q (token e few) p (attribute from a c more) = wrong (number_of (codes "@")) (number_of (codes "|")) e refl
+on_bar q (token e few) p (parent room from a c d f g more) = wrong (number_of (codes "..")) (number_of (codes "|")) e refl
+on_bar q (token e few) p (literal from a l more) = wrong 4 (number_of (codes "|")) e refl
 
 -- a string's literal
-pub record OnString (end : List Lexed) (depth : ℕ) (xs ys out : List Lexed) : Type 0 where
+pub record OnString (nests : Bool) (end : List Lexed) (depth : ℕ) (xs ys out : List Lexed) : Type 0 where
   pub rest : List Lexed
   pub takes : Takes depth string out rest
-  pub more : WrittenOut end ys rest
+  pub more : WrittenOut nests end ys rest
   pub means : string_of (first_text xs) ≡ string_of (first_text out)
 
-pub on_string : {end : List Lexed} → LooksEnd end → {depth : ℕ} {xs ys out : List Lexed} → Takes depth string xs ys → WrittenOut end xs out → OnString end depth xs ys out
-on_string q (token {x = x} e few) (kept from slash more) = let o = still q x from slash more e few in record { rest = o.rest; takes = o.takes; more = o.more; means = refl }
-on_string q (token e few) (literal {ys = rest} from a l more) = record { rest = rest; takes = token refl few; more = more; means = l }
-on_string q (token e few) (descendants from a c d f g i j more) = wrong (number_of (codes "//")) 4 e refl
-on_string q (token e few) (attribute from a c more) = wrong (number_of (codes "@")) 4 e refl
-on_string q (token e few) (parent from a c d f g more) = wrong (number_of (codes "..")) 4 e refl
-on_string q (token e few) (union from a more) = wrong (number_of (codes "|")) 4 e refl
+pub on_string : {nests : Bool} {end : List Lexed} → LooksEnd end → {deep depth : ℕ} {xs ys out : List Lexed} → Takes deep string xs ys → HasRoom nests deep depth → WrittenOut nests end xs out → OnString nests end depth xs ys out
+on_string q (token {x = x} e few) p (kept from slash more) = let o = still q x from slash more e (fewer p few) in record { rest = o.rest; takes = o.takes; more = o.more; means = refl }
+on_string q (token e few) p (literal {ys = rest} from a l more) = record { rest = rest; takes = token refl (fewer p few); more = more; means = l }
+on_string q (token e few) p (descendants room from a c d f g i j more) = wrong (number_of (codes "//")) 4 e refl
+on_string q (token e few) p (attribute from a c more) = wrong (number_of (codes "@")) 4 e refl
+on_string q (token e few) p (parent room from a c d f g more) = wrong (number_of (codes "..")) 4 e refl
+on_string q (token e few) p (union from a more) = wrong (number_of (codes "|")) 4 e refl
 
 -- ---- the token with which a step begins
 

@@ -1,6 +1,7 @@
 -- What an action makes stands where its production stands.
 use Rattle.std.proofs.Common.{◌≡◌, ℕ, ◌+◌, ◌*◌, ◌≤◌, Bool, true, false, List, [], ◌∷◌, ◌++◌, refl, arith}
 use Rattle.std.specs.Prelude.{if◌then◌else◌}
+use Rattle.std.proofs.lemmas.Bool.{and_parts}
 use Rattle.pj_xvalue.specs.Expressions.{Written, Other}
 use Rattle.pj_xtokens.specs.Tokens.{Lexed}
 use Rattle.pj_xmeaning.specs.Meaning.{behind_first, first_text}
@@ -18,7 +19,6 @@ use Rattle.pj_xmeaning.specs.declared.action.Step.{Step}
 use Rattle.pj_xmeaning.specs.declared.action.Step.TheVariants as step
 use Rattle.pj_xnames.specs.Mentions.{Mention}
 use Rattle.pj_xnames.specs.Namings.{Operand, Naming, Missing, Nothing, Word, One, Many, Called, Bound, mentions_of, written_of, is_empty, word_of, operand_of, operands_of, bound_of, first_from, begins_with_name, begins_with_parenthesis, one, with_rest, primary, call, named, scoped, variable_named, variable, leaf_naming, change_naming, single_naming, rest_naming, step_naming, top, behind, made}
-use Rattle.pj_ll.proofs.Lists.{and_first, and_second}
 use Rattle.pj_xsyntax_laws.proofs.Ordered.{InOrder, none_in_order, widened, joined}
 use Rattle.pj_xsyntax_laws.proofs.Placed.{Grade, Loose, Solid, Exact, is_solid, is_exact, Operands, IsCalled, Variables, Placed, wider_operands, wider_variables, wider, names}
 use Rattle.pj_xsyntax_laws.proofs.Fitting.{Rows, head, tail, one_rule, two_rules, fits, fits_change, fits_rest, implied, row_one, row_two, row_three}
@@ -181,16 +181,16 @@ module _ (g : Grade) (tokens : List Lexed) (low high : ℕ) (within : low ≤ hi
       Placed g low high (made a tokens ws)
   made_at (action.Leaf a) gs begins ws e r opened = leaf_at a
   made_at (action.Change a) gs begins ws e r opened =
-      change_at (head gs) a ws (and_second (one_rule gs) (fits_change g a (head gs)) e) (row_one gs low high ws (and_first (one_rule gs) (fits_change g a (head gs)) e) r)
-  made_at (action.Single a) gs begins ws e r opened = single_at (head gs) a ws (and_second (one_rule gs) (is_solid g) e) (row_one gs low high ws (and_first (one_rule gs) (is_solid g) e) r)
+      change_at (head gs) a ws (and_parts (one_rule gs) (fits_change g a (head gs)) e).1 (row_one gs low high ws (and_parts (one_rule gs) (fits_change g a (head gs)) e).0 r)
+  made_at (action.Single a) gs begins ws e r opened = single_at (head gs) a ws (and_parts (one_rule gs) (is_solid g) e).1 (row_one gs low high ws (and_parts (one_rule gs) (is_solid g) e).0 r)
   made_at (action.Rest a) gs begins ws e r opened =
-      let two = and_first (two_rules gs) (fits_rest a (head gs) begins) e in
-      rest_at (head gs) (head (tail gs)) begins a ws (and_second (two_rules gs) (fits_rest a (head gs) begins) e) (row_two gs low high ws two r)
+      let two = (and_parts (two_rules gs) (fits_rest a (head gs) begins) e).0 in
+      rest_at (head gs) (head (tail gs)) begins a ws (and_parts (two_rules gs) (fits_rest a (head gs) begins) e).1 (row_two gs low high ws two r)
       (λ is. row_two gs (low + 2) high ws two (opened is))
   made_at (action.Operation a) gs begins ws e r opened = with_rest_at (head gs) (head (tail gs)) ws (row_two gs low high ws e r)
   made_at (action.Binder a) gs begins ws e r opened = binder_at (head gs) (head (tail gs)) ws (row_two gs low high ws e r)
   made_at (action.Step a) gs begins ws e r opened =
-      step_at (head gs) (head (tail gs)) a ws (and_second (two_rules gs) (is_solid g) e) (row_two gs low high ws (and_first (two_rules gs) (is_solid g) e) r)
+      step_at (head gs) (head (tail gs)) a ws (and_parts (two_rules gs) (is_solid g) e).1 (row_two gs low high ws (and_parts (two_rules gs) (is_solid g) e).0 r)
   made_at action.If gs begins ws e r opened =
       one_at Other _ (three_names low high ws (head gs) (head (tail gs)) (head (tail (tail gs))) (row_three gs low high ws e r))
   made_at action.Binding gs begins ws e r opened = binding_at (head gs) (head (tail gs)) (head (tail (tail gs))) ws (row_three gs low high ws e r)

@@ -5,7 +5,7 @@ use Rattle.std.proofs.lemmas.Bool.{false≢true}
 use Rattle.pj_ll.specs.declared.grammar.Symbol.TheVariants.{Terminal, Rule}
 use Rattle.pj_xtokens.specs.Tokens.{Lexed, lexed}
 use Rattle.pj_xgrammar.specs.Terminals.{behind_of}
-use Rattle.pj_xderived.specs.Derived.{IsRead}
+use Rattle.pj_xparse.specs.Derived.{IsRead}
 use Rattle.pj_xsyntax_laws.specs.Spaced.{placed}
 use Rattle.pj_xvalue.specs.declared.expr.Additive.{Additive}
 use Rattle.pj_xvalue.specs.declared.expr.Additive.TheVariants as sum
@@ -15,7 +15,7 @@ use Rattle.pj_xvalue.specs.declared.expr.SetOperator.{SetOperator}
 use Rattle.pj_xvalue.specs.declared.expr.SetOperator.TheVariants as set
 use Rattle.pj_xvalue.specs.Expressions.{Scope}
 use Rattle.pj_xmeaning.specs.Trees as tree
-use Rattle.pj_xmeaning.specs.Trees.{Tree, Trees, Node, NoMore, More}
+use Rattle.pj_xmeaning.specs.Trees.{Tree, Trees, Node, More}
 use Rattle.pj_xmeaning.specs.Parts.{RuleValue, Nothing, Sums, Products, Sets, sums, products, sets}
 use Rattle.pj_xmeaning.specs.declared.action.Action.TheVariants as action
 use Rattle.pj_xmeaning.specs.declared.action.Rest.TheVariants as rest

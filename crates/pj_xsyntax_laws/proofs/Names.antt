@@ -19,18 +19,19 @@ use Rattle.pj_xsyntax_laws.specs.Spaced.{Word, placed}
 use Rattle.pj_xvalue.specs.Expressions.{Other}
 use Rattle.pj_xvalue.specs.declared.expr.NodeTest.{NodeTest}
 use Rattle.pj_xvalue.specs.declared.expr.NodeTest.TheVariants as test
-use Rattle.pj_xmeaning.specs.Parts.{RuleValue, Test}
+use Rattle.pj_xmeaning.specs.Parts.{Test}
 use Rattle.pj_xmeaning.specs.Parts as part
 use Rattle.pj_xmeaning.specs.declared.action.Action.TheVariants as action
 use Rattle.pj_xmeaning.specs.declared.action.Leaf.TheVariants as leaf
 use Rattle.pj_xnames.specs.Namings as naming
 use Rattle.pj_xnames.specs.Namings.{first_from}
-use Rattle.pj_xderived.specs.Derived.{IsRead}
+use Rattle.pj_xparse.specs.Derived.{IsRead}
 use Rattle.pj_xshape.specs.Spelled.{IsText, IsTestSpelled}
+use Rattle.pj_xshape.specs.Nesting.{test_nesting}
 use Rattle.pj_xsyntax_laws.specs.Printed.{name, test_words, left, right, sign, keyword}
 use Rattle.pj_xsyntax_laws.proofs.Productions as p
 use Rattle.pj_xsyntax_laws.proofs.Productions.{Production}
-use Rattle.pj_xsyntax_laws.proofs.Deriving.{Ruled, ruled, f-none, f-rule, f-token}
+use Rattle.pj_xsyntax_laws.proofs.Deriving.{Ruled, ruled, f-none, f-rule, f-token, f-close}
 use Rattle.pj_xsyntax_laws.proofs.Follows.{no_phrase, makes_none}
 use Rattle.pj_xsyntax_laws.proofs.Lists.{at-zero}
 use Rattle.pj_xsyntax_laws.proofs.Readings.{operand_at}
@@ -153,12 +154,12 @@ module _ (bytes : List ℕ) (is_text : IsText bytes) (around from : ℕ) (behind
   test_by f (Some (w.Keyword k.Union)) e = plain_test (keyword_0 k.Union (158, p.union_name) e)
 
 -- the parentheses of a kind test
-kind_words : (around : ℕ) (behind : List Lexed) (from : ℕ) → around ≤ 200 → Ruled (around + 0) behind 44 from (left ∷ right ∷ []) part.Parentheses (naming.One (operand_at from Other []))
-kind_words around behind from h = ruled p.kind_tail (f-token left 6 refl (omega (arith, h)) (f-token right 7 refl (omega (arith, h)) f-none))
+kind_words : (around : ℕ) (behind : List Lexed) (from : ℕ) → around + 1 ≤ 200 → Ruled (around + 0) behind 44 from (left ∷ right ∷ []) part.Parentheses (naming.One (operand_at from Other []))
+kind_words around behind from h = ruled p.kind_tail (f-token left 6 refl (omega (arith, h)) (f-close (f-token right 7 refl (omega (arith, h)) f-none)))
 
 -- node tests
-pub test_reads : (t : NodeTest) → IsTestSpelled t → (around from : ℕ) (behind : List Lexed) → around ≤ 200 → IsTrue (no_phrase (first_behind b.End behind)) → TestRuled around behind from (test_words t) t
-test_reads (test.Name bytes) spelled around from behind h f = test_by bytes spelled.0 around from behind h f (word_of (chars bytes)) refl
+pub test_reads : (t : NodeTest) → IsTestSpelled t → (around from : ℕ) (behind : List Lexed) → around + test_nesting t ≤ 200 → IsTrue (no_phrase (first_behind b.End behind)) → TestRuled around behind from (test_words t) t
+test_reads (test.Name bytes) spelled around from behind h f = test_by bytes spelled.0 around from behind (omega (arith, h)) f (word_of (chars bytes)) refl
 test_reads test.AnyName spelled around from behind h f = ruled p.any_name_test (f-token (sign "*" s.Star) 23 refl (omega (arith, h)) f-none)
 test_reads test.AnyNode spelled around from behind h f = ruled p.node_test (f-token (keyword "node") 62 refl (omega (arith, h)) (f-rule (kind_words around behind _ h) f-none refl))
 test_reads test.AnyElement spelled around from behind h f = ruled p.element_test (f-token (keyword "element") 61 refl (omega (arith, h)) (f-rule (kind_words around behind _ h) f-none refl))

@@ -14,7 +14,7 @@ use Rattle.pj_xgrammar.specs.declared.rule.Rule.{Rule}
 use Rattle.pj_xgrammar.specs.declared.rule.Rule.TheVariants as r
 use Rattle.pj_xmeaning.specs.Literals.{integer_of, string_of}
 use Rattle.pj_xmeaning.specs.Meaning.{first_text}
-use Rattle.pj_xmeaning.specs.Names.{callee_of, axis_of}
+use Rattle.pj_xvalue.specs.Names.{callee_of, axis_of}
 use Rattle.pj_xmeaning.specs.Trees as tree
 use Rattle.pj_xmeaning.specs.Trees.{Tree, Construct, node, alone, binder, operated}
 use Rattle.pj_xmeaning.specs.Values as value
@@ -24,7 +24,7 @@ use Rattle.pj_xnames.specs.Namings.{scoped, first_from}
 use Rattle.pj_xnames.specs.Faults as fault
 use Rattle.pj_xnames.specs.Faults.{Fault, first_fault_from, first_fault, fault_in, scope_behind, unless, earlier, is_bound, is_function, fits_role}
 use Rattle.pj_xnames.specs.declared.role.Role.{Role}
-use Rattle.pj_xderived.specs.Operands.{Operand, Binding, Given, Behind, Test, Called, Predicates, Value, other, trees_of, names_of, names_behind, operations, bindings_of, scopes_of, values_of, in_roles, chain, mixed, compared, ranging, signed, bound, chosen, variable, integer_literal, string_literal, rooted, path, step, child_step, attribute_step, axis_step, filtered, kind_test, given, call, named}
+use Rattle.pj_xparse.specs.Operands.{Operand, Binding, Given, Behind, Test, Called, Predicates, Value, other, trees_of, names_of, names_behind, operations, bindings_of, scopes_of, values_of, in_roles, chain, mixed, compared, ranging, signed, bound, chosen, variable, integer_literal, string_literal, rooted, path, step, child_step, attribute_step, axis_step, filtered, kind_test, given, call, named}
 
 -- ---- without offsets
 

@@ -2,8 +2,8 @@
 use Rattle.std.proofs.Common.{◌≡◌, ◌++◌, Some, codes, refl}
 use Rattle.pj_xvalue.specs.declared.function.Function.{Function}
 use Rattle.pj_xvalue.specs.declared.function.Function.TheVariants as f
-use Rattle.pj_xmeaning.specs.declared.name.Callee.TheVariants as callee
-use Rattle.pj_xmeaning.specs.Names.{callee_of}
+use Rattle.pj_xvalue.specs.declared.name.Callee.TheVariants as callee
+use Rattle.pj_xvalue.specs.Names.{callee_of}
 use Rattle.pj_xsyntax_laws.specs.Printed.{function_name}
 
 pub with_prefix : (f : Function) → callee_of (codes "fn:" ++ function_name f) ≡ Some (callee.XPath f)

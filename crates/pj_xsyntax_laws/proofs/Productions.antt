@@ -305,6 +305,10 @@ pub rooted_path : Production 86 37 (Terminal 15 ∷ Rule 38 ∷ []) (action.Sing
 unfolding xpath rules xpath_grammar actions actions_of action_of
 rooted_path = record { line = refl; acts = refl }
 
+pub rooted_descendants : Production 87 37 (Terminal 16 ∷ Rule 38 ∷ []) (action.Single single.RootedDescendants)
+unfolding xpath rules xpath_grammar actions actions_of action_of
+rooted_descendants = record { line = refl; acts = refl }
+
 pub relative_path : Production 88 37 (Rule 38 ∷ []) (action.Single single.RelativePath)
 unfolding xpath rules xpath_grammar actions actions_of action_of
 relative_path = record { line = refl; acts = refl }
@@ -317,6 +321,10 @@ pub steps_more : Production 90 39 (Terminal 15 ∷ Rule 40 ∷ Rule 39 ∷ []) (
 unfolding xpath rules xpath_grammar actions actions_of action_of
 steps_more = record { line = refl; acts = refl }
 
+pub steps_descendants : Production 91 39 (Terminal 16 ∷ Rule 40 ∷ Rule 39 ∷ []) (action.Rest rest.FurtherDescendants)
+unfolding xpath rules xpath_grammar actions actions_of action_of
+steps_descendants = record { line = refl; acts = refl }
+
 pub steps_end : Production 92 39 ([]) (action.Leaf leaf.Nothing)
 unfolding xpath rules xpath_grammar actions actions_of action_of
 steps_end = record { line = refl; acts = refl }
@@ -328,6 +336,10 @@ context_step = record { line = refl; acts = refl }
 pub primary_step : Production 94 40 (Rule 46 ∷ Rule 45 ∷ []) (action.Step step.Primary)
 unfolding xpath rules xpath_grammar actions actions_of action_of
 primary_step = record { line = refl; acts = refl }
+
+pub parent_step : Production 95 40 (Terminal 14 ∷ Rule 45 ∷ []) (action.Single single.ParentStep)
+unfolding xpath rules xpath_grammar actions actions_of action_of
+parent_step = record { line = refl; acts = refl }
 
 pub axis_step : Production 97 40 (Terminal 60 ∷ Rule 41 ∷ []) (action.Single single.AxisStep)
 unfolding xpath rules xpath_grammar actions actions_of action_of
@@ -365,7 +377,7 @@ pub element_test : Production 118 43 (Terminal 61 ∷ Rule 44 ∷ []) (action.Ch
 unfolding xpath rules xpath_grammar actions actions_of action_of
 element_test = record { line = refl; acts = refl }
 
-pub kind_tail : Production 119 44 (Terminal 6 ∷ Terminal 7 ∷ []) (action.Leaf leaf.Parentheses)
+pub kind_tail : Production 119 44 (Terminal 6 ∷ Close ∷ Terminal 7 ∷ []) (action.Leaf leaf.Parentheses)
 unfolding xpath rules xpath_grammar actions actions_of action_of
 kind_tail = record { line = refl; acts = refl }
 

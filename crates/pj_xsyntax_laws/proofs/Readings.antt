@@ -1,5 +1,5 @@
 -- What it means that words are read as an expression.
-use Rattle.std.proofs.Common.{◌≡◌, ℕ, suc, zero, ◌+◌, ◌≤◌, List, [], ◌∷◌, ◌++◌, Bool, true, false, refl, ap}
+use Rattle.std.proofs.Common.{◌≡◌, ℕ, suc, zero, ◌+◌, ◌≤◌, List, [], ◌∷◌, ◌++◌, Bool, false, refl, ap}
 use Rattle.std.specs.Prelude.{IsTrue, nat_le}
 use Rattle.pj_xtokens.specs.Tokens.{Lexed}
 use Rattle.pj_xgrammar.specs.declared.terminal.Behind.TheVariants as b
@@ -12,6 +12,7 @@ use Rattle.pj_xmeaning.specs.Values.{filtered}
 use Rattle.pj_xnames.specs.Mentions.{Mention}
 use Rattle.pj_xnames.specs.Namings as naming
 use Rattle.pj_xnames.specs.Namings.{Naming, Operand}
+use Rattle.pj_xnames.specs.declared.part.Extent.TheVariants as extent
 use Rattle.pj_xshape.specs.Shapes.{part_of_tree}
 use Rattle.pj_xshape.specs.Nesting.{nested_of}
 use Rattle.pj_xsyntax_laws.specs.Printed.{printed_of, words_of}
@@ -69,7 +70,7 @@ many (t ∷ ts) = Many (t ∷ ts)
 
 abbrev pub whole : List Operand → Naming
 whole [] = naming.Nothing
-whole (o ∷ os) = naming.Many (o ∷ os) true
+whole (o ∷ os) = naming.Many (o ∷ os) extent.Whole
 
 -- the rule derives the words, which are these expressions in a row, with this value
 pub record Listing (around : ℕ) (behind : List Lexed) (n from : ℕ) (ws : List Word) (scope : Scope) (v : RuleValue) (ts : List Tree) : Type 0 where

@@ -1,29 +1,30 @@
 -- What is printed is read again, and so is what any text spells.
-use Rattle.std.proofs.Common.{◌∙◌, subst, ℕ, ◌≤◌, List, [], false, refl, sym, ap, arith}
+use Rattle.std.proofs.Common.{◌∙◌, subst, ℕ, ◌+◌, ◌≤◌, List, [], length, false, refl, sym, ap, arith}
 use Rattle.std.specs.Prelude.{◌≡◌, None, IsTrue}
 use Rattle.std.specs.Str.{all_scalars}
 use Rattle.std.proofs.Math.Nat.{zero-add}
 use Rattle.std.proofs.lemmas.List.{append-nil}
 use Rattle.pj_xtokens.specs.Gaps.{here}
 use Rattle.pj_xtokens.specs.Size.{size}
+use Rattle.pj_xtokens.specs.Tokens.{Lexed, Tokens}
+use Rattle.pj_xtokens.specs.declared.token.End.{End}
+use Rattle.pj_xgrammar.specs.Expressions.{AreClear, AreDerived}
 use Rattle.pj_xsyntax_laws.specs.Spaced.{placed, spaced}
 use Rattle.pj_xsyntax_laws.proofs.Placing.{tokens_from}
 use Rattle.pj_xvalue.specs.Expressions.{Scope}
 use Rattle.pj_xmeaning.specs.Trees.{Tree}
-use Rattle.pj_xmeaning.specs.Parts.{One}
-use Rattle.pj_xmeaning.specs.Parts.{expression}
+use Rattle.pj_xmeaning.specs.Meaning.{meaning}
+use Rattle.pj_xmeaning.specs.Parts.{RuleValue, One, expression}
 use Rattle.pj_xnames.specs.Faults.{first_fault, first_fault_from}
+use Rattle.pj_xnames.specs.Meaning.{mentions}
 use Rattle.pj_xnames.specs.Mentions.{Mention}
-use Rattle.pj_xnames.specs.Namings.{mentions_of}
+use Rattle.pj_xnames.specs.Namings.{Naming, mentions_of}
 use Rattle.pj_xnames.specs.Namings as naming
-use Rattle.pj_xkinds.proofs.Derives.{expression_fits, expression_nests, expression_spelled}
-use Rattle.pj_xkinds.proofs.TextTokens.{tokens_spelled}
-use Rattle.pj_xderived.proofs.Leading.{leads_tree}
-use Rattle.pj_xderived.proofs.Flattening.{tree_derives}
-use Rattle.pj_xderived.proofs.Clear.{tree_clear}
-use Rattle.pj_xderived.proofs.Valuing.{tree_meaning, tree_mentions}
+use Rattle.pj_xparse.specs.Derived.{Derived}
+use Rattle.pj_xparse.specs.Operands.{Operand}
+use Rattle.pj_xparse.specs.Reads.{AreRead}
+use Rattle.pj_xparse.specs.WellSpelled.{AreWellSpelled}
 use Rattle.pj_xparse.specs.Spells.{Spells}
-use Rattle.pj_xparse.proofs.Derivations.{derivation_of, spelled_by}
 use Rattle.pj_xshape.specs.Nesting.{nesting_of_tree}
 use Rattle.pj_xshape.specs.Shapes.{part_of_tree}
 use Rattle.pj_xshape.specs.Spelled.{IsSpelled}
@@ -32,6 +33,30 @@ use Rattle.pj_xsyntax_laws.proofs.Operands.{descend}
 use Rattle.pj_xsyntax_laws.proofs.Readings.{Reading}
 use Rattle.pj_xsyntax_laws.proofs.PrintedWords.{tree_spelled}
 use Rattle.pj_xsyntax_laws.proofs.Trees.{tree_reads}
+use Rattle.pj_xsyntax_laws.proofs.WordKinds.{SpelledAreTold, ToldAreSpelled}
+
+-- what is derived rule by rule is derived from the left, means and names the same, and is what the tokens read; and the scanner follows the rules of tokens
+pub record TreesAreRead : Type 0 where
+  pub derived : (tokens : List Lexed) (productions : List ℕ) (v : RuleValue) (w : Naming) → Derived 0 [] 0 tokens productions v w → AreDerived tokens productions
+  pub clear : (tokens : List Lexed) (productions : List ℕ) (v : RuleValue) (w : Naming) → Derived 0 [] 0 tokens productions v w → AreClear tokens (length tokens + 1)
+  pub value : (tokens : List Lexed) (productions : List ℕ) (v : RuleValue) (w : Naming) → Derived 0 [] 0 tokens productions v w → meaning productions tokens ≡ expression v
+  pub names : (tokens : List Lexed) (productions : List ℕ) (v : RuleValue) (w : Naming) → Derived 0 [] 0 tokens productions v w → mentions productions tokens ≡ mentions_of w
+  pub read : (tokens : List Lexed) (productions : List ℕ) → AreDerived tokens productions → AreClear tokens (length tokens + 1) →
+      (a : Operand) × AreRead tokens a × (meaning productions tokens ≡ a.tree) × (mentions productions tokens ≡ a.names)
+  pub told : SpelledAreTold
+  pub told_spelled : ToldAreSpelled
+
+-- what tokens read is derived, rule by rule too; what is derived so may stand alone, nests no deeper than it may, and has a spelling
+pub record ReadingsAreTrees : Type 0 where
+  pub derived : (tokens : List Lexed) (a : Operand) → AreRead tokens a →
+      (productions : List ℕ) × AreDerived tokens productions × AreClear tokens (length tokens + 1) × (meaning productions tokens ≡ a.tree) × (mentions productions tokens ≡ a.names)
+  pub trees : (tokens : List Lexed) (productions : List ℕ) → AreDerived tokens productions → AreClear tokens (length tokens + 1) →
+      (v : RuleValue) × ((w : Naming) × Derived 0 [] 0 tokens productions v w × (meaning productions tokens ≡ expression v) × (mentions productions tokens ≡ mentions_of w))
+  pub fit : (tokens : List Lexed) (productions : List ℕ) (v : RuleValue) (w : Naming) (variables : List (List ℕ)) → Derived 0 [] 0 tokens productions v w →
+      first_fault variables (mentions_of w) ≡ None → IsTrue ((part_of_tree (expression v)).fits (record { given = variables; bound = [] }))
+  pub nest : (tokens : List Lexed) (productions : List ℕ) (v : RuleValue) (w : Naming) → Derived 0 [] 0 tokens productions v w → nesting_of_tree (expression v) ≤ 200
+  pub spelled : (tokens : List Lexed) (productions : List ℕ) (v : RuleValue) (w : Naming) → AreWellSpelled tokens → Derived 0 [] 0 tokens productions v w → IsSpelled (expression v)
+  pub tokens_spelled : (total : ℕ) (text : List ℕ) (tokens : List Lexed) (end : End) → IsTrue (all_scalars text) → Tokens total text tokens end → AreWellSpelled tokens
 
 abbrev whole_scope : List (List ℕ) → Scope
 whole_scope variables = record { given = variables; bound = [] }
@@ -42,31 +67,37 @@ whole_reading : (variables : List (List ℕ)) (t : Tree) → IsTrue ((part_of_tr
 whole_reading variables t h n i = (descend (printed_of t).level 0 (omega arith) ((tree_reads t (whole_scope variables) h i).bare false)).reads 0 0 [] (omega (arith, n)) refl
 
 -- the printed text spells the expression
-pub printed_is_read : (variables : List (List ℕ)) (t : Tree) → IsTrue ((part_of_tree t).fits (whole_scope variables)) → nesting_of_tree t ≤ 200 → IsSpelled t → Spells variables (printed t) t
-printed_is_read variables t h n i =
+pub printed_is_read : TreesAreRead → (variables : List (List ℕ)) (t : Tree) → IsTrue ((part_of_tree t).fits (whole_scope variables)) → nesting_of_tree t ≤ 200 → IsSpelled t →
+    Spells variables (printed t) t
+printed_is_read law variables t h n i =
     let r = whole_reading variables t h n i in
     let words = words_of false t in
     let tokens = placed 0 words in
-    spelled_by (record {
+    let ps = r.derived.productions in
+    let w = naming.One r.operand in
+    let d = r.derived.derived in
+    let (said, says, means, names) = law.read tokens ps (law.derived tokens ps (One t) w d) (law.clear tokens ps (One t) w d) in
+    let faultless : first_fault variables (mentions ps tokens) ≡ None =
+    ap (first_fault_from (whole_scope variables)) (law.names tokens ps (One t) w d ∙ sym (append-nil r.operand.mentions)) ∙ r.names.clean [] in
+    record {
       tokens = tokens;
-      productions = r.derived.productions;
-      read = tokens_from (size (spaced words)) 0 words (spaced words) (tree_spelled t i false) (here (spaced words) (spaced words) refl) (zero-add (size (spaced words)));
-      derived = tree_derives tokens r.derived.productions (One t) (naming.One r.operand) r.derived.derived;
-      clear = tree_clear tokens r.derived.productions (One t) (naming.One r.operand) r.derived.derived;
-      named = ap (first_fault_from (whole_scope variables)) (tree_mentions tokens r.derived.productions (One t) (naming.One r.operand) r.derived.derived ∙ sym (append-nil r.operand.mentions)) ∙ r.names.clean [];
-      means = sym (tree_meaning tokens r.derived.productions (One t) (naming.One r.operand) r.derived.derived);
-    })
+      said = said;
+      read = tokens_from law.told (size (spaced words)) 0 words (spaced words) (tree_spelled law.told_spelled t i false) (here (spaced words) (spaced words) refl) (zero-add (size (spaced words)));
+      says = says;
+      named = subst (λ (ms : List Mention). first_fault variables ms ≡ None) names faultless;
+      means = sym (law.value tokens ps (One t) w d) ∙ means;
+    }
 
 -- what a text spells is printed and read again
-pub spelled_is_printed : (variables : List (List ℕ)) (text : List ℕ) (t : Tree) → IsTrue (all_scalars text) → Spells variables text t → Spells variables (printed t) t
-spelled_is_printed variables text t scalars spells =
-    let s = derivation_of spells in
-    let (v, rest) = leads_tree s.tokens s.productions s.derived s.clear in
-    let (w, d) = rest in
-    let is : expression v ≡ t = sym (s.means ∙ tree_meaning s.tokens s.productions v w d) in
-    let faultless : first_fault variables (mentions_of w) ≡ None =
-    subst (λ (ms : List Mention). first_fault variables ms ≡ None) (tree_mentions s.tokens s.productions v w d) s.named in
-    printed_is_read variables t
-    (subst (λ (u : Tree). IsTrue ((part_of_tree u).fits (whole_scope variables))) is (expression_fits s.tokens s.productions v w variables d faultless))
-    (subst (λ (u : Tree). nesting_of_tree u ≤ 200) is (expression_nests s.tokens s.productions v w d))
-    (subst IsSpelled is (expression_spelled s.tokens s.productions v w (tokens_spelled scalars s.read) d))
+pub spelled_is_printed : TreesAreRead → ReadingsAreTrees → (variables : List (List ℕ)) (text : List ℕ) (t : Tree) → IsTrue (all_scalars text) → Spells variables text t →
+    Spells variables (printed t) t
+spelled_is_printed law readings variables text t scalars s =
+    let (ps, derived, clear, means, names) = readings.derived s.tokens s.said s.says in
+    let (v, (w, d, value, named)) = readings.trees s.tokens ps derived clear in
+    let is : expression v ≡ t = sym (s.means ∙ sym means ∙ value) in
+    let same : s.said.names ≡ mentions_of w = sym names ∙ named in
+    let faultless : first_fault variables (mentions_of w) ≡ None = subst (λ (ms : List Mention). first_fault variables ms ≡ None) same s.named in
+    printed_is_read law variables t
+    (subst (λ (u : Tree). IsTrue ((part_of_tree u).fits (whole_scope variables))) is (readings.fit s.tokens ps v w variables d faultless))
+    (subst (λ (u : Tree). nesting_of_tree u ≤ 200) is (readings.nest s.tokens ps v w d))
+    (subst IsSpelled is (readings.spelled s.tokens ps v w (readings.tokens_spelled _ _ s.tokens _ scalars s.read) d))

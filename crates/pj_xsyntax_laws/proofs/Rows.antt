@@ -13,7 +13,7 @@ use Rattle.pj_xmeaning.specs.Parts.{Many}
 use Rattle.pj_xmeaning.specs.declared.action.Action.TheVariants as action
 use Rattle.pj_xmeaning.specs.declared.action.Leaf.TheVariants as leaf
 use Rattle.pj_xmeaning.specs.declared.action.Rest.TheVariants as rest
-use Rattle.pj_xderived.specs.Derived.{IsRead}
+use Rattle.pj_xparse.specs.Derived.{IsRead}
 use Rattle.pj_xshape.specs.Nesting.{operand_before, nested_of, nested_each, chain_before}
 use Rattle.pj_xsyntax_laws.specs.Printed.{operand, chain, joined, printed_of, printed_each, comma}
 use Rattle.pj_xsyntax_laws.proofs.Productions as p

@@ -9,11 +9,11 @@ use Rattle.pj_ll.specs.Outcome as ll
 use Rattle.pj_xtokens.specs.Tokens.{Lexed}
 use Rattle.pj_xgrammar.specs.declared.terminal.Behind as other
 use Rattle.pj_xgrammar.specs.declared.terminal.Behind.TheVariants as b
+use Rattle.pj_xgrammar.specs.Expressions.{place_of}
 use Rattle.pj_xgrammar.specs.Terminals.{numbers, numbers_before}
 use Rattle.pj_xgrammar.specs.XPath.{xpath_grammar}
 use Rattle.pj_xnames.specs.Namings.{Naming, top, mentions_of}
 use Rattle.pj_xnames.specs.Meaning.{mentions}
-use Rattle.pj_xsyntax_laws.specs.Order.{place_of}
 use Rattle.pj_xsyntax_laws.proofs.Ordered.{InOrder, none_in_order, widened}
 use Rattle.pj_xsyntax_laws.proofs.Placed.{names}
 use Rattle.pj_xsyntax_laws.proofs.Filling.{Fills, fills_within, next_rule}

@@ -14,7 +14,7 @@ use Rattle.pj_xmeaning.specs.declared.form.Slot.TheVariants as slot
 use Rattle.pj_xnames.specs.Namings.{first_from, acted}
 use Rattle.pj_xnames.specs.Meaning.{namings}
 use Rattle.pj_xsyntax_laws.proofs.Filling as filling
-use Rattle.pj_xsyntax_laws.proofs.Filling.{Part, Fills, done, stopped, token, filled}
+use Rattle.pj_xsyntax_laws.proofs.Filling.{Fills, done, stopped, token, filled}
 use Rattle.pj_xsyntax_laws.proofs.Grades.{grade_of, parts, parts_append, production_fits}
 
 -- ---- tokens

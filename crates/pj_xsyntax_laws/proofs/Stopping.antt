@@ -1,7 +1,8 @@
 -- A token ends at a space: no word that spells a token goes on with one.
 use Rattle.std.proofs.Common.{◌≡◌, ℕ, ◌≤◌, ◌⊎◌, inl, inr, ⊎_elim, List, [], ◌∷◌, ◌++◌, length, Option, Some, None, refl, sym, ap, ◌∙◌, subst, arith}
 use Rattle.pj_xtokens.specs.Characters.{holds}
-use Rattle.pj_xtokens.specs.Rules.{Rule, rules, FirstOf, Spells}
+use Rattle.pj_xtokens.specs.Rules.{Spells}
+use Rattle.pj_xtokens.specs.Scanning.{kind_from}
 use Rattle.pj_xtokens.specs.States.{step, spelled, sign_step}
 use Rattle.pj_xtokens.specs.Tokens.{IsLongest}
 use Rattle.pj_xtokens.specs.declared.token.TokenKind.{TokenKind}
@@ -9,9 +10,7 @@ use Rattle.pj_xtokens.specs.declared.state.State.{State}
 use Rattle.pj_xtokens.specs.declared.state.State.TheVariants as s
 use Rattle.pj_xtokens.specs.declared.token.Sign.{Sign}
 use Rattle.pj_xtokens.specs.declared.token.Sign.TheVariants as sign
-use Rattle.pj_patterns.proofs.Derived.{first_of_from, spelled_from}
-use Rattle.pj_xtokens.proofs.Meaning.{meaning, meaning_of}
-use Rattle.pj_xtokens.proofs.Follows.{goes_on, spells}
+use Rattle.pj_xsyntax_laws.proofs.WordKinds.{SpelledAreTold, kind_stops}
 
 sign_stops : (q : Sign) → sign_step (λ s. holds s 32) q ≡ None
 unfolding sign_step
@@ -66,33 +65,21 @@ stops s.ApostropheBody k e = absurd (cc)
 stops s.ApostropheEnd k e = refl
 stops (s.Sign q) k e = sign_stops q
 
--- the rules of a state behind a character
-pub behind_character : (c : ℕ) (q : State) (v : List ℕ) (k : TokenKind) → FirstOf (meaning q) (c ∷ v) k → FirstOf (meaning_of (step (λ s. holds s c) q)) v k
-behind_character c q v k f = subst (λ (rs : List Rule). FirstOf rs v k) (goes_on c q) (first_of_from holds c (meaning q) v k f)
+at_space : (q : State) (v : List ℕ) (j k : TokenKind) → spelled q ≡ Some k → kind_from (32 ∷ v) q ≡ Some j → ⊥
+at_space q v j k e g = let none : None ≡ Some j = sym (kind_stops 32 v q (stops q k e)) ∙ g in absurd (cc)
 
-at_space : (q : State) (v : List ℕ) (j k : TokenKind) → spelled q ≡ Some k → FirstOf (meaning q) (32 ∷ v) j → ⊥
-at_space q v j k e g = subst (λ (o : Option State). FirstOf (meaning_of o) v j) (stops q k e) (behind_character 32 q v j g)
-
-at_next : (o : Option State) (w v : List ℕ) (j k : TokenKind) → ((r : State) → FirstOf (meaning r) w k → FirstOf (meaning r) v j → ⊥)
-    → FirstOf (meaning_of o) w k → FirstOf (meaning_of o) v j → ⊥
-at_next None w v j k go f g = f
+at_next : (o : Option State) (w v : List ℕ) (j k : TokenKind) → ((r : State) → kind_from w r ≡ Some k → kind_from v r ≡ Some j → ⊥)
+    → elim o as (λ z. Option TokenKind) [ None ↦ None | Some r ↦ kind_from w r ] ≡ Some k → elim o as (λ z. Option TokenKind) [ None ↦ None | Some r ↦ kind_from v r ] ≡ Some j → ⊥
+at_next None w v j k go f g = absurd (cc)
 at_next (Some r) w v j k go f g = go r f g
 
--- no word that the rules of a state spell goes on with a space to another one
-word_stops : (w v : List ℕ) (j k : TokenKind) (q : State) → FirstOf (meaning q) w k → FirstOf (meaning q) (w ++ 32 ∷ v) j → ⊥
-word_stops [] v j k q f g = at_space q v j k (sym (spells q) ∙ spelled_from holds (meaning q) k f) g
-word_stops (c ∷ w) v j k q f g =
-    at_next (step (λ s. holds s c) q) w (w ++ 32 ∷ v) j k (word_stops w v j k) (behind_character c q w k f) (behind_character c q (w ++ 32 ∷ v) j g)
+-- no word that leads on from a state to one where it spells something goes on with a space to another one
+word_stops : (w v : List ℕ) (j k : TokenKind) (q : State) → kind_from w q ≡ Some k → kind_from (w ++ 32 ∷ v) q ≡ Some j → ⊥
+word_stops [] v j k q f g = at_space q v j k f g
+word_stops (c ∷ w) v j k q f g = at_next (step (λ s. holds s c) q) w (w ++ 32 ∷ v) j k (word_stops w v j k) f g
 
-pub start_is : meaning s.Start ≡ rules
-unfolding meaning
-start_is = refl
-
-pub from_start : (w : List ℕ) (k : TokenKind) → Spells k w → FirstOf (meaning s.Start) w k
-from_start w k f = subst (λ (rs : List Rule). FirstOf rs w k) (sym start_is) f
-
-token_stops : (w v : List ℕ) (j k : TokenKind) → Spells k w → Spells j (w ++ 32 ∷ v) → ⊥
-token_stops w v j k f g = word_stops w v j k s.Start (from_start w k f) (from_start (w ++ 32 ∷ v) j g)
+token_stops : SpelledAreTold → (w v : List ℕ) (j k : TokenKind) → Spells k w → Spells j (w ++ 32 ∷ v) → ⊥
+token_stops told w v j k f g = word_stops w v j k s.Start (told k w f) (told j (w ++ 32 ∷ v) g)
 
 -- a prefix of a text that is longer than another one goes on from that with the next character
 longer : (w rest v behind : List ℕ) → w ++ 32 ∷ rest ≡ v ++ behind → (length v ≤ length w) ⊎ ((u : List ℕ) × (v ≡ w ++ 32 ∷ u))
@@ -107,11 +94,11 @@ longer (c ∷ w) rest (d ∷ v) behind e =
     (longer w rest v behind tails)
 
 -- what spells a token is the longest prefix that does where a space stands behind it
-pub longest_before_space : (w rest : List ℕ) (k : TokenKind) → Spells k w → IsLongest (w ++ 32 ∷ rest) k w
-longest_before_space w rest k f = record {
+pub longest_before_space : SpelledAreTold → (w rest : List ℕ) (k : TokenKind) → Spells k w → IsLongest (w ++ 32 ∷ rest) k w
+longest_before_space told w rest k f = record {
   spells = f;
   none_longer = λ j v behind e g. ⊎_elim
       (λ (h : length v ≤ length w). h)
-      (λ (h : (u : List ℕ) × (v ≡ w ++ 32 ∷ u)). absurd (token_stops w h.0 j k f (subst (λ (x : List ℕ). Spells j x) h.1 g)))
+      (λ (h : (u : List ℕ) × (v ≡ w ++ 32 ∷ u)). absurd (token_stops told w h.0 j k f (subst (λ (x : List ℕ). Spells j x) h.1 g)))
       (longer w rest v behind e);
 }

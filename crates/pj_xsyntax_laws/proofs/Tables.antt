@@ -13,8 +13,8 @@ use Rattle.pj_xvalue.specs.declared.function.Function.{Function}
 use Rattle.pj_xvalue.specs.declared.function.Function.TheVariants as f
 use Rattle.pj_xvalue.specs.declared.pmd_function.PmdFunction.{PmdFunction}
 use Rattle.pj_xvalue.specs.declared.pmd_function.PmdFunction.TheVariants as pmd
-use Rattle.pj_xmeaning.specs.declared.name.Callee.TheVariants as callee
-use Rattle.pj_xmeaning.specs.Names.{axis_of, callee_of}
+use Rattle.pj_xvalue.specs.declared.name.Callee.TheVariants as callee
+use Rattle.pj_xvalue.specs.Names.{axis_of, callee_of}
 use Rattle.pj_xsyntax_laws.specs.Printed.{axis_name, function_name, pmd_function_name}
 
 pub axis-word : (a : Axis) → word_of (axis_name a) ≡ Some (w.Keyword k.Axis)

@@ -1,5 +1,5 @@
 -- Operands behind operators: what stands behind the first operand of a chain.
-use Rattle.std.proofs.Common.{◌≡◌, ℕ, ◌+◌, ◌≤◌, List, [], ◌∷◌, ◌++◌, Bool, true, map, max, refl, sym, subst, arith}
+use Rattle.std.proofs.Common.{◌≡◌, ℕ, ◌+◌, ◌≤◌, List, [], ◌∷◌, ◌++◌, Bool, map, max, refl, sym, subst, arith}
 use Rattle.std.specs.Prelude.{IsTrue}
 use Rattle.std.proofs.lemmas.List.{append-nil}
 use Rattle.pj_ll.specs.declared.grammar.Symbol.TheVariants.{Terminal, Rule}
@@ -15,8 +15,9 @@ use Rattle.pj_xmeaning.specs.declared.action.Action.TheVariants as action
 use Rattle.pj_xmeaning.specs.declared.action.Leaf.TheVariants as leaf
 use Rattle.pj_xmeaning.specs.declared.action.Rest.{Rest}
 use Rattle.pj_xnames.specs.Namings as naming
-use Rattle.pj_xnames.specs.Namings.{Naming, Operand, rest_naming}
-use Rattle.pj_xderived.specs.Derived.{IsRead}
+use Rattle.pj_xnames.specs.Namings.{Operand, rest_naming}
+use Rattle.pj_xnames.specs.declared.part.Extent.TheVariants as extent
+use Rattle.pj_xparse.specs.Derived.{IsRead}
 use Rattle.pj_xshape.specs.Shapes.{part_of_tree}
 use Rattle.pj_xshape.specs.Nesting.{operand_before, nested_of, nested_each, chain_before}
 use Rattle.pj_xsyntax_laws.specs.Printed.{operand, chain, printed_of, printed_each}
@@ -38,7 +39,7 @@ pub record Tail (scope : Scope) (mark : Bool) (least tail : ℕ) (Op : Type 0) :
   pub value : List (Op × Tree) → RuleValue
   pub nothing : Nothing ≡ value []
   pub acts : (o : Op) (t : Tree) (others : List (Op × Tree)) → rest_value (rest o) (One t) (value others) ≡ value ((o, t) ∷ others)
-  pub names : (o : Op) (tokens : List Lexed) (x : Operand) (os : List Operand) → rest_naming (rest o) tokens (naming.One x) (whole os) ≡ naming.Many (x ∷ os) true
+  pub names : (o : Op) (tokens : List Lexed) (x : Operand) (os : List Operand) → rest_naming (rest o) tokens (naming.One x) (whole os) ≡ naming.Many (x ∷ os) extent.Whole
   pub read : (o : Op) (t : Tree) (r : Reads scope t) (flag : Bool) (from behind_it : ℕ) (others : List Word) (behind : List Lexed)
       → IsRead (lexed (word o).kind (word o).text from) (placed behind_it (operand flag least (printed_of t) ++ others) ++ behind) (terminal o)
   pub allowed : (o : Op) (from : ℕ) → IsTrue (follows mark (behind_of (lexed (word o).kind (word o).text from)))

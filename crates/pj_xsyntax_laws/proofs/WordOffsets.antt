@@ -1,7 +1,7 @@
 -- Where words begin.
 use Rattle.std.proofs.Common.{◌≡◌, ◌∙◌, ℕ, ◌+◌, List, ◌∷◌, ◌++◌, ap, arith}
 use Rattle.pj_xtokens.specs.Size.{size}
-use Rattle.pj_xtokens.proofs.Ends.{size-append}
+use Rattle.pj_xsyntax_laws.proofs.Sizes.{size-append}
 use Rattle.pj_xsyntax_laws.specs.Spaced.{Word, spaced}
 use Rattle.pj_xsyntax_laws.proofs.Placing.{size-word}
 use Rattle.pj_xsyntax_laws.proofs.Appending.{spaced-append}

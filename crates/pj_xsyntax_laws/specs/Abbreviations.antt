@@ -1,5 +1,5 @@
 -- Abbreviations, and what they stand for (XPath 2.0, 3.2.4, 3.3.3 and 3.1.1).
-use Rattle.std.specs.Prelude.{◌≡◌, ℕ, List, [], ◌∷◌, codes}
+use Rattle.std.specs.Prelude.{◌≡◌, ℕ, Bool, true, List, [], ◌∷◌, codes}
 use Rattle.std.specs.Str.{encode_utf8_all}
 use Prim.Native.String.{String}
 use Rattle.pj_xtokens.specs.Tokens.{Lexed, lexed}
@@ -17,23 +17,28 @@ sign s text from = lexed (kind.Sign s) (codes text) from
 abbrev pub word : String → ℕ → Lexed
 word text from = lexed kind.Name (codes text) from
 
--- The second tokens are the first ones, where abbreviations are written out, and these tokens behind them. Their offsets are those of another text.
-pub data WrittenOut (behind : List Lexed) : List Lexed → List Lexed → Type 0 where
-  done : WrittenOut behind [] behind
+-- the tokens behind `child::`
+abbrev pub along_child : ℕ → ℕ → List Lexed → List Lexed
+along_child from to xs = word "child" from ∷ sign s.ColonColon "::" to ∷ xs
+
+-- The second tokens are the first ones, where abbreviations are written out, and these tokens behind them. Their offsets are those of another text. If
+-- it nests, `//` and `..` may be written out, too, whose longer forms have a kind test with its parentheses.
+pub data WrittenOut (nests : Bool) (behind : List Lexed) : List Lexed → List Lexed → Type 0 where
+  done : WrittenOut nests behind [] behind
   -- A token as it was. A `/` that stands alone still does: so a `|` behind it is not written out, since `union` would begin a step there.
   kept : {x : Lexed} {xs ys : List Lexed} (from : ℕ) → (x.kind ≡ kind.Sign s.Slash → begins_step (first_behind b.End xs) ≡ begins_step (first_behind b.End ys)) →
-      WrittenOut behind xs ys → WrittenOut behind (x ∷ xs) (lexed x.kind x.text from ∷ ys)
+      WrittenOut nests behind xs ys → WrittenOut nests behind (x ∷ xs) (lexed x.kind x.text from ∷ ys)
   -- `//` is `/descendant-or-self::node()/`
-  descendants : {xs ys : List Lexed} (from a b c d e f g : ℕ) → WrittenOut behind xs ys →
-      WrittenOut behind (sign s.SlashSlash "//" from ∷ xs)
+  descendants : {xs ys : List Lexed} → nests ≡ true → (from a b c d e f g : ℕ) → WrittenOut nests behind xs ys →
+      WrittenOut nests behind (sign s.SlashSlash "//" from ∷ xs)
       (sign s.Slash "/" a ∷ word "descendant-or-self" b ∷ sign s.ColonColon "::" c ∷ word "node" d ∷ sign s.LeftParenthesis "(" e ∷ sign s.RightParenthesis ")" f ∷ sign s.Slash "/" g ∷ ys)
   -- `@` is `attribute::`
-  attribute : {xs ys : List Lexed} (from a b : ℕ) → WrittenOut behind xs ys → WrittenOut behind (sign s.At "@" from ∷ xs) (word "attribute" a ∷ sign s.ColonColon "::" b ∷ ys)
+  attribute : {xs ys : List Lexed} (from a b : ℕ) → WrittenOut nests behind xs ys → WrittenOut nests behind (sign s.At "@" from ∷ xs) (word "attribute" a ∷ sign s.ColonColon "::" b ∷ ys)
   -- `..` is `parent::node()`
-  parent : {xs ys : List Lexed} (from a b c d e : ℕ) → WrittenOut behind xs ys →
-      WrittenOut behind (sign s.DotDot ".." from ∷ xs) (word "parent" a ∷ sign s.ColonColon "::" b ∷ word "node" c ∷ sign s.LeftParenthesis "(" d ∷ sign s.RightParenthesis ")" e ∷ ys)
+  parent : {xs ys : List Lexed} → nests ≡ true → (from a b c d e : ℕ) → WrittenOut nests behind xs ys →
+      WrittenOut nests behind (sign s.DotDot ".." from ∷ xs) (word "parent" a ∷ sign s.ColonColon "::" b ∷ word "node" c ∷ sign s.LeftParenthesis "(" d ∷ sign s.RightParenthesis ")" e ∷ ys)
   -- `|` is `union`
-  union : {xs ys : List Lexed} (from a : ℕ) → WrittenOut behind xs ys → WrittenOut behind (sign s.Bar "|" from ∷ xs) (word "union" a ∷ ys)
+  union : {xs ys : List Lexed} (from a : ℕ) → WrittenOut nests behind xs ys → WrittenOut nests behind (sign s.Bar "|" from ∷ xs) (word "union" a ∷ ys)
   -- two literals of one string, as `'x'` and `"x"`
-  literal : {v w : List ℕ} {xs ys : List Lexed} (from a : ℕ) → string_of (encode_utf8_all v) ≡ string_of (encode_utf8_all w) → WrittenOut behind xs ys →
-      WrittenOut behind (lexed kind.String v from ∷ xs) (lexed kind.String w a ∷ ys)
+  literal : {v w : List ℕ} {xs ys : List Lexed} (from a : ℕ) → string_of (encode_utf8_all v) ≡ string_of (encode_utf8_all w) → WrittenOut nests behind xs ys →
+      WrittenOut nests behind (lexed kind.String v from ∷ xs) (lexed kind.String w a ∷ ys)

@@ -1,10 +1,8 @@
--- Where the mentions of a text stand, in which order, and where the tokens of a text have their fault.
+-- Where the mentions of a text stand, and in which order, and at which offset a place is.
 --
 -- An offset is a number of bytes of the text, from 0. A place is a number of tokens, from 0: that of the token there, and the number of all tokens
 -- for the end.
-use Rattle.std.specs.Prelude.{◌≡◌, ℕ, ◌<◌, ◌⊎◌, ⊤, List, [], ◌∷◌, length, Option, Some, None, slice_get}
-use Rattle.pj_ll.specs.declared.parser.End as outcome
-use Rattle.pj_ll.specs.declared.parser.End.TheVariants as outcome_is
+use Rattle.std.specs.Prelude.{◌≡◌, ℕ, ◌<◌, ◌⊎◌, ⊤, List, [], ◌∷◌, Option, Some, None, slice_get}
 use Rattle.pj_xtokens.specs.Tokens.{Lexed}
 use Rattle.pj_xtokens.specs.declared.token.End.{End}
 use Rattle.pj_xtokens.specs.declared.token.End.TheVariants as ends
@@ -56,10 +54,3 @@ offset_in None end = offset_of_end end
 -- the offset of a place: of the token there, or where the tokens end
 abbrev pub offset_at : List Lexed → End → ℕ → ℕ
 offset_at tokens end place = offset_in (slice_get tokens place) end
-
--- the place at which the tokens have their fault; that of an expression is the end
-abbrev pub place_of : List Lexed → outcome.End → ℕ
-place_of tokens outcome_is.Whole = length tokens
-place_of tokens (outcome_is.Stops place) = place
-place_of tokens (outcome_is.LeftOut place) = place
-place_of tokens (outcome_is.TooDeep place) = place

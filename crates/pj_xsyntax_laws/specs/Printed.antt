@@ -1,12 +1,14 @@
 -- The printed form of an expression: words with a space behind each, and no parentheses but those that the grammar asks for. A `/` alone is in
 -- parentheses before a word or a `*`, which would begin a step behind it (XPath 2.0, A.1.2, leading-lone-slash); so the words depend on
--- whether one of these stands behind them.
+-- whether one of these stands behind them. Steps have their axes, but `..` stands for `parent::node()`, and `//` for the step
+-- `descendant-or-self::node()` before another one, since the parentheses of kind tests nest (3.2.4).
 use Rattle.std.specs.Prelude.{ℕ, ℤ, pos, negsuc, Bool, true, false, nat_eq, nat_lt, if◌then◌else◌, List, [], ◌∷◌, ◌++◌, length, map, Option, Some, None, codes}
 use Rattle.std.specs.Fmt.{decimal}
 use Rattle.std.specs.Str.{chars}
 use Prim.Native.String.{String}
 use denote.Enum.Declared.{tag_of}
 use Rattle.pj_xvalue.specs.declared.axis.Axis.{Axis}
+use Rattle.pj_xvalue.specs.declared.axis.Axis.TheVariants as axes_of
 use Rattle.pj_xvalue.specs.contracts.axis.Axis as axis
 use Rattle.pj_xvalue.specs.declared.function.Function.{Function}
 use Rattle.pj_xvalue.specs.contracts.function.Function as function
@@ -30,9 +32,10 @@ use Rattle.pj_xtokens.specs.declared.token.Sign as token
 use Rattle.pj_xtokens.specs.declared.token.Sign.TheVariants as s
 use Rattle.pj_xtokens.specs.declared.token.TokenKind.TheVariants as kind
 use Rattle.pj_xsyntax_laws.specs.Spaced.{Word, word, spaced, literal}
-use Rattle.pj_xmeaning.specs.Names.{Entry, functions, pmd_functions, axes}
+use Rattle.pj_xvalue.specs.Names.{Entry, functions, pmd_functions, axes}
 use Rattle.pj_xmeaning.specs.Trees as tree
 use Rattle.pj_xmeaning.specs.Trees.{Tree, Trees, Construct, Node, NoMore, More}
+use Rattle.pj_xshape.specs.Nesting.{is_descendants_by}
 use Rattle.pj_xshape.specs.Shapes.{level_by}
 
 -- ---- words
@@ -68,6 +71,10 @@ right = sign ")" s.RightParenthesis
 -- `/`
 abbrev pub slash : Word
 slash = sign "/" s.Slash
+
+-- `//`
+abbrev pub slashes : Word
+slashes = sign "//" s.SlashSlash
 
 -- `$`
 abbrev pub dollar : Word
@@ -146,9 +153,10 @@ integer_text None = codes "9223372036854775808"
 
 -- ---- expressions
 
--- what the surroundings see: the level, and the words where a word or a `*` stands behind, and where not
+-- what the surroundings see: the level; whether it is the step that `//` stands for; and the words where a word or a `*` stands behind, and where not
 pub record Printed : Type 0 where
   pub level : ℕ
+  pub is_descendants : Bool
   pub words : Bool → List Word
 
 -- an operand, in parentheses where its level is below the least that may stand there without
@@ -189,10 +197,28 @@ abbrev pub filter : List Printed → List Word
 filter [] = []
 filter (primary ∷ more) = operand false 16 primary ++ predicates more
 
--- The steps of a path. A path that begins at the root has no other `/` behind the first one.
+abbrev mutual
+  -- a step, and those behind it
+  pub from_step : Bool → Printed → List Printed → List Word
+  from_step behind step [] = operand behind 15 step
+  from_step behind step (next ∷ more) = operand false 15 step ++ further_steps behind next more
+
+  -- a step behind a `/`, and those behind it; `//` stands for the step `descendant-or-self::node()` before another one
+  pub further_steps : Bool → Printed → List Printed → List Word
+  further_steps behind step [] = slash ∷ operand behind 15 step
+  further_steps behind step (next ∷ more) =
+      if step.is_descendants then slashes ∷ from_step behind next more else slash ∷ (operand false 15 step ++ further_steps behind next more)
+
+-- the steps of a path; the `/` of one that begins at the root is that before its next step
 abbrev pub steps : Bool → List Printed → List Word
 steps behind [] = []
-steps behind (first ∷ rest) = if nat_eq first.level 14 then slash ∷ joined behind false 15 slash rest else operand false 14 first ++ slash ∷ joined behind false 15 slash rest
+steps behind (only ∷ []) = operand false 14 only
+steps behind (first ∷ next ∷ more) = if nat_eq first.level 14 then further_steps behind next more else operand false 14 first ++ further_steps behind next more
+
+-- the axis and the test of a step; `..` stands for `parent::node()`
+abbrev pub step_words : Axis → NodeTest → List Word
+step_words axes_of.Parent test.AnyNode = sign ".." s.DotDot ∷ []
+step_words a t = named (axis_name a) ∷ sign "::" s.ColonColon ∷ test_words t
 
 -- the words of a construct with these parts, where a word or a `*` stands behind, or not
 abbrev pub words_by : Construct → List Printed → Bool → List Word
@@ -214,7 +240,7 @@ words_by (tree.Unary sign) parts behind = signed_word sign ∷ chain behind fals
 words_by tree.SimpleMap parts behind = joined behind false 13 (sign "!" s.Bang) parts
 words_by tree.Path parts behind = steps behind parts
 words_by tree.Root parts behind = if behind then enclosed (slash ∷ []) else slash ∷ []
-words_by (tree.Step a t) parts behind = named (axis_name a) ∷ sign "::" s.ColonColon ∷ (test_words t ++ predicates parts)
+words_by (tree.Step a t) parts behind = step_words a t ++ predicates parts
 words_by (tree.AttributeStep t) parts behind = keyword "attribute" ∷ sign "::" s.ColonColon ∷ (test_words t ++ predicates parts)
 words_by tree.Filter parts behind = filter parts
 words_by (tree.Integer value) parts behind = word kind.Integer (integer_text value) ∷ []
@@ -227,7 +253,11 @@ words_by (tree.PmdCall f) parts behind = named (pmd_function_name f) ∷ enclose
 unfoldable mutual
   -- how a tree is printed
   pub printed_of : Tree → Printed
-  printed_of (Node construct parts) = record { level = level_by construct (length (printed_each parts)); words = words_by construct (printed_each parts) }
+  printed_of (Node construct parts) = record {
+    level = level_by construct (length (printed_each parts));
+    is_descendants = is_descendants_by construct (length (printed_each parts));
+    words = words_by construct (printed_each parts);
+  }
 
   -- and each of some trees
   pub printed_each : Trees → List Printed

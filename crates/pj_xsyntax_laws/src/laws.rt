@@ -1,7 +1,7 @@
 //! Laws of the syntax of XPath. The functions do nothing, and their contracts are the laws.
 
 ghost use Rattle.pj_xtokens.specs.Rules as lexical;
-ghost use Rattle.std.specs.Prelude.{All, Contains, IsTrue, List, None, Some, [], codes, suc, ℕ, ◌++◌, ◌<◌, ◌∷◌, ◌^◌, ◌≡◌, ◌≢◌, ◌≤◌, ◌⊎◌};
+ghost use Rattle.std.specs.Prelude.{All, Contains, IsTrue, List, None, Some, [], codes, false, suc, true, ℕ, ◌++◌, ◌<◌, ◌∷◌, ◌^◌, ◌≡◌, ◌≢◌, ◌≤◌, ◌⊎◌};
 ghost use Rattle.std.specs.Fmt.{decimal};
 ghost use Rattle.pj_xtokens.specs.Characters.{is_digit};
 ghost use Rattle.pj_xtokens.specs.Signs.{Entry, signs};
@@ -14,33 +14,45 @@ ghost use Rattle.pj_xtokens.specs.declared.token.TokenKind.TheVariants as kinds;
 ghost use Rattle.pj_xsyntax_laws.specs.Spaced.{AreSpelled, Word, literal, placed, spaced};
 ghost use Rattle.pj_ll.specs.declared.parser.End as outcome;
 ghost use Rattle.pj_xtokens.specs.declared.token.End.{End};
-ghost use Rattle.pj_xgrammar.specs.Expressions.{IsOutcome, IsRun};
+ghost use Rattle.pj_xgrammar.specs.Expressions.{IsOutcome, IsRun, place_of};
 ghost use Rattle.pj_xnames.specs.Faults.{Fault, first_fault};
 ghost use Rattle.pj_xnames.specs.Meaning.{mentions};
 ghost use Rattle.pj_xnames.specs.Mentions.{Mention};
 ghost use Rattle.pj_xsyntax_laws.specs.Every.{HasFault, given, position_of};
-ghost use Rattle.pj_xsyntax_laws.specs.Order.{AreBelow, Ascend, IsBefore, offset_at, place_of, positions};
+ghost use Rattle.pj_xsyntax_laws.specs.Order.{AreBelow, Ascend, IsBefore, offset_at, positions};
 ghost use Rattle.std.specs.Str.{all_scalars};
+ghost use Rattle.pj_xvalue.specs.declared.expr.NodeTest.{NodeTest};
 ghost use Rattle.pj_xvalue.specs.declared.function.Function.{Function};
 ghost use Rattle.pj_xgrammar.specs.Notation.{t};
 ghost use Rattle.pj_xgrammar.specs.declared.rule.Rule.TheVariants as r;
-ghost use Rattle.pj_xmeaning.specs.Names.{callee_of};
+ghost use Rattle.pj_xvalue.specs.Names.{callee_of};
 ghost use Rattle.pj_xmeaning.specs.Trees.{Tree};
-ghost use Rattle.pj_xmeaning.specs.declared.name.Callee.TheVariants as callee;
-ghost use Rattle.pj_xderived.specs.Operands.{Operand, other};
-ghost use Rattle.pj_xderived.specs.Reads.{Reads, Takes};
+ghost use Rattle.pj_xvalue.specs.declared.name.Callee.TheVariants as callee;
+ghost use Rattle.pj_xparse.specs.Operands.{Operand, child_step, other};
+ghost use Rattle.pj_xparse.specs.Reads.{Reads, Takes};
 ghost use Rattle.pj_xparse.specs.Spells.{Spells};
 ghost use Rattle.pj_xshape.specs.Nesting.{nesting_of_tree};
 ghost use Rattle.pj_xshape.specs.Shapes.{part_of_tree};
 ghost use Rattle.pj_xshape.specs.Spelled.{IsSpelled};
-ghost use Rattle.pj_xsyntax_laws.specs.Abbreviations.{WrittenOut, sign};
+ghost use Rattle.pj_xsyntax_laws.specs.Abbreviations.{WrittenOut, along_child, sign};
 ghost use Rattle.pj_xsyntax_laws.specs.Gapped.{ArePieces, IsGap, Piece, gapped, located, words_in};
 ghost use Rattle.pj_xsyntax_laws.specs.Printed.{function_name, printed};
+
+use pj_xgrammar::runs_end_before_faults;
+use pj_xparse::{
+    derivations_are_readings, derivations_are_trees, derived_expressions_fit,
+    readings_are_derivations, tokens_are_well_spelled, trees_are_derivations,
+};
+use pj_xtokens::{
+    gaps_stand_in_front, scanner_follows_the_rules, tokens_are_not_empty, tokens_are_one,
+};
 
 /// The text of words that each spell a token, with a space behind each, has just these tokens, up to its end.
 pub fn spaced_words_are_tokens()
     ensures { (words : List Word) → AreSpelled words → Tokens (size (spaced words)) (spaced words) (placed 0 words) (ends.Text (size (spaced words))) }
-{}
+{
+    scanner_follows_the_rules();
+}
 
 /// Signs and literals spell tokens of their kinds: each sign as it stands in the table of signs, one or more digits, what is written of
 /// a number in decimal, and the literal in quotation marks of any characters.
@@ -49,7 +61,9 @@ pub fn signs_and_literals_spell()
     ensures digits { (text : List ℕ) → All (λ c. IsTrue (is_digit c)) text → text ≢ [] → lexical.Spells kinds.Integer text }
     ensures each_number { (n : ℕ) → n < 2 ^ 64 → lexical.Spells kinds.Integer (decimal n) }
     ensures each_string { (characters : List ℕ) → lexical.Spells kinds.String (literal characters) }
-{}
+{
+    scanner_follows_the_rules();
+}
 
 /// No token but a string has a space (32) in it. So no name has one.
 pub fn strings_alone_have_spaces()
@@ -60,7 +74,10 @@ pub fn strings_alone_have_spaces()
 pub fn mentions_ascend()
     ensures { (total : ℕ) (text : List ℕ) (tokens : List Lexed) (end : End) (productions : List ℕ) → Tokens total text tokens end → IsRun tokens productions →
         Ascend (positions (mentions productions tokens)) }
-{}
+{
+    gaps_stand_in_front();
+    tokens_are_not_empty();
+}
 
 /// What the tokens of a text name stands before the place where the tokens have their fault, and where they have none before the end. So do the
 /// faults of it.
@@ -70,7 +87,11 @@ pub fn names_come_first()
     ensures faults { (total : ℕ) (text : List ℕ) (tokens : List Lexed) (end : End) (productions : List ℕ) (fault : outcome.End) (variables : List (List ℕ)) (named : Fault) →
         Tokens total text tokens end → IsRun tokens productions → IsOutcome tokens fault → HasFault (given variables) (mentions productions tokens) named →
         (position_of named).from < offset_at tokens end (place_of tokens fault) }
-{}
+{
+    gaps_stand_in_front();
+    runs_end_before_faults();
+    tokens_are_not_empty();
+}
 
 /// The first fault of what the tokens of a text name is the first by offset, and at one offset a form before a function or a variable.
 pub fn first_fault_is_first()
@@ -79,25 +100,53 @@ pub fn first_fault_is_first()
     ensures first { (total : ℕ) (text : List ℕ) (tokens : List Lexed) (end : End) (productions : List ℕ) (variables : List (List ℕ)) (fault other : Fault) →
         Tokens total text tokens end → IsRun tokens productions → first_fault variables (mentions productions tokens) ≡ Some fault →
         HasFault (given variables) (mentions productions tokens) other → (other ≡ fault) ⊎ IsBefore (position_of fault) (position_of other) }
-{}
+{
+    gaps_stand_in_front();
+    tokens_are_not_empty();
+}
 
 /// What is printed of an expression is read as that expression: the text spells it, where it may stand with these variables, its text
 /// nests no deeper than it may, and its names, strings and integers have a spelling.
 pub fn printed_expressions_are_read()
     ensures { (variables : List (List ℕ)) (t : Tree) → IsTrue ((part_of_tree t).fits (record { given = variables; bound = [] })) → nesting_of_tree t ≤ 200 → IsSpelled t → Spells variables (printed t) t }
-{}
+{
+    derivations_are_readings();
+    scanner_follows_the_rules();
+    trees_are_derivations();
+}
 
 /// What any text spells is read again from its printed form: the text of Unicode scalar values, which the characters of every text
 /// are, spells an expression only where the printed form of that expression spells it too, with the same variables.
 pub fn spelled_expressions_are_printed()
     ensures { (variables : List (List ℕ)) (text : List ℕ) (t : Tree) → IsTrue (all_scalars text) → Spells variables text t → Spells variables (printed t) t }
-{}
+{
+    derivations_are_readings();
+    derivations_are_trees();
+    derived_expressions_fit();
+    readings_are_derivations();
+    scanner_follows_the_rules();
+    tokens_are_well_spelled();
+    trees_are_derivations();
+}
 
-/// Abbreviations stand for their longer forms: a text that spells an expression spells the same one where `//`, `@`, `..` and `|` are written out and
-/// literals of one string are put for each other (XPath 2.0, 3.2.4, 3.3.3 and 3.1.1).
+/// Abbreviations stand for their longer forms: a text that spells an expression spells the same one where `@` and `|` are written out and literals of one
+/// string are put for each other, and `//` and `..` too, where one more thing may be open, since the parentheses of a kind test nest (XPath 2.0, 3.2.4,
+/// 3.3.3 and 3.1.1).
 pub fn abbreviations_stand_for_longer_forms()
-    ensures { (variables : List (List ℕ)) (text other : List ℕ) (tokens others : List Lexed) (tree : Tree) → Tokens (size text) text tokens (ends.Text (size text)) →
-        Tokens (size other) other others (ends.Text (size other)) → WrittenOut [] tokens others → Spells variables text tree → Spells variables other tree }
+    ensures as_deep { (variables : List (List ℕ)) (text other : List ℕ) (tokens others : List Lexed) (tree : Tree) → Tokens (size text) text tokens (ends.Text (size text)) →
+        Tokens (size other) other others (ends.Text (size other)) → WrittenOut false [] tokens others → Spells variables text tree → Spells variables other tree }
+    ensures with_kind_tests { (variables : List (List ℕ)) (other : List ℕ) (tokens others : List Lexed) (a : Operand) → Tokens (size other) other others (ends.Text (size other)) →
+        WrittenOut true [] tokens others → Reads r.Expr 1 tokens [] a → first_fault variables a.names ≡ None → Spells variables other a.tree }
+{
+    tokens_are_one();
+}
+
+/// A step without an axis is one along `child`: a test with its predicates is read as the same step with `child::` before it and without (XPath 2.0, 3.2.4).
+pub fn steps_without_axis_are_children()
+    ensures without_axis { (depth : ℕ) (xs ys zs : List Lexed) (test : NodeTest) (predicates : List Operand) → Reads r.NodeTest depth xs ys test → Reads r.PredicateList depth ys zs predicates →
+        Reads r.StepExpr depth xs zs (child_step test predicates) }
+    ensures with_axis { (depth from to : ℕ) (xs ys zs : List Lexed) (test : NodeTest) (predicates : List Operand) → Reads r.NodeTest depth xs ys test → Reads r.PredicateList depth ys zs predicates →
+        Reads r.StepExpr depth (along_child from to xs) zs (child_step test predicates) }
 {}
 
 /// Comments change nothing, and neither does white space: of words that each spell a token, with white space and comments before the first one, and
@@ -110,7 +159,10 @@ pub fn comments_change_nothing()
         Spells variables (front ++ gapped pieces) tree → Spells variables (spaced (words_in pieces)) tree }
     ensures with_gaps { (variables : List (List ℕ)) (front : List ℕ) (pieces : List Piece) (tree : Tree) → IsGap front → ArePieces pieces →
         Spells variables (spaced (words_in pieces)) tree → Spells variables (front ++ gapped pieces) tree }
-{}
+{
+    scanner_follows_the_rules();
+    tokens_are_one();
+}
 
 /// Each function of XPath is called by its name, with the prefix `fn:` and without it.
 pub fn prefix_of_functions_is_optional()
@@ -124,6 +176,6 @@ pub fn parentheses_leave_no_trace()
     ensures operands { (depth : ℕ) (xs ys zs us : List Lexed) (a : Operand) → Takes (suc depth) (t "(") xs ys → Reads r.Expr (suc depth) ys zs a → Takes depth (t ")") zs us →
         Reads r.PrimaryExpr depth xs us (other a.tree a.names) }
     ensures texts { (variables : List (List ℕ)) (text : List ℕ) (tokens others : List Lexed) (from to : ℕ) (a : Operand) →
-        Tokens (size text) text (sign s.LeftParenthesis "(" from ∷ others) (ends.Text (size text)) → WrittenOut (sign s.RightParenthesis ")" to ∷ []) tokens others →
+        Tokens (size text) text (sign s.LeftParenthesis "(" from ∷ others) (ends.Text (size text)) → WrittenOut false (sign s.RightParenthesis ")" to ∷ []) tokens others →
         Reads r.Expr 1 tokens [] a → first_fault variables a.names ≡ None → Spells variables text a.tree }
 {}

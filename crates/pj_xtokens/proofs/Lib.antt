@@ -1,8 +1,10 @@
 pub mod Ends
-pub mod Follows
 pub mod Meaning
-pub mod Scanned
 pub mod SignMeaning
+pub mod Follows
+pub mod WordKinds
+pub mod Scanned
 pub mod Gapped
 pub mod Reading
 pub mod Unique
+pub mod SomeTokens

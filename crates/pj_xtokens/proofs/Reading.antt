@@ -8,7 +8,8 @@ use Rattle.std.proofs.lemmas.Str.{chars-nil, encodes-chars}
 use Rattle.std.proofs.lemmas.List.{append_cancel_right}
 use lib.Utf8.{encodes}
 use Rattle.pj_xtokens.specs.Gaps.{Past, here, white, comment, IsSolid, opens}
-use Rattle.pj_xtokens.specs.Scanning.{scanned, seen, IsBehind}
+use Rattle.pj_xtokens.specs.Rules.{Spells}
+use Rattle.pj_xtokens.specs.Scanning.{scanned, seen, IsBehind, kind_of}
 use Rattle.pj_xtokens.specs.Size.{size}
 use Rattle.pj_xtokens.specs.Tokens.{IsLongest, IsUnspelled, is_joined, Lexed, lexed, Tokens, ended, token, joined, unspelled}
 use Rattle.pj_xtokens.specs.declared.token.TokenKind.{TokenKind}
@@ -16,19 +17,15 @@ use Rattle.pj_xtokens.specs.declared.token.End.{End}
 use Rattle.pj_xtokens.specs.declared.token.End.TheVariants as ends
 use Rattle.pj_xtokens.specs.declared.state.State.TheVariants.{Start}
 use Rattle.pj_xtokens.proofs.Gapped.{comment_behind}
-use Rattle.pj_xtokens.proofs.Scanned.{longest_found, unspelled_from, never_empty}
+use Rattle.pj_xtokens.proofs.Scanned.{longest_found, unspelled_from}
 use Rattle.pj_xtokens.proofs.Ends.{length_behind, size_chars}
-use Rattle.pj_xtokens.specs.Rules.{Spells}
-
-pub spelled_length : (k : TokenKind) (w : List ℕ) → Spells k w → 0 < length w
-spelled_length k [] x = absurd (never_empty k x)
-spelled_length k (c ∷ w) x = omega arith
 
 -- what the scanner found, as what the text begins with
-pub scan_from : (text : List ℕ) → opens text ≡ false → (r : Option (TokenKind × Bor (List ℕ))) → seen r ≡ scanned text Start None
-    → MatchOption r (IsTrue (opens text) ⊎ IsUnspelled text) (λ p. IsFalse (opens text) × ((w : List ℕ) × (text ≡ w ++ chars p.1.now) × IsLongest text p.0 w))
-scan_from text o None e = inr (unspelled_from text (sym e))
-scan_from text o (Some p) e = (o, longest_found text p.0 (chars p.1.now) (sym e))
+module _ (told : (k : TokenKind) (w : List ℕ) → Spells k w → kind_of w ≡ Some k) (spells : (k : TokenKind) (w : List ℕ) → kind_of w ≡ Some k → Spells k w) where
+  pub scan_from : (text : List ℕ) → opens text ≡ false → (r : Option (TokenKind × Bor (List ℕ))) → seen r ≡ scanned text Start None
+      → MatchOption r (IsTrue (opens text) ⊎ IsUnspelled text) (λ p. IsFalse (opens text) × ((w : List ℕ) × (text ≡ w ++ chars p.1.now) × IsLongest text p.0 w))
+  scan_from text o None e = inr (unspelled_from told text (sym e))
+  scan_from text o (Some p) e = (o, longest_found told spells text p.0 (chars p.1.now) (sym e))
 
 -- what stands behind a gap is an end of the text
 pub past_behind : (text body : List ℕ) → Past text body → IsBehind body text
@@ -85,14 +82,14 @@ module _ (total : ℕ) (text rest : List ℕ) (found : List Lexed) (leads : Lead
     pub leads_joined : (to : ℕ) → is_joined k behind ≡ true → to + size behind ≡ total → Tokens total text (found ++ lexed k word from ∷ []) (ends.Fault to)
     leads_joined to j g = leads.whole (lexed k word from ∷ []) (ends.Fault to) (joined rest body word behind k from to p s l.0 split longest_is f j g)
 
--- a token takes something of what is left
-pub token_shorter : (rest body behind : List ℕ) (k : TokenKind) → Past rest body
+-- a token takes something of what is left, since it has a character
+pub token_shorter : ((k : TokenKind) (w : List ℕ) → Spells k w → 0 < length w) → (rest body behind : List ℕ) (k : TokenKind) → Past rest body
     → IsFalse (opens body) × ((w : List ℕ) × (body ≡ w ++ behind) × IsLongest body k w) → length behind < length rest
-token_shorter rest body behind k p l =
+token_shorter not_empty rest body behind k p l =
     let q = past_behind rest body p in
     let n : length rest ≡ length q.0 + length body = ap length q.1 ∙ length-append q.0 body in
     let m : length body ≡ length l.1.0 + length behind = ap length l.1.1 ∙ length-append l.1.0 behind in
-    omega (arith, n, m, spelled_length k l.1.0 l.1.2.spells)
+    omega (arith, n, m, not_empty k l.1.0 l.1.2.spells)
 
 -- the offset of an end of the text, as the code computes it
 pub offset_is : (text body : List ℕ) → IsUtf8 text → IsUtf8 body → IsBehind (chars body) (chars text) → length text - length body + size (chars body) ≡ length text

@@ -1,55 +1,53 @@
--- The scanner's walk finds the longest word that a rule spells.
-use Rattle.std.proofs.Common.{◌≡◌, ℕ, ◌≤◌, Bool, List, [], ◌∷◌, ◌++◌, length, Option, Some, None, sym, refl, ap, ◌∙◌, subst, arith}
-use Rattle.pj_xtokens.specs.Characters.{CharSet, holds}
-use Rattle.pj_xtokens.specs.Rules.{rules, FirstOf}
-use Rattle.pj_xtokens.specs.Scanning.{Found, found_at, scanned}
+-- The scanner's walk finds the longest word that spells a token.
+use Rattle.std.proofs.Common.{◌≡◌, ℕ, ◌<◌, ◌≤◌, List, [], ◌∷◌, ◌++◌, length, Option, Some, None, sym, refl, ap, ◌∙◌, subst, arith}
+use Rattle.pj_xtokens.specs.Characters.{holds}
+use Rattle.pj_xtokens.specs.Rules.{Spells}
+use Rattle.pj_xtokens.specs.Scanning.{Found, found_at, scanned, kind_from, kind_of}
 use Rattle.pj_xtokens.specs.States.{step, spelled}
 use Rattle.pj_xtokens.specs.Tokens.{IsLongest, IsUnspelled}
 use Rattle.pj_xtokens.specs.declared.token.TokenKind.{TokenKind}
 use Rattle.pj_xtokens.specs.declared.state.State.{State}
 use Rattle.pj_xtokens.specs.declared.state.State.TheVariants as s
-use Rattle.pj_patterns.specs.Derivatives.{derive_rules, spells_none}
-use Rattle.pj_patterns.proofs.Derived.{first_of_from, first_of_to, spelled_from, spelled_to}
-use Rattle.pj_xtokens.proofs.Meaning.{meaning, meaning_of}
-use Rattle.pj_xtokens.proofs.Follows.{goes_on, spells}
 
--- the longest word at the front of the text that the rules of a state spell, and it is not empty
+-- the longest word at the front of the text that the scanner takes from a state on
 record Best (q : State) (cs : List ℕ) (m : TokenKind) (t : List ℕ) : Type 0 where
   word : List ℕ
   split : cs ≡ word ++ t
-  first : FirstOf (meaning q) word m
-  far : (v u : List ℕ) (n : TokenKind) → cs ≡ v ++ u → FirstOf (meaning q) v n → length v ≤ length word
+  takes : kind_from word q ≡ Some m
+  far : (v u : List ℕ) (n : TokenKind) → cs ≡ v ++ u → kind_from v q ≡ Some n → length v ≤ length word
 
--- they spell lacks word at its front but the empty one
+-- it takes no word at its front but the empty one
 record NoWord (q : State) (cs : List ℕ) : Type 0 where
-  only_empty : (c : ℕ) (v u : List ℕ) (n : TokenKind) → cs ≡ (c ∷ v) ++ u → FirstOf (meaning q) (c ∷ v) n → ⊥
+  only_empty : (c : ℕ) (v u : List ℕ) (n : TokenKind) → cs ≡ (c ∷ v) ++ u → kind_from (c ∷ v) q ≡ Some n → ⊥
 
 data Walked (q : State) (cs : List ℕ) (found result : Found) : Type 0 where
   better : (m : TokenKind) (t : List ℕ) → result ≡ Some (m, t) → Best q cs m t → Walked q cs found result
   same : result ≡ found → NoWord q cs → Walked q cs found result
 
+-- where the scanner goes on from a state at a character
+kind_next : (c : ℕ) (w : List ℕ) (q : State) (o : Option State) → step (λ s. holds s c) q ≡ o
+    → kind_from (c ∷ w) q ≡ elim o as (λ z. Option TokenKind) [ None ↦ None | Some r ↦ kind_from w r ]
+kind_next c w q o e = ap (λ (x : Option State). elim x as (λ z. Option TokenKind) [ None ↦ None | Some r ↦ kind_from w r ]) e
+
 module _ (c : ℕ) (cs : List ℕ) (q : State) where
-  abbrev here : CharSet → Bool
-  here s = holds s c
+  -- a word begins with the character
+  begins : (d : ℕ) (v u : List ℕ) (n : TokenKind) → c ∷ cs ≡ (d ∷ v) ++ u → kind_from (d ∷ v) q ≡ Some n → kind_from (c ∷ v) q ≡ Some n
+  begins d v u n e f = let heads : d ≡ c = cc in subst (λ x. kind_from (x ∷ v) q ≡ Some n) heads f
 
-  -- the rest of a word
-  rest_of : (d : ℕ) (v u : List ℕ) (n : TokenKind) → c ∷ cs ≡ (d ∷ v) ++ u → FirstOf (meaning q) (d ∷ v) n → FirstOf (derive_rules here (meaning q)) v n
-  rest_of d v u n e f = let heads : d ≡ c = cc in first_of_from holds c (meaning q) v n (subst (λ x. FirstOf (meaning q) (x ∷ v) n) heads f)
+  stops : step (λ s. holds s c) q ≡ None → NoWord q (c ∷ cs)
+  stops e = record { only_empty = λ d v u n s f. let x : None ≡ Some n = sym (kind_next c v q None e) ∙ begins d v u n s f in absurd (cc) }
 
-  stops : derive_rules here (meaning q) ≡ [] → NoWord q (c ∷ cs)
-  stops e = record { only_empty = λ d v u n s f. subst (λ rs. FirstOf rs v n) e (rest_of d v u n s f) }
+  module _ (r : State) (next : step (λ s. holds s c) q ≡ Some r) where
+    further : (d : ℕ) (v u : List ℕ) (n : TokenKind) → c ∷ cs ≡ (d ∷ v) ++ u → kind_from (d ∷ v) q ≡ Some n → kind_from v r ≡ Some n
+    further d v u n s f = sym (kind_next c v q (Some r) next) ∙ begins d v u n s f
 
-  module _ (r : State) (agree : derive_rules here (meaning q) ≡ meaning r) where
-    further : (d : ℕ) (v u : List ℕ) (n : TokenKind) → c ∷ cs ≡ (d ∷ v) ++ u → FirstOf (meaning q) (d ∷ v) n → FirstOf (meaning r) v n
-    further d v u n s f = subst (λ rs. FirstOf rs v n) agree (rest_of d v u n s f)
-
-    back : (v : List ℕ) (n : TokenKind) → FirstOf (meaning r) v n → FirstOf (meaning q) (c ∷ v) n
-    back v n f = first_of_to holds c (meaning q) v n (subst (λ rs. FirstOf rs v n) (sym agree) f)
+    back : (v : List ℕ) (n : TokenKind) → kind_from v r ≡ Some n → kind_from (c ∷ v) q ≡ Some n
+    back v n f = kind_next c v q (Some r) next ∙ f
 
     tail_of : (d : ℕ) (v u : List ℕ) → c ∷ cs ≡ (d ∷ v) ++ u → cs ≡ v ++ u
     tail_of d v u s = cc
 
-    best_far : (m : TokenKind) (t : List ℕ) (b : Best r cs m t) (v u : List ℕ) (n : TokenKind) → c ∷ cs ≡ v ++ u → FirstOf (meaning q) v n → length v ≤ length (c ∷ b.word)
+    best_far : (m : TokenKind) (t : List ℕ) (b : Best r cs m t) (v u : List ℕ) (n : TokenKind) → c ∷ cs ≡ v ++ u → kind_from v q ≡ Some n → length v ≤ length (c ∷ b.word)
     best_far m t b [] u n s f = omega arith
     best_far m t b (d ∷ v) u n s f = let l = b.far v u n (tail_of d v u s) (further d v u n s f) in omega (arith, l)
 
@@ -57,11 +55,11 @@ module _ (c : ℕ) (cs : List ℕ) (q : State) where
     best m t b = record {
       word = c ∷ b.word;
       split = ap (λ (x : List ℕ). c ∷ x) b.split;
-      first = back b.word m b.first;
+      takes = back b.word m b.takes;
       far = best_far m t b;
     }
 
-    one_far : NoWord r cs → (v u : List ℕ) (n : TokenKind) → c ∷ cs ≡ v ++ u → FirstOf (meaning q) v n → length v ≤ 1
+    one_far : NoWord r cs → (v u : List ℕ) (n : TokenKind) → c ∷ cs ≡ v ++ u → kind_from v q ≡ Some n → length v ≤ 1
     one_far lacks [] u n s f = omega arith
     one_far lacks (d ∷ []) u n s f = omega arith
     one_far lacks (d ∷ x ∷ v) u n s f = absurd (lacks.only_empty x v u n (tail_of d (x ∷ v) u s) (further d (x ∷ v) u n s f))
@@ -70,12 +68,12 @@ module _ (c : ℕ) (cs : List ℕ) (q : State) where
     one m e lacks = record {
       word = c ∷ [];
       split = refl;
-      first = back [] m (spelled_to holds (meaning r) m (spells r ∙ e));
+      takes = back [] m e;
       far = one_far lacks;
     }
 
-    none_here : spelled r ≡ None → NoWord r cs → (d : ℕ) (v u : List ℕ) (n : TokenKind) → c ∷ cs ≡ (d ∷ v) ++ u → FirstOf (meaning q) (d ∷ v) n → ⊥
-    none_here e lacks d [] u n s f = let x : None ≡ Some n = sym e ∙ sym (spells r) ∙ spelled_from holds (meaning r) n (further d [] u n s f) in absurd (cc)
+    none_here : spelled r ≡ None → NoWord r cs → (d : ℕ) (v u : List ℕ) (n : TokenKind) → c ∷ cs ≡ (d ∷ v) ++ u → kind_from (d ∷ v) q ≡ Some n → ⊥
+    none_here e lacks d [] u n s f = let x : None ≡ Some n = sym e ∙ further d [] u n s f in absurd (cc)
     none_here e lacks d (x ∷ v) u n s f = lacks.only_empty x v u n (tail_of d (x ∷ v) u s) (further d (x ∷ v) u n s f)
 
     after_same : (o : Option TokenKind) → spelled r ≡ o → (found result : Found) → result ≡ found_at o cs found → NoWord r cs → Walked q (c ∷ cs) found result
@@ -86,63 +84,56 @@ module _ (c : ℕ) (cs : List ℕ) (q : State) where
     after found result (better m t e b) = better m t e (best m t b)
     after found result (same e lacks) = after_same (spelled r) refl found result e lacks
 
-  at_step : (o : Option State) → derive_rules here (meaning q) ≡ meaning_of o → (found : Found)
+  at_step : (o : Option State) → step (λ s. holds s c) q ≡ o → (found : Found)
       → ((r : State) (f : Found) → Walked r cs f (scanned cs r f))
       → Walked q (c ∷ cs) found (elim o [ None ↦ found | Some r ↦ scanned cs r (found_at (spelled r) cs found) ])
-  at_step None agree found go = same refl (stops agree)
-  at_step (Some r) agree found go = after r agree found (scanned cs r (found_at (spelled r) cs found)) (go r (found_at (spelled r) cs found))
+  at_step None next found go = same refl (stops next)
+  at_step (Some r) next found go = after r next found (scanned cs r (found_at (spelled r) cs found)) (go r (found_at (spelled r) cs found))
 
 walked : (cs : List ℕ) (q : State) (found : Found) → Walked q cs found (scanned cs q found)
 unfolding scanned
 walked [] q found = same refl (record { only_empty = λ c v u n e f. cc })
-walked (c ∷ cs) q found = at_step c cs q (step (λ s. holds s c) q) (goes_on c q) found (walked cs)
+walked (c ∷ cs) q found = at_step c cs q (step (λ s. holds s c) q) refl found (walked cs)
 
-start_is : meaning s.Start ≡ rules
-unfolding meaning
-start_is = refl
-
-nothing_empty : spells_none rules ≡ None
-unfolding rules
-nothing_empty = refl
-
-pub never_empty : (m : TokenKind) → FirstOf rules [] m → ⊥
-never_empty m f = let x : None ≡ Some m = sym nothing_empty ∙ spelled_from holds rules m f in absurd (cc)
-
-from_start : (w : List ℕ) (m : TokenKind) → FirstOf rules w m → FirstOf (meaning s.Start) w m
-from_start w m f = subst (λ rs. FirstOf rs w m) (sym start_is) f
-
--- what was found, stated of the rules
-pub record Longest (text : List ℕ) (m : TokenKind) (t : List ℕ) : Type 0 where
-  pub word : List ℕ
-  pub split : text ≡ word ++ t
-  pub first : FirstOf rules word m
-  pub far : (v u : List ℕ) (n : TokenKind) → text ≡ v ++ u → FirstOf rules v n → length v ≤ length word
+-- what was found, stated of the states
+record Longest (text : List ℕ) (m : TokenKind) (t : List ℕ) : Type 0 where
+  word : List ℕ
+  split : text ≡ word ++ t
+  takes : kind_of word ≡ Some m
+  far : (v u : List ℕ) (n : TokenKind) → text ≡ v ++ u → kind_of v ≡ Some n → length v ≤ length word
 
 longest_from : (text : List ℕ) (result : Found) → Walked s.Start text None result → (m : TokenKind) (t : List ℕ) → result ≡ Some (m, t) → Longest text m t
 longest_from text result (better n u e b) m t h =
     let whole : ◌≡◌ {A = TokenKind × List ℕ} (n, u) (m, t) = cc in
-    subst (λ (z : TokenKind × List ℕ). Longest text z.0 z.1) whole
-    (record {
-      word = b.word;
-      split = b.split;
-      first = subst (λ rs. FirstOf rs b.word n) start_is b.first;
-      far = λ v x k s f. b.far v x k s (from_start v k f);
-    })
+    subst (λ (z : TokenKind × List ℕ). Longest text z.0 z.1) whole (record { word = b.word; split = b.split; takes = b.takes; far = b.far })
 longest_from text result (same e lacks) m t h = absurd (cc)
-
-pub found : (text : List ℕ) (m : TokenKind) (t : List ℕ) → scanned text s.Start None ≡ Some (m, t) → Longest text m t
-found text m t h = longest_from text (scanned text s.Start None) (walked text s.Start None) m t h
-
-pub longest_found : (text : List ℕ) (m : TokenKind) (t : List ℕ) → scanned text s.Start None ≡ Some (m, t) → (w : List ℕ) × (text ≡ w ++ t) × IsLongest text m w
-longest_found text m t h = let f = found text m t h in (f.word, f.split, record { spells = f.first; none_longer = λ j v u e x. f.far v u j e x })
 
 no_word_from : (text : List ℕ) (result : Found) → Walked s.Start text None result → result ≡ None → NoWord s.Start text
 no_word_from text result (better m t e b) h = absurd (cc)
 no_word_from text result (same e lacks) h = lacks
 
-pub unspelled_from : (text : List ℕ) → scanned text s.Start None ≡ None → IsUnspelled text
-unspelled_from text h j [] u e f = never_empty j f
-unspelled_from text h j (c ∷ v) u e f = (no_word_from text (scanned text s.Start None) (walked text s.Start None) h).only_empty c v u j e (from_start (c ∷ v) j f)
+-- where the scanner's states tell what each token is
+module _ (told : (k : TokenKind) (w : List ℕ) → Spells k w → kind_of w ≡ Some k) where
+  never_empty : (k : TokenKind) → Spells k [] → ⊥
+  never_empty k f = let x : None ≡ Some k = told k [] f in absurd (cc)
+
+  pub spelled_length : (k : TokenKind) (w : List ℕ) → Spells k w → 0 < length w
+  spelled_length k [] x = absurd (never_empty k x)
+  spelled_length k (c ∷ w) x = omega arith
+
+  pub one_kind : (w : List ℕ) (k j : TokenKind) → Spells k w → Spells j w → k ≡ j
+  one_kind w k j f g = let x : Some k ≡ Some j = sym (told k w f) ∙ told j w g in cc
+
+  pub unspelled_from : (text : List ℕ) → scanned text s.Start None ≡ None → IsUnspelled text
+  unspelled_from text h j [] u e f = never_empty j f
+  unspelled_from text h j (c ∷ v) u e f = (no_word_from text (scanned text s.Start None) (walked text s.Start None) h).only_empty c v u j e (told j (c ∷ v) f)
+
+  -- and what they take is a token
+  module _ (spells : (k : TokenKind) (w : List ℕ) → kind_of w ≡ Some k → Spells k w) where
+    pub longest_found : (text : List ℕ) (m : TokenKind) (t : List ℕ) → scanned text s.Start None ≡ Some (m, t) → (w : List ℕ) × (text ≡ w ++ t) × IsLongest text m w
+    longest_found text m t h =
+        let f = longest_from text (scanned text s.Start None) (walked text s.Start None) m t h in
+        (f.word, f.split, record { spells = spells m f.word f.takes; none_longer = λ j v u e x. f.far v u j e (told j v x) })
 
 -- steps of the walk
 pub scanned_end : (cs : List ℕ) (q : State) (f : Found) → cs ≡ [] → scanned cs q f ≡ f

@@ -1,5 +1,7 @@
--- The sets of characters that the grammar of tokens names. A character is its code point.
+-- The sets of characters that the grammar of tokens names, and which characters they have. A character is its code point.
 use Rattle.std.specs.Prelude.{ℕ, Bool, false, ◌==◌, ◌||◌, ◌&&◌, not, nat_le, List, [], ◌∷◌}
+pub use Rattle.pj_xtokens.specs.declared.characters.CharSet.{CharSet}
+pub use Rattle.pj_xtokens.specs.declared.characters.CharSet.TheVariants.{The, NameStart, NameCharacter, Digit, ExponentMark, PlusOrMinus, NotQuote, NotApostrophe}
 
 -- between two codes, both included
 abbrev pub is_between : ℕ → ℕ → ℕ → Bool
@@ -29,21 +31,7 @@ abbrev pub heads : (ℕ → Bool) → List ℕ → Bool
 heads p [] = false
 heads p (c ∷ cs) = p c
 
-pub data CharSet : Type 0 where
-  -- the ASCII character with this code: beyond ASCII the grammar names no single character
-  The : ℕ → CharSet
-  NameStart : CharSet
-  NameCharacter : CharSet
-  Digit : CharSet
-  -- e E
-  ExponentMark : CharSet
-  -- + -
-  PlusOrMinus : CharSet
-  -- any character but "
-  NotQuote : CharSet
-  -- any character but '
-  NotApostrophe : CharSet
-
+-- whether the set has the character
 abbrev pub holds : CharSet → ℕ → Bool
 holds (The n) c = nat_le n 127 && (c == n)
 holds NameStart c = starts_name c

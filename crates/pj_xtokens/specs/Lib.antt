@@ -1,4 +1,4 @@
--- the definition of tokens
+-- definitions
 pub mod Answer
 pub mod Characters
 pub mod Gaps
@@ -7,6 +7,6 @@ pub mod Rules
 pub mod Signs
 pub mod Size
 pub mod Tokens
--- private clauses alone cite these: what the scanner computes
+-- what the scanner computes: for private clauses, and for the law that it follows the rules
 pub mod Scanning
 pub mod States

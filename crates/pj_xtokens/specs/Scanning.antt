@@ -1,4 +1,4 @@
--- What the scanner gives: the longest word of a rule, found in one walk.
+-- What the scanner gives: the kind of a word by its states, and the longest word of a rule, found in one walk.
 use Rattle.std.specs.Prelude.{ℕ, ◌≡◌, ◌++◌, List, [], ◌∷◌, Option, Some, None}
 use Rattle.std.specs.Str.{chars}
 use denote.Bor.{Bor}
@@ -6,6 +6,16 @@ use Rattle.pj_xtokens.specs.Characters.{holds}
 use Rattle.pj_xtokens.specs.States.{step, spelled}
 use Rattle.pj_xtokens.specs.declared.token.TokenKind.{TokenKind}
 use Rattle.pj_xtokens.specs.declared.state.State.{State}
+use Rattle.pj_xtokens.specs.declared.state.State.TheVariants.{Start}
+
+-- the kind of the word that leads on from a state, where it is one
+abbrev pub kind_from : List ℕ → State → Option TokenKind
+kind_from [] q = spelled q
+kind_from (c ∷ w) q = elim (step (λ s. holds s c) q) [ None ↦ None | Some r ↦ kind_from w r ]
+
+-- the kind of the word by the scanner's states, where it spells a token
+abbrev pub kind_of : List ℕ → Option TokenKind
+kind_of w = kind_from w Start
 
 -- what was spelled, and what stands behind it
 abbrev pub Found : Type 0

@@ -1,7 +1,27 @@
-//! Characters of names and white space.
+//! Characters of names and white space, and the sets of characters that the grammar of tokens names.
 
 ghost use Rattle.std.specs.Prelude.{◌≡◌};
 ghost use Rattle.pj_xtokens.specs.Characters.{starts_name, continues_name, is_white};
+
+/// A set of characters that the grammar of tokens names: its patterns are written over these.
+pub enum CharSet {
+    /// The ASCII character with this code: beyond ASCII the grammar names no single character.
+    The(u32),
+    /// The characters with which a name begins.
+    NameStart,
+    /// The characters with which a name goes on.
+    NameCharacter,
+    /// `0` to `9`
+    Digit,
+    /// `e` and `E`
+    ExponentMark,
+    /// `+` and `-`
+    PlusOrMinus,
+    /// Any character but `"`.
+    NotQuote,
+    /// Any character but `'`.
+    NotApostrophe,
+}
 
 /// Whether a name can begin with the character (XML 1.0, 2.3).
 pub fn starts_name(c: char) -> bool

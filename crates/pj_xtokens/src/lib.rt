@@ -13,6 +13,9 @@ mod text;
 mod token;
 mod token_list;
 
-pub use laws::tokens_are_one;
+pub use laws::{
+    each_text_has_tokens, gaps_stand_in_front, scanner_follows_the_rules, tokens_are_not_empty,
+    tokens_are_one,
+};
 pub use token::{End, Sign, Token, TokenKind};
 pub use token_list::{TokenList, tokens};

@@ -8,6 +8,7 @@ ghost use Rattle.pj_xtokens.specs.Tokens.{IsLongest, IsUnspelled, is_joined};
 ghost use Rattle.pj_xtokens.specs.declared.state.State.TheVariants.{Start};
 
 use crate::characters::starts_name;
+use crate::laws::scanner_follows_the_rules;
 use crate::state::{State, spelled, step};
 use crate::text::behind_pair;
 use crate::token::TokenKind;
@@ -41,6 +42,7 @@ pub fn scan<'t>(text: &'t str) -> Option<(TokenKind, &'t str)>
     if let Some(_) = behind_pair(text, '(', ':') {
         return None;
     }
+    scanner_follows_the_rules();
     longest_word(text)
 }
 

@@ -6,6 +6,7 @@ ghost use Rattle.pj_xtokens.specs.Answer.{lexed_of};
 ghost use Rattle.pj_xtokens.specs.Tokens.{Tokens};
 
 use crate::gap::skip_gap;
+use crate::laws::tokens_are_not_empty;
 use crate::scan::{is_joined, scan};
 use crate::text::before;
 use crate::token::{End, Token};
@@ -29,6 +30,7 @@ pub fn tokens<'t>(alloc: Global, text: &'t str) -> Result<TokenList<'t>, NoMemor
     requires fits { length text.now < 2 ^ 32 }
     ensures { IfOk result (λ found. Tokens (length text.now) (chars text.now) (map lexed_of found.list) found.end) }
 {
+    tokens_are_not_empty();
     let mut list = Vec::new(alloc);
     let mut rest = text;
     loop {

@@ -1,7 +1,8 @@
 //! Refused texts with their first fault, and texts that are taken with their expression, by hand. The variable `p` is given.
 
 use crate::fault_rows::{
-    ENDS, LEFT_OUT_OPERATORS, LEFT_OUT_STEPS, OFFSETS_ARE_BYTES, PLACES_1, PLACES_2, TOKENS,
+    ENDS, LEFT_OUT_NUMBERS, LEFT_OUT_OPERATORS, LEFT_OUT_STEPS, OFFSETS_ARE_BYTES, PLACES_1,
+    PLACES_2, TOKENS,
 };
 use crate::fixtures::{Table, expect};
 use crate::name_fault_rows::{ARGUMENTS, FUNCTIONS_1, FUNCTIONS_2, VARIABLES_1, VARIABLES_2};
@@ -154,13 +155,14 @@ fn expressions(rt: HostRuntime) -> Result<(), Fail> {
 
 #[test]
 fn faults(rt: HostRuntime) -> Result<(), Fail> {
-    let tables: [Table; 7] = [
+    let tables: [Table; 8] = [
         &TOKENS,
         &ENDS,
         &PLACES_1,
         &PLACES_2,
         &LEFT_OUT_OPERATORS,
         &LEFT_OUT_STEPS,
+        &LEFT_OUT_NUMBERS,
         &OFFSETS_ARE_BYTES,
     ];
     check_all(rt.alloc(), &tables)

@@ -98,7 +98,7 @@ pub static PLACES_1: [(&str, &str); 33] = [
 ];
 
 /// A token that cannot follow, in clauses and behind words.
-pub static PLACES_2: [(&str, &str); 17] = [
+pub static PLACES_2: [(&str, &str); 16] = [
     ("for $x a", "Expected(7)"),
     ("for $x in a, y return $x", "Expected(13)"),
     ("for $x := a return $x", "Expected(7)"),
@@ -115,7 +115,6 @@ pub static PLACES_2: [(&str, &str); 17] = [
     ("a castable b", "Expected(2)"),
     ("a treat b", "Expected(2)"),
     ("a instance b", "Expected(2)"),
-    ("$ 1.5", "Expected(2)"),
 ];
 
 /// What is left out where an operator can stand.
@@ -165,6 +164,28 @@ pub static LEFT_OUT_STEPS: [(&str, &str); 18] = [
     ("1 ! function() { 1 }", "Outside(4)"),
     ("?a", "Outside(0)"),
     ("count(?)", "Outside(6)"),
+];
+
+/// Decimal and double numbers, which are left out wherever they stand, and what comes before them.
+pub static LEFT_OUT_NUMBERS: [(&str, &str); 18] = [
+    ("$ 1.5", "Outside(2)"),
+    ("$1e5", "Outside(1)"),
+    ("@1.5", "Outside(1)"),
+    ("@ .5", "Outside(2)"),
+    ("child::1.5", "Outside(7)"),
+    ("self :: 1e5", "Outside(8)"),
+    ("for $x 1.5", "Outside(7)"),
+    ("for $ 1.5", "Outside(6)"),
+    ("for $x in a, 1.5", "Outside(13)"),
+    ("let $x 1.5", "Outside(7)"),
+    ("some $x 1.5", "Outside(8)"),
+    ("if (a) 1.5", "Outside(7)"),
+    ("node(1.5)", "Outside(5)"),
+    ("element( 1.5", "Outside(9)"),
+    ("$ 1.5 &", "Outside(2)"),
+    ("$ $ 1.5", "Expected(2)"),
+    ("1 2 1.5", "Expected(2)"),
+    ("$y @ 1.5", "No y"),
 ];
 
 /// Characters before the fault that take more than a byte.

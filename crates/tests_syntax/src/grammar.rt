@@ -9,7 +9,7 @@ use crate::grammar_rows::{
 };
 use pj_base::NoMemory;
 use pj_ll::End;
-use pj_xgrammar::derivation;
+use pj_xgrammar::{Parser, derivation};
 use pj_xtokens::{End as TextEnd, Token, TokenList, tokens};
 use std::alloc::{AllocError, Global};
 use std::fmt::Write;
@@ -45,7 +45,8 @@ fn is_end(alloc: Global, found: &TokenList<'_>, end: End, wanted: &str) -> Resul
 fn end_of(alloc: Global, tokens: &[Token<'_>]) -> Result<End, NoMemory>
     requires { length tokens.now < 2 ^ 32 }
 {
-    Ok(derivation(alloc, tokens)?.end)
+    let parser = Parser::new(alloc)?;
+    Ok(derivation(alloc, &parser, tokens)?.end)
 }
 
 /// Whether the derivation of the text's tokens ends so.

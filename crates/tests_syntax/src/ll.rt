@@ -4,7 +4,7 @@ ghost use Rattle.std.specs.Prelude.{◌^◌, ◌<◌, length};
 
 use pj_base::NoMemory;
 use pj_ll::Piece::{AtEnd, Close, LeftOut, On, Production, Rule, Terminal};
-use pj_ll::{End, Piece, Table, parse};
+use pj_ll::{End, Piece, Table, parse, tested_tables_are_predictive};
 use std::alloc::Global;
 use std::test::Fail;
 
@@ -43,6 +43,7 @@ fn gives(
 ) -> Result<bool, NoMemory>
     requires { length terminals.now < 2 ^ 32 }
 {
+    tested_tables_are_predictive();
     let table = Table::new(alloc, &SUMS)?;
     let run = parse(alloc, &table, terminals, deepest)?;
     Ok(run.end == end && run.productions.as_slice() == productions)

@@ -8,8 +8,8 @@ use crate::meaning_rows::{
 use crate::printed::is_printed;
 use pj_base::NoMemory;
 use pj_ll::End;
-use pj_xgrammar::derivation;
-use pj_xmeaning::meaning;
+use pj_xgrammar::{Parser, derivation};
+use pj_xmeaning::{beginnings, meaning};
 use pj_xtokens::{Token, tokens};
 use std::alloc::Global;
 use std::test::Fail;
@@ -21,7 +21,8 @@ fn is_meaning(
     tokens: &[Token<'_>],
     wanted: &str,
 ) -> Result<bool, NoMemory> {
-    let expr = meaning(alloc, productions, tokens)?;
+    let steps = beginnings(alloc, productions, tokens)?;
+    let expr = meaning(alloc, steps.as_slice())?;
     is_printed(alloc, &expr, wanted)
 }
 
@@ -30,7 +31,8 @@ fn spells(alloc: Global, tokens: &[Token<'_>], wanted: &str) -> Result<bool, NoM
     if tokens.len() > 1_000_000 {
         return Ok(false);
     }
-    let run = derivation(alloc, tokens)?;
+    let parser = Parser::new(alloc)?;
+    let run = derivation(alloc, &parser, tokens)?;
     match run.end {
         End::Whole => is_meaning(alloc, run.productions.as_slice(), tokens, wanted),
         _ => Ok(false),

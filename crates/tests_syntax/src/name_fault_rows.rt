@@ -59,7 +59,7 @@ pub static FUNCTIONS_2: [(&str, &str); 25] = [
     ("count(1, ", "Expected(9)"),
     ("count(1.5, 2)", "Outside(6)"),
     ("matches(1, b", "Expected(12)"),
-    ("matches(1, b, 1.5)", "Outside(14)"),
+    ("matches(1, b, 1.5)", "Expected(11)"),
 ];
 
 /// Variables that nothing binds, that are bound too late, or in another branch.
@@ -118,8 +118,8 @@ pub static VARIABLES_2: [(&str, &str); 18] = [
     ("a eq $y", "Outside(2)"),
 ];
 
-/// Patterns, flags and replacements that are not written as the functions want them.
-pub static ARGUMENTS: [(&str, &str); 29] = [
+/// Patterns, flags and replacements that are not written as the functions want them. An argument is judged once a `,` or the `)` stands behind it.
+pub static ARGUMENTS: [(&str, &str); 36] = [
     ("matches('a', a)", "Expected(13)"),
     ("matches('a', .)", "Expected(13)"),
     ("matches('a', ('b'))", "Expected(13)"),
@@ -148,5 +148,12 @@ pub static ARGUMENTS: [(&str, &str); 29] = [
     ("matches(f(), a)", "Unknown f 8"),
     ("matches('a', a, $y)", "Expected(13)"),
     ("matches('a', a) &", "Expected(13)"),
-    ("matches('a', b, 'c'", "Expected(19)"),
+    ("matches('a', b, 'c'", "Expected(13)"),
+    ("matches('a', b,", "Expected(13)"),
+    ("matches('a', b 1.5)", "Outside(15)"),
+    ("matches('a', b, &", "Expected(13)"),
+    ("matches($y, b, 1.5)", "No y"),
+    ("matches('a', b, $y", "Expected(13)"),
+    ("replace('a', 'b', 1, 2 3)", "Expected(18)"),
+    ("count(matches('a', b, 1.5))", "Expected(19)"),
 ];

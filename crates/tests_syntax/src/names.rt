@@ -4,7 +4,8 @@
 use crate::expression::variables;
 use crate::fixtures::{Table, expect};
 use pj_base::{Names, NoMemory};
-use pj_xgrammar::derivation;
+use pj_xgrammar::{Parser, derivation};
+use pj_xmeaning::beginnings;
 use pj_xnames::{NameFault, first_fault};
 use pj_xtokens::{Token, tokens};
 use std::alloc::{AllocError, Global};
@@ -37,8 +38,10 @@ fn is_first_of(
     if tokens.len() > 1_000_000 {
         return Ok(false);
     }
-    let run = derivation(alloc, tokens)?;
-    match first_fault(alloc, run.productions.as_slice(), tokens, variables) {
+    let parser = Parser::new(alloc)?;
+    let run = derivation(alloc, &parser, tokens)?;
+    let steps = beginnings(alloc, run.productions.as_slice(), tokens)?;
+    match first_fault(alloc, steps.as_slice(), variables) {
         Ok(fault) => is_fault(alloc, fault, wanted),
         Err(fault) => Err(fault),
     }
@@ -112,7 +115,7 @@ static VARIABLES: [(&str, &str); 20] = [
     ("for $x in $y", "Variable y 10"),
 ];
 
-static FORMS: [(&str, &str); 25] = [
+static FORMS: [(&str, &str); 26] = [
     ("matches('a', 'b')", "None"),
     ("matches('a', a)", "Form 13"),
     ("matches('a', ('b'))", "Form 13"),
@@ -137,7 +140,8 @@ static FORMS: [(&str, &str); 25] = [
     ("matches(f(), a)", "Function f 8"),
     ("matches('a', 'b'[1])", "Form 13"),
     ("matches('a', b", "None"),
-    ("matches('a', b, 1.5)", "None"),
+    ("matches('a', b,", "Form 13"),
+    ("matches('a', b, 1.5)", "Form 13"),
 ];
 
 /// A word that is read as the beginning of another construct is the name of a variable behind a `$`.

@@ -27,7 +27,7 @@ fn is_nested_read(
 }
 
 /// Fronts, middles and backs: 200 of the fronts are taken, and 201 are too many.
-static ENDING_AT_200: [(&str, &str, &str); 20] = [
+static ENDING_AT_200: [(&str, &str, &str); 23] = [
     ("(", "1", ")"),
     ("a[", "1", "]"),
     ("1[", "1", "]"),
@@ -48,6 +48,9 @@ static ENDING_AT_200: [(&str, &str, &str); 20] = [
     ("some $x in a satisfies ", "1", ""),
     ("every $x in a, $y in ", "1", " satisfies 1"),
     ("every $x in a satisfies ", "1", ""),
+    ("(", "..", ")"),
+    ("a[", "a//b", "]"),
+    ("-", "../@a", ""),
 ];
 
 /// Whether 200 of the fronts are taken, and 201 are too many.
@@ -75,11 +78,18 @@ fn nesting(rt: HostRuntime) -> Result<(), Fail> {
     check_nesting(rt.alloc(), &variables)
 }
 
-/// Of faults at one place, what is left out comes before the nesting, and that before a token that cannot follow; what is named
-/// comes before them.
-static AT_ONE_PLACE: [(&str, &str, &str); 7] = [
+/// Of faults at one offset, what is left out comes before the nesting, and that before a token that cannot follow; what is named
+/// comes before them. A place nests too deep from the end of the token before it on, so before white space and comments.
+static AT_ONE_PLACE: [(&str, &str, &str); 14] = [
     ("(", "1.5", "Outside(201)"),
+    ("(", " 1.5", "Deep(201)"),
+    ("( ", "1.5", "Deep(201)"),
+    ("(", "(: :)1.5", "Deep(201)"),
     ("(", "map { }", "Outside(201)"),
+    ("(", " map { }", "Deep(201)"),
+    ("-", "[1]", "Outside(201)"),
+    ("- ", "[1]", "Deep(201)"),
+    ("a[", " ?b", "Deep(201)"),
     ("(", "= 1", "Deep(201)"),
     ("(", "", "Deep(201)"),
     ("(", "&", "Deep(201)"),
@@ -99,6 +109,28 @@ fn check_order(alloc: Global, variables: &Names) -> Result<(), Fail> {
 fn order_at_one_place(rt: HostRuntime) -> Result<(), Fail> {
     let variables = variables(rt.alloc())?;
     check_order(rt.alloc(), &variables)
+}
+
+/// The parentheses of kind tests nest as others do.
+fn check_kind_tests(alloc: Global, variables: &Names, test: &str) -> Result<(), Fail> {
+    let within = nested(alloc, 199, "(", test, ")")?;
+    expect(
+        is_taken(alloc, variables, within.as_str()),
+        "199 parentheses",
+    )?;
+    let past = nested(alloc, 200, "(", test, ")")?;
+    expect(
+        is_read(alloc, variables, past.as_str(), "Deep(201)")?,
+        "200 parentheses",
+    )
+}
+
+#[test]
+fn kind_tests_nest(rt: HostRuntime) -> Result<(), Fail> {
+    let variables = variables(rt.alloc())?;
+    check_kind_tests(rt.alloc(), &variables, "node()")?;
+    check_kind_tests(rt.alloc(), &variables, "@element()")?;
+    check_kind_tests(rt.alloc(), &variables, "self::node()")
 }
 
 /// A text that begins, has so many parts, and ends.

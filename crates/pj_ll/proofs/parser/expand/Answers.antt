@@ -1,4 +1,4 @@
-use Rattle.std.proofs.Common.{◌≡◌, [], ◌∷◌, ◌++◌, ◌∙◌, sym, ap, subst, arith}
+use Rattle.std.proofs.Common.{◌≡◌, ℕ, List, [], ◌∷◌, ◌++◌, ◌∙◌, sym, ap, subst, arith}
 use Rattle.std.proofs.lemmas.List.{append-nil}
 use Rattle.std.proofs.lemmas.Option.{slice_get_within}
 use Rattle.pj_ll.specs.declared.grammar.Symbol.TheVariants.{Rule, Close}
@@ -50,4 +50,4 @@ loop-symbol-preserved g c =
     at rule chosen in
     subst (λ s. IsMoving g.facts c.args.table.now c.args.ahead c.args.stack.now c.args.productions.now.items s c.push.new.self.items) (sym new)
     (subst (λ l. IsMoving g.facts c.args.table.now c.args.ahead c.args.stack.now c.args.productions.now.items (x.symbols ++ rest) l)
-    (sym c.in_ok-push-in-Some-choice.ensures.items) moved)
+    (sym {A = List ℕ} c.in_ok-push-in-Some-choice.ensures.items) moved)

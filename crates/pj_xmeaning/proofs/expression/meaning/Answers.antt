@@ -1,29 +1,47 @@
-use Rattle.std.proofs.Common.{◌≡◌, ◌∙◌, [], ◌∷◌, ◌++◌, map, ap, sym, rules, arith}
+use Rattle.std.proofs.Common.{◌≡◌, ◌∙◌, ℕ, ◌+◌, ◌-◌, ◌≤◌, List, [], ◌∷◌, ◌++◌, map, take, get_or, length, ap, sym, arith}
+use Rattle.std.proofs.lemmas.List.{take_all, take_more}
 use Rattle.pj_xtokens.specs.Answer.{lexed_of}
-use Rattle.pj_xmeaning.specs.declared.form.Slot.TheVariants.{Rule}
-use Rattle.pj_xmeaning.specs.Parts.{expression, values_of}
+use Rattle.pj_xmeaning.specs.Parts.{RuleValue, expression, values_of}
 use Rattle.pj_xmeaning.specs.Values.{acted, top}
-use Rattle.pj_xmeaning.specs.Meaning.{values, beginnings, action_of, first_text, meaning}
+use Rattle.pj_xmeaning.specs.Meaning.{values, action_of, first_text}
 use Rattle.pj_xmeaning.specs.Seen.{beginning_of}
+use Rattle.pj_xmeaning.specs.declared.beginning.Begun.{Begun}
 use Rattle.pj_xmeaning.proofs.Values.{values_before}
 use Rattle.pj_xmeaning.proofs.expression.meaning.Goals as goal
 
+-- the last of the steps that are still to come is done
+turned :
+    (steps : List Begun) (left : ℕ) (d : Begun) (others all : List RuleValue) → 1 ≤ left → left ≤ length steps
+    → values (map beginning_of (take left steps)) others ≡ all
+    → values (map beginning_of (take (left - 1) steps)) (acted (action_of (get_or steps (left - 1) d).production) (first_text (map lexed_of (get_or steps (left - 1) d).from.now)) others) ≡ all
+turned steps left d others all one within is =
+    let at = left - 1 in
+    let back : left ≡ at + 1 = omega arith in
+    let more : take left steps ≡ take at steps ++ get_or steps at d ∷ [] = ap (λ n. take n steps) back ∙ take_more steps at d (omega arith) in
+    sym (values_before (take at steps) (get_or steps at d) others) ∙ ap (λ l. values (map beginning_of l) others) (sym more) ∙ is
+
+pub steps-init : goal.steps-init
+steps-init c = record {
+  within = omega arith;
+  stands = (λ i. values (map beginning_of (take_all (length c.args.steps.now) c.args.steps.now (omega arith) i)) (values_of (c.new-parts.ensures.items i)));
+}
+
 pub steps-preserved : goal.steps-preserved
 steps-preserved c =
-    let step = c.in-Some.step in
+    let steps = c.args.steps.now in
     let others = values_of c.steps.parts.items in
-    let popped : c.steps.steps.items ≡ c.pop.new.self.items ++ step ∷ [] = first_of (search rules, grind arith) in
-    let new : values_of c.act.new.parts.items ≡ acted (action_of step.production) (first_text (map lexed_of step.from.now)) others =
-    c.in_ok-act.ensures ∙ (λ i. acted (c.action_of.ensures i) (c.first_text.ensures i) others) in
-    ap (values (map beginning_of c.pop.new.self.items)) new
-    ∙ sym (values_before c.pop.new.self.items step others)
-    ∙ ap (λ l. values (map beginning_of l) others) (sym popped)
-    ∙ c.steps.invariant
+    let within = c.steps.invariant.within in
+    let one : 1 ≤ c.steps.left = omega (arith, c.steps-test.true) in
+    record {
+      within = omega (arith, within);
+      stands =
+          ap (values (map beginning_of (take (c.steps.left - 1) steps))) (c.in_ok-act.ensures ∙ (λ i. acted (c.action_of.ensures i) (c.first_text.ensures i) others))
+          ∙ turned steps c.steps.left _ others _ one within c.steps.invariant.stands;
+    }
 
 pub returns : goal.returns
-unfolding meaning
 returns c =
-    let empty : c.steps.steps.items ≡ [] = first_of (search rules, grind arith) in
-    let whole : values_of c.steps.parts.items ≡ values (beginnings c.args.productions.now (Rule ∷ []) (map lexed_of c.args.tokens.now)) [] =
-    ap (λ l. values (map beginning_of l) (values_of c.steps.parts.items)) (sym empty) ∙ c.steps.invariant ∙ ap (λ l. values l []) c.in_ok-steps.ensures in
+    let none : c.steps.left ≡ 0 = omega (arith, c.steps-test.false) in
+    let whole : values_of c.steps.parts.items ≡ values (map beginning_of c.args.steps.now) [] =
+    ap (λ n. values (map beginning_of (take n c.args.steps.now)) (values_of c.steps.parts.items)) (sym none) ∙ c.steps.invariant.stands in
     c.into_expr.ensures ∙ ap expression (c.take.ensures.first ∙ ap top whole)

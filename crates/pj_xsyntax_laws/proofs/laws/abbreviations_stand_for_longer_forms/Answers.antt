@@ -1,5 +1,5 @@
-use Rattle.pj_xsyntax_laws.proofs.Expanding.{written_out_spells}
+use Rattle.pj_xsyntax_laws.proofs.Expanding.{written_out_spells, long_forms_spell}
 use Rattle.pj_xsyntax_laws.proofs.laws.abbreviations_stand_for_longer_forms.Goals as goal
 
 pub returns : goal.returns
-returns c = λ variables text other tokens others tree read read_other out spells. written_out_spells variables text other tokens others tree read read_other out spells
+returns c = record { as_deep = written_out_spells c.tokens_are_one.ensures.one; with_kind_tests = long_forms_spell }

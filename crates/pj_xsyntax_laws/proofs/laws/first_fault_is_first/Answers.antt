@@ -12,4 +12,4 @@ returns-clause-none c = λ variables. has_none (given variables)
 
 pub returns-clause-first : goal.returns-clause-first
 returns-clause-first c = λ total text tokens end productions variables fault other read run.
-    first_before (given variables) (mentions productions tokens) fault other (names_ascend total text tokens end productions read run)
+    first_before (given variables) (mentions productions tokens) fault other (names_ascend c.gaps_stand_in_front.ensures c.tokens_are_not_empty.ensures total text tokens end productions read run)

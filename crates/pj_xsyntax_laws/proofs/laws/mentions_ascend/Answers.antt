@@ -2,4 +2,4 @@ use Rattle.pj_xsyntax_laws.proofs.NamedFirst.{names_ascend}
 use Rattle.pj_xsyntax_laws.proofs.laws.mentions_ascend.Goals as goal
 
 pub returns : goal.returns
-returns c = names_ascend
+returns c = names_ascend c.gaps_stand_in_front.ensures c.tokens_are_not_empty.ensures

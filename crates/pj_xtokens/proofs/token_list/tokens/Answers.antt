@@ -46,7 +46,7 @@ returns-then-is_joined c =
     (sym c.is_joined.ensures ∙ c.if-is_joined.true) (offset_is _ _ c.utf8.text u end))
 
 pub loop-body-smaller : goal.loop-body-smaller
-loop-body-smaller c = token_shorter _ _ _ _ c.skip_gap-body.ensures.past c.in-Some.ensures
+loop-body-smaller c = token_shorter c.tokens_are_not_empty.ensures _ _ _ _ c.skip_gap-body.ensures.past c.in-Some.ensures
 
 pub loop-body-preserved : goal.loop-body-preserved
 loop-body-preserved c =

@@ -1,9 +1,0 @@
-use Rattle.pj_xderived.proofs.Leading.{leads_tree}
-use Rattle.pj_xderived.proofs.Valuing.{tree_meaning, tree_mentions}
-use Rattle.pj_xderived.proofs.laws.derivations_are_trees.Goals as goal
-
-pub returns : goal.returns
-returns c = λ tokens ps derived clear.
-    let (v, rest) = leads_tree tokens ps derived clear in
-    let (w, tree) = rest in
-    (v, (w, tree, tree_meaning tokens ps v w tree, tree_mentions tokens ps v w tree))

@@ -1,2 +1,0 @@
--- what derived expressions want of their tokens
-pub mod WellSpelled

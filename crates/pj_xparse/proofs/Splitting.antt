@@ -1,0 +1,111 @@
+-- What symbols in two parts derive, the one part before the other.
+use Rattle.std.proofs.Common.{◌≡◌, ℕ, ◌+◌, ◌≤◌, List, [], ◌∷◌, ◌++◌, refl, sym, ◌∙◌, ap, subst, arith, append_assoc}
+use Rattle.pj_ll.specs.declared.grammar.Symbol.{Symbol}
+use Rattle.pj_ll.specs.declared.grammar.Symbol.TheVariants.{Terminal, Rule, LeftOut, Close}
+use Rattle.pj_ll.specs.Grammar.{closes}
+use Rattle.pj_xtokens.specs.Tokens.{Lexed}
+use Rattle.pj_xmeaning.specs.Parts.{RuleValue}
+use Rattle.pj_xnames.specs.Namings.{Naming}
+use Rattle.pj_xparse.specs.Derived.{IsRead, Derived, Fill, none, token, rule, close}
+use Rattle.pj_xparse.proofs.Counts.{closes-append}
+
+-- the tokens, productions and values of the first symbols, and those of the others behind them
+pub record Parts (around : ℕ) (behind : List Lexed) (xs ys : List Symbol) (tokens : List Lexed) (productions : List ℕ) : Type 0 where
+  pub first_tokens : List Lexed
+  pub other_tokens : List Lexed
+  pub first_productions : List ℕ
+  pub other_productions : List ℕ
+  pub first_values : List RuleValue
+  pub other_values : List RuleValue
+  pub first_names : List Naming
+  pub other_names : List Naming
+  pub tokens_are : tokens ≡ first_tokens ++ other_tokens
+  pub productions_are : productions ≡ first_productions ++ other_productions
+  pub first : Fill (around + closes ys) (other_tokens ++ behind) xs first_tokens first_productions first_values first_names
+  pub other : Fill around behind ys other_tokens other_productions other_values other_names
+
+open_is : (around : ℕ) (xs ys : List Symbol) → around + closes (xs ++ ys) ≡ (around + closes ys) + closes xs
+open_is around xs ys = let e = closes-append xs ys in omega arith
+
+-- what stands behind the first of the tokens
+pub behind_is : (behind tokens first other : List Lexed) → tokens ≡ first ++ other → tokens ++ behind ≡ first ++ (other ++ behind)
+behind_is behind tokens first other is = ap (λ l. l ++ behind) is ∙ append_assoc first other behind
+
+module _ {around : ℕ} {behind : List Lexed} (ys : List Symbol) where
+  with_token : {tokens : List Lexed} {ps : List ℕ} (xs : List Symbol) (x : Lexed) (t : ℕ) → IsRead x (tokens ++ behind) t →
+      around + closes (xs ++ ys) ≤ 200 → Parts around behind xs ys tokens ps → Parts around behind (Terminal t ∷ xs) ys (x ∷ tokens) ps
+  with_token {tokens} xs x t read few parts = record {
+    first_tokens = x ∷ parts.first_tokens;
+    other_tokens = parts.other_tokens;
+    first_productions = parts.first_productions;
+    other_productions = parts.other_productions;
+    first_values = parts.first_values;
+    other_values = parts.other_values;
+    first_names = parts.first_names;
+    other_names = parts.other_names;
+    tokens_are = ap (λ l. x ∷ l) parts.tokens_are;
+    productions_are = parts.productions_are;
+    first = token x t
+        (subst (λ l. IsRead x l t) (behind_is behind tokens parts.first_tokens parts.other_tokens parts.tokens_are) read)
+        (let e = open_is around xs ys in omega arith)
+        parts.first;
+    other = parts.other;
+  }
+
+  with_rule : {n : ℕ} {ts us all : List Lexed} {ps qs rs : List ℕ} {v : RuleValue} {w : Naming} (xs : List Symbol) →
+      Derived (around + closes (xs ++ ys)) (us ++ behind) n ts ps v w → Parts around behind xs ys us qs → all ≡ ts ++ us → rs ≡ ps ++ qs →
+      Parts around behind (Rule n ∷ xs) ys all rs
+  with_rule {n} {ts} {us} {ps = ps} {v = v} {w} xs d parts tokens_are productions_are = record {
+    first_tokens = ts ++ parts.first_tokens;
+    other_tokens = parts.other_tokens;
+    first_productions = ps ++ parts.first_productions;
+    other_productions = parts.other_productions;
+    first_values = v ∷ parts.first_values;
+    other_values = parts.other_values;
+    first_names = w ∷ parts.first_names;
+    other_names = parts.other_names;
+    tokens_are = tokens_are ∙ ap (λ l. ts ++ l) parts.tokens_are ∙ sym (append_assoc ts parts.first_tokens parts.other_tokens);
+    productions_are = productions_are ∙ ap (λ l. ps ++ l) parts.productions_are ∙ sym (append_assoc ps parts.first_productions parts.other_productions);
+    first = rule
+        (subst (λ k. Derived k (parts.first_tokens ++ (parts.other_tokens ++ behind)) n ts ps v w) (open_is around xs ys)
+        (subst (λ l. Derived (around + closes (xs ++ ys)) l n ts ps v w) (behind_is behind us parts.first_tokens parts.other_tokens parts.tokens_are) d))
+        parts.first refl refl;
+    other = parts.other;
+  }
+
+  with_close : {tokens : List Lexed} {ps : List ℕ} (xs : List Symbol) → Parts around behind xs ys tokens ps → Parts around behind (Close ∷ xs) ys tokens ps
+  with_close xs parts = record {
+    first_tokens = parts.first_tokens;
+    other_tokens = parts.other_tokens;
+    first_productions = parts.first_productions;
+    other_productions = parts.other_productions;
+    first_values = parts.first_values;
+    other_values = parts.other_values;
+    first_names = parts.first_names;
+    other_names = parts.other_names;
+    tokens_are = parts.tokens_are;
+    productions_are = parts.productions_are;
+    first = close parts.first;
+    other = parts.other;
+  }
+
+  pub split : {tokens : List Lexed} {ps : List ℕ} {vs : List RuleValue} {ws : List Naming} (xs : List Symbol) →
+      Fill around behind (xs ++ ys) tokens ps vs ws → Parts around behind xs ys tokens ps
+  split {tokens} {ps} {vs} {ws} [] fill = record {
+    first_tokens = [];
+    other_tokens = tokens;
+    first_productions = [];
+    other_productions = ps;
+    first_values = [];
+    other_values = vs;
+    first_names = [];
+    other_names = ws;
+    tokens_are = refl;
+    productions_are = refl;
+    first = none;
+    other = fill;
+  }
+  split (Terminal t ∷ xs) (token x u read few fill) = with_token xs x t read few (split xs fill)
+  split (Rule n ∷ xs) (rule d fill tokens_are productions_are) = with_rule xs d (split xs fill) tokens_are productions_are
+  split (LeftOut t ∷ xs) fill = elim fill [ ]
+  split (Close ∷ xs) (close fill) = with_close xs (split xs fill)

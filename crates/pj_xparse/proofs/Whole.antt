@@ -1,0 +1,79 @@
+-- Whole texts: what their tokens read is what a leftmost derivation means and names.
+use Rattle.std.proofs.Common.{◌≡◌, ℕ, ◌+◌, List, [], length, Some, refl, sym, ◌∙◌, ap, subst}
+use Rattle.std.specs.Prelude.{slice_get}
+use Rattle.std.proofs.lemmas.List.{append-nil}
+use Rattle.pj_xtokens.specs.Tokens.{Lexed}
+use Rattle.pj_xgrammar.specs.declared.rule.Rule.{Rule}
+use Rattle.pj_xgrammar.specs.declared.rule.Rule.TheVariants as r
+use Rattle.pj_xgrammar.specs.Expressions.{AreDerived, AreClear}
+use Rattle.pj_xgrammar.specs.Notation.{rule_number}
+use Rattle.pj_xgrammar.specs.XPath.{rules}
+use Rattle.pj_xmeaning.specs.Fitting.{ActionsFit}
+use Rattle.pj_xmeaning.specs.Meaning.{meaning}
+use Rattle.pj_xmeaning.specs.Parts.{RuleValue, expression}
+use Rattle.pj_xnames.specs.Meaning.{mentions}
+use Rattle.pj_xnames.specs.Namings.{Naming, mentions_of}
+use Rattle.pj_xparse.specs.Derived.{Derived}
+use Rattle.pj_xparse.specs.Operands.{Operand}
+use Rattle.pj_xparse.specs.Reads.{AreRead, Reads}
+use Rattle.pj_xparse.proofs.Links.{IsOne, one}
+use Rattle.pj_xparse.proofs.Leading.{leads_tree}
+use Rattle.pj_xparse.proofs.Flattening.{tree_derives}
+use Rattle.pj_xparse.proofs.Valuing.{tree_meaning, tree_mentions}
+use Rattle.pj_xparse.proofs.ReadsDerive.{reads_derive}
+use Rattle.pj_xparse.proofs.DerivedReads.{derived_reads}
+
+tree_is : {xs : List Lexed} {a : Operand} {v : RuleValue} {w : Naming} → IsOne xs a v w → expression v ≡ a.tree
+tree_is one = refl
+
+names_are : {xs : List Lexed} {a : Operand} {v : RuleValue} {w : Naming} → IsOne xs a v w → mentions_of w ≡ a.names
+names_are one = refl
+
+-- a leftmost derivation of the tokens that means and names this
+pub record Derivation (tokens : List Lexed) (a : Operand) : Type 0 where
+  pub productions : List ℕ
+  pub derived : AreDerived tokens productions
+  pub clear : AreClear tokens (length tokens + 1)
+  pub means : meaning productions tokens ≡ a.tree
+  pub names : mentions productions tokens ≡ a.names
+
+-- that no derivation by rules nests too deep, and nothing is left out of it
+abbrev TreesAreClear : Type 0
+TreesAreClear = (tokens : List Lexed) (ps : List ℕ) (v : RuleValue) (w : Naming) → Derived 0 [] 0 tokens ps v w → AreClear tokens (length tokens + 1)
+
+-- where the actions fit the grammar, and each rule stands at its number
+module _ (actions_fit : ActionsFit) (rule_at : (rule : Rule) → slice_get rules (rule_number rule) ≡ Some rule) where
+  pub read_derives : TreesAreClear → (tokens : List Lexed) (a : Operand) → AreRead tokens a → Derivation tokens a
+  read_derives tree_clear tokens a h =
+      let g = reads_derive rule_at h in
+      let i = g.is in
+      let same : i.tokens ≡ tokens = sym (i.are ∙ append-nil i.tokens) in
+      let tree : Derived 0 [] 0 tokens i.productions g.value g.name = subst (λ l. Derived 0 [] 0 l i.productions g.value g.name) same i.derived in
+      record {
+        productions = i.productions;
+        derived = tree_derives tokens i.productions g.value g.name tree;
+        clear = tree_clear tokens i.productions g.value g.name tree;
+        means = tree_meaning actions_fit tokens i.productions g.value g.name tree ∙ tree_is g.links;
+        names = tree_mentions actions_fit tokens i.productions g.value g.name tree ∙ names_are g.links;
+      }
+
+  pub derivation_reads : (tokens : List Lexed) (ps : List ℕ) → AreDerived tokens ps → AreClear tokens (length tokens + 1) →
+      (a : Operand) × AreRead tokens a × (meaning ps tokens ≡ a.tree) × (mentions ps tokens ≡ a.names)
+  derivation_reads tokens ps derived clear =
+      let (v, rest) = leads_tree tokens ps derived clear in
+      let (w, tree) = rest in
+      let m = derived_reads rule_at tree r.Expr refl in (
+        m.value,
+        subst (λ l. Reads r.Expr 0 l [] m.value) (append-nil tokens) m.reads,
+        tree_meaning actions_fit tokens ps v w tree ∙ tree_is m.links,
+        tree_mentions actions_fit tokens ps v w tree ∙ names_are m.links,
+      )
+
+  -- where tokens have one leftmost derivation, what they read is one
+  pub one_reading : TreesAreClear → ((tokens : List Lexed) (ps qs : List ℕ) → AreDerived tokens ps → AreDerived tokens qs → ps ≡ qs) → (tokens : List Lexed) (a b : Operand) →
+      AreRead tokens a → AreRead tokens b → (a.tree ≡ b.tree) × (a.names ≡ b.names)
+  one_reading tree_clear one_derivation tokens a b h k =
+      let d = read_derives tree_clear tokens a h in
+      let e = read_derives tree_clear tokens b k in
+      let same = one_derivation tokens d.productions e.productions d.derived e.derived in
+      (sym d.means ∙ ap (λ l. meaning l tokens) same ∙ e.means, sym d.names ∙ ap (λ l. mentions l tokens) same ∙ e.names)

@@ -1,0 +1,5 @@
+use Rattle.pj_xparse.proofs.Meanings.{meaning_is_expression}
+use Rattle.pj_xparse.proofs.laws.meanings_are_expressions.Goals as goal
+
+pub returns : goal.returns
+returns c = meaning_is_expression c.derivations_are_trees.ensures c.expressions_have_shapes.ensures c.nesting_is_least.ensures
