@@ -1,5 +1,5 @@
 -- What each form of an expression denotes, by what its parts denote.
-use Rattle.std.proofs.Common.{◌≡◌, ℕ, ℤ, List, [], ◌∷◌, Vec, Box, Global, map, Option, Bool, Result, refl, ap}
+use Rattle.std.proofs.Common.{◌≡◌, ℕ, ℤ, List, [], ◌∷◌, Vec, Box, Global, map, Option, ap}
 use Rattle.std.specs.Prelude.{if◌then◌else◌}
 use Rattle.pj_tree.specs.declared.node.Node.{Node}
 use Rattle.pj_xvalue.specs.declared.axis.Axis.{Axis}

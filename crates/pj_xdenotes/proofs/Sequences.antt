@@ -1,8 +1,8 @@
 -- Evaluations one after another.
-use Rattle.std.proofs.Common.{◌≡◌, ℕ, List, [], ◌∷◌, Result, Ok, Err, refl, sym, ◌∙◌, ap}
+use Rattle.std.proofs.Common.{◌≡◌, Result, Ok, Err, refl, ◌∙◌}
 use Rattle.pj_names.specs.Asking.{Asking, Return, Ask, Unbounded, bind}
 use Rattle.pj_xvalue.specs.declared.fault.XCode.{XCode}
-use Rattle.pj_xdenotes.specs.Means.{Means, give, fail, judged, after, ◌>>=◌}
+use Rattle.pj_xdenotes.specs.Means.{Means, give, after, ◌>>=◌}
 
 -- sequences nest to the right
 pub bind-assoc : {A B C : Type 0} (m : Asking A) (f : A → Asking B) (g : B → Asking C) → bind (bind m f) g ≡ bind m (λ x. bind (f x) g)

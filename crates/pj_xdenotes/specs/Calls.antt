@@ -1,5 +1,5 @@
 -- Calls of functions (XPath 2.0, 3.1.5).
-use Rattle.std.specs.Prelude.{ℕ, Bool, List, [], ◌∷◌, length, map, Option, Some, None, Result, Ok, Err, if◌then◌else◌}
+use Rattle.std.specs.Prelude.{ℕ, List, [], ◌∷◌, length, map, Option, Some, None, Result, Ok, Err, if◌then◌else◌}
 use Rattle.std.specs.List.{slice_index_or}
 use Rattle.pj_tree.specs.declared.node.Node.{Node}
 use Rattle.pj_tree.specs.declared.kind.Kind.{Kind}
@@ -12,7 +12,7 @@ use Rattle.pj_xvalue.specs.declared.function.Function.TheVariants as f
 use Rattle.pj_xvalue.specs.declared.pmd_function.PmdFunction.{PmdFunction}
 use Rattle.pj_xvalue.specs.Functions.{takes, pmd_takes}
 use Rattle.pj_xvalue.specs.Items.{ItemValue, Document, Element, Attribute, String, Integer, is_node}
-use Rattle.pj_xfuncs.specs.Arguments.{and_then}
+use Rattle.pj_xvalue.specs.Arguments.{and_then}
 use Rattle.pj_xfuncs.specs.Library.{called as given}
 use Rattle.pj_xdenotes.specs.Means.{Means, fail}
 use Rattle.pj_xdenotes.specs.Context.{Around, Context}

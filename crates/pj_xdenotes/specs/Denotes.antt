@@ -16,7 +16,7 @@ use Rattle.pj_xvalue.specs.Items.{ItemValue, Document, String}
 use Rattle.pj_xvalue.specs.Comparison.{general_comparison}
 use Rattle.pj_xaxes.specs.Order.{ordered}
 use Rattle.pj_xaxes.specs.Axes.{is_reverse}
-use Rattle.pj_xfuncs.specs.Arguments.{and_then}
+use Rattle.pj_xvalue.specs.Arguments.{and_then}
 use Rattle.pj_xdenotes.specs.Means.{Means, give, judged, ◌>>=◌, chain, decided, one_boolean}
 use Rattle.pj_xdenotes.specs.Context.{Around, Context, Variables, Denotation, value_of_variable}
 use Rattle.pj_xdenotes.specs.Operands.{with_values, operand, text_operand, only_nodes}

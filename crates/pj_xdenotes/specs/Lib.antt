@@ -1,3 +1,4 @@
+-- definitions
 pub mod Arithmetic
 pub mod Bindings
 pub mod Calls

@@ -5,7 +5,7 @@ use Rattle.pj_tree.specs.declared.node.Node.{Node}
 use Rattle.pj_xvalue.specs.declared.fault.XCode.{XCode}
 use Rattle.pj_xvalue.specs.declared.fault.XCode.TheVariants.{XPTY0004}
 use Rattle.pj_xvalue.specs.Items.{ItemValue, Attribute, are_nodes}
-use Rattle.pj_xfuncs.specs.Arguments.{optional_integer, atomic_text}
+use Rattle.pj_xvalue.specs.Arguments.{optional_integer, atomic_text}
 use Rattle.pj_xdenotes.specs.Context.{Around}
 
 abbrev pub named_value : (List ℕ → Option ItemValue) → Option (List ℕ) → Option ItemValue

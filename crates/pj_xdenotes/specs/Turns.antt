@@ -8,9 +8,9 @@ use Rattle.pj_xvalue.specs.Atomic.{has_node}
 use Rattle.pj_xvalue.specs.Items.{ItemValue, Integer, is_node, are_nodes}
 use Rattle.pj_xvalue.specs.Boolean.{effective_boolean}
 use Rattle.pj_xaxes.specs.Order.{ordered}
-use Rattle.pj_xfuncs.specs.Arguments.{and_then}
+use Rattle.pj_xvalue.specs.Arguments.{and_then}
 use Rattle.pj_xdenotes.specs.Means.{Means, give, fail, judged, ◌>>=◌, chain}
-use Rattle.pj_xdenotes.specs.Context.{Context, Variables, Denotation, at}
+use Rattle.pj_xdenotes.specs.Context.{Variables, Denotation, at}
 
 -- the items with their positions, from one on
 abbrev pub numbered : ℕ → List ItemValue → List (ℕ × ItemValue)

@@ -1,25 +1,33 @@
 -- What the arms of a match promise, where the value is of one form.
-use Rattle.std.proofs.Common.{◌≡◌, ℕ, ℤ, List, [], ◌∷◌, Option, Some, None, Result, Ok, sym, subst}
+use Rattle.std.proofs.Common.{◌≡◌, ℕ, ℤ, List, [], ◌∷◌, Option, Some, None, Result, Ok, sym, ◌∙◌, ap, subst}
+use Rattle.pj_xvalue.specs.declared.expr.Expr.{Expr}
 use Rattle.pj_xvalue.specs.declared.fault.XFault.{XFault}
 use Rattle.pj_xvalue.specs.Items.{ItemValue, Integer}
 use Rattle.pj_xvalue.specs.OfTree.{OfTree}
-use Rattle.pj_xvalue.specs.OfTreeLaws.{of_tree-one}
+use Rattle.pj_xvalue.proofs.OfTreeLaws.{of_tree-one}
 use Rattle.pj_xdenotes.specs.Arithmetic.{literal}
 use Rattle.pj_xdenotes.specs.Context.{Around, Context}
-use Rattle.pj_xeval.specs.declared.frame.Binder.{Binder}
-use Rattle.pj_xeval.specs.declared.frame.Binding.{Binding}
-use Rattle.pj_xeval.specs.declared.frame.Frame.{Frame}
-use Rattle.pj_xeval.specs.declared.frame.Frame.TheVariants as frame
-use Rattle.pj_xeval.specs.declared.frame.Next.{Next}
-use Rattle.pj_xeval.specs.declared.frame.Task.{Task}
-use Rattle.pj_xeval.specs.Frames.{Replies, context_left, reacted, scope_left, task_meaning}
-use Rattle.pj_xeval.specs.Going.{FrameOfTree, GoesIf}
-use Rattle.pj_xeval.specs.Scopes.{Scoped, variables_of}
+use Rattle.pj_xdenotes.specs.Denotes.{denotes}
+use Rattle.pj_xdenotes.specs.Means.{Means}
+use Rattle.pj_xframes.specs.declared.frame.Binder.{Binder}
+use Rattle.pj_xframes.specs.declared.frame.Binding.{Binding}
+use Rattle.pj_xframes.specs.declared.frame.Frame.{Frame}
+use Rattle.pj_xframes.specs.declared.frame.Frame.TheVariants as frame
+use Rattle.pj_xframes.specs.declared.frame.Next.{Next}
+use Rattle.pj_xframes.specs.declared.frame.Task.{Task}
+use Rattle.pj_xframes.specs.Frames.{Replies, context_left, reacted, scope_left, task_meaning}
+use Rattle.pj_xframes.specs.Going.{FrameOfTree, GoesIf}
+use Rattle.pj_xframes.specs.Scopes.{Scoped, variables_of}
 
 -- a task of one form
 pub goes-task : (a : Around) (reply : Replies) (c : Context) (s : Scoped) (result : Result Next XFault) (task form : Task) → task ≡ form
     → GoesIf a reply (task_meaning a reply form c (variables_of s)) c s c s result → GoesIf a reply (task_meaning a reply task c (variables_of s)) c s c s result
 goes-task a reply c s result task form is h = subst (λ (t : Task). GoesIf a reply (task_meaning a reply t c (variables_of s)) c s c s result) (sym is) h
+
+-- an expression of one form, which means what the form denotes
+pub goes-form : (a : Around) (reply : Replies) (c : Context) (s : Scoped) (result : Result Next XFault) (e form : Expr) (m : Means (List ItemValue)) → e ≡ form → m ≡ denotes a reply form c (variables_of s)
+    → GoesIf a reply m c s c s result → GoesIf a reply (denotes a reply e c (variables_of s)) c s c s result
+goes-form a reply c s result e form m is means h = subst (λ (meant : Means (List ItemValue)). GoesIf a reply meant c s c s result) (means ∙ ap (λ (x : Expr). denotes a reply x c (variables_of s)) (sym is)) h
 
 -- a frame of one form
 pub goes-frame : (a : Around) (reply : Replies) (top form : Frame) (c : Context) (s : Scoped) (value : List ItemValue) (c_new : Context) (s_new : Scoped) (result : Result Next XFault) → top ≡ form

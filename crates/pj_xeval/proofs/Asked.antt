@@ -2,13 +2,13 @@
 use Rattle.std.proofs.Common.{◌≡◌, List, Ok, Err, refl, sym, subst}
 use Rattle.pj_names.specs.declared.oracle.AskFault.TheVariants.{Failed, Memory}
 use Rattle.pj_names.specs.Told.{Told, Asks}
-use Rattle.pj_names.specs.AskingLaws.{ComesTo, asks-return, asks-stop, asks-refused, comes-then, comes-ends}
+use Rattle.pj_names.proofs.AskingLaws.{ComesTo, asks-return, asks-stop, asks-refused, comes-then, comes-ends}
 use Rattle.pj_xvalue.specs.declared.fault.XFault.{XFault}
 use Rattle.pj_xvalue.specs.declared.fault.XFault.TheVariants.{Code, Ask}
 use Rattle.pj_xvalue.specs.Items.{ItemValue}
 use Rattle.pj_xvalue.specs.Replies.{outcome}
 use Rattle.pj_xdenotes.specs.Means.{Means, give, after, ◌>>=◌}
-use Rattle.pj_xeval.specs.Going.{ComesIf}
+use Rattle.pj_xeval.specs.Whole.{ComesIf}
 
 module _ {K : Type 0} {m : Means (List ItemValue)} {t0 t : Told K} (S : Means (List ItemValue)) (rest : ComesTo m t0 S t) where
   pub done : (items : List ItemValue) → give items ≡ S → Asks m t0 t (Ok (Ok items))

@@ -2,7 +2,7 @@
 use Rattle.std.proofs.Common.{◌≡◌, ℕ, ◌<◌, List, [], reverse, sym, ◌∙◌, subst}
 use Rattle.std.specs.Option.{ForSome}
 use Rattle.pj_names.specs.Told.{Told}
-use Rattle.pj_names.specs.AskingLaws.{ComesTo, comes-begin}
+use Rattle.pj_names.proofs.AskingLaws.{ComesTo, comes-begin}
 use Rattle.pj_tree.specs.declared.node.Node.{Node}
 use Rattle.pj_xvalue.specs.declared.expr.Expr.{Expr}
 use Rattle.pj_xvalue.specs.Items.{ItemValue, Document, Element, Attribute, String, Integer, Boolean, IsOfTree}
@@ -12,9 +12,10 @@ use Rattle.pj_xdenotes.specs.Context.{Around, Context, Variables}
 use Rattle.pj_xdenotes.specs.Calls.{node_in}
 use Rattle.pj_xdenotes.specs.Denotes.{denotes}
 use Rattle.pj_xdenotes.proofs.Sequences.{then-give}
-use Rattle.pj_xeval.specs.declared.frame.Frame.{Frame}
-use Rattle.pj_xeval.specs.Scopes.{Scoped, variables_of}
-use Rattle.pj_xeval.specs.Frames.{Replies, resumed}
+use Rattle.pj_xframes.specs.declared.frame.Frame.{Frame}
+use Rattle.pj_xframes.specs.Scopes.{Scoped, variables_of}
+use Rattle.pj_xframes.specs.Frames.{Replies}
+use Rattle.pj_xeval.specs.Whole.{resumed}
 use Rattle.pj_xeval.proofs.Whole.{resumed-nil}
 
 -- the context node is of the tree

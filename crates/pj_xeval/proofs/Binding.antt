@@ -11,14 +11,14 @@ use Rattle.pj_xdenotes.specs.Bindings.{with_item, for_in, quantified, let_in}
 use Rattle.pj_xdenotes.specs.Parts.{bindings_of}
 use Rattle.pj_xdenotes.specs.Denotes.{denotes}
 use Rattle.pj_xdenotes.proofs.Sequences.{then-give}
-use Rattle.pj_xeval.specs.declared.frame.Task.TheVariants as task
-use Rattle.pj_xeval.specs.declared.frame.ForTurns.{ForTurns}
-use Rattle.pj_xeval.specs.declared.frame.QuantifiedTurns.{QuantifiedTurns}
-use Rattle.pj_xeval.specs.declared.frame.Frame.TheVariants as frame
-use Rattle.pj_xeval.specs.declared.frame.Next.TheVariants as next
-use Rattle.pj_xeval.specs.Scopes.{Scoped, variables_of, with_variable, without}
-use Rattle.pj_xeval.specs.Frames.{Replies, for_left, quantified_left}
-use Rattle.pj_xeval.specs.Going.{Goes}
+use Rattle.pj_xframes.specs.declared.frame.Task.TheVariants as task
+use Rattle.pj_xframes.specs.declared.frame.ForTurns.{ForTurns}
+use Rattle.pj_xframes.specs.declared.frame.QuantifiedTurns.{QuantifiedTurns}
+use Rattle.pj_xframes.specs.declared.frame.Frame.TheVariants as frame
+use Rattle.pj_xframes.specs.declared.frame.Next.TheVariants as next
+use Rattle.pj_xframes.specs.Scopes.{Scoped, variables_of, with_variable, without}
+use Rattle.pj_xframes.specs.Frames.{Replies, for_left, quantified_left}
+use Rattle.pj_xframes.specs.Going.{Goes}
 use Rattle.pj_xeval.proofs.Turning.{for-next, quantified-next}
 
 -- one variable more to take back

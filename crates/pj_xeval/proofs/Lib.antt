@@ -4,9 +4,7 @@ pub mod Asking
 pub mod Binding
 pub mod Fronts
 pub mod Kept
-pub mod ListGoals
 pub mod OfTree
-pub mod Scoping
 pub mod Stepping
 pub mod Steps
 pub mod Turned

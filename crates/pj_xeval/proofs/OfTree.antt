@@ -1,5 +1,5 @@
 -- What is of the tree.
-use Rattle.std.proofs.Common.{◌≡◌, ℕ, zero, suc, true, false, List, [], ◌∷◌, ◌++◌, map, drop, IsTrue, sym, ap, ◌∙◌, subst, nat_eq}
+use Rattle.std.proofs.Common.{◌≡◌, ℕ, zero, suc, true, false, List, [], ◌∷◌, ◌++◌, drop, IsTrue, sym, ap, ◌∙◌, subst, nat_eq}
 use Rattle.std.specs.Prelude.{if◌then◌else◌}
 use Rattle.std.specs.Cmp.Lexicographic.{pointwise}
 use Rattle.std.specs.List.{AllByRecursion}
@@ -8,13 +8,14 @@ use Rattle.std.proofs.lemmas.List.Elements.{All-from_recursion, recursion_from_A
 use Rattle.pj_xvalue.specs.declared.item.Item.{Item}
 use Rattle.pj_xvalue.specs.declared.pmd_function.PmdFunction.{PmdFunction}
 use Rattle.pj_xvalue.specs.Items.{ItemValue, Document, Element, Attribute, String, Integer, Boolean, value_of_item, values_of, are_atomic, IsOfTree, AreOfTree}
-use Rattle.pj_xvalue.specs.OfTree.{OfTree, ArgumentsOfTree, VariablesOfTree}
-use Rattle.pj_xvalue.specs.OfTreeLaws.{of_tree-nil, of_tree-one, of_tree-cons, of_tree-append, of_tree-atomic, of_tree-each, each-of_tree, arguments-nil, arguments-more, variables-nil, variables-more}
+use Rattle.pj_xvalue.specs.OfTree.{OfTree, VariablesOfTree}
+use Rattle.pj_xvalue.proofs.OfTreeLaws.{of_tree-nil, of_tree-one, of_tree-append, of_tree-atomic, of_tree-each, each-of_tree, arguments-nil, variables-more}
 use Rattle.pj_xvalue.specs.Replies.{is_one_boolean, is_type_test, may_give}
 use Rattle.pj_xdenotes.specs.Context.{Variables, value_of_variable}
-use Rattle.pj_xeval.specs.declared.frame.Frame.{Frame}
-use Rattle.pj_xeval.specs.Scopes.{Scoped, variables_of, with_variable, without}
-use Rattle.pj_xeval.specs.Going.{FrameOfTree, FramesOfTree}
+use Rattle.pj_xframes.specs.declared.frame.Frame.{Frame}
+use Rattle.pj_xframes.specs.Scopes.{Scoped, variables_of, with_variable, without}
+use Rattle.pj_xframes.specs.Going.{FrameOfTree}
+use Rattle.pj_xeval.specs.Whole.{FramesOfTree}
 
 split : {X : Type 0} (P : X → Type 0) (xs ys : List X) → AllByRecursion P (xs ++ ys) → AllByRecursion P xs × AllByRecursion P ys
 split P [] ys h = (tt, h)
@@ -37,9 +38,6 @@ of_tree-behind n all before more is h k = subst (λ xs. OfTree n xs) (sym (ap va
 
 pub of_tree-pushed : (n : ℕ) (all before : List Item) (x : Item) → all ≡ before ++ x ∷ [] → OfTree n (values_of before) → IsOfTree n (value_of_item x) → OfTree n (values_of all)
 of_tree-pushed n all before x is h k = of_tree-behind n all before (x ∷ []) is h (of_tree-one n (value_of_item x) k)
-
-pub arguments-pushed : (n : ℕ) (all before : List (List Item)) (x : List Item) → all ≡ before ++ x ∷ [] → ArgumentsOfTree n (map values_of before) → OfTree n (values_of x) → ArgumentsOfTree n (map values_of all)
-arguments-pushed n all before x is h k = subst (λ xss. ArgumentsOfTree n xss) (sym (ap (map values_of) is ∙ map-append values_of before (x ∷ []))) (arguments-more n (map values_of before) (values_of x) h k)
 
 -- variables
 abbrev EachOfTree : ℕ → List ℕ × List ItemValue → Type 0
@@ -102,4 +100,4 @@ given-of_tree n function arguments items h = elim (is_type_test function argumen
   | false ↦ λ k. of_tree-atomic n items k
 ] h
 
-pub ruleset of_tree = (of_tree-nil, of_tree-one, of_tree-append, of_tree-before, of_tree-last, of_tree-behind, of_tree-pushed, arguments-nil, arguments-pushed, variables-without, variables-with, variable-of_tree, frames-nil, frames-pushed, frames-before, frames-top)
+pub ruleset of_tree = (of_tree-nil, of_tree-one, of_tree-append, of_tree-before, of_tree-last, of_tree-behind, of_tree-pushed, arguments-nil, variables-without, variables-with, variable-of_tree, frames-nil, frames-pushed, frames-before, frames-top)

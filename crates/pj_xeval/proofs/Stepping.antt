@@ -8,12 +8,13 @@ use Rattle.pj_xvalue.specs.declared.item.Item.{Item}
 use Rattle.pj_xvalue.specs.Items.{ItemValue, values_of}
 use Rattle.pj_xdenotes.specs.Means.{Means, give, fail, ◌>>=◌}
 use Rattle.pj_xdenotes.specs.Context.{Around, Context}
-use Rattle.pj_xeval.specs.declared.frame.Task.{Task}
-use Rattle.pj_xeval.specs.declared.frame.Frame.{Frame}
-use Rattle.pj_xeval.specs.declared.frame.Next.TheVariants as next
-use Rattle.pj_xeval.specs.Scopes.{Scoped, variables_of}
-use Rattle.pj_xeval.specs.Frames.{Replies, task_meaning, reacted, resumed}
-use Rattle.pj_xeval.specs.Going.{GoesIf, ComesIf, state_meaning}
+use Rattle.pj_xframes.specs.declared.frame.Task.{Task}
+use Rattle.pj_xframes.specs.declared.frame.Frame.{Frame}
+use Rattle.pj_xframes.specs.declared.frame.Next.TheVariants as next
+use Rattle.pj_xframes.specs.Scopes.{Scoped, variables_of}
+use Rattle.pj_xframes.specs.Frames.{Replies, task_meaning, reacted}
+use Rattle.pj_xframes.specs.Going.{GoesIf}
+use Rattle.pj_xeval.specs.Whole.{resumed, ComesIf, state_meaning}
 use Rattle.pj_xeval.proofs.Whole.{resumed-nil, value-fails, within-fails, same-fails}
 
 -- what is no value, whatever a value would come to

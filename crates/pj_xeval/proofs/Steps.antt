@@ -7,9 +7,9 @@ use Rattle.pj_xdenotes.specs.Context.{Variables, Denotation}
 use Rattle.pj_xdenotes.specs.Turns.{narrowed, through, walked, passing, numbered, step_in_turn, with_all, united}
 use Rattle.pj_xdenotes.specs.Steps.{in_document_order}
 use Rattle.pj_xdenotes.proofs.Sequences.{then-assoc, then-give}
-use Rattle.pj_xeval.specs.declared.frame.Turn.{Turn}
-use Rattle.pj_xeval.specs.declared.frame.Turn.TheVariants as turn
-use Rattle.pj_xeval.specs.Frames.{over, evaluated, taken, finished}
+use Rattle.pj_xframes.specs.declared.frame.Turn.{Turn}
+use Rattle.pj_xframes.specs.declared.frame.Turn.TheVariants as turn
+use Rattle.pj_xframes.specs.Frames.{over, evaluated, taken, finished}
 
 -- a member of a list of operands, before what follows the list
 pub chain-then : {X S B : Type 0} (m : X → Means (List ItemValue)) (t : X → S → List ItemValue → Result S XCode) (k : S → Means B) (x : X) (xs : List X) (s : S)

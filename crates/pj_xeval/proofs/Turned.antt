@@ -11,19 +11,19 @@ use Rattle.pj_xvalue.specs.declared.item.Item.{Item}
 use Rattle.pj_xvalue.specs.Items.{ItemValue, is_node, value_of_item, values_of, IsOfTree}
 use Rattle.pj_xvalue.specs.OfTree.{OfTree}
 use Rattle.pj_xvalue.specs.Replies.{outcome}
-use Rattle.pj_xfuncs.specs.Arguments.{IsGiven}
+use Rattle.pj_xvalue.specs.Arguments.{IsGiven}
 use Rattle.pj_xdenotes.specs.Means.{fail, judged, ◌>>=◌, chain}
 use Rattle.pj_xdenotes.specs.Context.{Around, Context, Variables, at}
 use Rattle.pj_xdenotes.specs.Turns.{numbered}
 use Rattle.pj_xdenotes.specs.Denotes.{denotes}
-use Rattle.pj_xeval.specs.declared.frame.Turn.{Turn}
-use Rattle.pj_xeval.specs.declared.frame.Turns.{Turns}
-use Rattle.pj_xeval.specs.declared.frame.Task.TheVariants as task
-use Rattle.pj_xeval.specs.declared.frame.Frame.TheVariants as frame
-use Rattle.pj_xeval.specs.declared.frame.Next.TheVariants as next
-use Rattle.pj_xeval.specs.Scopes.{Scoped, variables_of}
-use Rattle.pj_xeval.specs.Frames.{Replies, evaluated, taken, may_turn, finished, over, turns_left, turns_after}
-use Rattle.pj_xeval.specs.Going.{Goes, GoesIf}
+use Rattle.pj_xframes.specs.declared.frame.Turn.{Turn}
+use Rattle.pj_xframes.specs.declared.frame.Turns.{Turns}
+use Rattle.pj_xframes.specs.declared.frame.Task.TheVariants as task
+use Rattle.pj_xframes.specs.declared.frame.Frame.TheVariants as frame
+use Rattle.pj_xframes.specs.declared.frame.Next.TheVariants as next
+use Rattle.pj_xframes.specs.Scopes.{Scoped, variables_of}
+use Rattle.pj_xframes.specs.Frames.{Replies, evaluated, taken, may_turn, finished, over, turns_left, turns_after}
+use Rattle.pj_xframes.specs.Going.{Goes, GoesIf}
 use Rattle.pj_xeval.proofs.OfTree.{of_tree-last}
 use Rattle.pj_xeval.proofs.Steps.{over-cons}
 use Rattle.pj_xeval.proofs.Turning.{turn-next, turn-fails}

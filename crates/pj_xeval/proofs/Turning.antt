@@ -11,9 +11,9 @@ use Rattle.pj_xdenotes.specs.Means.{Means, give, fail, judged, ◌>>=◌, chain,
 use Rattle.pj_xdenotes.specs.Context.{Context, Variables, Denotation, at}
 use Rattle.pj_xdenotes.specs.Turns.{numbered, in_turn, with_all}
 use Rattle.pj_xdenotes.specs.Bindings.{with_item}
-use Rattle.pj_xeval.specs.declared.frame.Turn.{Turn}
-use Rattle.pj_xeval.specs.declared.frame.Turn.TheVariants as turn
-use Rattle.pj_xeval.specs.Frames.{evaluated, taken, may_turn}
+use Rattle.pj_xframes.specs.declared.frame.Turn.{Turn}
+use Rattle.pj_xframes.specs.declared.frame.Turn.TheVariants as turn
+use Rattle.pj_xframes.specs.Frames.{evaluated, taken, may_turn}
 use Rattle.pj_xeval.proofs.Steps.{chain-then}
 
 -- the next item stands last

@@ -7,13 +7,14 @@ use Rattle.pj_xvalue.specs.Items.{ItemValue, values_of}
 use Rattle.pj_xdenotes.specs.Means.{Means, give, fail, ◌>>=◌}
 use Rattle.pj_xdenotes.specs.Context.{Around, Context}
 use Rattle.pj_xdenotes.proofs.Sequences.{then-assoc}
-use Rattle.pj_xeval.specs.declared.frame.Task.{Task}
-use Rattle.pj_xeval.specs.declared.frame.Frame.{Frame}
-use Rattle.pj_xeval.specs.declared.frame.Next.{Next}
-use Rattle.pj_xeval.specs.declared.frame.Next.TheVariants as next
-use Rattle.pj_xeval.specs.Scopes.{Scoped, variables_of}
-use Rattle.pj_xeval.specs.Frames.{Replies, task_meaning, reacted, resumed, context_left, scope_left}
-use Rattle.pj_xeval.specs.Going.{Goes, state_meaning}
+use Rattle.pj_xframes.specs.declared.frame.Task.{Task}
+use Rattle.pj_xframes.specs.declared.frame.Frame.{Frame}
+use Rattle.pj_xframes.specs.declared.frame.Next.{Next}
+use Rattle.pj_xframes.specs.declared.frame.Next.TheVariants as next
+use Rattle.pj_xframes.specs.Scopes.{Scoped, variables_of}
+use Rattle.pj_xframes.specs.Frames.{Replies, task_meaning, reacted, context_left, scope_left}
+use Rattle.pj_xframes.specs.Going.{Goes}
+use Rattle.pj_xeval.specs.Whole.{resumed, state_meaning}
 
 module _ (a : Around) (reply : Replies) where
   pub resumed-nil : (c : Context) (s : Scoped) (value : List ItemValue) → resumed a reply [] c s value ≡ give value

@@ -1,3 +1,2 @@
-pub mod Frames
-pub mod Going
-pub mod Scopes
+-- for private clauses
+pub mod Whole

@@ -8,16 +8,15 @@ ghost use Rattle.pj_xdenotes.specs.Context.{Around, Context, around};
 ghost use Rattle.pj_xdenotes.specs.Steps.{attributes as attributes_of, from_node, in_document_order, stepped as stepped_of};
 ghost use Rattle.pj_xdenotes.specs.Turns.{narrowed, path, simple_map};
 ghost use Rattle.pj_xdenotes.specs.Denotes.{denotes};
-ghost use Rattle.pj_xeval.specs.Frames.{◌▷◌, Replies, context_left, reacted, scope_left, task_meaning};
-ghost use Rattle.pj_xeval.specs.Going.{FrameOfTree, Goes, GoesIf, NextOfTree};
-ghost use Rattle.pj_xeval.specs.Scopes.{Scoped, variables_of};
+ghost use Rattle.pj_xframes.specs.Frames.{◌▷◌, Replies, context_left, reacted, scope_left, task_meaning};
+ghost use Rattle.pj_xframes.specs.Going.{FrameOfTree, Goes, GoesIf, NextOfTree};
+ghost use Rattle.pj_xframes.specs.Scopes.{Scoped, variables_of};
 
 use crate::bindings::{for_from, let_from, quantified_from};
-use crate::frame::{Frame, Next, Task, Turn};
-use crate::lists::{arguments, items, nodes, pmd_arguments, texts};
-use crate::scope::Scope;
-use crate::truths::truths;
 use pj_base::Copied;
+use pj_xframes::{
+    Frame, Next, Scope, Task, Turn, arguments, items, nodes, pmd_arguments, texts, truths,
+};
 use pj_xsteps::{At, NodeItems, Setting, attributes, is_backwards, literal, one, stepped};
 use pj_xvalue::{
     Arguments, Attributes, Axis, Expr, Item, NodeTest, Quantifier, Sequence, XCode, XFault,

@@ -9,14 +9,14 @@ ghost use Rattle.pj_xdenotes.specs.Turns.{with_all};
 ghost use Rattle.pj_xdenotes.specs.Bindings.{for_in, let_in, quantified as quantified_in, with_item};
 ghost use Rattle.pj_xdenotes.specs.Parts.{bindings_of};
 ghost use Rattle.pj_xdenotes.specs.Denotes.{denotes};
-ghost use Rattle.pj_xeval.specs.Frames.{◌▷◌, Replies, for_left, quantified_left};
-ghost use Rattle.pj_xeval.specs.Going.{ForTurnsOfTree, Goes, GoesIf, NextOfTree};
-ghost use Rattle.pj_xeval.specs.Scopes.{Scoped, variables_of, without};
+ghost use Rattle.pj_xframes.specs.Frames.{◌▷◌, Replies, for_left, quantified_left};
+ghost use Rattle.pj_xframes.specs.Going.{ForTurnsOfTree, Goes, GoesIf, NextOfTree};
+ghost use Rattle.pj_xframes.specs.Scopes.{Scoped, variables_of, without};
 
-use crate::frame::{Binder, Binding, ForTurns, Frame, Next, QuantifiedTurns, Task};
-use crate::scope::Scope;
-use crate::truths::{boolean, decides};
 use pj_base::{NoMemory, Text};
+use pj_xframes::{
+    Binder, Binding, ForTurns, Frame, Next, QuantifiedTurns, Scope, Task, boolean, decides,
+};
 use pj_xsteps::{one, turned_back};
 use pj_xvalue::{Expr, Quantifier, Sequence, XFault, boolean_value};
 use std::alloc::Global;

@@ -6,14 +6,13 @@ ghost use Rattle.pj_xvalue.specs.OfTree.{OfTree, VariablesOfTree};
 ghost use Rattle.pj_xvalue.specs.Replies.{outcome};
 ghost use Rattle.pj_xdenotes.specs.Context.{around, given_of};
 ghost use Rattle.pj_xdenotes.specs.Denotes.{denotes};
-ghost use Rattle.pj_xeval.specs.Scopes.{variables_of};
+ghost use Rattle.pj_xframes.specs.Scopes.{variables_of};
 
-use crate::frame::{Frame, Next, Task};
 use crate::machine::{Pause, settle};
-use crate::scope::Scope;
 use pj_base::ListOf;
 use pj_names::AskFault;
 use pj_tree::SyntaxTree;
+use pj_xframes::{Next, Scope, Task};
 use pj_xfuncs::Patterns;
 use pj_xsteps::{At, Setting, node_in};
 use pj_xvalue::{Attributes, BoundVars, Calls, Expr, Item, Sequence, XFault};

@@ -3,17 +3,17 @@ ghost use Rattle.std.specs.Prelude.{◌≡◌, IfOk, OnOk, length};
 ghost use Rattle.pj_xvalue.specs.Items.{IsOfTree};
 ghost use Rattle.pj_xvalue.specs.OfTree.{VariablesOfTree};
 ghost use Rattle.pj_xdenotes.specs.Context.{around};
-ghost use Rattle.pj_xeval.specs.Frames.{Replies};
-ghost use Rattle.pj_xeval.specs.Going.{ComesIf, FramesOfTree, NextOfTree, PauseOfTree, SteppedOfTree, pause_meaning, state_meaning, stepped_meaning};
-ghost use Rattle.pj_xeval.specs.Scopes.{variables_of};
+ghost use Rattle.pj_xframes.specs.Frames.{Replies};
+ghost use Rattle.pj_xframes.specs.Going.{NextOfTree};
+ghost use Rattle.pj_xframes.specs.Scopes.{variables_of};
+ghost use Rattle.pj_xeval.specs.Whole.{ComesIf, FramesOfTree, PauseOfTree, SteppedOfTree, pause_meaning, state_meaning, stepped_meaning};
 
 use crate::begin::begin;
-use crate::frame::{Frame, Next};
 use crate::react::react;
-use crate::scope::Scope;
 use crate::turns::turns_over;
 use pj_base::ListOf;
 use pj_names::AskFault;
+use pj_xframes::{Frame, Next, Scope};
 use pj_xsteps::{At, Setting};
 use pj_xvalue::{Arguments, Attributes, PmdFunction, Sequence, XFault};
 

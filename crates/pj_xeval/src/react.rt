@@ -3,25 +3,20 @@ ghost use Rattle.std.specs.Prelude.{◌≡◌, ℕ, IfOk, OnOk, length};
 ghost use Rattle.pj_xvalue.specs.Items.{values_of, IsOfTree};
 ghost use Rattle.pj_xvalue.specs.OfTree.{OfTree, VariablesOfTree};
 ghost use Rattle.pj_xdenotes.specs.Context.{Around, Context, around};
-ghost use Rattle.pj_xeval.specs.declared.frame.Frame.TheVariants.{Source as SourceFrame};
-ghost use Rattle.pj_xeval.specs.Frames.{Replies, context_left, reacted, scope_left};
-ghost use Rattle.pj_xeval.specs.Going.{FrameOfTree, GoesIf, NextOfTree};
-ghost use Rattle.pj_xeval.specs.Scopes.{variables_of};
+ghost use Rattle.pj_xframes.specs.declared.frame.Frame.TheVariants.{Source as SourceFrame};
+ghost use Rattle.pj_xframes.specs.Frames.{Replies, context_left, reacted, scope_left};
+ghost use Rattle.pj_xframes.specs.Going.{FrameOfTree, GoesIf, NextOfTree};
+ghost use Rattle.pj_xframes.specs.Scopes.{variables_of};
 
 use crate::bindings::{
     for_after, for_over, let_after, let_body, quantified_after, quantified_over,
 };
-use crate::frame::{Binder, Binding, Frame, Next, Task};
-use crate::lists::{
-    arguments_after, items_after, nodes_after, pmd_arguments_after, sets_after, sets_from,
-    texts_after,
-};
-use crate::numbers::{
-    factors_after, factors_from, range_from, range_to, signed_value, terms_after, terms_from,
-};
-use crate::scope::Scope;
-use crate::truths::{chosen, comparison, tested, truths_after};
 use crate::turns::turn_after;
+use pj_xframes::{
+    Binder, Binding, Frame, Next, Scope, Task, arguments_after, chosen, comparison, factors_after,
+    factors_from, items_after, nodes_after, pmd_arguments_after, range_from, range_to, sets_after,
+    sets_from, signed_value, terms_after, terms_from, tested, texts_after, truths_after,
+};
 use pj_xsteps::{At, Setting};
 use pj_xvalue::{Attributes, Sequence, XFault};
 use std::alloc::Global;

@@ -3,16 +3,16 @@ ghost use Rattle.std.specs.Prelude.{◌≡◌, ℕ, pos, ◌+◌, [], IfOk, OnOk
 ghost use Rattle.pj_xvalue.specs.Items.{Document as DocumentValue, value_of_item, values_of, is_node, IsOfTree};
 ghost use Rattle.pj_xvalue.specs.OfTree.{OfTree};
 ghost use Rattle.pj_xvalue.specs.Replies.{outcome};
-ghost use Rattle.pj_xfuncs.specs.Arguments.{IsGiven};
+ghost use Rattle.pj_xvalue.specs.Arguments.{IsGiven};
 ghost use Rattle.pj_xdenotes.specs.Means.{judged};
 ghost use Rattle.pj_xdenotes.specs.Context.{Around, Context, Variables, at as at_item};
 ghost use Rattle.pj_xdenotes.specs.Denotes.{denotes};
-ghost use Rattle.pj_xeval.specs.Frames.{Replies, finished, may_turn, over, taken as taken_by, turns_after, turns_left};
-ghost use Rattle.pj_xeval.specs.Going.{Goes, GoesIf, NextOfTree, TurnsOfTree};
-ghost use Rattle.pj_xeval.specs.Scopes.{Scoped, variables_of};
+ghost use Rattle.pj_xframes.specs.Frames.{Replies, finished, may_turn, over, taken as taken_by, turns_after, turns_left};
+ghost use Rattle.pj_xframes.specs.Going.{Goes, GoesIf, NextOfTree, TurnsOfTree};
+ghost use Rattle.pj_xframes.specs.Scopes.{Scoped, variables_of};
 
-use crate::frame::{Frame, Next, Task, Turn, Turns};
 use pj_base::NoMemory;
+use pj_xframes::{Frame, Next, Task, Turn, Turns};
 use pj_xsteps::{At, keeps_at, turned_back, united};
 use pj_xvalue::{Expr, Item, Sequence, XCode, XFault};
 use std::alloc::Global;

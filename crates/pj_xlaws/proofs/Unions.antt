@@ -6,14 +6,14 @@ use Rattle.std.proofs.lemmas.List.Folds.{list_any-append, list_all-append}
 use Rattle.pj_names.specs.declared.answer.Answer.{Answer}
 use Rattle.pj_names.specs.ClassName.{Name}
 use Rattle.pj_names.specs.Asking.{value_of}
-use Rattle.pj_names.specs.MeaningLaws.{value_of-bind}
+use Rattle.pj_names.proofs.MeaningLaws.{value_of-bind}
 use Rattle.pj_xvalue.specs.declared.expr.Expr.{Expr}
 use Rattle.pj_xvalue.specs.declared.fault.XCode.{XCode}
 use Rattle.pj_xvalue.specs.declared.fault.XCode.TheVariants.{XPTY0004}
 use Rattle.pj_xvalue.specs.Items.{ItemValue, is_node, are_nodes}
 use Rattle.pj_xaxes.specs.Order.{document_order, ordered, has_item}
 use Rattle.pj_xaxes.proofs.Ordered.{ordered-filter, sorted-ordered, has_item-ordered}
-use Rattle.pj_xfuncs.specs.Arguments.{and_then}
+use Rattle.pj_xvalue.specs.Arguments.{and_then}
 use Rattle.pj_xdenotes.specs.Means.{Means, give, judged, after, ◌>>=◌, chain}
 use Rattle.pj_xdenotes.specs.Denotes.{denotes, here, with_nodes}
 use Rattle.pj_xdenotes.proofs.Forms.{denotes_union}

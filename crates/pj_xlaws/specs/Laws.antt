@@ -13,7 +13,7 @@ use Rattle.pj_xvalue.specs.declared.function.Function.TheVariants as f
 use Rattle.pj_xvalue.specs.declared.pmd_function.PmdFunction.{PmdFunction}
 use Rattle.pj_xvalue.specs.Items.{ItemValue}
 use Rattle.pj_xaxes.specs.Order.{ordered}
-use Rattle.pj_xfuncs.specs.Arguments.{and_then}
+use Rattle.pj_xvalue.specs.Arguments.{and_then}
 use Rattle.pj_xdenotes.specs.Means.{Means}
 use Rattle.pj_xdenotes.specs.Operands.{only_nodes}
 use Rattle.pj_xdenotes.specs.Context.{Around, Context, Variables}

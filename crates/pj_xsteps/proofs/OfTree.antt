@@ -11,7 +11,7 @@ use Rattle.pj_xvalue.specs.declared.expr.NodeTest.{NodeTest}
 use Rattle.pj_xvalue.specs.Items.{ItemValue, Document, Element, Attribute, String, Integer, Boolean, IsOfTree, AreOfTree, values_of}
 use Rattle.pj_xvalue.specs.declared.item.Item.{Item}
 use Rattle.pj_xvalue.specs.OfTree.{OfTree, ArgumentsOfTree}
-use Rattle.pj_xvalue.specs.OfTreeLaws.{of_tree-nil, of_tree-one, of_tree-cons, of_tree-append, arguments-tail}
+use Rattle.pj_xvalue.proofs.OfTreeLaws.{of_tree-nil, of_tree-one, of_tree-cons, of_tree-append, arguments-tail}
 use Rattle.pj_xaxes.specs.Axes.{axis_nodes}
 use Rattle.pj_xaxes.proofs.Inside.{axis-inside}
 use Rattle.pj_xdenotes.specs.Context.{Around}

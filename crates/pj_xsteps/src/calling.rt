@@ -3,7 +3,7 @@ ghost use Rattle.std.specs.Prelude.{◌≡◌, ℕ, ◌++◌, ◌∷◌, [], IfO
 ghost use Rattle.pj_xvalue.specs.Items.{value_of_item, values_of, IsOfTree};
 ghost use Rattle.pj_xvalue.specs.OfTree.{OfTree, ArgumentsOfTree};
 ghost use Rattle.pj_xvalue.specs.Replies.{outcome};
-ghost use Rattle.pj_xfuncs.specs.Arguments.{IsGiven};
+ghost use Rattle.pj_xvalue.specs.Arguments.{IsGiven};
 ghost use Rattle.pj_xfuncs.specs.Library.{called as given};
 ghost use Rattle.pj_xdenotes.specs.Context.{around};
 ghost use Rattle.pj_xdenotes.specs.Operands.{with_values as with_values_of};
@@ -45,7 +45,7 @@ fn node_name<'t, A: Attributes>(setting: &Setting<'t, A>, item: &Item<'_>) -> &'
 }
 
 /// `name` and `local-name` of at most one node.
-#[tactic(auto, using(pj_xvalue::specs::OfTreeLaws::of_tree))]
+#[tactic(auto, using(pj_xvalue::proofs::OfTreeLaws::of_tree))]
 fn name_in<'t, A: Attributes>(
     setting: &Setting<'t, A>,
     items: &Sequence<'_>,
@@ -68,7 +68,7 @@ fn name_in<'t, A: Attributes>(
 }
 
 /// `root` of at most one node.
-#[tactic(auto, using(pj_xvalue::specs::OfTreeLaws::of_tree))]
+#[tactic(auto, using(pj_xvalue::proofs::OfTreeLaws::of_tree))]
 fn root_in<'t>(alloc: Global, items: &Sequence<'_>) -> Result<Sequence<'t>, XFault>
     ensures value { IsGiven (root_in_of (values_of items.now)) (outcome values_of result) }
     ensures of_tree { (n : ℕ) → IfOk result (λ items. OfTree n (values_of items)) }
@@ -86,7 +86,7 @@ fn root_in<'t>(alloc: Global, items: &Sequence<'_>) -> Result<Sequence<'t>, XFau
 }
 
 /// The first argument, or the context item where there is none.
-#[tactic(auto, using(pj_xvalue::specs::OfTreeLaws::of_tree))]
+#[tactic(auto, using(pj_xvalue::proofs::OfTreeLaws::of_tree))]
 fn or_context<'t>(
     alloc: Global,
     at: &At<'t>,
@@ -105,7 +105,7 @@ fn or_context<'t>(
 }
 
 /// The arguments behind those before them, with values in the place of attributes.
-#[tactic(auto, using(pj_xvalue::specs::OfTreeLaws::of_tree))]
+#[tactic(auto, using(pj_xvalue::proofs::OfTreeLaws::of_tree))]
 fn valued_behind<'t, A: Attributes>(
     setting: &Setting<'t, A>,
     before: Arguments<'t>,
@@ -125,7 +125,7 @@ fn valued_behind<'t, A: Attributes>(
 }
 
 /// A list of one argument.
-#[tactic(auto, using(pj_xvalue::specs::OfTreeLaws::of_tree))]
+#[tactic(auto, using(pj_xvalue::proofs::OfTreeLaws::of_tree))]
 fn only<'t>(alloc: Global, argument: Sequence<'t>) -> Result<Arguments<'t>, NoMemory>
     ensures value { IfOk result (λ arguments. map values_of arguments ≡ values_of argument.entry ∷ []) }
     ensures of_tree { (n : ℕ) → OfTree n (values_of argument.entry) → IfOk result (λ arguments. ArgumentsOfTree n (map values_of arguments)) }
@@ -136,7 +136,7 @@ fn only<'t>(alloc: Global, argument: Sequence<'t>) -> Result<Arguments<'t>, NoMe
 }
 
 /// What a function of the library gives for the arguments, with values in the place of attributes.
-#[tactic(auto, using(pj_xvalue::specs::OfTreeLaws::of_tree))]
+#[tactic(auto, using(pj_xvalue::proofs::OfTreeLaws::of_tree))]
 fn call_valued<'t, A: Attributes>(
     setting: &Setting<'t, A>,
     function: Function,
@@ -151,7 +151,7 @@ fn call_valued<'t, A: Attributes>(
 }
 
 /// The same with an argument before them that stays as it is.
-#[tactic(auto, using(pj_xvalue::specs::OfTreeLaws::of_tree))]
+#[tactic(auto, using(pj_xvalue::proofs::OfTreeLaws::of_tree))]
 fn call_behind<'t, A: Attributes>(
     setting: &Setting<'t, A>,
     function: Function,
@@ -169,7 +169,7 @@ fn call_behind<'t, A: Attributes>(
 }
 
 /// The same where the first argument stays as it is.
-#[tactic(auto, using(pj_xvalue::specs::OfTreeLaws::of_tree))]
+#[tactic(auto, using(pj_xvalue::proofs::OfTreeLaws::of_tree))]
 fn call_behind_first<'t, A: Attributes>(
     setting: &Setting<'t, A>,
     function: Function,
@@ -191,7 +191,7 @@ fn call_behind_first<'t, A: Attributes>(
 }
 
 /// What a function of the library gives for one argument, with values in the place of attributes.
-#[tactic(auto, using(pj_xvalue::specs::OfTreeLaws::of_tree))]
+#[tactic(auto, using(pj_xvalue::proofs::OfTreeLaws::of_tree))]
 fn call_one<'t, A: Attributes>(
     setting: &Setting<'t, A>,
     function: Function,
@@ -206,7 +206,7 @@ fn call_one<'t, A: Attributes>(
 }
 
 /// What a function of text gives, of the string of the context item where there is no argument.
-#[tactic(auto, using(pj_xvalue::specs::OfTreeLaws::of_tree))]
+#[tactic(auto, using(pj_xvalue::proofs::OfTreeLaws::of_tree))]
 fn call_of_text<'t, A: Attributes>(
     setting: &Setting<'t, A>,
     function: Function,
@@ -230,7 +230,7 @@ fn call_of_text<'t, A: Attributes>(
 }
 
 /// What a function gives that takes so many arguments.
-#[tactic(auto, using(pj_xvalue::specs::OfTreeLaws::of_tree))]
+#[tactic(auto, using(pj_xvalue::proofs::OfTreeLaws::of_tree))]
 fn called<'t, A: Attributes>(
     setting: &Setting<'t, A>,
     function: Function,

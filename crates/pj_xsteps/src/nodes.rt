@@ -3,7 +3,7 @@ ghost use Rattle.std.specs.Prelude.{◌≡◌, ◌++◌, [], ℕ, IfOk, filter};
 ghost use Rattle.std.specs.List.Sorted.{IsStrictlySortedBy};
 ghost use Rattle.pj_xvalue.specs.Items.{value_of_item, values_of};
 ghost use Rattle.pj_xvalue.specs.OfTree.{OfTree};
-ghost use Rattle.pj_xfuncs.specs.Arguments.{seen_as};
+ghost use Rattle.pj_xvalue.specs.Arguments.{seen_as};
 ghost use Rattle.pj_xaxes.specs.Order.{document_order, has_item, ordered};
 ghost use Rattle.pj_xdenotes.specs.Operands.{only_nodes};
 ghost use Rattle.pj_xdenotes.specs.Sets.{chosen, stays as stays_by};

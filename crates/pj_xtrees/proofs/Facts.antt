@@ -11,7 +11,7 @@ use Rattle.pj_tree.specs.declared.node.Node.{Node}
 use Rattle.pj_xaxes.specs.Axes.{is_reverse}
 use Rattle.pj_xaxes.specs.Order.{ordered, has_item}
 use Rattle.pj_xaxes.proofs.Inside.{of_tree-ordered}
-use Rattle.pj_xfuncs.specs.Arguments.{and_then, optional_integer, atomic_text}
+use Rattle.pj_xvalue.specs.Arguments.{and_then, optional_integer, atomic_text}
 use Rattle.pj_xfuncs.specs.Library.{called as given}
 use Rattle.pj_xfuncs.proofs.OfTree.{returned-of_tree}
 use Rattle.pj_xpatterns.specs.Meaning.{Pattern}
@@ -34,7 +34,7 @@ use Rattle.pj_xvalue.specs.Comparison.{general_comparison}
 use Rattle.pj_xvalue.specs.Functions.{takes, pmd_takes}
 use Rattle.pj_xvalue.specs.Items.{ItemValue, Document, Element, Attribute, String, Integer, Boolean, IsOfTree, AreOfTree, are_atomic, are_nodes, is_node, values_of}
 use Rattle.pj_xvalue.specs.OfTree.{OfTree, ArgumentsOfTree, VariablesOfTree}
-use Rattle.pj_xvalue.specs.OfTreeLaws.{of_tree-nil, of_tree-one, of_tree-append, of_tree-atomic, of_tree-head, each-of_tree, arguments-nil, arguments-cons, arguments-head, arguments-more, arguments-tail, variables-more}
+use Rattle.pj_xvalue.proofs.OfTreeLaws.{of_tree-nil, of_tree-one, of_tree-append, of_tree-atomic, of_tree-head, each-of_tree, arguments-nil, arguments-cons, arguments-head, arguments-more, arguments-tail, variables-more}
 use Rattle.pj_xvalue.specs.declared.expr.Expr.{Expr}
 use Rattle.pj_xvalue.specs.declared.expr.Quantifier.{Quantifier}
 use Rattle.pj_xvalue.specs.declared.expr.Quantifier.TheVariants as quantifier

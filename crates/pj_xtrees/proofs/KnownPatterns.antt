@@ -8,10 +8,10 @@ use Rattle.pj_xdenotes.specs.Context.{Around, Context, Denotation, around}
 use Rattle.pj_xdenotes.specs.Denotes.{arguments_of, denotes, step}
 use Rattle.pj_xdenotes.specs.Means.{judged, ◌>>=◌}
 use Rattle.pj_xdenotes.specs.Operands.{with_values}
-use Rattle.pj_xfuncs.specs.Arguments.{and_then, one, optional_string, string, truth}
+use Rattle.pj_xvalue.specs.Arguments.{and_then, one, optional_string, string, truth}
 use Rattle.pj_xfuncs.specs.Library.{by_number, is_concat, of_four, of_several, of_three, of_two}
 use Rattle.pj_xfuncs.specs.Library.{called as given}
-use Rattle.pj_xfuncs.specs.Patterns.{flags_in, known, matches, never_empty, plain, replace, tokenize, tokens}
+use Rattle.pj_xpatterns.specs.Patterns.{flags_in, known, matches, never_empty, plain, replace, tokenize, tokens}
 use Rattle.pj_xpatterns.specs.Meaning.{Pattern, has, is_found, with_replaced}
 use Rattle.pj_xvalue.specs.Functions.{takes}
 use Rattle.pj_xvalue.specs.Items.{ItemValue, String}

@@ -1,4 +1,6 @@
+-- definitions
 pub mod Nodes
 pub mod Table
-pub mod TableLaws
 pub mod Untold
+-- laws
+pub mod TableLaws

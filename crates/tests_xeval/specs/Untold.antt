@@ -5,7 +5,7 @@ use Rattle.pj_names.specs.declared.oracle.AskFault.{AskFault}
 use Rattle.pj_names.specs.declared.oracle.AskFault.TheVariants.{Failed, Memory}
 use Rattle.pj_names.specs.Asking.{Asking}
 use Rattle.pj_names.specs.Told.{Told, Asks}
-use Rattle.pj_names.specs.AskingLaws.{within-self}
+use Rattle.pj_names.proofs.AskingLaws.{within-self}
 
 pub untold : {K A : Type 0} (m : Asking A) (t : Told K) (r : Result A AskFault) → t.is_told ≡ false → (r ≡ Err Failed → ⊥) → Asks m t t r
 untold m t (Ok v) none lives = record {

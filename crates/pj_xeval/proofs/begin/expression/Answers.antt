@@ -6,7 +6,7 @@ use Rattle.pj_xvalue.specs.Comparison.{general_comparison}
 use Rattle.pj_xvalue.specs.declared.item.Item.{Item}
 use Rattle.pj_xvalue.specs.Items.{ItemValue, String, value_of_item, values_of}
 use Rattle.pj_xvalue.specs.OfTree.{OfTree, ArgumentsOfTree}
-use Rattle.pj_xvalue.specs.OfTreeLaws.{arguments-nil, of_tree-one}
+use Rattle.pj_xvalue.proofs.OfTreeLaws.{arguments-nil, of_tree-one}
 use Rattle.pj_xaxes.specs.Axes.{is_reverse}
 use Rattle.pj_xaxes.specs.Order.{ordered}
 use Rattle.pj_xdenotes.specs.Arithmetic.{number_items, range, signed}
@@ -20,10 +20,9 @@ use Rattle.pj_xdenotes.specs.Parts.{bindings_of, operated_by}
 use Rattle.pj_xdenotes.specs.Steps.{attributes, from_node, in_document_order, stepped}
 use Rattle.pj_xdenotes.specs.Turns.{narrowed, path, simple_map, with_all}
 use Rattle.pj_xdenotes.proofs.Forms.{denotes_additive, denotes_and, denotes_attribute, denotes_call, denotes_comma, denotes_comparison, denotes_concatenation, denotes_context, denotes_filter, denotes_for, denotes_if, denotes_integer, denotes_intersect, denotes_let, denotes_map, denotes_multiplicative, denotes_or, denotes_path, denotes_pmd, denotes_quantified, denotes_range, denotes_root, denotes_step, denotes_string, denotes_unary, denotes_union, denotes_variable}
-use Rattle.pj_xeval.specs.Scopes.{variables_of}
-use Rattle.pj_xeval.proofs.Arms.{literal-of_tree}
+use Rattle.pj_xframes.specs.Scopes.{variables_of}
+use Rattle.pj_xeval.proofs.Arms.{goes-form, literal-of_tree}
 use Rattle.pj_xeval.proofs.Kept.{none-of_tree}
-use Rattle.pj_xeval.proofs.ListGoals.{goes-form}
 use Rattle.pj_xeval.proofs.OfTree.{variable-of_tree}
 use Rattle.pj_xeval.proofs.begin.expression.Goals as goal
 

@@ -1,9 +1,9 @@
 use Rattle.std.proofs.Common.{List, subst}
 use Rattle.pj_xvalue.specs.Items.{ItemValue, values_of}
 use Rattle.pj_xdenotes.specs.Means.{Means}
-use Rattle.pj_xeval.specs.Frames.{for_left}
-use Rattle.pj_xeval.specs.Going.{GoesIf}
-use Rattle.pj_xeval.specs.Scopes.{Scoped, variables_of, without}
+use Rattle.pj_xframes.specs.Frames.{for_left}
+use Rattle.pj_xframes.specs.Going.{GoesIf}
+use Rattle.pj_xframes.specs.Scopes.{Scoped, variables_of, without}
 use Rattle.pj_xeval.proofs.Binding.{for-more}
 use Rattle.pj_xeval.proofs.Kept.{unbound-of_tree}
 use Rattle.pj_xeval.proofs.OfTree.{of_tree-behind}

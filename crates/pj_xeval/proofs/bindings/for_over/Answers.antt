@@ -1,9 +1,9 @@
 use Rattle.std.proofs.Common.{List, subst}
 use Rattle.pj_xvalue.specs.Items.{ItemValue}
 use Rattle.pj_xdenotes.specs.Means.{Means}
-use Rattle.pj_xeval.specs.declared.frame.ForTurns.{ForTurns}
-use Rattle.pj_xeval.specs.Going.{GoesIf}
-use Rattle.pj_xeval.specs.Scopes.{variables_of}
+use Rattle.pj_xframes.specs.declared.frame.ForTurns.{ForTurns}
+use Rattle.pj_xframes.specs.Going.{GoesIf}
+use Rattle.pj_xframes.specs.Scopes.{variables_of}
 use Rattle.pj_xeval.proofs.Binding.{for-begins}
 use Rattle.pj_xeval.proofs.Kept.{none-of_tree}
 use Rattle.pj_xeval.proofs.bindings.for_over.Goals as goal

@@ -1,6 +1,6 @@
 use Rattle.std.proofs.Common.{◌∷◌, ap, refl}
 use Rattle.pj_xvalue.specs.Items.{values_of}
-use Rattle.pj_xeval.specs.Scopes.{variables_of}
+use Rattle.pj_xframes.specs.Scopes.{variables_of}
 use Rattle.pj_xeval.proofs.Fronts.{whole}
 use Rattle.pj_xeval.proofs.Binding.{without-bound, let-body, let-next}
 use Rattle.pj_xeval.proofs.Kept.{nothing, bound-of_tree}

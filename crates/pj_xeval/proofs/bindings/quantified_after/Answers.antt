@@ -3,9 +3,9 @@ use Rattle.pj_xvalue.specs.Boolean.{effective_boolean}
 use Rattle.pj_xvalue.specs.Items.{ItemValue, values_of}
 use Rattle.pj_xvalue.specs.OfTree.{VariablesOfTree}
 use Rattle.pj_xdenotes.specs.Means.{Means, give, one_boolean}
-use Rattle.pj_xeval.specs.Frames.{quantified_left}
-use Rattle.pj_xeval.specs.Going.{GoesIf}
-use Rattle.pj_xeval.specs.Scopes.{Scoped, variables_of, without}
+use Rattle.pj_xframes.specs.Frames.{quantified_left}
+use Rattle.pj_xframes.specs.Going.{GoesIf}
+use Rattle.pj_xframes.specs.Scopes.{Scoped, variables_of, without}
 use Rattle.pj_xeval.proofs.Kept.{on-ok, unbound-of_tree, decides-now, decides-not}
 use Rattle.pj_xeval.proofs.bindings.quantified_after.Goals as goal
 

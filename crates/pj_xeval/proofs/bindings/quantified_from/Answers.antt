@@ -3,7 +3,7 @@ use Rattle.pj_xvalue.specs.declared.expr.Expr.{Expr}
 use Rattle.pj_xdenotes.specs.Bindings.{quantified}
 use Rattle.pj_xdenotes.specs.Parts.{bindings_of}
 use Rattle.pj_xdenotes.specs.Denotes.{denotes}
-use Rattle.pj_xeval.specs.Scopes.{variables_of}
+use Rattle.pj_xframes.specs.Scopes.{variables_of}
 use Rattle.pj_xeval.proofs.Fronts.{whole}
 use Rattle.pj_xeval.proofs.bindings.quantified_from.Goals as goal
 

@@ -1,9 +1,9 @@
 use Rattle.std.proofs.Common.{List, subst}
 use Rattle.pj_xvalue.specs.Items.{ItemValue}
 use Rattle.pj_xdenotes.specs.Means.{Means}
-use Rattle.pj_xeval.specs.declared.frame.QuantifiedTurns.{QuantifiedTurns}
-use Rattle.pj_xeval.specs.Going.{GoesIf}
-use Rattle.pj_xeval.specs.Scopes.{variables_of}
+use Rattle.pj_xframes.specs.declared.frame.QuantifiedTurns.{QuantifiedTurns}
+use Rattle.pj_xframes.specs.Going.{GoesIf}
+use Rattle.pj_xframes.specs.Scopes.{variables_of}
 use Rattle.pj_xeval.proofs.Binding.{quantified-begins}
 use Rattle.pj_xeval.proofs.bindings.quantified_over.Goals as goal
 

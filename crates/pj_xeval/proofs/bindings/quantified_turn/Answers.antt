@@ -1,8 +1,8 @@
 use Rattle.std.proofs.Common.{Bool, List, not, subst, ap, ◌∙◌}
 use Rattle.pj_xvalue.specs.Items.{ItemValue}
 use Rattle.pj_xdenotes.specs.Means.{Means, give, one_boolean}
-use Rattle.pj_xeval.specs.Going.{GoesIf}
-use Rattle.pj_xeval.specs.Scopes.{variables_of}
+use Rattle.pj_xframes.specs.Going.{GoesIf}
+use Rattle.pj_xframes.specs.Scopes.{variables_of}
 use Rattle.pj_xeval.proofs.Binding.{quantified-ended, quantified-taken}
 use Rattle.pj_xeval.proofs.Kept.{taken-of_tree}
 use Rattle.pj_xeval.proofs.OfTree.{of_tree-before}

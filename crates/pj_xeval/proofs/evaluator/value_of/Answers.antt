@@ -9,10 +9,9 @@ use Rattle.pj_xvalue.specs.Replies.{outcome}
 use Rattle.pj_xdenotes.specs.Calls.{node_in}
 use Rattle.pj_xdenotes.specs.Context.{Context, around, given_of}
 use Rattle.pj_xdenotes.specs.Means.{Means}
-use Rattle.pj_xeval.specs.declared.frame.Frame.{Frame}
+use Rattle.pj_xframes.specs.declared.frame.Frame.{Frame}
+use Rattle.pj_xeval.specs.Whole.{resumed, FramesOfTree, PauseOfTree, pause_meaning, state_meaning}
 use Rattle.pj_xeval.specs.declared.machine.Pause.{Pause}
-use Rattle.pj_xeval.specs.Frames.{resumed}
-use Rattle.pj_xeval.specs.Going.{FramesOfTree, PauseOfTree, pause_meaning, state_meaning}
 use Rattle.pj_xeval.proofs.Asked.{done, settled-err, replied, replied-err, wants}
 use Rattle.pj_xeval.proofs.Asking.{node-inside, given-of_tree, begun}
 use Rattle.pj_xeval.proofs.OfTree.{frames-nil, given-of_tree as answer-of_tree}

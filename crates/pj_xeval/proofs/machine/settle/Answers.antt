@@ -2,7 +2,7 @@ use Rattle.std.proofs.Common.{ap, length, subst, sym, ◌∙◌}
 use Rattle.std.proofs.lemmas.Result.{err_from_is_err_and}
 use Rattle.pj_xdenotes.specs.Context.{around}
 use Rattle.pj_xeval.specs.declared.machine.Stepped.{Stepped}
-use Rattle.pj_xeval.specs.Going.{SteppedOfTree, stepped_meaning}
+use Rattle.pj_xeval.specs.Whole.{SteppedOfTree, stepped_meaning}
 use Rattle.pj_xeval.proofs.Stepping.{stops-alike}
 use Rattle.pj_xeval.proofs.machine.settle.Goals as goal
 

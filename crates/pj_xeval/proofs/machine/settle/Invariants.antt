@@ -2,9 +2,10 @@ use Rattle.std.proofs.Common.{◌≡◌, length}
 use Rattle.pj_xvalue.specs.Items.{IsOfTree}
 use Rattle.pj_xvalue.specs.OfTree.{VariablesOfTree}
 use Rattle.pj_xdenotes.specs.Context.{around}
-use Rattle.pj_xeval.specs.Frames.{Replies}
-use Rattle.pj_xeval.specs.Going.{NextOfTree, FramesOfTree, state_meaning}
-use Rattle.pj_xeval.specs.Scopes.{variables_of}
+use Rattle.pj_xframes.specs.Frames.{Replies}
+use Rattle.pj_xframes.specs.Going.{NextOfTree}
+use Rattle.pj_xframes.specs.Scopes.{variables_of}
+use Rattle.pj_xeval.specs.Whole.{FramesOfTree, state_meaning}
 use Rattle.pj_xeval.proofs.machine.settle.Given as goal
 
 abbrev pub invariant-loop-step : goal.invariant-loop-step

@@ -3,11 +3,12 @@ use Rattle.std.proofs.lemmas.Result.{err_from_is_err_and}
 use Rattle.pj_xvalue.specs.Items.{values_of}
 use Rattle.pj_xdenotes.specs.Context.{around}
 use Rattle.pj_xdenotes.specs.Denotes.{denotes}
-use Rattle.pj_xeval.specs.declared.frame.Next.{Next}
+use Rattle.pj_xframes.specs.declared.frame.Next.{Next}
 use Rattle.pj_xeval.specs.declared.machine.Stepped.{Stepped}
-use Rattle.pj_xeval.specs.Frames.{over, task_meaning}
-use Rattle.pj_xeval.specs.Going.{NextOfTree, state_meaning, stepped_meaning}
-use Rattle.pj_xeval.specs.Scopes.{variables_of}
+use Rattle.pj_xframes.specs.Frames.{over, task_meaning}
+use Rattle.pj_xframes.specs.Going.{NextOfTree}
+use Rattle.pj_xframes.specs.Scopes.{variables_of}
+use Rattle.pj_xeval.specs.Whole.{state_meaning, stepped_meaning}
 use Rattle.pj_xeval.proofs.OfTree.{frames-before, frames-pushed}
 use Rattle.pj_xeval.proofs.Stepping.{stops-alike, value-stops, within-stops, same-stops, value-done}
 use Rattle.pj_xeval.proofs.Whole.{value-goes, within-goes, same-goes}

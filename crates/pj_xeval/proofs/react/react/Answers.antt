@@ -2,10 +2,10 @@ use Rattle.std.proofs.Common.{Ok, length, refl}
 use Rattle.pj_xvalue.specs.Items.{IsOfTree, values_of}
 use Rattle.pj_xvalue.specs.OfTree.{VariablesOfTree}
 use Rattle.pj_xdenotes.specs.Context.{around}
-use Rattle.pj_xeval.specs.declared.frame.Frame.TheVariants as frame
-use Rattle.pj_xeval.specs.declared.frame.Next.TheVariants as next
-use Rattle.pj_xeval.specs.declared.frame.Task.TheVariants as task
-use Rattle.pj_xeval.specs.Scopes.{variables_of}
+use Rattle.pj_xframes.specs.declared.frame.Frame.TheVariants as frame
+use Rattle.pj_xframes.specs.declared.frame.Next.TheVariants as next
+use Rattle.pj_xframes.specs.declared.frame.Task.TheVariants as task
+use Rattle.pj_xframes.specs.Scopes.{variables_of}
 use Rattle.pj_xeval.proofs.Arms.{frame-is, goes-frame}
 use Rattle.pj_xeval.proofs.Kept.{on-ok}
 use Rattle.pj_xeval.proofs.react.react.Goals as goal

@@ -1,8 +1,8 @@
 use Rattle.std.proofs.Common.{List, subst, sym, ◌∙◌}
 use Rattle.pj_xvalue.specs.Items.{ItemValue}
 use Rattle.pj_xdenotes.specs.Means.{Means}
-use Rattle.pj_xeval.specs.Going.{GoesIf}
-use Rattle.pj_xeval.specs.Scopes.{variables_of}
+use Rattle.pj_xframes.specs.Going.{GoesIf}
+use Rattle.pj_xframes.specs.Scopes.{variables_of}
 use Rattle.pj_xeval.proofs.OfTree.{of_tree-before}
 use Rattle.pj_xeval.proofs.Turned.{turns-ended, turns-taken, turns-fail, turned-item}
 use Rattle.pj_xeval.proofs.turns.next_turn.Goals as goal

@@ -3,9 +3,9 @@ use Rattle.pj_xvalue.specs.Items.{ItemValue, values_of, IsOfTree}
 use Rattle.pj_xdenotes.specs.Means.{Means}
 use Rattle.pj_xdenotes.specs.Context.{Context}
 use Rattle.pj_xdenotes.specs.Denotes.{denotes}
-use Rattle.pj_xeval.specs.Frames.{over}
-use Rattle.pj_xeval.specs.Going.{GoesIf}
-use Rattle.pj_xeval.specs.Scopes.{variables_of}
+use Rattle.pj_xframes.specs.Frames.{over}
+use Rattle.pj_xframes.specs.Going.{GoesIf}
+use Rattle.pj_xframes.specs.Scopes.{variables_of}
 use Rattle.pj_xeval.proofs.Fronts.{whole}
 use Rattle.pj_xeval.proofs.Kept.{none-of_tree}
 use Rattle.pj_xeval.proofs.Turned.{turns-begin}

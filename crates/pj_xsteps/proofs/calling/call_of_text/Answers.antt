@@ -2,7 +2,7 @@ use Rattle.std.proofs.Common.{sym, subst, List, Result}
 use Rattle.pj_xvalue.specs.declared.fault.XCode.{XCode}
 use Rattle.pj_xvalue.specs.Items.{ItemValue, values_of}
 use Rattle.pj_xvalue.specs.Replies.{outcome}
-use Rattle.pj_xfuncs.specs.Arguments.{IsGiven}
+use Rattle.pj_xvalue.specs.Arguments.{IsGiven}
 use Rattle.pj_xdenotes.specs.Context.{around}
 use Rattle.pj_xsteps.proofs.Values.{of_text-some}
 use Rattle.pj_xsteps.proofs.calling.call_of_text.Goals as goal

@@ -2,7 +2,7 @@ use Rattle.std.proofs.Common.{◌≡◌, ◌++◌, ◌∷◌, [], ◌∙◌, ap,
 use Rattle.pj_xvalue.specs.declared.item.Item.{Item}
 use Rattle.pj_xvalue.specs.Items.{ItemValue, values_of}
 use Rattle.pj_xvalue.specs.OfTree.{OfTree, ArgumentsOfTree}
-use Rattle.pj_xvalue.specs.OfTreeLaws.{arguments-more}
+use Rattle.pj_xvalue.proofs.OfTreeLaws.{arguments-more}
 use Rattle.pj_xdenotes.specs.Context.{around}
 use Rattle.pj_xdenotes.specs.Operands.{with_values}
 use Rattle.pj_xsteps.proofs.OfTree.{arguments-at}

@@ -1,0 +1,4 @@
+pub mod Fronts
+pub mod ListGoals
+pub mod OfTree
+pub mod Scoping

@@ -1,0 +1,20 @@
+use Rattle.std.proofs.Common.{Result, Option, ℤ}
+use Rattle.pj_xvalue.specs.declared.fault.XCode.{XCode}
+use Rattle.pj_xvalue.specs.Items.{values_of}
+use Rattle.pj_xdenotes.specs.Arithmetic.{number_items}
+use Rattle.pj_xdenotes.specs.Context.{around}
+use Rattle.pj_xdenotes.specs.Denotes.{behind, denotes, with_factor}
+use Rattle.pj_xdenotes.specs.Means.{◌>>=◌, chain, give, judged}
+use Rattle.pj_xdenotes.specs.Operands.{operand}
+use Rattle.pj_xdenotes.specs.Parts.{operated_by}
+use Rattle.pj_xframes.specs.Scopes.{variables_of}
+use Rattle.pj_xframes.proofs.ListGoals.{goes-made}
+use Rattle.pj_xframes.proofs.numbers.factors_from.Goals as goal
+
+pub returns-clause-goes : goal.returns-clause-goes
+returns-clause-goes g c = λ reply at s.
+    let a = around c.args.setting.now.tree.now (g.A.Attributes.attribute_of c.args.setting.now.facts.now) (g.A.Attributes.names_of c.args.setting.now.facts.now) c.args.setting.now.patterns.now in
+    goes-made a reply at s at s c.factors.result
+    (λ (made : Result (Option ℤ) XCode). judged made >>= λ first. chain (behind at (variables_of s)) (with_factor a) (operated_by (denotes a reply) c.args.parts.now) first >>= λ all. give (number_items all))
+    (operand a (values_of c.args.value.now)) c.in_ok-factor.factor c.in_ok-factor.ensures
+    (c.factors.ensures.goes a reply at s)

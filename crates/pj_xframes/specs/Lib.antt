@@ -1,0 +1,4 @@
+-- definitions
+pub mod Scopes
+pub mod Frames
+pub mod Going

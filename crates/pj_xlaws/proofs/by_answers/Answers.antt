@@ -1,6 +1,0 @@
-use Rattle.pj_names.specs.MeaningLaws.{agreement}
-use Rattle.pj_xdenotes.specs.Denotes.{denotes}
-use Rattle.pj_xlaws.proofs.by_answers.Goals as goal
-
-pub returns : goal.returns
-returns c a reply e context variables first second = agreement first second (denotes a reply e context variables)
