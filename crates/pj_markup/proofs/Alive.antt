@@ -1,18 +1,18 @@
 -- Each state that the reader comes to is on the way to a document.
-use Rattle.std.proofs.Common.{◌≡◌, ℕ, zero, suc, pred, ◌+◌, ◌*◌, ◌-◌, ◌<◌, ◌≤◌, ◌≢◌, Bool, true, false, not, List, [], ◌∷◌, ◌++◌, length, Option, Some, None, drop, replicate, refl, sym, ◌∙◌, ap, subst, arith, append_assoc, length-append}
+use Rattle.std.proofs.Common.{◌≡◌, ℕ, zero, suc, pred, ◌+◌, ◌*◌, ◌-◌, ◌<◌, ◌≤◌, ◌≢◌, Bool, true, false, not, List, [], ◌∷◌, ◌++◌, length, Some, drop, replicate, refl, sym, ◌∙◌, ap, subst, arith, append_assoc, length-append}
 use Rattle.std.proofs.lemmas.List.{append-nil}
-use Rattle.std.specs.Prelude.{IsTrue, IsFalse, encode_utf8, if◌then◌else◌, ◌==◌, ◌&&◌, ◌||◌, nat_le, nat_eq}
+use Rattle.std.specs.Prelude.{IsTrue, encode_utf8, if◌then◌else◌, ◌==◌, ◌&&◌, ◌||◌, nat_le, nat_eq}
 use Rattle.std.specs.Str.{encode_utf8_all}
-use Rattle.std.specs.Cmp.Lexicographic.{pointwise, unequal}
+use Rattle.std.specs.Cmp.Lexicographic.{unequal}
 use Rattle.std.proofs.lemmas.Str.{encodes-append}
 use Rattle.std.proofs.lemmas.Bool.{eqb-true, eq-eqb, leb-true, le-leb}
 use Rattle.std.proofs.lemmas.Bool.Decides.{nat_tests}
-use Rattle.pj_markup.specs.Characters.{is_space, starts_name, continues_name, is_quote, base, digit, greatest, is_scalar}
-use Rattle.pj_markup.specs.Elements.{size, Attribute, Row, Open, row_of, opened, with_name, with_attribute, with_character, with_characters, with_child}
+use Rattle.pj_markup.specs.Characters.{greatest, is_scalar}
+use Rattle.pj_markup.specs.Elements.{size, Attribute, Row, Open, row_of, opened, with_attribute, with_character, with_child}
 use Rattle.pj_markup.specs.Markup as m
-use Rattle.pj_markup.specs.Markup.{has_name, begins_with, UpTo, end_of_comment, end_of_instruction, end_of_section}
-use Rattle.pj_markup.specs.States.{Frame, Ground, Outside, Inside, Target, Content, Value, Word, Dashes, OpenSection, Empty, EndName, Entity, Long, InComment, InInstruction, InSection, State, Begin, On, Less, Bang, Letters, Until, TagName, Tag, TagSpace, AttributeName, Equals, Quote, InValue, EndSpace, Reference, ReferenceA, Hash, Digit, Digits, in_element, ended, letters, repeated, times, take_in, take_back, behind_long, close, put, depth, may_start, is_nil, behind_word, spelled, on_letter, step, is_deep, less_of, start_tag, at_end, run, Outcome, Whole, Stops, TooDeep}
-use Rattle.pj_markup.proofs.Complete.{yes, no_, and_no, goes, end_tag, at_less, at_bang, at_dash, word_from, part_word, framed, not_both, attribute_names, no_mark, ends_whole, other}
+use Rattle.pj_markup.specs.Markup.{has_name}
+use Rattle.pj_markup.specs.States.{Frame, Ground, Outside, Inside, Target, Content, Value, Word, Dashes, OpenSection, Empty, EndName, Entity, Long, InComment, InInstruction, InSection, State, Begin, On, Less, Bang, Letters, Until, TagName, Tag, TagSpace, AttributeName, Equals, Quote, InValue, EndSpace, Reference, ReferenceA, Hash, Digit, Digits, in_element, ended, letters, take_in, take_back, close, put, behind_word, step, is_deep, start_tag, run, Outcome, Whole}
+use Rattle.pj_markup.proofs.Complete.{yes, no_, goes, end_tag, at_less, at_dash, word_from, part_word, framed, not_both, attribute_names, no_mark, ends_whole}
 use Rattle.pj_markup.proofs.Good.{Good}
 
 -- the end tags of an element that is open, and of those around it

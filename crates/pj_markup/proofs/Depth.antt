@@ -1,15 +1,13 @@
 -- No state that the reader comes to is deeper than may be.
-use Rattle.std.proofs.Common.{◌≡◌, ℕ, zero, suc, pred, ◌+◌, ◌*◌, ◌-◌, ◌<◌, ◌≤◌, Bool, true, false, not, List, [], ◌∷◌, ◌++◌, length, Option, Some, None, refl, sym, ◌∙◌, ap, subst, arith}
-use Rattle.std.specs.Prelude.{IsTrue, IsFalse, encode_utf8, if◌then◌else◌, ◌==◌, ◌&&◌, nat_le, slice_get}
+use Rattle.std.proofs.Common.{◌≡◌, ℕ, zero, suc, ◌+◌, ◌*◌, ◌≤◌, Bool, true, false, List, [], ◌∷◌, length, Option, Some, None, refl, sym, ◌∙◌, subst, arith}
+use Rattle.std.specs.Prelude.{if◌then◌else◌, ◌==◌, ◌&&◌, nat_le, slice_get}
 use Rattle.std.specs.Str.{encode_utf8_all}
-use Rattle.std.proofs.lemmas.Bool.{eqb-true, leb-true, le-leb}
-use Rattle.std.proofs.lemmas.Bool.Decides.{nat_tests}
-use Rattle.std.proofs.lemmas.Option.{slice_get_within}
-use Rattle.pj_markup.specs.Characters.{is_between, is_space, starts_name, continues_name, is_quote, base, digit, greatest, is_scalar}
+use Rattle.std.proofs.lemmas.Bool.{leb-true}
+use Rattle.pj_markup.specs.Characters.{is_space, starts_name, continues_name, is_quote, base, digit, greatest, is_scalar}
 use Rattle.pj_markup.specs.Elements.{Row, Open, with_character}
 use Rattle.pj_markup.specs.Markup.{has_name}
-use Rattle.pj_markup.specs.States.{Frame, Ground, Outside, Inside, Target, Content, Value, Word, Dashes, OpenSection, Empty, EndName, Entity, Long, InComment, InInstruction, InSection, State, Begin, On, Less, Bang, Letters, Until, TagName, Tag, TagSpace, AttributeName, Equals, Quote, InValue, EndSpace, Reference, ReferenceA, Hash, Digit, Digits, in_element, ended, depth, is_deep, letters, repeated, times, take_in, take_back, behind_long, close, put, may_start, behind_word, spelled, on_ground, on_less, on_slash, on_bang, on_letter, on_long, on_tag, on_equals, on_reference, on_reference_a, first_digit, next_digit, step, start_tag}
-use Rattle.pj_markup.proofs.Sound.{and_both, not_deep}
+use Rattle.pj_markup.specs.States.{Frame, Ground, Outside, Inside, Target, Content, Value, Word, Dashes, OpenSection, Empty, EndName, Entity, Long, InComment, InInstruction, InSection, State, Begin, On, Less, Bang, Letters, Until, TagName, Tag, TagSpace, AttributeName, Equals, Quote, InValue, EndSpace, Reference, ReferenceA, Hash, Digit, Digits, in_element, ended, depth, is_deep, letters, repeated, times, take_in, take_back, behind_long, put, may_start, behind_word, spelled, on_ground, on_less, on_slash, on_bang, on_letter, on_long, on_tag, on_equals, on_reference, on_reference_a, first_digit, next_digit, step, start_tag}
+use Rattle.pj_markup.proofs.Sound.{not_deep}
 
 abbrev pub ground_depth : Ground → ℕ
 ground_depth (Outside rows) = 0

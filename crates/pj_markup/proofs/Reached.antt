@@ -1,6 +1,6 @@
 -- The states that a front of a text leads to, and what follows at its end and at the character behind it.
-use Rattle.std.proofs.Common.{◌≡◌, ℕ, zero, suc, pred, ◌+◌, ◌-◌, ◌<◌, ◌≤◌, ◌⊎◌, inl, inr, max, Bool, true, false, not, List, [], ◌∷◌, ◌++◌, length, Option, Some, None, refl, sym, ◌∙◌, ap, subst, ⊎_elim, arith, append_assoc, length-append}
-use Rattle.std.specs.Prelude.{IsTrue, IsFalse, if◌then◌else◌, ◌&&◌, ◌==◌, nat_le}
+use Rattle.std.proofs.Common.{◌≡◌, ℕ, suc, ◌+◌, ◌-◌, ◌≤◌, max, Bool, true, false, not, List, [], ◌∷◌, ◌++◌, length, Option, Some, None, refl, sym, ◌∙◌, ap, subst, arith, append_assoc, length-append}
+use Rattle.std.specs.Prelude.{if◌then◌else◌, ◌&&◌, ◌==◌, nat_le}
 use Rattle.std.specs.Str.{encode_utf8_all}
 use Rattle.std.proofs.lemmas.List.{append-nil}
 use Rattle.std.proofs.lemmas.Str.{encodes-append}
@@ -9,8 +9,8 @@ use Rattle.pj_markup.specs.Characters.{starts_name}
 use Rattle.pj_markup.specs.Elements.{size, Row}
 use Rattle.pj_markup.specs.Markup as m
 use Rattle.pj_markup.specs.Markup.{Doc, document}
-use Rattle.pj_markup.specs.Faults.{IsMarkup, CanGoOn, CannotFollow, StopsAt, IsTooDeepAt}
-use Rattle.pj_markup.specs.States.{Ground, Outside, Inside, State, Begin, On, Less, Bang, Letters, Until, TagName, Tag, TagSpace, AttributeName, Equals, Quote, InValue, EndSpace, Reference, ReferenceA, Hash, Digit, Digits, depth, may_start, is_nil, step, is_deep, less_of, start_tag, at_end, run, Outcome, Whole, Stops, TooDeep}
+use Rattle.pj_markup.specs.Faults.{CanGoOn, CannotFollow, StopsAt, IsTooDeepAt}
+use Rattle.pj_markup.specs.States.{Ground, Outside, Inside, State, Begin, On, Less, Bang, Letters, Until, TagName, Tag, TagSpace, AttributeName, Equals, Quote, InValue, EndSpace, Reference, ReferenceA, Hash, Digit, Digits, depth, may_start, step, is_deep, less_of, start_tag, at_end, run, Whole, Stops, TooDeep}
 use Rattle.pj_markup.proofs.Residual.{Out, before, after}
 use Rattle.pj_markup.proofs.Sound.{sound, stops, and_both}
 use Rattle.pj_markup.proofs.Complete.{complete, goes, yes, no_, unlike, both_true}

@@ -1,9 +1,9 @@
 -- What is still to come of a document in each state of the reader.
-use Rattle.std.proofs.Common.{◌≡◌, ℕ, suc, pred, ◌+◌, ◌-◌, Bool, false, List, [], ◌∷◌, ◌++◌, length, Option, Some, None, drop, replicate}
+use Rattle.std.proofs.Common.{◌≡◌, ℕ, suc, pred, ◌-◌, false, List, [], ◌∷◌, ◌++◌, length, Option, Some, None, drop, replicate}
 use Rattle.std.specs.Prelude.{IsTrue, IsFalse, nat_le, encode_utf8}
 use Rattle.std.specs.Str.{encode_utf8_all}
-use Rattle.pj_markup.specs.Characters.{is_space, starts_name, continues_name, is_quote, base, digit, greatest, is_scalar}
-use Rattle.pj_markup.specs.Elements.{size, Row, Open, row_of, opened, with_name, with_attribute, with_character, with_child}
+use Rattle.pj_markup.specs.Characters.{is_quote, is_scalar}
+use Rattle.pj_markup.specs.Elements.{size, Row, Open, row_of, with_name, with_attribute, with_character, with_child}
 use Rattle.pj_markup.specs.Markup as m
 use Rattle.pj_markup.specs.Markup.{has_name, UpTo, end_of_comment, end_of_instruction, end_of_section}
 use Rattle.pj_markup.specs.States.{Frame, Ground, Outside, Inside, Target, Content, Value, Word, Dashes, OpenSection, Empty, EndName, Entity, Long, InComment, InInstruction, InSection, State, Begin, On, Less, Bang, Letters, Until, TagName, Tag, TagSpace, AttributeName, Equals, Quote, InValue, EndSpace, Reference, ReferenceA, Hash, Digit, Digits, in_element, is_nil, ended, letters, repeated, times, take_in, behind_long}

@@ -1,15 +1,15 @@
 -- What the reader takes for a document is one.
-use Rattle.std.proofs.Common.{◌≡◌, ℕ, zero, suc, pred, ◌+◌, ◌*◌, ◌-◌, ◌≤◌, Bool, true, false, not, List, [], ◌∷◌, ◌++◌, length, Option, Some, None, drop, replicate, refl, sym, ◌∙◌, ap, subst, ⊎_elim, arith}
-use Rattle.std.specs.Prelude.{IsTrue, IsFalse, encode_utf8, if◌then◌else◌, ◌==◌, ◌&&◌, nat_le, slice_get}
+use Rattle.std.proofs.Common.{◌≡◌, ℕ, zero, suc, pred, ◌+◌, ◌*◌, ◌-◌, ◌≤◌, Bool, true, false, not, List, [], ◌∷◌, ◌++◌, length, Option, Some, None, drop, replicate, refl, sym, ◌∙◌, ap, subst, arith}
+use Rattle.std.specs.Prelude.{IsTrue, IsFalse, if◌then◌else◌, ◌==◌, ◌&&◌, nat_le, slice_get}
 use Rattle.std.specs.Str.{encode_utf8_all}
 use Rattle.std.proofs.lemmas.Bool.{eqb-true, leb-true}
 use Rattle.std.proofs.lemmas.Bool.Decides.{nat_tests}
 use Rattle.std.proofs.Math.ListN.{drop_of_length-le}
 use Rattle.pj_markup.specs.Characters.{is_space, starts_name, continues_name, is_quote, base, digit, greatest, is_scalar}
-use Rattle.pj_markup.specs.Elements.{size, Row, Open, row_of, opened, with_name, with_attribute, with_character, with_characters, with_child}
+use Rattle.pj_markup.specs.Elements.{size, Row, Open, row_of, opened, with_character, with_characters, with_child}
 use Rattle.pj_markup.specs.Markup as m
-use Rattle.pj_markup.specs.Markup.{has_name, begins_with, UpTo, end_of_comment, end_of_instruction, end_of_section}
-use Rattle.pj_markup.specs.States.{Frame, Ground, Outside, Inside, Target, Content, Value, Word, Dashes, OpenSection, Empty, EndName, Entity, Long, InComment, InInstruction, InSection, State, Begin, On, Less, Bang, Letters, Until, TagName, Tag, TagSpace, AttributeName, Equals, Quote, InValue, EndSpace, Reference, ReferenceA, Hash, Digit, Digits, in_element, ended, letters, repeated, times, take_in, take_back, behind_long, close, put, depth, may_start, is_nil, behind_word, on_ground, on_less, on_slash, on_bang, on_letter, on_long, on_tag, on_equals, entity, on_reference, on_reference_a, first_digit, next_digit, step, is_deep, less_of, start_tag, at_end, run, Outcome, Whole, Stops, TooDeep}
+use Rattle.pj_markup.specs.Markup.{has_name, UpTo}
+use Rattle.pj_markup.specs.States.{Frame, Ground, Outside, Inside, Target, Content, Value, Word, Dashes, OpenSection, Empty, EndName, Entity, Long, InComment, InInstruction, InSection, State, Begin, On, Less, Bang, Letters, Until, TagName, Tag, TagSpace, AttributeName, Equals, Quote, InValue, EndSpace, Reference, ReferenceA, Hash, Digit, Digits, in_element, ended, letters, repeated, times, take_in, take_back, behind_long, put, depth, may_start, is_nil, behind_word, on_ground, on_less, on_slash, on_bang, on_letter, on_long, on_tag, on_equals, on_reference, on_reference_a, first_digit, next_digit, step, is_deep, less_of, start_tag, at_end, run, Outcome, Whole, Stops, TooDeep}
 use Rattle.pj_markup.proofs.Residual.{sign, take_all, Closing, root, outer, In, within, Out, before, after, OnGround, TagEnd, empty, full, InTag, BehindSpace, done, attribute, AtValue, AtQuote, AtEquals, AtEndSpace, Puts, AtLong, BehindWord, ToCome, Goes}
 
 -- what a reference goes into, before it

@@ -11,11 +11,11 @@
 --     Ref = '&lt;' / '&gt;' / '&amp;' / '&quot;' / '&apos;' / '&#' decimal digits ';' / '&#x' hexadecimal digits ';'
 --
 -- A text is the list of its characters. Each relation `X .. text .. behind` says that the text begins with an X, behind which the rest stands.
-use Rattle.std.specs.Prelude.{◌≡◌, ℕ, suc, pred, ◌+◌, ◌*◌, ◌-◌, Bool, true, false, ◌==◌, ◌&&◌, ◌||◌, nat_eq, nat_le, IsTrue, IsFalse, List, [], ◌∷◌, ◌++◌, length, Some, encode_utf8}
+use Rattle.std.specs.Prelude.{◌≡◌, ℕ, suc, pred, ◌+◌, ◌*◌, ◌-◌, Bool, true, false, ◌==◌, ◌&&◌, nat_le, IsTrue, IsFalse, List, [], ◌∷◌, ◌++◌, length, Some, encode_utf8}
 use Rattle.std.specs.Str.{encode_utf8_all}
 use Rattle.pj_markup.specs.Characters.{is_space, starts_name, continues_name, is_quote, base, digit, greatest, is_scalar}
 pub use Rattle.pj_markup.specs.Names.{has_name}
-use Rattle.pj_markup.specs.Elements.{size, Attribute, Row, Open, row_of, opened, with_attribute, with_character, with_characters, with_child}
+use Rattle.pj_markup.specs.Elements.{size, Row, Open, row_of, opened, with_attribute, with_character, with_characters, with_child}
 
 -- S*
 pub data Spaces : List ℕ → List ℕ → Type 0 where

@@ -10,7 +10,7 @@ use std::marker::Model;
 /// The open elements around the one that is read. Clauses see the innermost first.
 #[derive(Drop)]
 pub struct Around {
-    // the innermost one stands last
+    /// The innermost one stands last.
     elements: ListOf<Open>,
 }
 

@@ -49,6 +49,7 @@ impl Markup {
         self.root
     }
 
+    /// The row of an element, where it is one of this text.
     fn row(&self, element: Element) -> Option<&Row>
         ensures { option_copied result ≡ slice_get self.now element.number }
     {

@@ -1,12 +1,12 @@
 -- Texts with the same message, query and other properties have the same expressions.
-use Rattle.std.proofs.Common.{◌≡◌, Bool, true, ◌&&◌, List, [], ◌∷◌, Option, Some, None, refl, sym, ap, ap₂, ◌∙◌, subst, true≢false}
+use Rattle.std.proofs.Common.{◌≡◌, true, ◌&&◌, List, [], ◌∷◌, Option, Some, None, refl, sym, ap, ap₂, ◌∙◌, subst, true≢false}
 use Rattle.std.specs.Cmp.Lexicographic.{pointwise, same_text}
 use Rattle.std.proofs.lemmas.Bool.{and_parts}
 use Rattle.pj_rule_rows.specs.declared.rule_row.RuleRow.{RuleRow}
 use Rattle.pj_rule_texts.specs.Values.{Text, is_same}
 use Rattle.pj_rule_texts.specs.declared.properties.Property.{Property}
 use Rattle.pj_rule_texts.specs.declared.rule.RuleTexts.{RuleTexts}
-use Rattle.pj_rule_expressions.specs.Expressions.{AreOf, Both, IsKept, IsSound}
+use Rattle.pj_rule_expressions.specs.Expressions.{Both, IsKept}
 use Rattle.pj_rule_expressions.specs.Patterns.{is_covered_by, suppressing_regex_of, suppression_of}
 use Rattle.pj_rule_expressions.specs.Usable.{IsUsable, have_same_sources, is_same_property}
 use Rattle.pj_rule_expressions.specs.declared.expressions.RuleExpressions.{RuleExpressions}

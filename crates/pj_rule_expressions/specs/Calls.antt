@@ -2,9 +2,9 @@
 use Rattle.std.specs.Prelude.{◌≡◌, ℕ, Bool, true, false, ◌&&◌, List, [], ◌∷◌, Option, Some, None, if◌then◌else◌}
 use Rattle.std.specs.Str.{encode_utf8_all}
 use denote.Bor.{Bor}
-use Rattle.pj_xmeaning.specs.Names.{callee_of}
-use Rattle.pj_xmeaning.specs.declared.name.Callee.{Callee}
-use Rattle.pj_xmeaning.specs.declared.name.Callee.TheVariants.{Pmd}
+use Rattle.pj_xvalue.specs.Names.{callee_of}
+use Rattle.pj_xvalue.specs.declared.name.Callee.{Callee}
+use Rattle.pj_xvalue.specs.declared.name.Callee.TheVariants.{Pmd}
 use Rattle.pj_xtokens.specs.Size.{size}
 use Rattle.pj_xtokens.specs.Tokens.{Lexed, Tokens}
 use Rattle.pj_xtokens.specs.declared.token.End.{End}

@@ -5,6 +5,6 @@ pub mod Faults
 pub mod Patterns
 -- laws
 pub mod Laws
--- private clauses alone cite these
+-- for private clauses
 pub mod Refusals
 pub mod Usable

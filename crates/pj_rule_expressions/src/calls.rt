@@ -7,9 +7,9 @@ ghost use Rattle.pj_rule_expressions.specs.Faults.{IsCallFault};
 ghost use Rattle.pj_xtokens.specs.Answer.{lexed_of};
 
 use pj_base::Text;
-use pj_xmeaning::{Callee, function_named};
 use pj_xparse::XSyntax;
 use pj_xtokens::{Sign, Token, TokenKind, tokens};
+use pj_xvalue::{Callee, function_named};
 use std::alloc::Global;
 
 /// Whether it is a function of PMD.

@@ -14,7 +14,7 @@ use crate::patterns::{is_covered_by, judge_properties, value_of};
 use crate::spelled::Spelled;
 use pj_base::{Copied, Names, NoMemory, Text};
 use pj_rule_texts::{RuleTexts, variables_of};
-use pj_xparse::parse;
+use pj_xparse::{Parser, parse_with};
 use pj_xpatterns::{PatternFault, Patterns};
 use pj_xvalue::{BoundVars, Expr, Sequence};
 use std::alloc::Global;
@@ -44,11 +44,16 @@ fn names_of(alloc: Global, variables: &[(Text, Sequence<'static>)]) -> Result<Na
 }
 
 /// The expression that a text spells, where it calls no function of PMD. A fault of the expression goes before each call.
-fn parsed(alloc: Global, text: &str, names: &Names) -> Result<Expr, ExpressionFault>
+fn parsed(
+    alloc: Global,
+    parser: &Parser,
+    text: &str,
+    names: &Names,
+) -> Result<Expr, ExpressionFault>
     ensures value { IfOk result (IsParsed names.now text.now) }
     ensures fault { IfErr result (IsParseFault names.now text.now) }
 {
-    let expr = parse(alloc, text, names)?;
+    let expr = parse_with(alloc, parser, text, names)?;
     judge_calls(alloc, text)?;
     Ok(expr)
 }
@@ -56,6 +61,7 @@ fn parsed(alloc: Global, text: &str, names: &Names) -> Result<Expr, ExpressionFa
 /// The expression that a text spells, where there is one.
 fn parsed_some(
     alloc: Global,
+    parser: &Parser,
     text: Option<&Text>,
     names: &Names,
 ) -> Result<Option<Expr>, ExpressionFault>
@@ -64,7 +70,7 @@ fn parsed_some(
 {
     match text {
         None => Ok(None),
-        Some(text) => Ok(Some(parsed(alloc, text.as_str(), names)?)),
+        Some(text) => Ok(Some(parsed(alloc, parser, text.as_str(), names)?)),
     }
 }
 
@@ -130,16 +136,20 @@ fn kept(
 
 /// The expressions that the rule's texts spell, with its variables and patterns, or why they spell none: the fault of `xpath`, or
 /// else of `violationSuppressXPath`, or else that a pattern is none.
-pub fn expressions_of(alloc: Global, texts: &RuleTexts) -> Result<RuleExpressions, ExpressionFault>
+pub fn expressions_of(
+    alloc: Global,
+    parser: &Parser,
+    texts: &RuleTexts,
+) -> Result<RuleExpressions, ExpressionFault>
     ensures value { IfOk result (AreOf texts.now) }
     ensures sound { OnOk result (IsSound texts.now) }
     ensures fault { IfErr result (IsFault texts.now) }
 {
     let variables = variables_of(alloc, texts.properties.as_slice())?;
     let names = names_of(alloc, variables.as_slice())?;
-    let query = parsed(alloc, texts.xpath.as_str(), &names)?;
+    let query = parsed(alloc, parser, texts.xpath.as_str(), &names)?;
     let text = value_of(texts.properties.as_slice(), "violationSuppressXPath");
-    let suppression = parsed_some(alloc, text, &names)?;
+    let suppression = parsed_some(alloc, parser, text, &names)?;
     let kept = kept(alloc, texts, query, suppression, variables)?;
     Ok(kept)
 }

@@ -2,6 +2,7 @@
 ghost use Rattle.pj_rule_expressions.specs.Laws.{OneFault, SoundOrFault};
 
 use pj_xparse::{one_answer, one_expression};
+use pj_xtokens::tokens_are_one;
 use pj_xtrees::trees_tell_expressions;
 
 /// Texts of a rule that can be used have no fault.
@@ -10,6 +11,7 @@ pub fn sound_or_fault()
 {
     one_expression();
     one_answer();
+    tokens_are_one();
     trees_tell_expressions();
 }
 
@@ -18,4 +20,5 @@ pub fn one_fault()
     ensures { OneFault }
 {
     one_answer();
+    tokens_are_one();
 }

@@ -9,6 +9,7 @@ use crate::expressions::{RuleExpressions, expressions_of};
 use crate::fault::ExpressionFault;
 use pj_base::{Copied, NoMemory};
 use pj_rule_texts::RuleTexts;
+use pj_xparse::Parser;
 use std::alloc::Global;
 use std::marker::Model;
 use std::sync::Arc;
@@ -52,12 +53,16 @@ fn have_same_sources(one: &RuleTexts, other: &RuleTexts) -> bool
 
 impl UsableRule {
     /// The rule of these texts, or the first fault of their expressions. These are compiled here, and nowhere again.
-    pub fn of(alloc: Global, texts: RuleTexts) -> Result<UsableRule, ExpressionFault>
+    pub fn of(
+        alloc: Global,
+        parser: &Parser,
+        texts: RuleTexts,
+    ) -> Result<UsableRule, ExpressionFault>
         ensures value { IfOk result (λ rule. rule ≡ texts) }
         ensures sound { OnOk result (IsSound texts) }
         ensures fault { IfErr result (IsFault texts) }
     {
-        let expressions = expressions_of(alloc, &texts)?;
+        let expressions = expressions_of(alloc, parser, &texts)?;
         let rule = UsableRule::with(alloc, texts, expressions)?;
         Ok(rule)
     }
@@ -87,13 +92,18 @@ impl UsableRule {
 
     /// The rule of these texts in the place of this rule, or the first fault of their expressions. Where message, query and other
     /// properties are the same, nothing is compiled: it shares the expressions of this rule.
-    pub fn changed(&self, alloc: Global, texts: RuleTexts) -> Result<UsableRule, ExpressionFault>
+    pub fn changed(
+        &self,
+        alloc: Global,
+        parser: &Parser,
+        texts: RuleTexts,
+    ) -> Result<UsableRule, ExpressionFault>
         ensures value { IfOk result (λ rule. rule ≡ texts) }
         ensures sound { OnOk result (IsSound texts) }
         ensures fault { IfErr result (IsFault texts) }
     {
         if !have_same_sources(&self.texts, &texts) {
-            return UsableRule::of(alloc, texts);
+            return UsableRule::of(alloc, parser, texts);
         }
         let rule = self.with_same(texts)?;
         Ok(rule)

@@ -1,7 +1,7 @@
 -- From a reading to what the files say of it.
-use Rattle.std.proofs.Common.{◌≡◌, ℕ, ◌<◌, ◌≤◌, Bool, true, false, cond, ltb, List, length, Option, Some, None, Result, Ok, Err, refl, sym, ap, ◌∙◌, subst, IfSome, IfErr, IfOk, MatchResult}
+use Rattle.std.proofs.Common.{◌≡◌, ℕ, ◌≤◌, Bool, true, false, cond, ltb, List, length, Option, Some, None, Result, Ok, Err, refl, sym, ap, ◌∙◌, subst, IfSome, IfErr}
 use Rattle.std.specs.Str.{IsUtf8, chars}
-use Rattle.std.proofs.lemmas.Bool.{ltb-true, ltb-false, cases_Bool}
+use Rattle.std.proofs.lemmas.Bool.{ltb-true, ltb-false}
 use Rattle.pj_markup.specs.Depth.{greatest_depth}
 use Rattle.pj_markup.specs.Faults as markup
 use Rattle.pj_markup.specs.Markup.{Doc}
@@ -12,10 +12,10 @@ use Rattle.pj_markup.specs.declared.reading.MarkupFault.TheVariants as none
 use Rattle.pj_outside.specs.Files.{Files, bytes_at, read_at, reading_of}
 use Rattle.pj_outside.specs.declared.refused.Reading.{Reading}
 use Rattle.pj_outside.specs.declared.refused.Reading.TheVariants.{Absent, Longer, Whole}
-use Rattle.pj_rule_files.specs.Files.{AreFault, AreRuleset, GivesRead, IfFault, IfUnread, IsRead, IsRootFault, IsTextFault, IsUnreadable, greatest_size, is_there, refused_of}
+use Rattle.pj_rule_files.specs.Files.{AreFault, GivesRead, IfFault, IfUnread, IsRootFault, IsTextFault, IsUnreadable, greatest_size, is_there, refused_of}
 use Rattle.pj_rule_files.specs.Readings.{Gives, Refuses, unread_of}
 use Rattle.pj_rule_files.specs.declared.fault.FileFault.{FileFault}
-use Rattle.pj_rule_files.specs.declared.fault.FileFault.TheVariants.{Markup, TooLong}
+use Rattle.pj_rule_files.specs.declared.fault.FileFault.TheVariants.{TooLong}
 use Rattle.pj_rule_files.specs.declared.fault.Unread.{Unread}
 use Rattle.pj_rule_files.specs.declared.fault.Unread.TheVariants.{Fault, Memory}
 use Rattle.pj_rule_texts.specs.declared.written.WrittenRuleset.{WrittenRuleset}

@@ -1,5 +1,5 @@
 -- definitions
 pub mod Files
--- private clauses alone cite these
+-- for private clauses
 pub mod Readings
 pub mod Refusals

@@ -15,6 +15,7 @@ use std::alloc::Global;
 /// The greatest number of bytes of a ruleset.
 const GREATEST_SIZE: u64 = 1_048_576;
 
+/// What is written in a file of this markup.
 fn of_markup(alloc: Global, markup: &Markup) -> Result<WrittenRuleset, Unread>
     ensures value { IfOk result (λ written. written_ruleset markup.now ≡ Some written) }
     ensures fault { IfErr result (IfUnread (IsRootFault markup.now)) }
@@ -25,6 +26,7 @@ fn of_markup(alloc: Global, markup: &Markup) -> Result<WrittenRuleset, Unread>
     }
 }
 
+/// The fault of a file whose text is no markup.
 fn unread_of(fault: MarkupFault) -> Unread
     ensures { result ≡ unread_of fault }
 {
@@ -35,6 +37,7 @@ fn unread_of(fault: MarkupFault) -> Unread
     }
 }
 
+/// What is written in a file of this text.
 fn of_text(alloc: Global, text: &str) -> Result<WrittenRuleset, Unread>
     requires { length text.now < 2 ^ 32 }
     ensures value { IfOk result (IsRuleset (chars text.now)) }
@@ -46,6 +49,7 @@ fn of_text(alloc: Global, text: &str) -> Result<WrittenRuleset, Unread>
     }
 }
 
+/// What is written in a file of these bytes.
 fn of_bytes(alloc: Global, bytes: &[u8]) -> Result<WrittenRuleset, Unread>
     requires { length bytes.now ≤ greatest_size }
     ensures value { IfOk result (AreRuleset bytes.now) }
@@ -57,6 +61,7 @@ fn of_bytes(alloc: Global, bytes: &[u8]) -> Result<WrittenRuleset, Unread>
     }
 }
 
+/// What is written in a file that was read so.
 fn of_reading(alloc: Global, reading: Reading) -> Result<Option<WrittenRuleset>, Unread>
     requires { IsAtMost greatest_size reading }
     ensures value { IfOk result (Gives reading) }
@@ -72,6 +77,7 @@ fn of_reading(alloc: Global, reading: Reading) -> Result<Option<WrittenRuleset>,
     }
 }
 
+/// The refusal of a file that is not read.
 fn refused_of(fault: Unread) -> FileRefused
     ensures { result ≡ refused_of fault }
 {

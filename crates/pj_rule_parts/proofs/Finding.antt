@@ -5,7 +5,7 @@ use Rattle.std.specs.Borrow.{Bor}
 use Rattle.std.specs.Option.{option_copied}
 use Rattle.pj_outside.specs.Files.{Files}
 use Rattle.pj_rule_files.specs.Files as files
-use Rattle.pj_rule_files.specs.Files.{GivesRead, IsRead, IsUnreadable, is_there}
+use Rattle.pj_rule_files.specs.Files.{IsRead, IsUnreadable, is_there}
 use Rattle.pj_rule_files.specs.declared.fault.FileRefused.{FileRefused}
 use Rattle.pj_rule_files.specs.declared.fault.FileRefused.TheVariants as file_refused
 use Rattle.pj_rule_parts.specs.Lists.{Taken, is_among}

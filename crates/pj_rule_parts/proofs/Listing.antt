@@ -1,10 +1,10 @@
 -- Lists of rules, one member further.
-use Rattle.std.proofs.Common.{◌≡◌, ℕ, ◌+◌, ◌<◌, ◌≤◌, Bool, true, false, not, cond, List, [], ◌∷◌, ◌++◌, length, take, drop, get_or, filter, Option, Some, None, refl, sym, ap, ◌∙◌}
-use Rattle.std.proofs.lemmas.List.{at_drop_more, drop_all, take_more}
+use Rattle.std.proofs.Common.{◌≡◌, ℕ, ◌+◌, ◌<◌, Bool, true, false, cond, List, [], ◌∷◌, length, drop, get_or, Some, refl, sym, ap, ◌∙◌}
+use Rattle.std.proofs.lemmas.List.{at_drop_more}
 use Rattle.indexmap.specs.IndexMap.{insert_entry}
 use Rattle.pj_rule_parts.specs.declared.entry.Entry.{Entry}
 use Rattle.pj_rule_parts.specs.declared.entry.Origin.{Origin}
-use Rattle.pj_rule_parts.specs.Lists.{Taken, same_origin, is_among, is_called, is_excluded, name_of, named, put, put_all, without}
+use Rattle.pj_rule_parts.specs.Lists.{Taken, same_origin, is_called, is_excluded, name_of, named, put, put_all, without}
 use Rattle.pj_rule_parts.specs.Taking.{put_unless}
 
 -- ---- the first rule of a name

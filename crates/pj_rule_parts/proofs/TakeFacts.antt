@@ -4,21 +4,16 @@ use Rattle.pj_outside.specs.Files.{Files}
 use Rattle.pj_rule_parts.specs.Lists.{Taken, is_among, named, not_available, referred_in, without}
 use Rattle.pj_rule_parts.specs.declared.entry.Entry.{Entry}
 use Rattle.pj_rule_parts.specs.declared.entry.Entry.TheVariants as entry
-use Rattle.pj_rule_parts.specs.declared.entry.Origin.{Origin}
-use Rattle.pj_rule_texts.specs.References.{Meant, WholeFile, OneRule, is_from_elsewhere, reference_of}
+use Rattle.pj_rule_texts.specs.References.{WholeFile, OneRule, is_from_elsewhere, reference_of}
 use Rattle.pj_rule_texts.specs.Values.{Text}
 use Rattle.pj_rule_texts.specs.declared.written.Part.TheVariants as part
 use Rattle.pj_rule_texts.specs.declared.written.WrittenRule.{WrittenRule}
 use Rattle.pj_rule_parts.specs.Effective.{Adds, HasRules, PartFault, RefersTo, with_list, with_taken}
-use Rattle.pj_rule_parts.specs.Finding.{IsBefore}
-use Rattle.pj_rule_parts.specs.Known.{AreRead, list_at}
-use Rattle.pj_rule_parts.specs.LookUp.{look_up}
-use Rattle.pj_rule_parts.specs.Referring.{CannotChangeEntry, ChangesEntry, IsNoForm, IsNothingFault, IsTakenFault, Leads, LeadsBy, LeadsNowhere, meant, meant_by, name_behind}
+use Rattle.pj_rule_parts.specs.Referring.{CannotChangeEntry, ChangesEntry, IsNoForm, Leads, LeadsBy, LeadsNowhere, meant, name_behind}
 use Rattle.pj_rule_parts.specs.declared.fault.RuleFault.{RuleFault}
 use Rattle.pj_rule_parts.specs.declared.fault.RuleWhat.TheVariants.{MissingRef, RefCycle}
 use Rattle.pj_rule_parts.specs.declared.progress.Progress.{Progress}
 use Rattle.pj_rule_parts.specs.declared.referral.Referral.{Referral}
-use Rattle.pj_rule_parts.specs.declared.referral.Target.{Target}
 use Rattle.pj_rule_parts.proofs.Refusing.{same_fault}
 
 -- the file that a reference names

@@ -1,5 +1,5 @@
 -- The rules of ruleset files, with references replaced by the rules that they name, and the first fault in the order of reading.
-use Rattle.std.specs.Prelude.{⊤, ◌≡◌, ℕ, Bool, true, false, List, [], ◌∷◌, ◌++◌, Option, Some, None, Result, Ok, Err, unwrap_or}
+use Rattle.std.specs.Prelude.{⊤, ◌≡◌, Bool, true, false, List, [], ◌∷◌, ◌++◌, Option, Some, None, Ok, Err, unwrap_or}
 use Rattle.std.specs.List.{flat_map}
 use Rattle.pj_outside.specs.Files.{Files}
 use Rattle.pj_rule_expressions.specs.Expressions.{IsSound}

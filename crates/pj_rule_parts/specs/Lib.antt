@@ -7,6 +7,6 @@ pub mod Finding
 pub mod Referring
 pub mod Refusals
 pub mod Counts
--- private clauses alone cite these
+-- for private clauses
 pub mod Defining
 pub mod Taking

@@ -1,9 +1,7 @@
 -- The lists of rules that files make.
-use Rattle.std.specs.Prelude.{ℕ, Bool, true, false, not, ◌&&◌, List, [], ◌∷◌, Option, Some, None, filter, fold, codes, if◌then◌else◌}
+use Rattle.std.specs.Prelude.{Bool, true, false, not, ◌&&◌, List, [], ◌∷◌, Option, Some, None, filter, codes, if◌then◌else◌}
 use Rattle.std.specs.List.{list_any}
-use Rattle.pj_rule_rows.specs.declared.rule_row.ConfigError.{ConfigError}
 use Rattle.pj_rule_texts.specs.Values.{Text, is_same}
-use Rattle.pj_rule_texts.specs.declared.rule.RuleTexts.{RuleTexts}
 use Rattle.pj_rule_parts.specs.declared.entry.Origin.{Origin}
 use Rattle.pj_rule_parts.specs.declared.entry.Unusable.{Unusable}
 use Rattle.pj_rule_parts.specs.declared.entry.Entry.{Entry}

@@ -1,5 +1,5 @@
 -- What references take, or why they take nothing.
-use Rattle.std.specs.Prelude.{⊤, ◌≡◌, Bool, List, Option, Some, None, unwrap_or}
+use Rattle.std.specs.Prelude.{◌≡◌, Bool, List, Option, Some, None, unwrap_or}
 use Rattle.pj_outside.specs.Files.{Files}
 use Rattle.pj_rule_parts.specs.Lists.{Taken}
 use Rattle.pj_rule_parts.specs.declared.entry.Entry.{Entry}

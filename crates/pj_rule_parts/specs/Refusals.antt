@@ -1,7 +1,5 @@
 -- What refusals become, and what they say.
 use Rattle.std.specs.Prelude.{⊤, ◌≡◌, Some}
-use Rattle.pj_outside.specs.declared.refused.Refused.{Refused}
-use Rattle.pj_outside.specs.declared.refused.Refused.TheVariants as tree
 use Rattle.pj_rule_expressions.specs.Faults as expressions
 use Rattle.pj_rule_expressions.specs.declared.fault.ExpressionFault.{ExpressionFault}
 use Rattle.pj_rule_files.specs.declared.fault.FileRefused.{FileRefused}

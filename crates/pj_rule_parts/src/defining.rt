@@ -16,6 +16,7 @@ use pj_base::{Copied, NoMemory, Text};
 use pj_rule_expressions::{ExpressionFault, UsableRule};
 use pj_rule_rows::ConfigError;
 use pj_rule_texts::{RuleTexts, TextFault, WrittenRule, defined, is_xpath_rule, overridden};
+use pj_xparse::Parser;
 use std::alloc::Global;
 
 /// The refusal of a file with this fault.
@@ -52,13 +53,18 @@ fn refused_expressions(path: &Text, name: Text, fault: ExpressionFault) -> RuleR
 }
 
 /// The rule of these texts, or its refusal where they make no rule that can be used.
-fn usable(alloc: Global, path: &Text, texts: RuleTexts) -> Result<UsableRule, RuleRefused>
+fn usable(
+    alloc: Global,
+    parser: &Parser,
+    path: &Text,
+    texts: RuleTexts,
+) -> Result<UsableRule, RuleRefused>
     ensures value { IfOk result (λ rule. rule ≡ texts) }
     ensures sound { OnOk result (IsSound texts) }
     ensures fault { IfErr result (IfOwn (λ refusal. (refusal.path ≡ path.now) × IsUnsound texts refusal.what)) }
 {
     let name = texts.row.name.copied()?;
-    match UsableRule::of(alloc, texts) {
+    match UsableRule::of(alloc, parser, texts) {
         Ok(rule) => Ok(rule),
         Err(fault) => Err(refused_expressions(path, name, fault)),
     }
@@ -67,6 +73,7 @@ fn usable(alloc: Global, path: &Text, texts: RuleTexts) -> Result<UsableRule, Ru
 /// The rule of these texts in the place of another, or its refusal where they make no rule that can be used.
 fn usable_after(
     alloc: Global,
+    parser: &Parser,
     path: &Text,
     old: &UsableRule,
     texts: RuleTexts,
@@ -76,7 +83,7 @@ fn usable_after(
     ensures fault { IfErr result (IfOwn (λ refusal. (refusal.path ≡ path.now) × IsUnsound texts refusal.what)) }
 {
     let name = texts.row.name.copied()?;
-    match old.changed(alloc, texts) {
+    match old.changed(alloc, parser, texts) {
         Ok(rule) => Ok(rule),
         Err(fault) => Err(refused_expressions(path, name, fault)),
     }
@@ -85,6 +92,7 @@ fn usable_after(
 /// The rule of a name that an element defines.
 fn defined_rule(
     alloc: Global,
+    parser: &Parser,
     path: &Text,
     rule_set: &Text,
     name: &Text,
@@ -94,7 +102,7 @@ fn defined_rule(
     ensures fault { IfErr result (IfOwn (λ refusal. (refusal.path ≡ path.now) × CannotDefine rule_set.now name.now rule refusal.what)) }
 {
     match defined(alloc, rule_set.copied()?, name.copied()?, rule) {
-        Ok(texts) => usable(alloc, path, texts),
+        Ok(texts) => usable(alloc, parser, path, texts),
         Err(fault) => Err(refused_texts(path, name.copied()?, fault)),
     }
 }
@@ -112,6 +120,7 @@ fn new_name(texts: &RuleTexts, rule: &WrittenRule) -> Result<Text, NoMemory>
 /// The rule that a reference changes.
 pub fn changed_rule(
     alloc: Global,
+    parser: &Parser,
     path: &Text,
     old: &UsableRule,
     rule: WrittenRule,
@@ -122,7 +131,7 @@ pub fn changed_rule(
     let texts = old.texts();
     let name = new_name(texts, &rule)?;
     match overridden(alloc, texts, rule) {
-        Ok(changed) => usable_after(alloc, path, old, changed),
+        Ok(changed) => usable_after(alloc, parser, path, old, changed),
         Err(fault) => Err(refused_texts(path, name, fault)),
     }
 }
@@ -143,6 +152,7 @@ fn not_an_xpath_rule(alloc: Global, name: &Text) -> Result<Entry, NoMemory>
 /// What stands for the rule of a name that an element defines.
 fn defined_entry(
     alloc: Global,
+    parser: &Parser,
     path: &Text,
     rule_set: &Text,
     name: &Text,
@@ -152,7 +162,7 @@ fn defined_entry(
     ensures fault { IfErr result (IfOwn (λ refusal. (refusal.path ≡ path.now) × HasNoEntry rule_set.now name.now rule refusal.what)) }
 {
     if is_xpath_rule(&rule) {
-        let rule = defined_rule(alloc, path, rule_set, name, rule)?;
+        let rule = defined_rule(alloc, parser, path, rule_set, name, rule)?;
         Ok(Entry::Rule(rule))
     } else {
         let entry = not_an_xpath_rule(alloc, name)?;
@@ -163,6 +173,7 @@ fn defined_entry(
 /// Takes a rule of a name that the file of a path and a ruleset defines.
 fn define_named(
     alloc: Global,
+    parser: &Parser,
     path: &Text,
     rule_set: &Text,
     progress: &mut Progress,
@@ -178,7 +189,7 @@ fn define_named(
     if !is_new {
         return Err(refused(path, RuleWhat::SameName(name)));
     }
-    let entry = defined_entry(alloc, path, rule_set, &name, rule)?;
+    let entry = defined_entry(alloc, parser, path, rule_set, &name, rule)?;
     let origin = Origin {
         is_reference: false,
         path: path.copied()?,
@@ -191,6 +202,7 @@ fn define_named(
 /// Takes a rule that the file of a path and a ruleset defines.
 pub fn define(
     alloc: Global,
+    parser: &Parser,
     path: &Text,
     rule_set: &Text,
     progress: &mut Progress,
@@ -202,7 +214,7 @@ pub fn define(
 {
     let name = Copied::copied(&rule.name)?;
     match name {
-        Some(name) => define_named(alloc, path, rule_set, progress, name, rule),
+        Some(name) => define_named(alloc, parser, path, rule_set, progress, name, rule),
         None => Err(refused(path, RuleWhat::NoName(rule.offset))),
     }
 }

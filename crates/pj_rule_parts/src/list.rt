@@ -21,6 +21,7 @@ fn name_of(entry: &Entry) -> Option<&Text>
     }
 }
 
+/// Whether an entry has a name, and it is this one.
 fn is_called(name: &str, entry: &Entry) -> bool
     ensures { result ≡ is_called name.now (name_of entry.now) }
 {
@@ -42,6 +43,7 @@ pub fn named<'a>(name: &str, list: &'a [(Origin, Entry)]) -> Option<&'a (Origin,
     None
 }
 
+/// Whether a text is one of some texts.
 fn is_among(text: &str, texts: &[Text]) -> bool
     ensures { result ≡ is_among text.now texts.now }
 {
@@ -53,6 +55,7 @@ fn is_among(text: &str, texts: &[Text]) -> bool
     false
 }
 
+/// Whether the name of an entry is one of those that are left out.
 fn is_excluded(excludes: &[Text], entry: &Entry) -> bool
     ensures { result ≡ is_excluded excludes.now (name_of entry.now) }
 {

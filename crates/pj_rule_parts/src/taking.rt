@@ -13,6 +13,7 @@ use crate::referral::{Referral, Target};
 use pj_base::{Copied, NoMemory, Text};
 use pj_rule_rows::ConfigError;
 use pj_rule_texts::{WrittenRule, is_from_elsewhere};
+use pj_xparse::Parser;
 use std::alloc::Global;
 
 /// What stands for a reference to a file that is not available.
@@ -31,6 +32,7 @@ pub fn not_available(alloc: Global, name: Option<Text>, reference: Text) -> Resu
 /// The rule that a reference takes, with what the reference changes.
 fn taken_entry(
     alloc: Global,
+    parser: &Parser,
     path: &Text,
     rule: WrittenRule,
     old: &Entry,
@@ -40,7 +42,7 @@ fn taken_entry(
 {
     match old {
         Entry::Rule(old) => {
-            let changed = changed_rule(alloc, path, old, rule)?;
+            let changed = changed_rule(alloc, parser, path, old, rule)?;
             Ok(Entry::Rule(changed))
         }
         Entry::Unusable(unusable) => {
@@ -53,6 +55,7 @@ fn taken_entry(
 /// Takes the rule of a name from the list of another file.
 fn take_one(
     alloc: Global,
+    parser: &Parser,
     path: &Text,
     progress: &mut Progress,
     referral: Referral,
@@ -67,7 +70,7 @@ fn take_one(
         None => Err(refused(path, RuleWhat::MissingRef(referral.reference))),
         Some(old) => {
             let origin = old.0.copied()?;
-            let entry = taken_entry(alloc, path, referral.rule, &old.1)?;
+            let entry = taken_entry(alloc, parser, path, referral.rule, &old.1)?;
             progress.list.put(origin, entry)?;
             Ok(())
         }
@@ -77,6 +80,7 @@ fn take_one(
 /// Takes what a reference takes from the list of the file to which it leads: all rules but those that are excluded, or the one of a name.
 pub fn take(
     alloc: Global,
+    parser: &Parser,
     path: &Text,
     progress: &mut Progress,
     referral: Referral,
@@ -87,7 +91,7 @@ pub fn take(
 {
     let name = Copied::copied(&referral.target.name)?;
     match name {
-        Some(name) => take_one(alloc, path, progress, referral, name, list),
+        Some(name) => take_one(alloc, parser, path, progress, referral, name, list),
         None => {
             put_without(referral.rule.excludes.as_slice(), list, &mut progress.list)?;
             Ok(())

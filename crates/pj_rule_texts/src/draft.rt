@@ -53,6 +53,7 @@ pub fn needs_no_type(name: &str) -> bool
         || is_same_text(name, "version")
 }
 
+/// The draft with this priority, where it has none yet.
 fn first_priority(alloc: Global, mut draft: Draft, text: &str) -> Result<Draft, TextFault>
     ensures { Answers (first_priority draft.priority draft text.now) result }
 {
@@ -68,6 +69,7 @@ fn first_priority(alloc: Global, mut draft: Draft, text: &str) -> Result<Draft, 
     }
 }
 
+/// The draft with a property more, or with another expression where the property is `xpath`.
 fn with_property(mut draft: Draft, property: Property) -> Result<Draft, NoMemory>
     ensures { IfOk result (λ next. next ≡ with_property draft property) }
 {

@@ -6,6 +6,7 @@ use crate::spaces::normalized;
 use pj_base::NoMemory;
 use std::alloc::Global;
 
+/// The priority that a text without white space around it spells.
 fn priority_named(text: &str) -> Option<u8>
     ensures { result ≡ priority_named text.now }
 {

@@ -9,6 +9,7 @@ use pj_base::{ListOf, NoMemory, Text, is_same_text};
 use pj_markup::{Element, Markup};
 use std::alloc::Global;
 
+/// Whether an element has a name.
 fn is_named(markup: &Markup, element: Element, name: &str) -> bool
     ensures { result ≡ is_named name.now (row_at markup.now element.number) }
 {
@@ -27,6 +28,7 @@ fn first_text(markup: &Markup, elements: &[Element], name: &str) -> Result<Optio
     Ok(None)
 }
 
+/// The property that an element writes.
 fn property_of(markup: &Markup, element: Element) -> Result<WrittenProperty, NoMemory>
     ensures { IfOk result (λ property. property ≡ property_of markup.now (row_at markup.now element.number)) }
 {
@@ -82,6 +84,7 @@ fn put_pieces(markup: &Markup, child: Element, pieces: &mut ListOf<Piece>) -> Re
     }
 }
 
+/// The pieces that elements write, in their order.
 fn pieces_of(
     alloc: Global,
     markup: &Markup,
@@ -117,6 +120,7 @@ fn put_exclude(markup: &Markup, child: Element, names: &mut ListOf<Text>) -> Res
     }
 }
 
+/// The names that the elements `exclude` among some write.
 fn excludes_of(
     alloc: Global,
     markup: &Markup,
@@ -131,6 +135,7 @@ fn excludes_of(
     Ok(names)
 }
 
+/// The rule that an element writes.
 fn rule_of(alloc: Global, markup: &Markup, element: Element) -> Result<WrittenRule, NoMemory>
     ensures { IfOk result (λ rule. rule ≡ rule_of markup.now (row_at markup.now element.number)) }
 {
@@ -177,6 +182,7 @@ fn put_part(
     }
 }
 
+/// The parts that elements write, in their order.
 fn parts_of(alloc: Global, markup: &Markup, elements: &[Element]) -> Result<ListOf<Part>, NoMemory>
     ensures { IfOk result (λ parts. parts ≡ filter_map (part_of markup.now) (map (λ e. row_at markup.now e.number) elements.now)) }
 {

@@ -23,6 +23,7 @@ fn around_last_slash(text: &str) -> Option<(&str, &str)>
     text.rsplit_once('/')
 }
 
+/// Whether a text names a file of rules.
 fn is_file(text: &str) -> bool
     ensures { result ≡ is_file text.now }
 {

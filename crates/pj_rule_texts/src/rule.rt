@@ -40,6 +40,7 @@ pub fn is_xpath_rule(rule: &WrittenRule) -> bool
     is_java(&rule.language) && is_xpath_class(&rule.class)
 }
 
+/// Whether a language is Java, as it is where none is named.
 fn is_java(language: &Option<Text>) -> bool
     ensures { result ≡ is_java language.now }
 {
@@ -49,6 +50,7 @@ fn is_java(language: &Option<Text>) -> bool
     }
 }
 
+/// Whether a class is one of those by which rules are written in XPath.
 fn is_xpath_class(class: &Option<Text>) -> bool
     ensures { result ≡ is_xpath_class class.now }
 {

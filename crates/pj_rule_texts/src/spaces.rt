@@ -7,6 +7,7 @@ ghost use Rattle.pj_rule_texts.specs.Spaces.{put_word_character};
 use pj_base::{NoMemory, Text, split_first};
 use std::alloc::Global;
 
+/// Whether a character is white space of markup.
 fn is_space(c: char) -> bool
     ensures { result ≡ is_space c }
 {

@@ -15,6 +15,7 @@ use pj_base::{Copied, Names, NoMemory, Text, split_first};
 use pj_xvalue::{BoundVars, Item, Sequence};
 use std::alloc::Global;
 
+/// The truth value that a text spells.
 fn boolean_of(text: &str) -> Option<bool>
     ensures { result ≡ boolean_of text.now }
 {
@@ -86,6 +87,7 @@ fn integers(alloc: Global, members: &[Text]) -> Result<Option<Sequence<'static>>
     Ok(Some(sequence))
 }
 
+/// The value of a type that a text spells.
 fn value_of_type(
     alloc: Global,
     kind: PropertyType,
@@ -135,6 +137,7 @@ pub fn typed_value(
     }
 }
 
+/// Puts the variable of a property at the end, where it is one.
 fn put_variable(
     alloc: Global,
     property: &Property,

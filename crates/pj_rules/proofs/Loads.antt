@@ -1,17 +1,16 @@
 -- What a load says where a call below it refuses.
-use Rattle.std.proofs.Common.{◌≡◌, ◌≢◌, ℕ, List, map, Option, Result, Ok, Err, IfOk, IfErr, IfSome, refl, sym, subst}
+use Rattle.std.proofs.Common.{◌≡◌, ◌≢◌, ℕ, List, Option, Result, Ok, Err, IfOk, IfSome, refl, sym, subst}
 use Rattle.std.specs.Prelude.{IsErrAnd}
 use Rattle.pj_outside.specs.Files.{Files}
 use Rattle.pj_rule_sets.specs.Rules.{EffectiveRules}
 use Rattle.pj_rule_texts.specs.Values.{Text}
 use Rattle.pj_rules.specs.Gathering.{IsTooMany}
-use Rattle.pj_rules.specs.Load.{AreTops, IsEffective, IsFirstFault, TopRules, effective}
+use Rattle.pj_rules.specs.Load.{AreTops, IsFirstFault, TopRules, effective}
 use Rattle.pj_rule_parts.specs.Counts.{CountsFaults}
 use Rattle.pj_rules.specs.Outcome.{IsRefused}
 use Rattle.pj_rule_parts.specs.Refusals.{IfFault}
 use Rattle.pj_rule_parts.specs.declared.fault.RuleRefused.{RuleRefused}
 use Rattle.pj_rule_parts.specs.declared.fault.RuleRefused.TheVariants.{Rule, TooManyRules, Failed, Memory}
-use Rattle.pj_rule_parts.proofs.Definitions.{handed_on}
 use Rattle.pj_rule_parts.proofs.Told.{all_told}
 
 -- ---- counts of faults

@@ -1,8 +1,9 @@
 -- definitions
 pub mod Load
 pub mod Outcome
+-- laws
 pub mod Laws
--- private clauses alone cite these
+-- for private clauses
 pub mod Gathering
 pub mod Patterns
 pub mod States

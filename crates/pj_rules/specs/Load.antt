@@ -1,10 +1,9 @@
 -- What a load gives: the rules of the files that are named, with their configuration errors, or the first fault in the order of reading.
-use Rattle.std.specs.Prelude.{⊤, ◌≡◌, ℕ, ◌+◌, ◌<◌, Bool, true, false, List, [], ◌∷◌, ◌++◌, length, Option, Some, None, nat_le, if◌then◌else◌}
+use Rattle.std.specs.Prelude.{◌≡◌, ℕ, ◌+◌, ◌<◌, true, false, List, [], ◌∷◌, ◌++◌, length, Option, Some, None, nat_le, if◌then◌else◌}
 use Rattle.std.specs.List.{filter_map, flat_map}
 use Rattle.pj_outside.specs.Files.{Files}
 use Rattle.pj_rule_files.specs.Files.{IsRead, is_there}
 use Rattle.pj_rule_parts.specs.Lists.{Taken, not_available, referred_in}
-use Rattle.pj_rule_parts.specs.declared.entry.Entry.{Entry}
 use Rattle.pj_rule_parts.specs.declared.entry.Entry.TheVariants as entry
 use Rattle.pj_rule_rows.specs.declared.rule_row.ConfigError.{ConfigError}
 use Rattle.pj_rule_texts.specs.References.{is_from_elsewhere}

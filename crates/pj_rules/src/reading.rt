@@ -19,6 +19,7 @@ use pj_rule_parts::{
     referral_of, refused, take, take_nothing,
 };
 use pj_rule_texts::{Part, WrittenRule, WrittenRuleset};
+use pj_xparse::Parser;
 use std::alloc::Global;
 
 /// A file that is being read, and those whose references lead to it.
@@ -53,6 +54,7 @@ pub enum Next {
 /// Takes what a reference takes from a file that was opened before.
 fn take_known(
     alloc: Global,
+    parser: &Parser,
     known: &Known,
     file: &mut OpenFile,
     referral: Referral,
@@ -65,6 +67,7 @@ fn take_known(
         None => Err(refused(&file.path, RuleWhat::RefCycle(referral.reference))),
         Some(list) => take(
             alloc,
+            parser,
             &file.path,
             &mut file.progress,
             referral,
@@ -76,6 +79,7 @@ fn take_known(
 /// Takes a reference, or gives the file that is to be read first.
 fn refer<T: Tree>(
     alloc: Global,
+    parser: &Parser,
     tree: &mut T,
     known: &Known,
     file: &mut OpenFile,
@@ -96,7 +100,7 @@ fn refer<T: Tree>(
             Ok(None)
         }
         Found::Before(other) => {
-            take_known(alloc, known, file, referral, &other)?;
+            take_known(alloc, parser, known, file, referral, &other)?;
             Ok(None)
         }
         Found::New(path, written) => Ok(Some(Opening {
@@ -110,6 +114,7 @@ fn refer<T: Tree>(
 /// Takes an element `rule`, or gives the file that is to be read first.
 fn take_rule<T: Tree>(
     alloc: Global,
+    parser: &Parser,
     tree: &mut T,
     known: &Known,
     file: &mut OpenFile,
@@ -123,9 +128,16 @@ fn take_rule<T: Tree>(
 {
     let reference = Copied::copied(&rule.reference)?;
     match reference {
-        Some(reference) => refer(alloc, tree, known, file, rule, reference),
+        Some(reference) => refer(alloc, parser, tree, known, file, rule, reference),
         None => {
-            define(alloc, &file.path, &file.rule_set, &mut file.progress, rule)?;
+            define(
+                alloc,
+                parser,
+                &file.path,
+                &file.rule_set,
+                &mut file.progress,
+                rule,
+            )?;
             Ok(None)
         }
     }
@@ -154,6 +166,7 @@ fn take_include(alloc: Global, file: &mut OpenFile, text: Text) -> Result<(), Ru
 /// Takes a part of a file, or gives the file that is to be read first.
 fn take_part<T: Tree>(
     alloc: Global,
+    parser: &Parser,
     tree: &mut T,
     known: &Known,
     file: &mut OpenFile,
@@ -166,7 +179,7 @@ fn take_part<T: Tree>(
     ensures fault { (files : Files) → T.holds tree.old ≡ Some files → AreKnown files known.now → IfErr result (IfFault (IsFaultOf files known.now file.old part)) }
 {
     match part {
-        Part::Rule(rule) => take_rule(alloc, tree, known, file, rule),
+        Part::Rule(rule) => take_rule(alloc, parser, tree, known, file, rule),
         Part::ExcludePattern(text) => {
             take_exclude(alloc, file, text)?;
             Ok(None)
@@ -205,6 +218,7 @@ fn open_file(
 /// Goes back to the reference that waits for a file that is read to its end.
 fn go_back(
     alloc: Global,
+    parser: &Parser,
     known: &mut Known,
     below: ListOf<Waiting>,
     waiting: Waiting,
@@ -228,6 +242,7 @@ fn go_back(
     let current = &mut file;
     take(
         alloc,
+        parser,
         &current.path,
         &mut current.progress,
         referral,
@@ -243,6 +258,7 @@ fn go_back(
 /// Ends the file that is being read.
 fn end_file(
     alloc: Global,
+    parser: &Parser,
     known: &mut Known,
     below: ListOf<Waiting>,
     file: OpenFile,
@@ -254,7 +270,7 @@ fn end_file(
     match below.pop() {
         None => Ok(Next::Ends(file)),
         Some(waiting) => {
-            let next = go_back(alloc, known, below, waiting, file)?;
+            let next = go_back(alloc, parser, known, below, waiting, file)?;
             Ok(Next::Goes(next))
         }
     }
@@ -263,6 +279,7 @@ fn end_file(
 /// Takes the next part of the file that is being read.
 fn go_on<T: Tree>(
     alloc: Global,
+    parser: &Parser,
     tree: &mut T,
     known: &mut Known,
     below: ListOf<Waiting>,
@@ -276,7 +293,7 @@ fn go_on<T: Tree>(
     ensures fault { (files : Files) (top : List ℕ) → T.holds tree.old ≡ Some files → IsTaking files top known.old below file part → IfErr result (IfFault (IsFaultOfTop files top)) }
 {
     let mut file = file;
-    match take_part(alloc, tree, known, &mut file, part)? {
+    match take_part(alloc, parser, tree, known, &mut file, part)? {
         None => Ok(Next::Goes(Stack {
             below,
             current: file,
@@ -291,6 +308,7 @@ fn go_on<T: Tree>(
 /// One turn: takes the next part of the file that is being read, or ends this file.
 fn turn<T: Tree>(
     alloc: Global,
+    parser: &Parser,
     tree: &mut T,
     known: &mut Known,
     stack: Stack,
@@ -304,14 +322,15 @@ fn turn<T: Tree>(
     let Stack { below, current } = stack;
     let mut current = current;
     match current.rest.next() {
-        Some(part) => go_on(alloc, tree, known, below, current, part),
-        None => end_file(alloc, known, below, current),
+        Some(part) => go_on(alloc, parser, tree, known, below, current, part),
+        None => end_file(alloc, parser, known, below, current),
     }
 }
 
 /// The top ruleset of a stack, read to its end with all that its references read. Each turn takes a part or ends a file.
 pub fn read_to_end<T: Tree>(
     alloc: Global,
+    parser: &Parser,
     tree: &mut T,
     known: &mut Known,
     stack: Stack,
@@ -324,7 +343,7 @@ pub fn read_to_end<T: Tree>(
 {
     let mut stack = stack;
     for _ in 0..u64::MAX {
-        match turn(alloc, tree, known, stack)? {
+        match turn(alloc, parser, tree, known, stack)? {
             Next::Goes(next) => stack = next,
             Next::Ends(file) => return Ok(file),
         }

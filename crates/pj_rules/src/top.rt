@@ -18,6 +18,7 @@ use pj_rule_parts::{
 };
 use pj_rule_sets::PathPatterns;
 use pj_rule_texts::{WrittenRuleset, is_from_elsewhere};
+use pj_xparse::Parser;
 use std::alloc::Global;
 
 /// A top ruleset: its rules and what stands for them, and its path patterns.
@@ -99,6 +100,7 @@ fn absent_top(alloc: Global, path: &Text) -> Result<Top, RuleRefused>
 /// The top ruleset in which this is written.
 fn read_written<T: Tree>(
     alloc: Global,
+    parser: &Parser,
     tree: &mut T,
     known: &mut Known,
     path: &Text,
@@ -111,7 +113,7 @@ fn read_written<T: Tree>(
     ensures fault { (files : Files) → T.holds tree.old ≡ Some files → AreRead files known.old.read → IsRead files path.now written → IfErr result (IfFault (IsTopFault files path.now)) }
 {
     let stack = begin(alloc, known, path, written)?;
-    let file = read_to_end(alloc, tree, known, stack)?;
+    let file = read_to_end(alloc, parser, tree, known, stack)?;
     let top = top_of(alloc, file)?;
     Ok(top)
 }
@@ -119,6 +121,7 @@ fn read_written<T: Tree>(
 /// What stands for a path that is named.
 fn read_top<T: Tree>(
     alloc: Global,
+    parser: &Parser,
     tree: &mut T,
     known: &mut Known,
     path: &Text,
@@ -130,12 +133,12 @@ fn read_top<T: Tree>(
     ensures fault { (files : Files) → T.holds tree.old ≡ Some files → AreRead files known.old.read → IfErr result (IfFault (IsTopFault files path.now)) }
 {
     match written_at(alloc, tree, path)? {
-        Some(written) => read_written(alloc, tree, known, path, written),
+        Some(written) => read_written(alloc, parser, tree, known, path, written),
         None => absent_top(alloc, path),
     }
 }
 
-/// What stands for the paths that are named, each read to its end before the next one.
+/// What stands for the paths that are named, each read to its end before the next one. One parser serves all their expressions.
 pub fn read_tops<T: Tree>(
     alloc: Global,
     tree: &mut T,
@@ -147,10 +150,11 @@ pub fn read_tops<T: Tree>(
     ensures tops { (files : Files) → T.holds tree.old ≡ Some files → IfOk result (λ tops. AreTops files paths.now (map top_rules tops)) }
     ensures fault { (files : Files) → T.holds tree.old ≡ Some files → IfErr result (IfFault (IsFirstFault files paths.now)) }
 {
+    let parser = Parser::new(alloc)?;
     let mut known = Known::new(alloc);
     let mut tops = ListOf::new(alloc);
     for path in paths.as_slice() {
-        let top = read_top(alloc, tree, &mut known, path)?;
+        let top = read_top(alloc, &parser, tree, &mut known, path)?;
         tops.push(top)?;
     }
     Ok(tops)

@@ -4,7 +4,7 @@ use crate::rulesets::rule_of;
 use pj_base::{NoMemory, Text};
 use pj_rule_expressions::{ExpressionFault, RuleExpressions, UsableRule, expressions_of};
 use pj_rule_texts::{RuleTexts, WrittenRule, defined};
-use pj_xparse::XSyntax;
+use pj_xparse::{Parser, XSyntax};
 use std::alloc::Global;
 use std::test::Fail;
 
@@ -63,7 +63,8 @@ fn put_fault(out: &mut String, fault: &ExpressionFault) -> Result<(), NoMemory> 
 
 /// Puts what the texts of a rule spell.
 fn put_spelled(alloc: Global, out: &mut String, texts: &RuleTexts) -> Result<(), NoMemory> {
-    match expressions_of(alloc, texts) {
+    let parser = Parser::new(alloc)?;
+    match expressions_of(alloc, &parser, texts) {
         Ok(expressions) => put_expressions(out, &expressions),
         Err(fault) => put_fault(out, &fault),
     }
@@ -134,11 +135,12 @@ fn spells(alloc: Global, properties: &str, wanted: &str) -> Result<bool, NoMemor
 /// Puts what a rule spells that has these texts in the place of its own.
 fn put_changed_to(
     alloc: Global,
+    parser: &Parser,
     out: &mut String,
     old: &UsableRule,
     texts: RuleTexts,
 ) -> Result<(), NoMemory> {
-    match old.changed(alloc, texts) {
+    match old.changed(alloc, parser, texts) {
         Ok(new) => put_rule(out, new),
         Err(fault) => put_fault(out, &fault),
     }
@@ -147,12 +149,13 @@ fn put_changed_to(
 /// Puts what a rule spells that has these properties in the place of its own.
 fn put_changed(
     alloc: Global,
+    parser: &Parser,
     out: &mut String,
     old: &UsableRule,
     properties: &str,
 ) -> Result<(), NoMemory> {
     match texts(alloc, properties)? {
-        Some(texts) => put_changed_to(alloc, out, old, texts),
+        Some(texts) => put_changed_to(alloc, parser, out, old, texts),
         None => put(out, "no rule"),
     }
 }
@@ -160,20 +163,22 @@ fn put_changed(
 /// The same of a rule of these texts.
 fn put_changed_of(
     alloc: Global,
+    parser: &Parser,
     out: &mut String,
     old: RuleTexts,
     properties: &str,
 ) -> Result<(), NoMemory> {
-    match UsableRule::of(alloc, old) {
-        Ok(old) => put_changed(alloc, out, &old, properties),
+    match UsableRule::of(alloc, parser, old) {
+        Ok(old) => put_changed(alloc, parser, out, &old, properties),
         Err(fault) => put_fault(out, &fault),
     }
 }
 
 /// The same of a rule with the first properties.
 fn put_change(alloc: Global, out: &mut String, before: &str, behind: &str) -> Result<(), NoMemory> {
+    let parser = Parser::new(alloc)?;
     match texts(alloc, before)? {
-        Some(old) => put_changed_of(alloc, out, old, behind),
+        Some(old) => put_changed_of(alloc, &parser, out, old, behind),
         None => put(out, "no rule"),
     }
 }

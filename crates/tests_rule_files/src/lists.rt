@@ -5,6 +5,7 @@ use pj_rule_expressions::UsableRule;
 use pj_rule_parts::{Entry, NameSet, Origin, RuleTable, Unusable, named, put_without};
 use pj_rule_rows::{ConfigError, RuleRow};
 use pj_rule_texts::{Properties, RuleTexts};
+use pj_xparse::Parser;
 use std::alloc::Global;
 use std::test::Fail;
 
@@ -49,8 +50,9 @@ fn texts(alloc: Global, name: &str, priority: u8) -> Result<RuleTexts, NoMemory>
 }
 
 fn rule(alloc: Global, name: &str, priority: u8) -> Result<UsableRule, NoMemory> {
+    let parser = Parser::new(alloc)?;
     // The query is one, so nothing but memory can be wanting.
-    match UsableRule::of(alloc, texts(alloc, name, priority)?) {
+    match UsableRule::of(alloc, &parser, texts(alloc, name, priority)?) {
         Ok(rule) => Ok(rule),
         Err(_) => Err(NoMemory),
     }

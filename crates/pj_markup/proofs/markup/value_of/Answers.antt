@@ -1,6 +1,4 @@
-use Rattle.std.proofs.Common.{ap, sym, ◌∙◌}
-use Rattle.std.proofs.Math.Seq.{drop-length}
-use Rattle.pj_markup.specs.Elements.{value_of}
+use Rattle.std.proofs.Common.{sym, ◌∙◌}
 use Rattle.pj_markup.proofs.Rows.{value_here, value_later}
 use Rattle.pj_markup.proofs.markup.value_of.Goals as goal
 

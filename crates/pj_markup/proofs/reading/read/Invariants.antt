@@ -2,7 +2,6 @@ use Rattle.std.proofs.Common.{length}
 use denote.Shadow.{shadow}
 use denote.Text.{Utf8}
 use Rattle.std.specs.Str.{chars}
-use Rattle.pj_markup.specs.Depth.{greatest_depth}
 use Rattle.pj_markup.specs.Seen.{state_of}
 use Rattle.pj_markup.proofs.Fronts.{IsRead}
 use Rattle.pj_markup.proofs.reading.read.Given as goal

@@ -1,6 +1,5 @@
-use Rattle.std.proofs.Common.{◌≡◌, ◌∙◌, Err, Ok, ap, sym, subst}
+use Rattle.std.proofs.Common.{◌≡◌, ◌∙◌, Err, Ok, ap, subst}
 use Rattle.pj_rule_texts.specs.Rules.{Answers, new_name, overridden}
-use Rattle.pj_rule_texts.specs.declared.rule.RuleTexts.{RuleTexts}
 use Rattle.pj_rule_parts.specs.Effective.{CannotChange, Changes}
 use Rattle.pj_rule_parts.specs.Refusals.{IfOwn, IsUnsound}
 use Rattle.pj_rule_parts.proofs.Definitions.{At, changed_unsound, is_made, is_refused, not_changed}

@@ -17,7 +17,7 @@ returns-in_err-top-clause-fault g c = λ files told.
     let path = c.path-item.result in
     let kept = c.loop-path.invariant in
     let refused = c.in_err-top.field-0.0 in
-    leaves (IfFault (IsFirstFault files c.args.paths.now)) c.from_residual.result refused c.from_residual.ensures.1
+    leaves (IfFault (IsFirstFault files c.args.paths.now)) c.from_residual-in_err-top.result refused c.from_residual-in_err-top.ensures.1
     (fault_weaker refused (IsTopFault files path) (IsFirstFault files c.args.paths.now)
     (λ fault h. subst (λ (all : List Text). IsFirstFault files all fault) c.as_slice-path-items.ensures
     (first_fault files paths c.loop-path.path-index path c.loop-path-test.true c.path-item.is c.loop-path.tops (kept.tops files told) fault h))

@@ -1,4 +1,4 @@
-use Rattle.std.proofs.Common.{ap, refl, rules, ◌∙◌}
+use Rattle.std.proofs.Common.{ap, rules, ◌∙◌}
 use Rattle.pj_rule_parts.specs.Lists.{put}
 use Rattle.pj_rule_parts.specs.contracts.entry.OriginPartialEq.TheImpl.{eq-value}
 use Rattle.pj_rule_parts.proofs.Listing.{put-insert}
