@@ -4,7 +4,7 @@ pub mod Run
 pub mod Refused
 pub mod Outcome
 pub mod Notes
--- what the laws say
+-- laws
 pub mod Laws
 -- for private clauses
 pub mod Steps

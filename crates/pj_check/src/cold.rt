@@ -2,7 +2,7 @@
 ghost use Rattle.std.specs.Prelude.{◌≡◌, ◌≤◌, ◌++◌, ◌∷◌, [], List, All, IfOk, OnOk, length, map};
 ghost use Rattle.std.specs.List.{AllZip};
 ghost use Rattle.pj_grammar.specs.Java17.{java_17_forms};
-ghost use Rattle.pj_peg.specs.Form.{forms_of};
+ghost use Rattle.pj_peg_grammar.specs.Form.{forms_of};
 ghost use Rattle.pj_sources.specs.Limits.{most_file_bytes};
 ghost use Rattle.pj_workers.specs.Cold.{AreRowsOf, World};
 ghost use Rattle.pj_workers.specs.NoTypes.{no_types};

@@ -4,5 +4,5 @@ pub mod Spots
 pub mod Reasons
 pub mod Messages
 pub mod Merged
--- what the laws say
+-- laws
 pub mod Laws

@@ -14,6 +14,7 @@ use std::alloc::Global;
 /// Nodes of a tree.
 pub type Nodes = ListOf<Node>;
 
+/// Whether an item is an element, that is a node of the tree.
 fn is_element(item: &Item<'_>) -> bool
     ensures { result ≡ is_element (value_of_item item.now) }
 {
@@ -23,6 +24,7 @@ fn is_element(item: &Item<'_>) -> bool
     }
 }
 
+/// Whether each item is one.
 fn is_each_element(items: &[Item<'_>]) -> bool
     ensures { result ≡ list_all (λ item. is_element (value_of_item item)) items.now }
 {

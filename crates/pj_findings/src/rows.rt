@@ -7,6 +7,7 @@ use pj_base::{Copied, NoMemory, Text};
 use pj_reports::{FileError, FileErrors, FileRows, Finding, Findings};
 use std::alloc::Global;
 
+/// The row of a finding of the rule of a number.
 fn finding_of(rule: u32, found: &Found) -> Finding
     ensures { result ≡ finding_of rule found.now }
 {

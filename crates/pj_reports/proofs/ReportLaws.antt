@@ -1,5 +1,5 @@
 -- Laws of the texts: a line for each row, and what a CSV reader gets back.
-use Rattle.std.proofs.Common.{◌≡◌, ◌∙◌, ◌+◌, ◌++◌, ◌==◌, ◌∷◌, [], ℕ, suc, Bool, true, false, cond, List, Some, ap, ap₂, append_assoc, codes, eqb, eqb-true, flat_map, length, map, refl, sym, subst}
+use Rattle.std.proofs.Common.{◌≡◌, ◌∙◌, ◌+◌, ◌++◌, ◌∷◌, [], ℕ, suc, Bool, true, false, cond, List, Some, ap, ap₂, append_assoc, eqb, eqb-true, flat_map, length, map, refl, sym}
 use Rattle.std.proofs.lemmas.Grind.{flat_map-append}
 use Rattle.csv.specs.Machine.{next_record}
 use Rattle.csv.specs.Reading.{default_config, records_from}
@@ -8,7 +8,7 @@ use Rattle.csv.specs.declared.parser.State.TheVariants as st
 use Rattle.csv.proofs.RoundTrip.{quoted-run}
 use Rattle.pj_rule_rows.specs.declared.rule_row.ConfigError.{ConfigError}
 use Rattle.pj_rule_rows.specs.declared.rule_row.RuleRow.{RuleRow}
-use Rattle.pj_reports.specs.ReportText.{csv_field, csv_header, csv_report, csv_row, csv_rows, doubled, each_after_comma, fault_line, joined, problem_fields, problem_line, text_report, with_commas}
+use Rattle.pj_reports.specs.ReportText.{csv_field, csv_header, csv_report, csv_row, csv_rows, doubled, each_after_comma, fault_line, joined, problem_fields, problem_line, text_report}
 use Rattle.pj_reports.specs.Shown.{Bytes, PathError, Problem, errors, problems}
 use Rattle.pj_reports.specs.TextRows.{numbered_fields, text_lines}
 use Rattle.pj_reports.specs.declared.report.Report.{Report}

@@ -12,6 +12,7 @@ use pj_rule_rows::RuleRowList;
 use std::alloc::Global;
 use std::convert::AsStr;
 
+/// A writer that has written nothing, and quotes every field.
 fn new_writer(alloc: Global) -> Writer<Vec<u8>>
     ensures { HasRows result [] }
 {
@@ -20,6 +21,7 @@ fn new_writer(alloc: Global) -> Writer<Vec<u8>>
         .from_writer(Vec::new(alloc))
 }
 
+/// Writes a row.
 fn put_row(writer: &mut Writer<Vec<u8>>, fields: &[&[u8]]) -> Result<(), NoMemory>
     requires { 0 < length fields.now }
     ensures { (text : List ℕ) → HasRows writer.old text
@@ -31,6 +33,7 @@ fn put_row(writer: &mut Writer<Vec<u8>>, fields: &[&[u8]]) -> Result<(), NoMemor
     }
 }
 
+/// Writes the row of titles.
 fn put_header(writer: &mut Writer<Vec<u8>>) -> Result<(), NoMemory>
     ensures { (text : List ℕ) → HasRows writer.old text → OnOk result (HasRows writer.new (text ++ csv_row csv_header)) }
 {
@@ -47,6 +50,7 @@ fn put_header(writer: &mut Writer<Vec<u8>>) -> Result<(), NoMemory>
     put_row(writer, header.as_slice())
 }
 
+/// Writes the row of a problem of a number.
 fn put_problem(
     alloc: Global,
     writer: &mut Writer<Vec<u8>>,
@@ -74,6 +78,7 @@ fn put_problem(
     put_row(writer, row.as_slice())
 }
 
+/// What was written.
 fn written(writer: Writer<Vec<u8>>) -> Result<Bytes, NoMemory>
     ensures { (text : List ℕ) → HasRows writer text → IfOk result (λ bytes. bytes ≡ text) }
 {

@@ -16,6 +16,7 @@ use serde_json::{Value, json};
 use std::alloc::{AllocError, Global};
 use std::convert::AsStr;
 
+/// The word for a reason.
 fn reason_word(reason: Reason) -> &'static str
     ensures { result.now ≡ reason_word reason }
 {
@@ -27,6 +28,7 @@ fn reason_word(reason: Reason) -> &'static str
     }
 }
 
+/// A finding that is reported.
 fn reported_value(
     alloc: Global,
     rule: &RuleShown<'_>,
@@ -43,6 +45,7 @@ fn reported_value(
     json!(in alloc; {"begincolumn": begin_column, "beginline": begin_line, "description": message, "endcolumn": end_column, "endline": end_line, "priority": priority, "rule": name, "ruleset": rule_set})
 }
 
+/// A finding that is suppressed for a reason.
 fn suppressed_value(
     alloc: Global,
     rule: &RuleShown<'_>,
@@ -61,6 +64,7 @@ fn suppressed_value(
     json!(in alloc; {"begincolumn": begin_column, "beginline": begin_line, "description": message, "endcolumn": end_column, "endline": end_line, "priority": priority, "rule": name, "ruleset": rule_set, "suppressiontype": word})
 }
 
+/// A finding with its rule.
 fn violation_value(
     alloc: Global,
     rules: &RuleRowList,
@@ -104,6 +108,7 @@ fn violation_values(
     Ok(values)
 }
 
+/// A file with its findings that are reported, or suppressed.
 fn file_value(
     alloc: Global,
     rules: &RuleRowList,
@@ -123,6 +128,7 @@ fn file_value(
     json!(in alloc; {"filename": path, "violations": violations})
 }
 
+/// Whether a file has a finding that is reported, or suppressed.
 fn has_some(suppressed: bool, findings: &[Finding]) -> bool
     ensures { result ≡ list_any (shows suppressed) findings.now }
 {
@@ -147,6 +153,7 @@ fn file_values(
     Ok(values)
 }
 
+/// An error in a file.
 fn path_error_value(alloc: Global, path: &Text, message: &Text) -> Result<Value, AllocError>
     ensures { IfOk result (λ v. view v ≡ path_error_data (record { path = path.now; message = message.now })) }
 {
@@ -154,6 +161,7 @@ fn path_error_value(alloc: Global, path: &Text, message: &Text) -> Result<Value,
     json!(in alloc; {"filename": path, "message": message})
 }
 
+/// Puts the errors in a file at the end.
 fn put_file_errors(
     values: &mut Vec<Value>,
     alloc: Global,
@@ -168,6 +176,7 @@ fn put_file_errors(
     Ok(())
 }
 
+/// The errors in files.
 fn path_error_values(alloc: Global, files: &[(Text, FileRows)]) -> Result<Vec<Value>, NoMemory>
     ensures { IfOk result (λ v. map view v.items ≡ map path_error_data (errors files.now)) }
 {
@@ -178,6 +187,7 @@ fn path_error_values(alloc: Global, files: &[(Text, FileRows)]) -> Result<Vec<Va
     Ok(values)
 }
 
+/// An error in a rule.
 fn config_error_value(alloc: Global, error: &ConfigError) -> Result<Value, AllocError>
     ensures { IfOk result (λ v. view v ≡ config_error_data error.now) }
 {
@@ -185,6 +195,7 @@ fn config_error_value(alloc: Global, error: &ConfigError) -> Result<Value, Alloc
     json!(in alloc; {"message": message, "rule": rule})
 }
 
+/// The errors in rules.
 fn config_error_values(alloc: Global, errors: &[ConfigError]) -> Result<Vec<Value>, AllocError>
     ensures { IfOk result (λ v. map view v.items ≡ map config_error_data errors.now) }
 {
@@ -195,6 +206,7 @@ fn config_error_values(alloc: Global, errors: &[ConfigError]) -> Result<Vec<Valu
     Ok(values)
 }
 
+/// The report, of its four lists.
 fn report_object(
     alloc: Global,
     config_errors: Vec<Value>,
@@ -211,6 +223,7 @@ fn report_object(
     json!(in alloc; {"configurationErrors": config_errors, "files": reported, "formatVersion": 0u64, "processingErrors": errors, "suppressedViolations": suppressed})
 }
 
+/// The report.
 fn report_value(alloc: Global, report: &Report) -> Result<Value, NoMemory>
     ensures { IfOk result (λ v. view v ≡ report_data report.now) }
 {

@@ -50,6 +50,7 @@ pub fn rule_shown<'a>(rules: &'a RuleRowList, number: u32) -> RuleShown<'a>
     }
 }
 
+/// Puts the findings in a file that are reported at the end.
 fn put_problems<'a>(
     problems: &mut Vec<Problem<'a>>,
     path: &'a Text,

@@ -11,6 +11,7 @@ use pj_base::{Bytes, NoMemory, Text};
 use pj_rule_rows::{ConfigError, RuleRowList};
 use std::alloc::Global;
 
+/// Puts texts at the end, one after the other.
 fn put_texts(text: &mut Text, pieces: &[&str]) -> Result<(), NoMemory>
     ensures { OnOk result (text.new ≡ text.old ++ flat_map (λ piece. piece.now) pieces.now) }
 {
@@ -20,6 +21,7 @@ fn put_texts(text: &mut Text, pieces: &[&str]) -> Result<(), NoMemory>
     Ok(())
 }
 
+/// Puts the line of a problem at the end.
 fn put_problem(
     alloc: Global,
     text: &mut Text,
@@ -43,6 +45,7 @@ fn put_problem(
     put_texts(text, pieces.as_slice())
 }
 
+/// Puts the line of an error at the end.
 fn put_fault(text: &mut Text, subject: &Text, message: &Text) -> Result<(), NoMemory>
     ensures { OnOk result (text.new ≡ text.old ++ fault_line subject.now message.now) }
 {
@@ -50,6 +53,7 @@ fn put_fault(text: &mut Text, subject: &Text, message: &Text) -> Result<(), NoMe
     put_texts(text, pieces.as_slice())
 }
 
+/// Puts the lines of problems at the end.
 fn put_problems(
     alloc: Global,
     text: &mut Text,
@@ -64,6 +68,7 @@ fn put_problems(
     Ok(())
 }
 
+/// Puts the lines of the errors in a file at the end.
 fn put_file_errors(text: &mut Text, path: &Text, rows: &FileRows) -> Result<(), NoMemory>
     ensures { OnOk result (text.new ≡ text.old ++ flat_map (λ error. fault_line error.path error.message) (errors_of path.now rows.now)) }
 {
@@ -73,6 +78,7 @@ fn put_file_errors(text: &mut Text, path: &Text, rows: &FileRows) -> Result<(), 
     Ok(())
 }
 
+/// Puts the lines of the errors in files at the end.
 fn put_errors(text: &mut Text, files: &[(Text, FileRows)]) -> Result<(), NoMemory>
     ensures { OnOk result (text.new ≡ text.old ++ flat_map (λ error. fault_line error.path error.message) (errors files.now)) }
 {
@@ -82,6 +88,7 @@ fn put_errors(text: &mut Text, files: &[(Text, FileRows)]) -> Result<(), NoMemor
     Ok(())
 }
 
+/// Puts the lines of the errors in rules at the end.
 fn put_config_errors(text: &mut Text, errors: &[ConfigError]) -> Result<(), NoMemory>
     ensures { OnOk result (text.new ≡ text.old ++ flat_map (λ error. fault_line error.rule error.message) errors.now) }
 {

@@ -1,8 +1,7 @@
 -- Where `cut_at` cuts.
-use Rattle.std.proofs.Common.{◌≡◌, ◌≢◌, ◌∙◌, ◌<◌, ◌+◌, ◌⊎◌, ℕ, zero, suc, List, [], ◌∷◌, ◌++◌, length, get_or, refl, ap, arith, true, false, append_assoc, append-nil, eqb, eqb-true, ne_eqb, eq-eqb}
-use Rattle.std.proofs.lemmas.Grind.{common_steps}
+use Rattle.std.proofs.Common.{◌≡◌, ◌≢◌, ◌∙◌, ◌<◌, ℕ, suc, [], ◌∷◌, ◌++◌, length, get_or, refl, ap, arith, append_assoc, append-nil, eqb, ne_eqb, eq-eqb}
 use Rattle.clap.specs.Words.{Text}
-use Rattle.pj_settings.specs.Values.{cut_at, cut_onto}
+use Rattle.pj_settings.specs.Values.{cut_onto}
 
 -- a piece without the mark is taken whole
 pub cut_onto-piece : (mark : ℕ) (held piece rest : Text) → ((i : ℕ) → i < length piece → get_or piece i 0 ≢ mark)

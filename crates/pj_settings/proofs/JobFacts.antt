@@ -1,5 +1,5 @@
 -- How a call and the next one give a job.
-use Rattle.std.proofs.Common.{◌≡◌, ◌∙◌, ◌<◌, ◌++◌, ◌^◌, ℕ, None, false, length, not, arith, ◌≢◌, ◌⊎◌, inl, inr, List, [], ◌∷◌, true, ap, refl, sym, subst, Bool, Result, Ok, Err, ◌&&◌}
+use Rattle.std.proofs.Common.{◌≡◌, ◌∙◌, ◌<◌, ◌++◌, ◌^◌, ℕ, None, false, length, not, arith, ◌≢◌, ◌⊎◌, inl, inr, List, [], ◌∷◌, true, ap, refl, sym, Bool, Result, Ok, Err, ◌&&◌}
 use Rattle.std.specs.Prelude.{nat_le}
 use Rattle.clap.specs.Words.{Kinds, Row, Text, fault_of, matches_of}
 use Rattle.clap.proofs.WalkLemmas.{both}
@@ -10,7 +10,7 @@ use Rattle.std.specs.Str.{all_ascii_digits}
 use Rattle.std.specs.Str.Parse.{digits_value}
 use Rattle.pj_settings.specs.Options.{check_app}
 use Rattle.pj_settings.specs.Values.{cut_at, is_decimal, is_empty, list_value, number_between}
-use Rattle.pj_settings.specs.Job.{Gives, RefusedBy, and_then, is_check, job, line_job, rows_job}
+use Rattle.pj_settings.specs.Job.{Gives, and_then, is_check, job, line_job, rows_job}
 use Rattle.pj_settings.specs.declared.settings.Settings.{Settings}
 use Rattle.pj_settings.specs.declared.usage.UsageFault.{UsageFault}
 use Rattle.pj_settings.specs.declared.usage.UsageFault.TheVariants as usage

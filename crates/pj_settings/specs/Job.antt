@@ -1,11 +1,10 @@
 -- What words ask for: first the line, as `clap` takes it, then the values of the options, in the order of the options.
-use Rattle.std.specs.Prelude.{◌≡◌, ⊤, ℕ, Bool, true, false, List, [], ◌∷◌, Option, Result, Ok, Err, codes, unwrap_or}
+use Rattle.std.specs.Prelude.{◌≡◌, ⊤, Bool, false, List, [], ◌∷◌, Result, Ok, Err, codes, unwrap_or}
 use Rattle.std.specs.Prelude.{if◌then◌else◌}
 use Rattle.std.specs.Str.{bytes_eq}
 use Rattle.clap.specs.Words.{Kinds, Row, Text, fault_of, first_of, matches_of}
 use Rattle.pj_settings.specs.Options.{check_app}
 use Rattle.pj_settings.specs.Values.{format_value, list_value, marker_value, number_value, version_value}
-use Rattle.pj_settings.specs.declared.settings.Format.{Format}
 use Rattle.pj_settings.specs.declared.settings.Settings.{Settings}
 use Rattle.pj_settings.specs.declared.usage.UsageFault.{UsageFault}
 use Rattle.pj_settings.specs.declared.usage.UsageFault.TheVariants as usage

@@ -1,4 +1,6 @@
+-- definitions
 pub mod Options
 pub mod Values
 pub mod Job
+-- for private clauses
 pub mod Borrowed

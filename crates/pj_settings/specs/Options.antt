@@ -1,5 +1,5 @@
 -- The simple command of a check, in the words of `clap`.
-use Rattle.std.specs.Prelude.{List, [], ◌∷◌, Some, true, codes}
+use Rattle.std.specs.Prelude.{[], Some, true, codes}
 use Rattle.clap.specs.Words.{App, Rule, Text, new_app, new_rule, with_rule}
 
 -- an option that takes one text

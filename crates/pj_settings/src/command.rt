@@ -18,6 +18,7 @@ fn long_option<'a>(alloc: Global, name: &'a str) -> Arg<'a>
     Arg::new(alloc, name).long(name)
 }
 
+/// The option for the folders and files of sources.
 fn dir_option<'a>(alloc: Global) -> Arg<'a>
     ensures rule { rule_of result ≡ dir_rule }
     ensures local { result.global ≡ false }
@@ -25,6 +26,7 @@ fn dir_option<'a>(alloc: Global) -> Arg<'a>
     long_option(alloc, "dir").short('d').required(true)
 }
 
+/// The option for the rulesets.
 fn rulesets_option<'a>(alloc: Global) -> Arg<'a>
     ensures rule { rule_of result ≡ rulesets_rule }
     ensures local { result.global ≡ false }
@@ -32,6 +34,7 @@ fn rulesets_option<'a>(alloc: Global) -> Arg<'a>
     long_option(alloc, "rulesets").short('R').required(true)
 }
 
+/// The option for the format of the report.
 fn format_option<'a>(alloc: Global) -> Arg<'a>
     ensures rule { rule_of result ≡ format_rule }
     ensures local { result.global ≡ false }

@@ -37,6 +37,7 @@ fn value_or<'a>(matches: &ArgMatches<'a>, id: &str, default: &'a str) -> &'a str
     }
 }
 
+/// The texts of the options, each with what it is where it is not given.
 fn given_of<'a>(matches: &ArgMatches<'a>) -> Given<'a>
     ensures { given_seen result ≡ given_of (rows_of (found_of matches.now)) }
 {
@@ -51,6 +52,7 @@ fn given_of<'a>(matches: &ArgMatches<'a>) -> Given<'a>
     }
 }
 
+/// The settings that these texts spell, or the first one that spells none.
 fn settings_of(alloc: Global, given: &Given<'_>) -> Result<Settings, UsageRefused>
     ensures { Gives result (settings_of (given_seen given.now)) }
 {

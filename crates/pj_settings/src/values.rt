@@ -19,6 +19,7 @@ fn bad_value(alloc: Global, option: &str, word: &str) -> UsageRefused
     }
 }
 
+/// Whether each byte is a decimal digit.
 fn are_digits(bytes: &[u8]) -> bool
     ensures { result ≡ all_ascii_digits bytes.now }
 {
@@ -30,6 +31,7 @@ fn are_digits(bytes: &[u8]) -> bool
     true
 }
 
+/// Whether a text is a number in decimal digits, without a `0` before others.
 fn is_decimal(text: &str) -> bool
     ensures { result ≡ is_decimal text.now }
 {
@@ -44,6 +46,7 @@ fn is_decimal(text: &str) -> bool
     }
 }
 
+/// The number that a text spells, where it lies within bounds.
 fn number_between(least: u32, most: u32, text: &str) -> Option<u32>
     requires { most < 2 ^ 31 }
     ensures value { result ≡ number_between least most text.now }
@@ -84,6 +87,7 @@ pub fn minimum_value(alloc: Global, word: &str) -> Result<u8, UsageRefused>
     }
 }
 
+/// The format that a word names.
 fn format_named(word: &str) -> Option<Format>
     ensures { result ≡ format_named word.now }
 {

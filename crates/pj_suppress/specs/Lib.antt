@@ -1,3 +1,4 @@
+-- definitions
 pub mod Words
 pub mod Annotation
 pub mod Marks

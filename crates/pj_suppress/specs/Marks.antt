@@ -2,7 +2,7 @@
 use Rattle.std.specs.Prelude.{ℕ, Bool, ◌==◌, ◌&&◌, List, codes, nat_eq, slice_index_or}
 use Rattle.std.specs.List.{list_any, starts_with}
 use denote.Enum.Declared.{tag_of}
-use Rattle.pj_lex.specs.SourceText.{SourceText}
+use Rattle.pj_source.specs.SourceText.{SourceText}
 use Rattle.pj_lex.specs.contracts.token.TokenKind as kinds
 use Rattle.pj_lex.specs.declared.token.Token.{Token}
 use Rattle.pj_lex.specs.declared.token.TokenKind.{TokenKind}

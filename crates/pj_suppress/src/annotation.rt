@@ -13,6 +13,7 @@ use pj_nodes::{first_child, is_kind};
 use pj_tree::{Kind, Node, SyntaxTree};
 use pj_xvalue::{Attributes, Value};
 
+/// What stands behind a front of a text.
 fn behind<'a>(text: &'a [u8], front: &[u8]) -> &'a [u8]
     requires { IsTrue (starts_with nat_eq text.now front.now) }
     ensures { result.now ≡ drop (length front.now) text.now }
@@ -59,6 +60,7 @@ fn is_value<A: Attributes>(facts: &A, n: Node) -> bool
     }
 }
 
+/// Whether the node is a string literal that names the rule.
 fn literal_names<A: Attributes>(tree: &SyntaxTree<'_>, facts: &A, rule: &Text, n: Node) -> bool
     requires inside { n.0 < length tree.now.nodes }
     requires facts { A.nodes facts.now ≡ length tree.now.nodes }
@@ -67,6 +69,7 @@ fn literal_names<A: Attributes>(tree: &SyntaxTree<'_>, facts: &A, rule: &Text, n
     is_kind(tree, Kind::StringLiteral, n) && has_rule(facts, n, rule)
 }
 
+/// Whether a child of the node is such a literal.
 fn element_names<A: Attributes>(tree: &SyntaxTree<'_>, facts: &A, rule: &Text, n: Node) -> bool
     requires inside { n.0 < length tree.now.nodes }
     requires facts { A.nodes facts.now ≡ length tree.now.nodes }
@@ -80,6 +83,7 @@ fn element_names<A: Attributes>(tree: &SyntaxTree<'_>, facts: &A, rule: &Text, n
     false
 }
 
+/// Whether the value of a member is such a literal, or lists one.
 fn value_names<A: Attributes>(tree: &SyntaxTree<'_>, facts: &A, rule: &Text, n: Node) -> bool
     requires inside { n.0 < length tree.now.nodes }
     requires facts { A.nodes facts.now ≡ length tree.now.nodes }
@@ -90,6 +94,7 @@ fn value_names<A: Attributes>(tree: &SyntaxTree<'_>, facts: &A, rule: &Text, n: 
             && element_names(tree, facts, rule, n))
 }
 
+/// Whether a child of the node is such a value.
 fn some_value_names<A: Attributes>(tree: &SyntaxTree<'_>, facts: &A, rule: &Text, n: Node) -> bool
     requires inside { n.0 < length tree.now.nodes }
     requires facts { A.nodes facts.now ≡ length tree.now.nodes }
@@ -103,6 +108,7 @@ fn some_value_names<A: Attributes>(tree: &SyntaxTree<'_>, facts: &A, rule: &Text
     false
 }
 
+/// Whether the node is the member `value` of an annotation, and names the rule.
 fn member_names<A: Attributes>(tree: &SyntaxTree<'_>, facts: &A, rule: &Text, n: Node) -> bool
     requires inside { n.0 < length tree.now.nodes }
     requires facts { A.nodes facts.now ≡ length tree.now.nodes }
@@ -113,6 +119,7 @@ fn member_names<A: Attributes>(tree: &SyntaxTree<'_>, facts: &A, rule: &Text, n:
         && some_value_names(tree, facts, rule, n)
 }
 
+/// Whether a child of the node is such a member.
 fn some_member_names<A: Attributes>(tree: &SyntaxTree<'_>, facts: &A, rule: &Text, n: Node) -> bool
     requires inside { n.0 < length tree.now.nodes }
     requires facts { A.nodes facts.now ≡ length tree.now.nodes }
@@ -126,6 +133,7 @@ fn some_member_names<A: Attributes>(tree: &SyntaxTree<'_>, facts: &A, rule: &Tex
     false
 }
 
+/// Whether the node is the list of an annotation's members, and one of them names the rule.
 fn members_name<A: Attributes>(tree: &SyntaxTree<'_>, facts: &A, rule: &Text, n: Node) -> bool
     requires inside { n.0 < length tree.now.nodes }
     requires facts { A.nodes facts.now ≡ length tree.now.nodes }
@@ -134,6 +142,7 @@ fn members_name<A: Attributes>(tree: &SyntaxTree<'_>, facts: &A, rule: &Text, n:
     is_kind(tree, Kind::AnnotationMemberList, n) && some_member_names(tree, facts, rule, n)
 }
 
+/// Whether a child of the node is such a list.
 fn some_members_name<A: Attributes>(tree: &SyntaxTree<'_>, facts: &A, rule: &Text, n: Node) -> bool
     requires inside { n.0 < length tree.now.nodes }
     requires facts { A.nodes facts.now ≡ length tree.now.nodes }
@@ -157,6 +166,7 @@ fn is_named(tree: &SyntaxTree<'_>, n: Node) -> bool
         && (has_simple_name(tree, n) || has_qualified_name(tree, n))
 }
 
+/// Whether a node has no children.
 fn has_no_children(tree: &SyntaxTree<'_>, n: Node) -> bool
     requires inside { n.0 < length tree.now.nodes }
     ensures { result ≡ is_none (first_child tree.now n) }
@@ -164,6 +174,7 @@ fn has_no_children(tree: &SyntaxTree<'_>, n: Node) -> bool
     first_child(tree, n).is_none()
 }
 
+/// Whether the words of a node are the simple name of the annotation.
 fn has_simple_name(tree: &SyntaxTree<'_>, n: Node) -> bool
     requires inside { n.0 < length tree.now.nodes }
     ensures { result ≡ same_texts (words_of tree.now n) simple_name }
@@ -172,6 +183,7 @@ fn has_simple_name(tree: &SyntaxTree<'_>, n: Node) -> bool
     has_words(tree, n, name.as_slice())
 }
 
+/// Whether the words of a node are its qualified name.
 fn has_qualified_name(tree: &SyntaxTree<'_>, n: Node) -> bool
     requires inside { n.0 < length tree.now.nodes }
     ensures { result ≡ same_texts (words_of tree.now n) qualified_name }
@@ -180,6 +192,7 @@ fn has_qualified_name(tree: &SyntaxTree<'_>, n: Node) -> bool
     has_words(tree, n, name.as_slice())
 }
 
+/// Whether a child of the node is that name.
 fn some_is_named(tree: &SyntaxTree<'_>, n: Node) -> bool
     requires inside { n.0 < length tree.now.nodes }
     ensures { result ≡ list_any (is_named tree.now) (children_of tree.now n) }
@@ -192,6 +205,7 @@ fn some_is_named(tree: &SyntaxTree<'_>, n: Node) -> bool
     false
 }
 
+/// Whether the node is such an annotation, and names the rule.
 fn annotation_names<A: Attributes>(tree: &SyntaxTree<'_>, facts: &A, rule: &Text, n: Node) -> bool
     requires inside { n.0 < length tree.now.nodes }
     requires facts { A.nodes facts.now ≡ length tree.now.nodes }
@@ -202,6 +216,7 @@ fn annotation_names<A: Attributes>(tree: &SyntaxTree<'_>, facts: &A, rule: &Text
         && some_members_name(tree, facts, rule, n)
 }
 
+/// Whether a child of the node is such an annotation.
 fn some_annotation_names<A: Attributes>(
     tree: &SyntaxTree<'_>,
     facts: &A,
@@ -220,6 +235,7 @@ fn some_annotation_names<A: Attributes>(
     false
 }
 
+/// Whether the node is the list of a declaration's modifiers, and has such an annotation.
 fn modifiers_name<A: Attributes>(tree: &SyntaxTree<'_>, facts: &A, rule: &Text, n: Node) -> bool
     requires inside { n.0 < length tree.now.nodes }
     requires facts { A.nodes facts.now ≡ length tree.now.nodes }
@@ -228,6 +244,7 @@ fn modifiers_name<A: Attributes>(tree: &SyntaxTree<'_>, facts: &A, rule: &Text, 
     is_kind(tree, Kind::ModifierList, n) && some_annotation_names(tree, facts, rule, n)
 }
 
+/// Whether the node is a declaration whose modifiers have such an annotation.
 fn declaration_names<A: Attributes>(tree: &SyntaxTree<'_>, facts: &A, rule: &Text, n: Node) -> bool
     requires inside { n.0 < length tree.now.nodes }
     requires facts { A.nodes facts.now ≡ length tree.now.nodes }

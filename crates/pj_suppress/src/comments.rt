@@ -6,18 +6,21 @@ ghost use Rattle.pj_suppress.specs.Marks.{is_comment, is_mark, is_marked, line_o
 
 use crate::words::contains;
 use pj_base::{ListOf, NoMemory, Text};
-use pj_lex::{Source, Token, TokenKind, Tokens};
+use pj_lex::{Token, TokenKind, Tokens};
+use pj_source::Source;
 use std::alloc::Global;
 
 /// Lines of a file, from 1, in ascending order.
 pub type Lines = ListOf<u32>;
 
+/// Whether a token is a comment.
 fn is_comment(kind: TokenKind) -> bool
     ensures { result ≡ is_comment kind }
 {
     kind == TokenKind::Comment
 }
 
+/// Whether a token is a comment to the end of its line, and the marker stands in it.
 fn is_mark(marker: &str, token: &Token<'_>) -> bool
     ensures { result ≡ is_mark marker.now token.now }
 {

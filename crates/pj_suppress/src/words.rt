@@ -5,6 +5,7 @@ ghost use Rattle.pj_suppress.specs.Words.{contains, same_texts};
 
 use pj_tree::{Node, OwnTokens, SyntaxTree};
 
+/// Whether the words are these texts, in this order and no others.
 fn are_texts(words: OwnTokens<'_>, wanted: &[&str]) -> bool
     ensures { result ≡ same_texts words.entry (map (λ word. word.now) wanted.now) }
 {

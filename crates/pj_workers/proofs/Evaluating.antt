@@ -2,7 +2,7 @@
 use Rattle.std.proofs.Common.{◌≡◌, Bool, List, Option, Result, Err, ap, refl}
 use Rattle.pj_attrs.specs.FileFacts.{attribute_in, names_at}
 use Rattle.pj_findings.specs.Denoted.{denoted}
-use Rattle.pj_names.specs.AskingLaws.{asks-refused, asks-return, asks-then}
+use Rattle.pj_names.proofs.AskingLaws.{asks-refused, asks-return, asks-then}
 use Rattle.pj_names.specs.Told.{Asks, Told}
 use Rattle.pj_parse.specs.JavaFile.{JavaFile}
 use Rattle.pj_reports.specs.declared.rows.Reason.{Reason}

@@ -1,7 +1,7 @@
 -- How a rule's findings follow each other, as the code goes over the nodes.
 use Rattle.std.proofs.Common.{◌≡◌, ◌<◌, ◌+◌, ◌∙◌, ◌++◌, ℕ, List, [], ◌∷◌, append-nil, append_assoc, ap, drop, get_or, length, sym}
 use Rattle.pj_findings.specs.declared.found.Found.{Found}
-use Rattle.pj_names.specs.AskingLaws.{left_from}
+use Rattle.pj_names.proofs.AskingLaws.{left_from}
 use Rattle.pj_parse.specs.JavaFile.{JavaFile}
 use Rattle.pj_tree.specs.declared.node.Node.{Node}
 use Rattle.pj_xdenotes.specs.Means.{Means, give, ◌>>=◌}

@@ -5,7 +5,7 @@ use Rattle.std.specs.List.{AllByRecursion, list_any, starts_with}
 use Rattle.std.specs.Str.{IsUtf8}
 use Rattle.std.proofs.lemmas.Str.{encodes-chars}
 use Rattle.pj_grammar.specs.Words.{TokenSeen, seen}
-use Rattle.pj_lex.specs.SourceText.{SourceText}
+use Rattle.pj_source.specs.SourceText.{SourceText}
 use Rattle.pj_lex.specs.declared.token.Token.{Token}
 use Rattle.pj_parse.specs.JavaFile.{JavaFile}
 use Rattle.pj_suppress.specs.Marks as marks

@@ -8,7 +8,7 @@ use Rattle.pj_xaxes.specs.Order.{ordered}
 use Rattle.pj_xaxes.proofs.Inside.{of_tree-ordered}
 use Rattle.pj_xvalue.specs.Items.{ItemValue, Attribute, Boolean, Document, Element, Integer, IsOfTree, String}
 use Rattle.pj_xvalue.specs.OfTree.{OfTree}
-use Rattle.pj_xvalue.specs.OfTreeLaws.{each-of_tree}
+use Rattle.pj_xvalue.proofs.OfTreeLaws.{each-of_tree}
 use Rattle.pj_xvalue.specs.declared.fault.XCode.{XCode}
 use Rattle.pj_xvalue.specs.declared.fault.XCode.TheVariants.{XPTY0004}
 

@@ -1,6 +1,6 @@
 -- What is known of a file that was read and parsed.
 use Rattle.std.proofs.Common.{◌≡◌, ℕ, List, Result, Ok, Err, refl, subst, sym}
-use Rattle.pj_lex.specs.SourceText.{SourceText}
+use Rattle.pj_source.specs.SourceText.{SourceText}
 use Rattle.pj_parse.specs.JavaFile.{IsJavaFile, JavaFile, bad_escape, file, lexical_fault, not_utf8, syntax_fault, too_deep, too_many_nodes, too_many_tokens}
 use Rattle.pj_parse.specs.Parses.{Parses, file_parsed}
 use Rattle.pj_parse.specs.PoolText.{IsPoolOf, pool_of}

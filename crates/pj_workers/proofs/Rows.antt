@@ -8,7 +8,7 @@ use Rattle.pj_attrs.specs.FileFacts.{FileFacts, facts_of}
 use Rattle.pj_findings.specs.Merged.{merged}
 use Rattle.pj_findings.specs.declared.found.RuleResult.{RuleResult}
 use Rattle.pj_grammar.specs.Words.{seen}
-use Rattle.pj_lex.specs.SourceText.{SourceText}
+use Rattle.pj_source.specs.SourceText.{SourceText}
 use Rattle.pj_lex.specs.declared.token.Token.{Token}
 use Rattle.pj_parse.specs.FileOutcome.{outcome_of}
 use Rattle.pj_parse.specs.JavaFile.{IsJavaFile, JavaFile, java_file}

@@ -9,7 +9,7 @@ use Rattle.pj_findings.specs.Laws.{IsAscending, NodesAscend}
 use Rattle.pj_findings.specs.Merged.{found_by}
 use Rattle.pj_findings.specs.declared.found.Found.{Found}
 use Rattle.pj_names.specs.Asking.{Return, value_of}
-use Rattle.pj_names.specs.MeaningLaws.{value_of-bind}
+use Rattle.pj_names.proofs.MeaningLaws.{value_of-bind}
 use Rattle.pj_parse.specs.FileOutcome.{outcome_of}
 use Rattle.pj_parse.specs.JavaFile.{JavaFile}
 use Rattle.pj_parse.specs.declared.file_fault.FileFault.{FileFault}

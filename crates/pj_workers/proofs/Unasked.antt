@@ -7,10 +7,11 @@ use Rattle.std.specs.Ordering.{nat_cmp}
 use Rattle.std.specs.FinSet as set
 use Rattle.std.specs.FinSet.{contains-empty, contains-insert}
 use Rattle.pj_names.specs.Asking.{Asking, Return, Ask, Unbounded, bind, names_of, value_of}
-use Rattle.pj_names.specs.AskingLaws.{all_needs, asked_after-names, within-names, within-self}
+use Rattle.pj_names.specs.Told.{all_needs}
+use Rattle.pj_names.proofs.AskingLaws.{asked_after-names, within-names, within-self}
 use Rattle.pj_names.specs.ClassName.{Name, NameSet}
 use Rattle.pj_names.specs.Meaning.{Done, Means, whole}
-use Rattle.pj_names.specs.MeaningLaws.{names_of-bind, over-whole, value_of-bind}
+use Rattle.pj_names.proofs.MeaningLaws.{names_of-bind, over-whole, value_of-bind}
 use Rattle.pj_names.specs.Told.{Asks, longest, with_names}
 use Rattle.pj_workers.specs.Cold.{World}
 use Rattle.pj_workers.specs.NoTypes.{knows_nothing}

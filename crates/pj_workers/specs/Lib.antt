@@ -8,7 +8,7 @@ pub mod Faults
 pub mod FileMeaning
 pub mod NoTypes
 pub mod Cold
--- what the laws say
+-- laws
 pub mod Laws
--- private clauses alone cite this
+-- for private clauses
 pub mod Views

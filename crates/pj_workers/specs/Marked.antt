@@ -3,7 +3,7 @@ use Rattle.std.specs.Prelude.{ℕ, Bool, ◌==◌, ◌&&◌, codes, nat_eq, slic
 use Rattle.std.specs.List.{list_any, starts_with}
 use Rattle.std.specs.Str.{encode_utf8_all}
 use Rattle.pj_grammar.specs.Words.{TokenSeen}
-use Rattle.pj_lex.specs.SourceText.{SourceText}
+use Rattle.pj_source.specs.SourceText.{SourceText}
 use Rattle.pj_parse.specs.JavaFile.{JavaFile}
 use Rattle.pj_suppress.specs.Marks.{is_comment}
 use Rattle.pj_suppress.specs.Words.{Text, contains}

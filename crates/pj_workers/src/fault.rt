@@ -7,12 +7,14 @@ use pj_parse::FileFault;
 use pj_tree::Place;
 use std::alloc::{AllocError, Global};
 
+/// The message of a file that is not UTF-8.
 fn unread_text(alloc: Global, offset: u32) -> Result<String, AllocError>
     ensures { IfOk result (λ text. string_bytes text ≡ fault_message (FileFault.NotUtf8 offset)) }
 {
     format!(in alloc; "not UTF-8 at byte {offset}")
 }
 
+/// The message of a file with a bad Unicode escape.
 fn escape_text(alloc: Global, place: Place) -> Result<String, AllocError>
     ensures { IfOk result (λ text. string_bytes text ≡ fault_message (FileFault.Escape place)) }
 {
@@ -20,6 +22,7 @@ fn escape_text(alloc: Global, place: Place) -> Result<String, AllocError>
     format!(in alloc; "bad unicode escape at {line}:{column}")
 }
 
+/// The message of a file with a lexical fault.
 fn lexical_text(alloc: Global, kind: u8, place: Place) -> Result<String, AllocError>
     ensures { IfOk result (λ text. string_bytes text ≡ fault_message (FileFault.Lexical kind place)) }
 {

@@ -1,4 +1,5 @@
+-- definitions
 pub mod Formats
 pub mod Verdicts
--- what the laws say
+-- laws
 pub mod Laws

@@ -18,6 +18,7 @@ pub enum Verdict {
     Errors,
 }
 
+/// Whether nothing suppresses a finding.
 fn is_reported(finding: &Finding) -> bool
     ensures { result ≡ is_reported finding.now }
 {
@@ -41,24 +42,28 @@ fn has_error(rows: &FileRows) -> bool
     !rows.errors.is_empty()
 }
 
+/// Whether a file has a finding that is reported.
 fn some_finding(files: &[(Text, FileRows)]) -> bool
     ensures { result ≡ list_any (λ file. has_finding file.1) files.now }
 {
     files.iter().any(|file| has_finding(&file.1))
 }
 
+/// Whether a file has an error.
 fn some_error(files: &[(Text, FileRows)]) -> bool
     ensures { result ≡ list_any (λ file. has_error file.1) files.now }
 {
     files.iter().any(|file| has_error(&file.1))
 }
 
+/// Whether a report has a finding that is reported.
 fn has_findings(report: &Report) -> bool
     ensures { result ≡ has_findings report.now }
 {
     some_finding(report.files.as_slice())
 }
 
+/// Whether a report has an error, in a file or in a rule.
 fn has_errors(report: &Report) -> bool
     ensures { result ≡ has_errors report.now }
 {

@@ -1,2 +1,4 @@
+-- definitions
 pub mod Table
+-- laws
 pub mod TableLaws

@@ -1,6 +1,7 @@
 //! Comments that suppress findings, or do not.
 use pj_base::{NoMemory, Text};
-use pj_lex::{Source, Tokens, tokens};
+use pj_lex::{Lexer, Tokens};
+use pj_source::Source;
 use pj_suppress::{Lines, is_marked, marks};
 use std::alloc::Global;
 use std::process::Abort;
@@ -8,7 +9,7 @@ use std::test::Fail;
 
 /// The tokens of a source, up to the first fault.
 fn tokens_of<'s>(alloc: Global, source: &'s Source) -> Result<Tokens<'s>, NoMemory> {
-    let mut lexer = tokens(source);
+    let mut lexer = Lexer::over(source.text());
     let mut found = Tokens::new(alloc);
     for _ in 0..1000 {
         match lexer.next_token() {

@@ -3,8 +3,8 @@ ghost use Rattle.std.specs.Prelude.{◌≡◌, ◌<◌, IfOk, length, vec_len};
 
 use crate::table::Table;
 use pj_base::{NoMemory, Text};
-use pj_lex::Source;
 use pj_parse::{Parsed, parse};
+use pj_source::Source;
 use pj_suppress::by_annotation;
 use pj_tree::{Kind, Node};
 use std::alloc::{AllocError, Global};

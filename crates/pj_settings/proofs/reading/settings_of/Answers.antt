@@ -1,4 +1,4 @@
-use Rattle.std.proofs.Common.{◌≡◌, codes}
+use Rattle.std.proofs.Common.{codes}
 use Rattle.std.proofs.lemmas.Result.{err_from_is_err_and}
 use Rattle.pj_settings.specs.Values.{format_value, list_value, number_value}
 use Rattle.pj_settings.proofs.JobFacts.{Gives-stop, gave}

@@ -1,6 +1,6 @@
 use Rattle.std.proofs.Common.{◌≡◌, true, false, Option, Ok, Err, refl, rules, subst, sym}
 use Rattle.std.proofs.lemmas.Result.{err_from_is_err_and}
-use Rattle.pj_names.specs.AskingLaws.{asks-return, asks-then}
+use Rattle.pj_names.proofs.AskingLaws.{asks-return, asks-then}
 use Rattle.pj_names.specs.Told.{Asks}
 use Rattle.pj_reports.specs.declared.rows.Reason.{Reason}
 use Rattle.pj_xdenotes.specs.Context.{at}

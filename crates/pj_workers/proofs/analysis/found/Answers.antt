@@ -2,7 +2,7 @@ use Rattle.std.proofs.Common.{◌≡◌, ◌∙◌, List, Ok, Err, ap, length, r
 use Rattle.std.proofs.lemmas.Result.{err_from_is_err_and}
 use Rattle.pj_findings.specs.Denoted.{denoted}
 use Rattle.pj_findings.specs.declared.found.Found.{Found}
-use Rattle.pj_names.specs.AskingLaws.{asks-return, asks-stop, asks-then}
+use Rattle.pj_names.proofs.AskingLaws.{asks-return, asks-stop, asks-then}
 use Rattle.pj_names.specs.Told.{Asks}
 use Rattle.pj_tree.specs.declared.node.Node.{Node}
 use Rattle.pj_xdenotes.specs.Means.{Means, after, judged, ◌>>=◌}

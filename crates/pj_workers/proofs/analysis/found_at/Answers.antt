@@ -2,7 +2,7 @@ use Rattle.std.proofs.Common.{Option, Ok, ap}
 use Rattle.std.proofs.lemmas.Result.{err_from_is_err_and}
 use Rattle.pj_findings.specs.declared.found.Found.{Found}
 use Rattle.pj_findings.specs.declared.spot.Spot.{Spot}
-use Rattle.pj_names.specs.AskingLaws.{asks-return, asks-then}
+use Rattle.pj_names.proofs.AskingLaws.{asks-return, asks-then}
 use Rattle.pj_reports.specs.declared.rows.Reason.{Reason}
 use Rattle.pj_xdenotes.specs.Means.{after, give}
 use Rattle.pj_workers.specs.RuleMeaning.{found_of, reason_at, spot_at}

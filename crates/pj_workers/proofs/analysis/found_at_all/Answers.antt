@@ -1,7 +1,7 @@
 use Rattle.std.proofs.Common.{◌≡◌, ◌+◌, ◌++◌, ◌∙◌, List, [], ◌∷◌, Err, Ok, ap, drop, get_or, refl, rules, subst, sym}
 use Rattle.std.proofs.lemmas.Result.{err_from_is_err_and}
 use Rattle.pj_findings.specs.declared.found.Found.{Found}
-use Rattle.pj_names.specs.AskingLaws.{ComesTo, asks-stop, comes-begin, comes-ends, comes-then}
+use Rattle.pj_names.proofs.AskingLaws.{ComesTo, asks-stop, comes-begin, comes-ends, comes-then}
 use Rattle.pj_names.specs.Told.{Asks}
 use Rattle.pj_tree.specs.declared.node.Node.{Node}
 use Rattle.pj_xdenotes.specs.Means.{Means, after}

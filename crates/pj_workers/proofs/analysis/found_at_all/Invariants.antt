@@ -1,5 +1,5 @@
 use Rattle.std.proofs.Common.{◌≡◌, drop}
-use Rattle.pj_names.specs.AskingLaws.{ComesTo}
+use Rattle.pj_names.proofs.AskingLaws.{ComesTo}
 use Rattle.pj_workers.specs.RuleMeaning.{found_at}
 use Rattle.pj_workers.specs.Views.{file_seen, rule_seen}
 use Rattle.pj_workers.proofs.Finding.{found_behind}

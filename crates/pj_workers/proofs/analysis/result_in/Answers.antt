@@ -1,7 +1,7 @@
 use Rattle.std.proofs.Common.{List, Result, rules}
 use Rattle.pj_findings.specs.declared.found.Found.{Found}
 use Rattle.pj_names.specs.Asking.{Return}
-use Rattle.pj_names.specs.AskingLaws.{asks-refused, asks-return, asks-stop, asks-then}
+use Rattle.pj_names.proofs.AskingLaws.{asks-refused, asks-return, asks-stop, asks-then}
 use Rattle.pj_xvalue.specs.declared.fault.XCode.{XCode}
 use Rattle.pj_workers.specs.RuleMeaning.{result_of}
 use Rattle.pj_workers.specs.Views.{rule_seen}
