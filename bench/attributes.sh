@@ -8,7 +8,7 @@
 # grow no more than by the logarithm of the size of the file.
 set -euo pipefail
 . "$(dirname "$0")/scratch.sh"
-libraries='pj_attrs pj_lex pj_parse pj_symbols pj_tree pj_xvalue'
+libraries='pj_attrs pj_parse pj_source pj_symbols pj_tree pj_xvalue'
 scratch_repository attributes_bench "$libraries" $(with_lower_crates $libraries)
 {
     cat <<'PROGRAM'
@@ -20,8 +20,8 @@ ghost use Rattle.pj_parse.specs.Parses.{Parses, file_parsed};
 ghost use Rattle.pj_parse.specs.PoolText.{IsPoolOf};
 
 use pj_attrs::{Facts, tokens_are_in_order};
-use pj_lex::Source;
 use pj_parse::{Parsed, parse};
+use pj_source::Source;
 use pj_symbols::Symbols;
 use pj_tree::Node;
 use pj_xvalue::Attributes;

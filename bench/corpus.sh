@@ -10,20 +10,21 @@
 set -euo pipefail
 folder=$(cd "$1" && pwd)
 . "$(dirname "$0")/scratch.sh"
-scratch_repository corpus_bench 'anyhow pj_grammar pj_lex pj_parse pj_peg' \
-    pj_base pj_tree pj_peg pj_patterns pj_lex pj_shape pj_grammar pj_literals pj_parse
+scratch_repository corpus_bench 'anyhow pj_grammar pj_lex pj_parse pj_peg pj_peg_grammar pj_source' \
+    pj_base pj_tree pj_peg_grammar pj_peg pj_patterns pj_source pj_lex pj_shape pj_grammar pj_literals pj_parse
 cat > "$bench/src/main.rt" <<'PROGRAM'
 // The trees of many files.
 #![tactic(auto)]
 
 ghost use Rattle.std.specs.Prelude.{◌≡◌, ◌≤◌, length};
 ghost use Rattle.pj_grammar.specs.Java17.{java_17_forms};
-ghost use Rattle.pj_peg.specs.Form.{forms_of};
+ghost use Rattle.pj_peg_grammar.specs.Form.{forms_of};
 
 use pj_grammar::java_17;
-use pj_lex::{Source, tokens};
+use pj_lex::Lexer;
 use pj_parse::{FileRefused, parse_file_by, read_file};
 use pj_peg::WellFormed;
+use pj_source::Source;
 use std::alloc::Global;
 use std::time::CpuClock;
 use std::{env, fs};
@@ -46,7 +47,7 @@ fn now(rt: &HostRuntime) -> anyhow::Result<u64> {
 // The tokens of a source, up to its end or a fault.
 fn count_tokens(source: &Source) -> u64 {
     let mut count = 0u64;
-    let mut lexer = tokens(source);
+    let mut lexer = Lexer::over(source.text());
     for _ in 0..1_000_000_000u64 {
         match lexer.next_token() {
             Some(Ok(_)) => count = count.saturating_add(1),

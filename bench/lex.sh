@@ -10,12 +10,13 @@
 # allocator, and nothing in Rattle allocates without one.
 set -euo pipefail
 . "$(dirname "$0")/scratch.sh"
-scratch_repository lex_bench 'pj_lex' pj_base pj_patterns pj_tree pj_lex
+scratch_repository lex_bench 'pj_lex pj_source' pj_base pj_patterns pj_tree pj_source pj_lex
 cat > "$bench/src/main.rt" <<'PROGRAM'
 // Rows of time and memory.
 #![tactic(auto)]
 
-use pj_lex::{Source, TokenKind, tokens};
+use pj_lex::{Lexer, TokenKind};
+use pj_source::Source;
 use std::alloc::Global;
 use std::time::CpuClock;
 use std::{env, fs, io};
@@ -51,7 +52,7 @@ fn now(rt: &HostRuntime) -> io::Result<u64> {
 // The tokens of a source, up to its end or a fault.
 fn scanned(source: &Source) -> Seen {
     let mut seen = NOTHING;
-    let mut lexer = tokens(source);
+    let mut lexer = Lexer::over(source.text());
     for _ in 0..1_000_000_000u64 {
         match lexer.next_token() {
             Some(Ok(token)) => {

@@ -15,7 +15,7 @@ set -euo pipefail
 folder=$(cd "$1" && pwd)
 all_names=$(readlink -f "${2:-/dev/null}")
 . "$(dirname "$0")/scratch.sh"
-libraries='pj_base pj_classfile pj_declared pj_grammar pj_imports pj_names pj_parse pj_peg pj_symbols pj_tree pj_type_names pj_written'
+libraries='pj_base pj_classfile pj_declared pj_grammar pj_imports pj_names pj_parse pj_peg pj_peg_grammar pj_symbols pj_tree pj_type_names pj_written'
 # shellcheck disable=SC2046,SC2086 # names of crates have no spaces
 scratch_repository names_bench "anyhow $libraries" $(with_lower_crates $libraries)
 home=$(dirname "$(dirname "$(readlink -f "$(command -v jimage)")")")
@@ -30,7 +30,7 @@ ghost use Rattle.std.specs.Prelude.{◌≡◌, ◌<◌, ◌≤◌, [], false, le
 ghost use Rattle.std.specs.FinSet as set;
 ghost use Rattle.pj_names.specs.AnswerList.{list_world};
 ghost use Rattle.pj_grammar.specs.Java17.{java_17_forms};
-ghost use Rattle.pj_peg.specs.Form.{forms_of};
+ghost use Rattle.pj_peg_grammar.specs.Form.{forms_of};
 
 use pj_base::{Copied, NoMemory, Text};
 use pj_classfile::{ClassRefused, parse};

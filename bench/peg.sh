@@ -8,12 +8,13 @@
 # that the token there does not rule out, and here none is. The third series is the test of grammars, over chains of rules that can take nothing, where it is quadratic.
 set -euo pipefail
 . "$(dirname "$0")/scratch.sh"
-scratch_repository peg_bench 'pj_peg' pj_base pj_peg
+scratch_repository peg_bench 'pj_peg pj_peg_grammar' pj_base pj_peg_grammar pj_peg
 cat > "$bench/src/main.rt" <<'PROGRAM'
 // Rows of time and memory.
 #![tactic(auto)]
 
-use pj_peg::{Grammar, Item, Items, WellFormed, run};
+use pj_peg::{Grammar, WellFormed, run};
+use pj_peg_grammar::{Item, Items};
 use std::alloc::{AllocError, Global};
 use std::time::CpuClock;
 use std::{env, fs, io};

@@ -13,7 +13,7 @@
 set -euo pipefail
 folder=$(cd "$1" && pwd)
 . "$(dirname "$0")/scratch.sh"
-libraries='anyhow pj_base pj_grammar pj_outside pj_parse pj_peg pj_reports pj_rule_rows pj_rule_sets pj_rules pj_settings pj_workers pj_writing'
+libraries='anyhow pj_base pj_grammar pj_outside pj_parse pj_peg pj_peg_grammar pj_reports pj_rule_rows pj_rule_sets pj_rules pj_settings pj_workers pj_writing'
 scratch_repository run_bench "$libraries" $(with_lower_crates ${libraries#anyhow })
 cat > "$bench/src/main.rt" <<'PROGRAM'
 // The steps of a run over many files.
@@ -21,7 +21,7 @@ cat > "$bench/src/main.rt" <<'PROGRAM'
 
 ghost use Rattle.std.specs.Prelude.{◌≡◌, ◌≤◌, length};
 ghost use Rattle.pj_grammar.specs.Java17.{java_17_forms};
-ghost use Rattle.pj_peg.specs.Form.{forms_of};
+ghost use Rattle.pj_peg_grammar.specs.Form.{forms_of};
 
 use pj_base::{Bytes, Copied, Names, Numbers, Text};
 use pj_grammar::java_17;

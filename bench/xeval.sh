@@ -10,7 +10,7 @@
 set -euo pipefail
 . "$(dirname "$0")/scratch.sh"
 . "$(dirname "$0")/trees.sh"
-libraries='pj_attrs pj_base pj_lex pj_names pj_parse pj_symbols pj_tree pj_xdenotes pj_xeval pj_xfuncs pj_xparse pj_xvalue'
+libraries='pj_attrs pj_base pj_names pj_parse pj_source pj_symbols pj_tree pj_xdenotes pj_xeval pj_xfuncs pj_xparse pj_xvalue'
 scratch_repository xeval_bench "$libraries" $(with_lower_crates $libraries)
 trees_of_chains
 for part in $(cd "$here/crates/tests_xeval" && find src/replies.rt src/facts.rt specs proofs/facts -type f ! -name Lib.antt); do
@@ -46,8 +46,8 @@ use crate::replies::Replies;
 use crate::trees::tree;
 use pj_attrs::{Facts, tokens_are_in_order};
 use pj_base::Names;
-use pj_lex::Source;
 use pj_parse::{Parsed, parse};
+use pj_source::Source;
 use pj_symbols::Symbols;
 use pj_tree::SyntaxTree;
 use pj_xeval::{Focus, evaluate};
