@@ -3,6 +3,7 @@
 
 mod compiled;
 mod flags;
+mod laws;
 mod matching;
 mod own;
 mod patterns;
@@ -10,5 +11,6 @@ mod written;
 
 pub use compiled::{CompiledPattern, PatternFault};
 pub use flags::PatternFlags;
+pub use laws::trees_tell_patterns;
 pub use matching::{matches, replace, tokenize};
 pub use patterns::Patterns;

@@ -6,9 +6,9 @@ use Rattle.pj_xvalue.specs.declared.expr.Expr.TheOpen.{Expr-F}
 use Rattle.pj_xvalue.specs.declared.expr.Expr.TheViews.{roll-Expr}
 use Rattle.pj_xvalue.specs.declared.expr.Expr.TheFolds.{map-Expr, ind-Expr, fold-roll-Expr}
 use Rattle.pj_xvalue.specs.Expressions.{Part, part_step, part_of}
-use Rattle.pj_xmeaning.specs.Trees.{Tree, tree_step, tree_of}
+use Rattle.pj_xvalue.specs.Trees.{Tree, tree_step, tree_of}
 use Rattle.pj_xshape.specs.Shapes.{part_of_tree}
-use Rattle.pj_xshape.specs.Layers.{map-Expr_twice}
+use Rattle.pj_xvalue.specs.Layers.{map-Expr_twice}
 use Rattle.pj_xshape.proofs.LayerForms.{part_of_layer}
 
 abbrev HasShape : Expr → Type 0

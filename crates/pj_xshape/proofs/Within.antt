@@ -5,8 +5,8 @@ use Rattle.std.proofs.lemmas.Bool.{eqb-true, false≢true}
 use Rattle.pj_xvalue.specs.Expressions.{Part, operand, operands, predicates_nesting, steps_nesting}
 use Rattle.pj_xvalue.specs.declared.axis.Axis.TheVariants as axis
 use Rattle.pj_xvalue.specs.declared.expr.NodeTest.TheVariants as test
-use Rattle.pj_xmeaning.specs.Trees as tree
-use Rattle.pj_xmeaning.specs.Trees.{Construct}
+use Rattle.pj_xvalue.specs.Trees as tree
+use Rattle.pj_xvalue.specs.Trees.{Construct}
 use Rattle.pj_xshape.specs.Shapes.{clauses_nesting, choice_nesting, filter_nesting, nesting_by, part_by}
 use Rattle.pj_xshape.specs.Nesting.{Nested, operand_before, chain_before, clauses_before, choice_before, enclosed, filter_inside, step_before, further_before, steps_before, is_descendants_by, nested_by}
 

@@ -2,5 +2,5 @@
 pub mod Shapes
 pub mod Nesting
 pub mod Spelled
+-- laws
 pub mod Nodes
-pub mod Layers

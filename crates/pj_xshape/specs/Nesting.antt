@@ -6,8 +6,8 @@ use Rattle.pj_xvalue.specs.declared.axis.Axis.{Axis}
 use Rattle.pj_xvalue.specs.declared.axis.Axis.TheVariants as axis
 use Rattle.pj_xvalue.specs.declared.expr.NodeTest.{NodeTest}
 use Rattle.pj_xvalue.specs.declared.expr.NodeTest.TheVariants as test
-use Rattle.pj_xmeaning.specs.Trees as tree
-use Rattle.pj_xmeaning.specs.Trees.{Tree, Trees, Construct, Node, NoMore, More}
+use Rattle.pj_xvalue.specs.Trees as tree
+use Rattle.pj_xvalue.specs.Trees.{Tree, Trees, Construct, Node, NoMore, More}
 use Rattle.pj_xshape.specs.Shapes.{level_by}
 
 -- what the surroundings see: the level; whether it is the step that `//` stands for; and the nesting where a word or a `*` stands behind, and where not

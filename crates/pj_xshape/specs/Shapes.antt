@@ -4,8 +4,8 @@ use Rattle.std.specs.Prelude.{ℕ, ◌+◌, Bool, false, not, ◌&&◌, ◌||◌
 use Rattle.pj_xvalue.specs.Attributes.{is_among}
 use Rattle.pj_xvalue.specs.Functions.{takes, pmd_takes}
 use Rattle.pj_xvalue.specs.Expressions.{Part, Scope, Written, Literal, Number, Name, Other, operand, operands, clause, predicates_nesting, steps_nesting, all_fit, chain_fits, with_variable, arguments_fit, is_digits, most}
-use Rattle.pj_xmeaning.specs.Trees as tree
-use Rattle.pj_xmeaning.specs.Trees.{Tree, Trees, Construct, Node, NoMore, More}
+use Rattle.pj_xvalue.specs.Trees as tree
+use Rattle.pj_xvalue.specs.Trees.{Tree, Trees, Construct, Node, NoMore, More}
 
 -- how a construct is written as an argument, where that decides
 abbrev pub written_by : Construct → Written

@@ -1,10 +1,9 @@
 //! Laws of expressions of one tree, and of known patterns. The functions do nothing, and their contracts are the laws.
-ghost use Rattle.pj_xtrees.specs.Laws.{DenotesByFacts, DenotesByPatterns, DenotesByTree, DenotesOfTree, PatternsByTree};
+ghost use Rattle.pj_xtrees.specs.Laws.{DenotesByFacts, DenotesByPatterns, DenotesByTree, DenotesOfTree};
 
-/// Expressions of one tree denote the same and have the same patterns.
+/// Expressions of one tree denote the same.
 pub fn trees_tell_expressions()
-    ensures denotes { DenotesByTree }
-    ensures patterns { PatternsByTree }
+    ensures { DenotesByTree }
 {}
 
 /// What an expression denotes asks of the patterns that are known only which are among them.

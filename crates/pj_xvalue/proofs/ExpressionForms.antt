@@ -2,14 +2,14 @@
 use Rattle.std.proofs.Common.{◌≡◌, ℕ, ◌+◌, ℤ, true, not, ◌&&◌, ◌||◌, if◌then◌else◌, List, length, map, max, nat_eq, Option, Vec, Box, Global}
 use Rattle.pj_xvalue.specs.declared.axis.Axis.{Axis}
 use Rattle.pj_xvalue.specs.declared.function.Function.{Function}
-use Rattle.pj_xvalue.specs.declared.operator.Compare.{Compare}
+use Rattle.pj_xoperators.specs.declared.operator.Compare.{Compare}
 use Rattle.pj_xvalue.specs.declared.pmd_function.PmdFunction.{PmdFunction}
-use Rattle.pj_xvalue.specs.declared.expr.Additive.{Additive}
-use Rattle.pj_xvalue.specs.declared.expr.Multiplicative.{Multiplicative}
+use Rattle.pj_xoperators.specs.declared.operator.Additive.{Additive}
+use Rattle.pj_xoperators.specs.declared.operator.Multiplicative.{Multiplicative}
 use Rattle.pj_xvalue.specs.declared.expr.NodeTest.{NodeTest}
-use Rattle.pj_xvalue.specs.declared.expr.Quantifier.{Quantifier}
-use Rattle.pj_xvalue.specs.declared.expr.SetOperator.{SetOperator}
-use Rattle.pj_xvalue.specs.declared.expr.Sign.{Sign}
+use Rattle.pj_xoperators.specs.declared.operator.Quantifier.{Quantifier}
+use Rattle.pj_xoperators.specs.declared.operator.SetOperator.{SetOperator}
+use Rattle.pj_xoperators.specs.declared.operator.Sign.{Sign}
 use Rattle.pj_xvalue.specs.declared.expr.Expr.{Expr}
 use Rattle.pj_xvalue.specs.declared.expr.Expr.TheOpen.{Expr-F}
 use Rattle.pj_xvalue.specs.declared.expr.Expr.TheVariants as expr

@@ -11,5 +11,8 @@ pub mod Modifiers
 pub mod Names
 pub mod OfTree
 pub mod Replies
+pub mod Trees
 -- laws
 pub mod Deciding
+pub mod Layers
+pub mod TreeFolds

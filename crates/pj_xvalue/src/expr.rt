@@ -2,9 +2,9 @@
 
 use crate::axis::Axis;
 use crate::function::Function;
-use crate::operator::Compare;
 use crate::pmd_function::PmdFunction;
 use pj_base::Text;
+use pj_xoperators::{Additive, Compare, Multiplicative, Quantifier, SetOperator, Sign};
 
 /// An expression, with its section in XML Path Language (XPath) 2.0 where no other is named.
 ///
@@ -86,51 +86,4 @@ pub enum NodeTest {
     AnyNode,
     /// `element()`: elements.
     AnyElement,
-}
-
-/// The word of a quantified expression (3.9).
-#[derive(Clone, Copy, Debug, PartialEq, Eq)]
-pub enum Quantifier {
-    /// `some`
-    Some,
-    /// `every`
-    Every,
-}
-
-/// An operator of a sum (3.4).
-#[derive(Clone, Copy, Debug, PartialEq, Eq)]
-pub enum Additive {
-    /// `+`
-    Plus,
-    /// `-`
-    Minus,
-}
-
-/// An operator of a product (3.4).
-#[derive(Clone, Copy, Debug, PartialEq, Eq)]
-pub enum Multiplicative {
-    /// `*`
-    Times,
-    /// `idiv`
-    IntegerDivide,
-    /// `mod`
-    Modulo,
-}
-
-/// An operator on sets of nodes, of the level above `union` (3.3.3).
-#[derive(Clone, Copy, Debug, PartialEq, Eq)]
-pub enum SetOperator {
-    /// `intersect`
-    Intersect,
-    /// `except`
-    Except,
-}
-
-/// A sign before an operand (3.4).
-#[derive(Clone, Copy, Debug, PartialEq, Eq)]
-pub enum Sign {
-    /// `+`
-    Plus,
-    /// `-`
-    Minus,
 }

@@ -5,8 +5,8 @@ use Rattle.pj_xvalue.specs.declared.expr.Expr.{Expr}
 use Rattle.pj_xvalue.specs.declared.expr.Expr.TheOpen.{Expr-F}
 use Rattle.pj_xvalue.specs.declared.expr.Expr.TheViews.{roll-Expr}
 use Rattle.pj_xvalue.specs.declared.expr.Expr.TheFolds.{map-Expr, ind-Expr, fold-Expr, fold-roll-Expr}
-use Rattle.pj_xmeaning.specs.Trees.{Construct, Tree, Trees, Node, NoMore, More, node, trees, tree_step, tree_of}
-use Rattle.pj_xshape.specs.Layers.{map-Expr_twice}
+use Rattle.pj_xvalue.specs.Trees.{Construct, Tree, Trees, Node, NoMore, More, node, trees, tree_step, tree_of}
+use Rattle.pj_xvalue.specs.Layers.{map-Expr_twice}
 
 -- ---- folds of trees
 
