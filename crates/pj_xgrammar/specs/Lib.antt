@@ -3,8 +3,11 @@ pub mod Words
 pub mod Terminals
 pub mod Notation
 pub mod XPath
-pub mod Expressions
--- laws of predictive grammars for this one
-pub mod Predictive
+-- what the code makes of productions, and where they begin
+pub mod Actions
+pub mod Slots
+pub mod Beginnings
+pub mod Seen
+pub mod Fitting
 -- for private clauses
-pub mod Following
+pub mod Forms

@@ -81,7 +81,7 @@ abbrev pub is_of : Behind → Bool
 is_of b.Of = true
 is_of _ = false
 
--- XPath 2.0, A.2.1 and A.3; XPath 3.1, A.2.1: the words that have a meaning before one token alone
+-- XPath 2.0, A.2.2 and A.3; XPath 3.1, A.2.2: the words that have a meaning before one token alone
 abbrev pub makes_phrase : Phrase → Behind → Bool
 makes_phrase p.For = is_dollar
 makes_phrase p.Let = is_dollar

@@ -19,7 +19,7 @@ pub record WordEntry : Type 0 where
 abbrev pub entry : List ℕ → Word → WordEntry
 entry text word = record { text = text; word = word }
 
--- The words of XPath 2.0, A.2.1, that the grammar knows, with those of `let`, maps, arrays and inline functions of XPath 3.1, and
+-- The words of XPath 2.0, A.2.2, that the grammar knows, with those of `let`, maps, arrays and inline functions of XPath 3.1, and
 -- the names of the axes (XPath 2.0, 3.2.1.1)
 abbrev pub words : List WordEntry
 words =

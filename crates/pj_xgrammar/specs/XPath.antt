@@ -190,7 +190,7 @@ xpath r.NameTail =
     (t "(" ∷ R r.Arguments ∷ close ∷ t ")" ∷ R r.PredicateList ∷ [])
     ∷ (R r.PredicateList ∷ [])
     ∷ []
--- 35, 36, 54: NodeTest, NameTest, KindTest
+-- 35 to 37, 54: NodeTest, NameTest, KindTest
 xpath r.NodeTest =
     (R r.PlainName ∷ [])
     ∷ (axis ∷ [])
@@ -234,7 +234,7 @@ xpath r.VarName =
     ∷ (t "node" ∷ [])
     ∷ (t "element" ∷ [])
     ∷ []
--- A.2.2: a word is a name where the grammar wants one
+-- A.2: a word is a name where the grammar wants one
 xpath r.PlainName =
     (name ∷ [])
     ∷ (t "and" ∷ [])

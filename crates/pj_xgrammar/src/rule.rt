@@ -105,6 +105,6 @@ pub enum Rule {
     ArgumentsTail,
     /// the name of a variable (XPath 2.0, A.1, 45)
     VarName,
-    /// a name, or a keyword that is one where a name is wanted (XPath 2.0, A.2.2)
+    /// a name, or a keyword that is one where a name is wanted (XPath 2.0, A.2)
     PlainName,
 }

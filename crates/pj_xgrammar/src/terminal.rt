@@ -50,26 +50,26 @@ pub enum Terminal {
 }
 
 /// The numbers of the terminals that are no signs, keywords or phrases.
-pub(crate) const NAME: u16 = 0;
+pub const NAME: u16 = 0;
 
-pub(crate) const INTEGER: u16 = 1;
+pub const INTEGER: u16 = 1;
 
-pub(crate) const DECIMAL: u16 = 2;
+pub const DECIMAL: u16 = 2;
 
-pub(crate) const DOUBLE: u16 = 3;
+pub const DOUBLE: u16 = 3;
 
-pub(crate) const STRING: u16 = 4;
+pub const STRING: u16 = 4;
 
-pub(crate) const LONE_SLASH: u16 = 5;
+pub const LONE_SLASH: u16 = 5;
 
 /// The number of the first sign.
-pub(crate) const SIGNS: u16 = 6;
+pub const SIGNS: u16 = 6;
 
 /// The number of the first keyword.
-pub(crate) const KEYWORDS: u16 = 39;
+pub const KEYWORDS: u16 = 39;
 
 /// The number of the first phrase.
-pub(crate) const PHRASES: u16 = 63;
+pub const PHRASES: u16 = 63;
 
 impl Behind {
     /// What the token before these has behind it: their first one, or the end of the text.

@@ -4,7 +4,7 @@ ghost use Rattle.std.specs.Prelude.{◌≡◌};
 ghost use Rattle.std.specs.Str.{chars};
 ghost use Rattle.pj_xgrammar.specs.Words.{word_of};
 
-/// A word that is a terminal of its own whatever stands behind it (XPath 2.0, A.2.1), and the names of the axes, which are
+/// A word that is a terminal of its own whatever stands behind it (XPath 2.0, A.2.2), and the names of the axes, which are
 /// one. Where the grammar wants a name, each of them is one.
 #[derive(Clone, Copy, Debug, PartialEq, Eq)]
 pub enum Keyword {

@@ -3,9 +3,10 @@ use Rattle.std.proofs.Common.{◌≡◌, ◌==◌, true, false, List, [], ◌∷
 use Rattle.std.proofs.lemmas.Bool.{eqb-true}
 use Rattle.std.proofs.lemmas.List.{nil_from_length}
 use Rattle.pj_xvalue.specs.declared.expr.Expr.{Expr}
-use Rattle.pj_xmeaning.specs.Trees.{Tree, Construct, Filter, Path, node, operated, tree_of}
+use Rattle.pj_xvalue.specs.Trees.{Tree, Construct, Filter, Path, node, operated, tree_of}
 use Rattle.pj_xmeaning.specs.Parts.{operand_of}
-use Rattle.pj_xmeaning.specs.Values.{chained, mixed, filtered, relative}
+use Rattle.pj_xmeaning.specs.Values.{chained, mixed, relative}
+use Rattle.pj_xmeaning.specs.Steps.{filtered}
 
 no_members : {A : Type 0} (x : A) (xs : List A) → (length (x ∷ xs) == 0) ≡ true → ⊥
 no_members x xs h = let e : x ∷ xs ≡ [] = nil_from_length (x ∷ xs) (eqb-true _ _ h) in let z = e in cc

@@ -1,17 +1,18 @@
 -- What a value holds that is of another kind.
 use Rattle.std.proofs.Common.{◌≡◌, ℕ, List, [], refl}
-use Rattle.pj_xvalue.specs.declared.operator.Compare.{Compare}
-use Rattle.pj_xvalue.specs.declared.expr.Additive.{Additive}
-use Rattle.pj_xvalue.specs.declared.expr.Multiplicative.{Multiplicative}
+use Rattle.pj_xoperators.specs.declared.operator.Compare.{Compare}
+use Rattle.pj_xoperators.specs.declared.operator.Additive.{Additive}
+use Rattle.pj_xoperators.specs.declared.operator.Multiplicative.{Multiplicative}
 use Rattle.pj_xvalue.specs.declared.expr.NodeTest.{NodeTest}
 use Rattle.pj_xvalue.specs.declared.expr.NodeTest.TheVariants.{Name, AnyName}
-use Rattle.pj_xvalue.specs.declared.expr.SetOperator.{SetOperator}
+use Rattle.pj_xoperators.specs.declared.operator.SetOperator.{SetOperator}
 use Rattle.pj_xvalue.specs.declared.expr.Expr.{Expr}
-use Rattle.pj_xmeaning.specs.Parts.{expression, expressions, sums, products, sets, bindings, word, test, empty_sequence, value_of}
-use Rattle.pj_xmeaning.specs.Trees.{Tree}
-use Rattle.pj_xmeaning.specs.Values.{kind_test, named, axis_step, comparison, range, child_step}
-use Rattle.pj_xmeaning.specs.declared.action.Kind.{Kind}
-use Rattle.pj_xmeaning.specs.declared.action.Kind.TheVariants as kind
+use Rattle.pj_xmeaning.specs.Parts.{expression, expressions, sums, products, sets, bindings, word, test, value_of}
+use Rattle.pj_xmeaning.specs.Steps.{empty_sequence, child_step}
+use Rattle.pj_xvalue.specs.Trees.{Tree}
+use Rattle.pj_xmeaning.specs.Values.{kind_test, named, axis_step, comparison, range}
+use Rattle.pj_xgrammar.specs.declared.action.Kind.{Kind}
+use Rattle.pj_xgrammar.specs.declared.action.Kind.TheVariants as kind
 use Rattle.pj_xmeaning.specs.declared.part.Part.{Part}
 use Rattle.pj_xmeaning.specs.declared.part.Part.TheVariants as part
 

@@ -4,10 +4,12 @@ use Rattle.std.proofs.lemmas.List.{reverse-append}
 use Rattle.pj_xtokens.specs.Answer.{lexed_of}
 use Rattle.pj_xmeaning.specs.Parts.{RuleValue, value_of, values_of}
 use Rattle.pj_xmeaning.specs.Values.{acted, top, behind}
-use Rattle.pj_xmeaning.specs.Meaning.{values, action_of, first_text}
-use Rattle.pj_xmeaning.specs.Seen.{beginning_of}
+use Rattle.pj_xgrammar.specs.Beginnings.{action_of}
+use Rattle.pj_xtokens.specs.First.{first_text}
+use Rattle.pj_xmeaning.specs.Meaning.{values}
+use Rattle.pj_xgrammar.specs.Seen.{beginning_of}
 use Rattle.pj_xmeaning.specs.declared.part.Part.{Part}
-use Rattle.pj_xmeaning.specs.declared.beginning.Begun.{Begun}
+use Rattle.pj_xgrammar.specs.declared.beginning.Begun.{Begun}
 
 pub values_of_pushed : (parts : List Part) (part : Part) → values_of (parts ++ part ∷ []) ≡ value_of part ∷ values_of parts
 values_of_pushed parts part = ap (map value_of) (reverse-append parts (part ∷ []))

@@ -1,13 +1,6 @@
 -- definitions
+pub mod Steps
+-- what the code makes of the productions of a derivation
 pub mod Meaning
-pub mod Actions
-pub mod Values
 pub mod Parts
-pub mod Trees
-pub mod Literals
-pub mod Slots
-pub mod Seen
--- laws
-pub mod Fitting
--- for private clauses
-pub mod Forms
+pub mod Values

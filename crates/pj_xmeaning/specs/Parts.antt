@@ -1,13 +1,14 @@
 -- The values of rules.
 use Rattle.std.specs.Prelude.{ℕ, List, [], map, reverse}
-use Rattle.pj_xvalue.specs.declared.operator.Compare.{Compare}
-use Rattle.pj_xvalue.specs.declared.expr.Additive.{Additive}
-use Rattle.pj_xvalue.specs.declared.expr.Multiplicative.{Multiplicative}
+use Rattle.pj_xoperators.specs.declared.operator.Compare.{Compare}
+use Rattle.pj_xoperators.specs.declared.operator.Additive.{Additive}
+use Rattle.pj_xoperators.specs.declared.operator.Multiplicative.{Multiplicative}
 use Rattle.pj_xvalue.specs.declared.expr.NodeTest.{NodeTest}
 use Rattle.pj_xvalue.specs.declared.expr.NodeTest.TheVariants.{AnyName}
-use Rattle.pj_xvalue.specs.declared.expr.SetOperator.{SetOperator}
+use Rattle.pj_xoperators.specs.declared.operator.SetOperator.{SetOperator}
 use Rattle.pj_xvalue.specs.declared.expr.Expr.{Expr}
-use Rattle.pj_xmeaning.specs.Trees.{Tree, node, Comma, tree_of}
+use Rattle.pj_xvalue.specs.Trees.{Tree, tree_of}
+use Rattle.pj_xmeaning.specs.Steps.{empty_sequence}
 use Rattle.pj_xmeaning.specs.declared.part.Part.{Part}
 use Rattle.pj_xmeaning.specs.declared.part.Part.TheVariants as part
 
@@ -37,10 +38,6 @@ pub data RuleValue : Type 0 where
   AxisTest : NodeTest → List Tree → RuleValue
   -- the arguments of a call, with the predicates behind them
   Called : List Tree → List Tree → RuleValue
-
--- the empty sequence (XPath 2.0, 3.1.3)
-abbrev pub empty_sequence : Tree
-empty_sequence = node Comma []
 
 -- ---- what a value holds; a value of another kind holds the least
 

@@ -1,37 +1,35 @@
 -- What the actions make. A production's action makes the value of its rule from the values of the rules in it, in their order, and
 -- from the characters of the token with which the production begins, in UTF-8.
-use Rattle.std.specs.Prelude.{ℕ, List, [], ◌∷◌, Option, Some, None}
-use Rattle.pj_xvalue.specs.declared.axis.Axis.{Axis}
+use Rattle.std.specs.Prelude.{ℕ, List, [], ◌∷◌}
 use Rattle.pj_xvalue.specs.declared.axis.Axis.TheVariants as axis
 use Rattle.pj_xvalue.specs.declared.expr.NodeTest.{NodeTest}
 use Rattle.pj_xvalue.specs.declared.expr.NodeTest.TheVariants.{Name, AnyName, AnyNode, AnyElement}
-use Rattle.pj_xmeaning.specs.Literals.{integer_of, string_of}
+use Rattle.pj_xtokens.specs.Literals.{integer_of, string_of}
 use Rattle.pj_xvalue.specs.Names.{callee_of, axis_of}
-use Rattle.pj_xmeaning.specs.Trees as tree
-use Rattle.pj_xmeaning.specs.Trees.{Tree, Construct, node, alone, binder, operated}
-use Rattle.pj_xmeaning.specs.Parts.{RuleValue, Nothing, One, Many, Sums, Products, Sets, Compared, Bound, Word, Test, Parentheses, AxisTest, Called, empty_sequence, expression, expressions, sums, products, sets, bindings, word, test}
-use Rattle.pj_xvalue.specs.declared.name.Callee.{Callee}
-use Rattle.pj_xvalue.specs.declared.name.Callee.TheVariants as callee
-use Rattle.pj_xmeaning.specs.declared.action.Action.{Action}
-use Rattle.pj_xmeaning.specs.declared.action.Action.TheVariants as action
-use Rattle.pj_xmeaning.specs.declared.action.Leaf.{Leaf}
-use Rattle.pj_xmeaning.specs.declared.action.Leaf.TheVariants as leaf
-use Rattle.pj_xmeaning.specs.declared.action.Kind.{Kind}
-use Rattle.pj_xmeaning.specs.declared.action.Kind.TheVariants as kind
-use Rattle.pj_xmeaning.specs.declared.action.Change.{Change}
-use Rattle.pj_xmeaning.specs.declared.action.Change.TheVariants as change
-use Rattle.pj_xmeaning.specs.declared.action.Single.{Single}
-use Rattle.pj_xmeaning.specs.declared.action.Single.TheVariants as single
-use Rattle.pj_xmeaning.specs.declared.action.Rest.{Rest}
-use Rattle.pj_xmeaning.specs.declared.action.Rest.TheVariants as rest
-use Rattle.pj_xmeaning.specs.declared.action.Chain.{Chain}
-use Rattle.pj_xmeaning.specs.declared.action.Chain.TheVariants as chain
-use Rattle.pj_xmeaning.specs.declared.action.Operation.{Operation}
-use Rattle.pj_xmeaning.specs.declared.action.Operation.TheVariants as operation
-use Rattle.pj_xmeaning.specs.declared.action.Binder.{Binder}
-use Rattle.pj_xmeaning.specs.declared.action.Binder.TheVariants as binding
-use Rattle.pj_xmeaning.specs.declared.action.Step.{Step}
-use Rattle.pj_xmeaning.specs.declared.action.Step.TheVariants as step
+use Rattle.pj_xvalue.specs.Trees as tree
+use Rattle.pj_xvalue.specs.Trees.{Tree, Construct, node, alone, binder, operated}
+use Rattle.pj_xmeaning.specs.Parts.{RuleValue, Nothing, One, Many, Sums, Products, Sets, Compared, Bound, Word, Test, Parentheses, AxisTest, Called, expression, expressions, sums, products, sets, bindings, word, test}
+use Rattle.pj_xmeaning.specs.Steps.{along, called, child_step, descendants, empty_sequence, filtered}
+use Rattle.pj_xgrammar.specs.declared.action.Action.{Action}
+use Rattle.pj_xgrammar.specs.declared.action.Action.TheVariants as action
+use Rattle.pj_xgrammar.specs.declared.action.Leaf.{Leaf}
+use Rattle.pj_xgrammar.specs.declared.action.Leaf.TheVariants as leaf
+use Rattle.pj_xgrammar.specs.declared.action.Kind.{Kind}
+use Rattle.pj_xgrammar.specs.declared.action.Kind.TheVariants as kind
+use Rattle.pj_xgrammar.specs.declared.action.Change.{Change}
+use Rattle.pj_xgrammar.specs.declared.action.Change.TheVariants as change
+use Rattle.pj_xgrammar.specs.declared.action.Single.{Single}
+use Rattle.pj_xgrammar.specs.declared.action.Single.TheVariants as single
+use Rattle.pj_xgrammar.specs.declared.action.Rest.{Rest}
+use Rattle.pj_xgrammar.specs.declared.action.Rest.TheVariants as rest
+use Rattle.pj_xgrammar.specs.declared.action.Chain.{Chain}
+use Rattle.pj_xgrammar.specs.declared.action.Chain.TheVariants as chain
+use Rattle.pj_xgrammar.specs.declared.action.Operation.{Operation}
+use Rattle.pj_xgrammar.specs.declared.action.Operation.TheVariants as operation
+use Rattle.pj_xgrammar.specs.declared.action.Binder.{Binder}
+use Rattle.pj_xgrammar.specs.declared.action.Binder.TheVariants as binding
+use Rattle.pj_xgrammar.specs.declared.action.Step.{Step}
+use Rattle.pj_xgrammar.specs.declared.action.Step.TheVariants as step
 
 -- ---- tokens
 
@@ -54,13 +52,6 @@ kind_test kind.Node name Parentheses = AnyNode
 kind_test kind.Element name Parentheses = AnyElement
 kind_test _ name _ = Name name
 
-abbrev pub child_step : NodeTest → List Tree → Tree
-child_step t predicates = node (tree.Step axis.Child t) predicates
-
--- `//` stands for `/descendant-or-self::node()/`
-abbrev pub descendants : Tree
-descendants = alone (tree.Step axis.DescendantOrSelf AnyNode)
-
 -- a path behind `/`
 abbrev pub rooted : List Tree → Tree
 rooted steps = node tree.Path (alone tree.Root ∷ steps)
@@ -71,26 +62,10 @@ relative [] = node tree.Path []
 relative (only ∷ []) = only
 relative (first ∷ second ∷ more) = node tree.Path (first ∷ second ∷ more)
 
--- an expression with its predicates, if there are any
-abbrev pub filtered : Tree → List Tree → Tree
-filtered primary [] = primary
-filtered primary (first ∷ more) = node tree.Filter (primary ∷ first ∷ more)
-
--- a call; where there is no such function the empty sequence stands for it
-abbrev pub called : Option Callee → List Tree → Tree
-called (Some (callee.XPath function)) arguments = node (tree.Call function) arguments
-called (Some (callee.Pmd function)) arguments = node (tree.PmdCall function) arguments
-called None arguments = empty_sequence
-
 -- a name before arguments is that of a function, else a node test
 abbrev pub named : List ℕ → RuleValue → Tree
 named name (Called arguments predicates) = filtered (called (callee_of name) arguments) predicates
 named name behind = child_step (Name name) (expressions behind)
-
--- a step of an axis; that which is none of nodes is `attribute`
-abbrev pub along : Option Axis → NodeTest → List Tree → Tree
-along (Some a) t predicates = node (tree.Step a t) predicates
-along None t predicates = node (tree.AttributeStep t) predicates
 
 -- the name of an axis before `::` and a test is the axis, else as other names
 abbrev pub axis_step : List ℕ → RuleValue → Tree

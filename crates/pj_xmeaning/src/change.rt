@@ -1,14 +1,14 @@
 //! Values of one other.
 
 ghost use Rattle.std.specs.Prelude.{◌≡◌, IfOk};
-ghost use Rattle.pj_xmeaning.specs.Trees.{tree_of};
+ghost use Rattle.pj_xvalue.specs.Trees.{tree_of};
 ghost use Rattle.pj_xmeaning.specs.Parts.{value_of};
 ghost use Rattle.pj_xmeaning.specs.Values.{change_value, single_value};
 
-use crate::action::{Change, Single};
 use crate::part::Part;
 use crate::step::{axis_step, child_step, descendants, filtered, kind_test, relative, rooted};
 use pj_base::NoMemory;
+use pj_xgrammar::{Change, Single};
 use pj_xvalue::{Axis, Expr, NodeTest};
 use std::alloc::Global;
 

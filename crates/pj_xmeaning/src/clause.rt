@@ -1,13 +1,13 @@
 //! Variables and choices.
 
 ghost use Rattle.std.specs.Prelude.{◌≡◌, IfOk};
-ghost use Rattle.pj_xmeaning.specs.Trees.{tree_of};
+ghost use Rattle.pj_xvalue.specs.Trees.{tree_of};
 ghost use Rattle.pj_xmeaning.specs.Parts.{value_of};
 ghost use Rattle.pj_xmeaning.specs.Values.{binder_value, binding_value, choice_value};
 
-use crate::action::Binder;
 use crate::part::Part;
 use pj_base::NoMemory;
+use pj_xgrammar::Binder;
 use pj_xvalue::Expr;
 use std::alloc::Global;
 

@@ -1,27 +1,23 @@
 //! The expression of a derivation.
 
 ghost use Rattle.std.specs.Prelude.{◌≡◌, map, IfOk, OnOk};
-ghost use Rattle.std.specs.Str.{chars, encode_utf8_all};
-ghost use Rattle.pj_xtokens.specs.Answer.{lexed_of};
-ghost use Rattle.pj_xmeaning.specs.Trees.{tree_of};
+ghost use Rattle.pj_xvalue.specs.Trees.{tree_of};
 ghost use Rattle.pj_xmeaning.specs.Parts.{value_of, values_of};
 ghost use Rattle.pj_xmeaning.specs.Values.{made, left, acted};
-ghost use Rattle.pj_xmeaning.specs.Meaning.{first_text, expression_of};
-ghost use Rattle.pj_xmeaning.specs.Seen.{beginning_of};
+ghost use Rattle.pj_xmeaning.specs.Meaning.{expression_of};
+ghost use Rattle.pj_xgrammar.specs.Seen.{beginning_of};
 
-use crate::action::Action;
-use crate::beginning::Begun;
 use crate::change::{change, single};
 use crate::clause::{binding, bound, choice};
 use crate::leaf::leaf;
-use crate::made::action_of;
 use crate::operation::operation;
 use crate::part::Part;
 use crate::parts::{put, take};
 use crate::rest::rest;
 use crate::step::step;
 use pj_base::NoMemory;
-use pj_xtokens::Token;
+use pj_xgrammar::{Action, Begun, action_of};
+use pj_xtokens::first_text;
 use pj_xvalue::Expr;
 use std::alloc::Global;
 
@@ -64,23 +60,6 @@ fn act(alloc: Global, action: Action, text: &str, parts: &mut Vec<Part>) -> Resu
 {
     let part = made(alloc, action, text, parts)?;
     put(parts, part)
-}
-
-/// The text, whose bytes are those of its characters.
-fn as_written(text: &str) -> &str
-    ensures { result.now ≡ encode_utf8_all (chars text.now) }
-{
-    text
-}
-
-/// The characters of the first token; where there is none, no characters.
-fn first_text<'t>(tokens: &[Token<'t>]) -> &'t str
-    ensures { result.now ≡ first_text (map lexed_of tokens.now) }
-{
-    match tokens {
-        [token, ..] => as_written(token.text),
-        [] => "",
-    }
 }
 
 /// The expression that tokens spell by the productions of their leftmost derivation, which is made from the last one on.

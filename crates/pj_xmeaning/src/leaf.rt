@@ -4,10 +4,10 @@ ghost use Rattle.std.specs.Prelude.{◌≡◌, IfOk};
 ghost use Rattle.pj_xmeaning.specs.Parts.{value_of};
 ghost use Rattle.pj_xmeaning.specs.Values.{leaf_value};
 
-use crate::action::Leaf;
-use crate::literal::{integer_value, string_value};
 use crate::part::Part;
 use pj_base::{NoMemory, Text};
+use pj_xgrammar::Leaf;
+use pj_xtokens::{integer_value, string_value};
 use pj_xvalue::{Expr, NodeTest};
 use std::alloc::Global;
 

@@ -1,14 +1,14 @@
 //! Operands with what stands behind them.
 
 ghost use Rattle.std.specs.Prelude.{◌≡◌, map, IfOk};
-ghost use Rattle.pj_xmeaning.specs.Trees.{Additive', Multiplicative', IntersectExcept, node, tree_of};
+ghost use Rattle.pj_xvalue.specs.Trees.{Additive', Multiplicative', IntersectExcept, node, tree_of};
 ghost use Rattle.pj_xmeaning.specs.Parts.{value_of, operand_of};
 ghost use Rattle.pj_xmeaning.specs.Values.{mixed, comparison, range, chain_construct, chained, operation_value};
 
-use crate::action::{Chain, Operation};
 use crate::front::Front;
 use crate::part::Part;
 use pj_base::NoMemory;
+use pj_xgrammar::{Chain, Operation};
 use pj_xvalue::{Additive, Expr, Multiplicative, SetOperator};
 use std::alloc::Global;
 

@@ -1,7 +1,7 @@
 //! The values of rules.
 
 ghost use Rattle.std.specs.Prelude.{◌≡◌, map};
-ghost use Rattle.pj_xmeaning.specs.Trees.{tree_of};
+ghost use Rattle.pj_xvalue.specs.Trees.{tree_of};
 ghost use Rattle.pj_xmeaning.specs.Parts.{value_of, operand_of, expression, expressions, sums, products, sets, bindings, word, test};
 
 use crate::front::Front;

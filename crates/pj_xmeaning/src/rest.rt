@@ -4,10 +4,10 @@ ghost use Rattle.std.specs.Prelude.{◌≡◌, IfOk};
 ghost use Rattle.pj_xmeaning.specs.Parts.{value_of};
 ghost use Rattle.pj_xmeaning.specs.Values.{rest_value};
 
-use crate::action::Rest;
 use crate::part::Part;
 use crate::step::descendants;
 use pj_base::NoMemory;
+use pj_xgrammar::Rest;
 use std::alloc::Global;
 
 /// What a production makes of the values of its rules.

@@ -1,15 +1,16 @@
 //! Steps: tests, calls, filters and paths.
 
 ghost use Rattle.std.specs.Prelude.{◌≡◌, map, Some, IfOk};
-ghost use Rattle.pj_xmeaning.specs.Trees.{tree_of};
+ghost use Rattle.pj_xvalue.specs.Trees.{tree_of};
 ghost use Rattle.pj_xvalue.specs.Names.{callee_of, axis_of};
 ghost use Rattle.pj_xmeaning.specs.Parts.{value_of};
-ghost use Rattle.pj_xmeaning.specs.Values.{kind_test, called, filtered, child_step, named, along, axis_step, descendants, rooted, relative, step_value};
+ghost use Rattle.pj_xmeaning.specs.Values.{kind_test, named, axis_step, rooted, relative, step_value};
+ghost use Rattle.pj_xmeaning.specs.Steps.{called, filtered, child_step, along, descendants};
 
-use crate::action::{Kind, Step};
 use crate::front::Front;
 use crate::part::Part;
 use pj_base::{NoMemory, Text};
+use pj_xgrammar::{Kind, Step};
 use pj_xvalue::{Axis, Callee, Expr, NodeTest, axis_named, function_named};
 use std::alloc::Global;
 

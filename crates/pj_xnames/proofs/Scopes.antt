@@ -1,7 +1,6 @@
 -- Variables before what follows them.
 use Rattle.std.proofs.Common.{◌≡◌, ◌∙◌, ap, ℕ, ◌+◌, List, [], ◌∷◌, ◌++◌, length, arith}
-use Rattle.pj_xnames.specs.Mentions.{Mention, Binds, Ends}
-use Rattle.pj_xnames.specs.Namings.{scoped}
+use Rattle.pj_xnames.specs.Mentions.{Mention, Binds, Ends, scoped}
 
 -- variables, each bound behind its expression, before other mentions
 abbrev pub opened : List (List ℕ × List Mention) → List Mention → List Mention

@@ -1,9 +1,9 @@
 -- The values of the rules that are still to come, from the last production of a derivation to the first.
 use Rattle.std.proofs.Common.{◌≡◌, ◌∙◌, sym, ap, refl, List, [], ◌∷◌, ◌++◌, map, drop}
 use Rattle.pj_xtokens.specs.Answer.{lexed_of}
-use Rattle.pj_xmeaning.specs.Meaning.{action_of}
-use Rattle.pj_xmeaning.specs.Seen.{beginning_of}
-use Rattle.pj_xmeaning.specs.declared.beginning.Begun.{Begun}
+use Rattle.pj_xgrammar.specs.Beginnings.{action_of}
+use Rattle.pj_xgrammar.specs.Seen.{beginning_of}
+use Rattle.pj_xgrammar.specs.declared.beginning.Begun.{Begun}
 use Rattle.pj_xnames.specs.Namings.{Naming, acted, top, behind}
 use Rattle.pj_xnames.specs.Meaning.{namings}
 use Rattle.pj_xnames.specs.Readings.{seen_naming, seen_namings}

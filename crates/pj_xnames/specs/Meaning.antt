@@ -1,8 +1,8 @@
 -- What the tokens of a text name, by a leftmost derivation of them or of as many as can be derived.
 use Rattle.std.specs.Prelude.{ℕ, List, [], ◌∷◌}
 use Rattle.pj_xtokens.specs.Tokens.{Lexed}
-use Rattle.pj_xmeaning.specs.Meaning.{Beginning, beginnings, action_of}
-use Rattle.pj_xmeaning.specs.declared.form.Slot.TheVariants as slot
+use Rattle.pj_xgrammar.specs.Beginnings.{Beginning, beginnings, action_of}
+use Rattle.pj_xgrammar.specs.declared.form.Slot.TheVariants as slot
 use Rattle.pj_xnames.specs.Mentions.{Mention}
 use Rattle.pj_xnames.specs.Namings.{Naming, acted, top, mentions_of}
 

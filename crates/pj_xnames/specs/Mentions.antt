@@ -1,5 +1,5 @@
 -- What the tokens of a text name, in their order: variables with their scopes, and functions with what they want of their arguments.
-use Rattle.std.specs.Prelude.{ℕ, List, [], ◌∷◌, Option, Some, None}
+use Rattle.std.specs.Prelude.{ℕ, ◌+◌, List, [], ◌∷◌, ◌++◌, Option, Some, None}
 use Rattle.pj_xvalue.specs.declared.function.Function.{Function}
 use Rattle.pj_xvalue.specs.declared.function.Function.TheVariants as f
 use Rattle.pj_xvalue.specs.Expressions.{Written}
@@ -30,7 +30,8 @@ roles_named name = roles_in (callee_of name)
 pub data Mention : Type 0 where
   -- a variable; the offset is that of its `$`
   Variable : List ℕ → ℕ → Mention
-  -- a call of a function with so many arguments; the offset is that of its name
+  -- A call of a function with so many arguments; the offset is that of its name. Where its `)` is not there, and no function has the name, the
+  -- number is that of the arguments that are begun, and decides nothing.
   Call : List ℕ → ℕ → ℕ → Mention
   -- an argument of this role, as it is written; the offset is that of its first token
   Argument : Role → Written → ℕ → Mention
@@ -38,3 +39,8 @@ pub data Mention : Type 0 where
   Binds : List ℕ → Mention
   -- the scope of so many variables, those that were bound last, ends here
   Ends : ℕ → Mention
+
+-- What variables name with their expressions, and what follows them: each variable is seen by the expressions behind its own, and by the body.
+abbrev pub scoped : List (List ℕ × List Mention) → ℕ → List Mention → List Mention
+scoped [] count body = body ++ Ends count ∷ []
+scoped (variable ∷ more) count body = variable.1 ++ (Binds variable.0 ∷ scoped more (count + 1) body)

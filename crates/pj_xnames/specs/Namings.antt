@@ -2,30 +2,27 @@
 use Rattle.std.specs.Prelude.{ℕ, ◌+◌, Bool, true, false, List, [], ◌∷◌, ◌++◌, ◌-◌, length, take, drop, Option, Some, None, if◌then◌else◌}
 use Rattle.pj_xvalue.specs.Expressions.{Written, Literal, Number, Name, Other}
 use Rattle.pj_xtokens.specs.Tokens.{Lexed}
-use Rattle.pj_xtokens.specs.declared.token.TokenKind.{TokenKind}
-use Rattle.pj_xtokens.specs.declared.token.TokenKind.TheVariants as kind
-use Rattle.pj_xtokens.specs.declared.token.Sign.TheVariants as sign
-use Rattle.pj_xmeaning.specs.Literals.{string_of}
-use Rattle.pj_xmeaning.specs.Meaning.{behind_first, first_text}
+use Rattle.pj_xtokens.specs.Literals.{string_of}
+use Rattle.pj_xtokens.specs.First.{behind_first, begins_with_name, begins_with_parenthesis, first_from, first_text}
 use Rattle.pj_xvalue.specs.Names.{callee_of}
 use Rattle.pj_xvalue.specs.declared.name.Callee.{Callee}
-use Rattle.pj_xmeaning.specs.Fitting.{taken}
-use Rattle.pj_xmeaning.specs.declared.action.Action.{Action}
-use Rattle.pj_xmeaning.specs.declared.action.Action.TheVariants as action
-use Rattle.pj_xmeaning.specs.declared.action.Leaf.{Leaf}
-use Rattle.pj_xmeaning.specs.declared.action.Leaf.TheVariants as leaf
-use Rattle.pj_xmeaning.specs.declared.action.Change.{Change}
-use Rattle.pj_xmeaning.specs.declared.action.Change.TheVariants as change
-use Rattle.pj_xmeaning.specs.declared.action.Single.{Single}
-use Rattle.pj_xmeaning.specs.declared.action.Single.TheVariants as single
-use Rattle.pj_xmeaning.specs.declared.action.Rest.{Rest}
-use Rattle.pj_xmeaning.specs.declared.action.Rest.TheVariants as rest
-use Rattle.pj_xmeaning.specs.declared.action.Step.{Step}
-use Rattle.pj_xmeaning.specs.declared.action.Step.TheVariants as step
+use Rattle.pj_xgrammar.specs.Fitting.{taken}
+use Rattle.pj_xgrammar.specs.declared.action.Action.{Action}
+use Rattle.pj_xgrammar.specs.declared.action.Action.TheVariants as action
+use Rattle.pj_xgrammar.specs.declared.action.Leaf.{Leaf}
+use Rattle.pj_xgrammar.specs.declared.action.Leaf.TheVariants as leaf
+use Rattle.pj_xgrammar.specs.declared.action.Change.{Change}
+use Rattle.pj_xgrammar.specs.declared.action.Change.TheVariants as change
+use Rattle.pj_xgrammar.specs.declared.action.Single.{Single}
+use Rattle.pj_xgrammar.specs.declared.action.Single.TheVariants as single
+use Rattle.pj_xgrammar.specs.declared.action.Rest.{Rest}
+use Rattle.pj_xgrammar.specs.declared.action.Rest.TheVariants as rest
+use Rattle.pj_xgrammar.specs.declared.action.Step.{Step}
+use Rattle.pj_xgrammar.specs.declared.action.Step.TheVariants as step
 use Rattle.pj_xnames.specs.declared.role.Role.{Role}
 use Rattle.pj_xnames.specs.declared.part.Extent.{Extent}
-use Rattle.pj_xnames.specs.declared.part.Extent.TheVariants.{Whole, Open, Awaiting}
-use Rattle.pj_xnames.specs.Mentions.{Mention, Variable, Call, Argument, Binds, Ends, roles_named}
+use Rattle.pj_xnames.specs.declared.part.Extent.TheVariants.{Whole, Open}
+use Rattle.pj_xnames.specs.Mentions.{Mention, Variable, Call, Argument, roles_named, scoped}
 
 -- An expression or a part of one: the offset at which it begins, how it is written, where that is a literal or a variable alone, and what it
 -- names.
@@ -50,6 +47,10 @@ pub data Naming : Type 0 where
   Called : List Operand → Extent → List Mention → Naming
   -- variables, and what their expressions name
   Bound : List (List ℕ × List Mention) → Naming
+
+-- an operand before which the tokens end
+abbrev pub missing : Operand
+missing = record { from = 0; written = Other; mentions = [] }
 
 -- ---- what a value holds
 
@@ -87,8 +88,9 @@ abbrev pub word_of : Naming → List ℕ
 word_of (Word name) = name
 word_of _ = []
 
--- the operand, if there is one
+-- The operand, if it is one. Where the tokens end before it, it is one that is missing.
 abbrev pub operand_of : Naming → List Operand
+operand_of Missing = missing ∷ []
 operand_of (One operand) = operand ∷ []
 operand_of _ = []
 
@@ -97,53 +99,16 @@ abbrev pub operands_of : Naming → List Operand
 operands_of (Many operands extent) = operands
 operands_of _ = []
 
--- how far the list is there; where it is none, the tokens end before it
+-- How far the list is there. Where it is none, the tokens end before it, so that an operand before it may go on.
 abbrev pub extent_of : Naming → Extent
 extent_of Nothing = Whole
 extent_of (Many operands extent) = extent
-extent_of _ = Awaiting
-
--- how far a list is there of which the tokens end behind this operand, or before it
-abbrev pub extent_behind : Naming → Extent
-extent_behind Missing = Awaiting
-extent_behind _ = Open
-
--- how far a list is there, of an operand before others
-abbrev pub extent_from : Naming → Naming → Extent
-extent_from first Missing = extent_behind first
-extent_from first others = extent_of others
+extent_of _ = Open
 
 -- the variables, if there are any
 abbrev pub bound_of : Naming → List (List ℕ × List Mention)
 bound_of (Bound variables) = variables
 bound_of _ = []
-
--- ---- tokens
-
--- the offset of the first token; each production begins at one
-abbrev pub first_from : List Lexed → ℕ
-first_from [] = 0
-first_from (x ∷ xs) = x.from
-
--- the sign `(`
-abbrev pub is_parenthesis : TokenKind → Bool
-is_parenthesis (kind.Sign sign.LeftParenthesis) = true
-is_parenthesis _ = false
-
--- a name, which a word of the grammar is too
-abbrev pub is_name : TokenKind → Bool
-is_name kind.Name = true
-is_name _ = false
-
--- whether the first token is a name
-abbrev pub begins_with_name : List Lexed → Bool
-begins_with_name [] = false
-begins_with_name (x ∷ xs) = is_name x.kind
-
--- whether the first token is `(`
-abbrev pub begins_with_parenthesis : List Lexed → Bool
-begins_with_parenthesis [] = false
-begins_with_parenthesis (x ∷ xs) = is_parenthesis x.kind
 
 -- ---- what actions make
 
@@ -171,13 +136,13 @@ in_roles roles [] = []
 in_roles [] (argument ∷ more) = argument.mentions ++ in_roles [] more
 in_roles (role ∷ roles) (argument ∷ more) = Argument role argument.written argument.from ∷ (argument.mentions ++ in_roles roles more)
 
--- How many of so many expressions are there to their ends: the last one of an open list may go on.
+-- How many of so many expressions are there to their ends. An open list ends with one that may go on, even if none of its tokens is there yet.
 abbrev pub count_ended : Extent → ℕ → ℕ
+count_ended Whole count = count
 count_ended Open count = count - 1
-count_ended _ count = count
 
--- A call of which the `)` is not there: with how many arguments it calls is not known, but there may be no function of the name at all, and the
--- arguments behind which a `,` stands are whole.
+-- A call of which the `)` is not there: with how many arguments it calls is not known, but there may be no function of the name at all, and all
+-- of an open list's arguments but the last one are whole.
 abbrev pub open_call : Option Callee → List ℕ → ℕ → List Operand → Extent → List Mention
 open_call None name from arguments extent = Call name (length arguments) from ∷ mentions_in arguments
 open_call (Some callee) name from arguments extent = in_roles (take (count_ended extent (length arguments)) (roles_named name)) arguments
@@ -185,24 +150,19 @@ open_call (Some callee) name from arguments extent = in_roles (take (count_ended
 -- A call, with what its arguments and the predicates behind it name. Behind an open list of arguments there are no predicates.
 abbrev pub call : List ℕ → ℕ → List Operand → Extent → List Mention → List Mention
 call name from arguments Whole predicates = Call name (length arguments) from ∷ (in_roles (roles_named name) arguments ++ predicates)
-call name from arguments extent predicates = open_call (callee_of name) name from arguments extent ++ predicates
+call name from arguments Open predicates = open_call (callee_of name) name from arguments Open ++ predicates
 
 -- a name and what stands behind it: arguments, or predicates
 abbrev pub named : List Lexed → List ℕ → Naming → Naming
 named tokens name (Called arguments extent predicates) = one tokens Other (call name (first_from tokens) arguments extent predicates)
 named tokens name behind = one tokens Other (mentions_of behind)
 
--- Each variable is seen by the expressions behind its own, and by the body.
-abbrev pub scoped : List (List ℕ × List Mention) → ℕ → List Mention → List Mention
-scoped [] count body = body ++ Ends count ∷ []
-scoped (variable ∷ more) count body = variable.1 ++ (Binds variable.0 ∷ scoped more (count + 1) body)
-
 -- the variable of this name
 abbrev pub variable_named : List Lexed → List ℕ → Naming
 variable_named tokens name = one tokens (Name name) (Variable name (first_from tokens) ∷ [])
 
 -- Behind a `$` every name is one of a variable, also a word that begins another construct with what stands behind it, so that no derivation
--- goes on there (XPath 2.0, A.2.2).
+-- goes on there (XPath 2.0, A.2).
 abbrev pub underived_variable : List Lexed → List Lexed → Naming
 underived_variable tokens behind = if begins_with_name behind then variable_named tokens (first_text behind) else one tokens Other []
 
@@ -235,7 +195,7 @@ single_naming _ tokens value = one tokens Other (mentions_of value)
 abbrev pub rest_naming : Rest → List Lexed → Naming → Naming → Naming
 rest_naming rest.Called tokens first others = Called (operands_of first) (extent_of first) (mentions_of others)
 rest_naming rest.AxisTest tokens first others = one tokens Other (mentions_of others)
-rest_naming _ tokens first others = Many (operand_of first ++ operands_of others) (extent_from first others)
+rest_naming _ tokens first others = Many (operand_of first ++ operands_of others) (extent_of others)
 
 -- a step or a primary expression with what stands behind it
 abbrev pub step_naming : Step → List Lexed → Naming → Naming → Naming

@@ -4,7 +4,7 @@ use Rattle.std.specs.Borrow.{Bor}
 use Rattle.std.specs.declared.vec.Vec.{Vec}
 use Rattle.std.specs.declared.alloc.Global.{Global}
 use Rattle.pj_xvalue.specs.Expressions.{Written, Literal, Number, Name, Other}
-use Rattle.pj_xmeaning.specs.Literals.{string_of}
+use Rattle.pj_xtokens.specs.Literals.{string_of}
 use Rattle.pj_xnames.specs.Mentions as mention
 use Rattle.pj_xnames.specs.Mentions.{Mention}
 use Rattle.pj_xnames.specs.Namings as naming

@@ -10,9 +10,8 @@ use crate::named::{Named, Spelling};
 use crate::operand::one;
 use crate::part::{Extent, Part, Piece, before, mentions_in};
 use crate::role::{Role, roles_named};
-use crate::token::first_from;
 use pj_base::NoMemory;
-use pj_xtokens::Token;
+use pj_xtokens::{Token, first_from};
 use pj_xvalue::function_named;
 use std::alloc::Global;
 
@@ -121,9 +120,7 @@ fn call<'t>(
             let mentions = in_roles(roles_named(name), arguments, predicates)?;
             put(Named::Call(name, count, from), mentions)
         }
-        Extent::Open | Extent::Awaiting => {
-            open_call(alloc, name, from, arguments, extent, predicates)
-        }
+        Extent::Open => open_call(alloc, name, from, arguments, extent, predicates),
     }
 }
 

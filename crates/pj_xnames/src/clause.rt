@@ -2,15 +2,15 @@
 
 ghost use Rattle.std.specs.Prelude.{◌≡◌, map, IfOk};
 ghost use Rattle.pj_xtokens.specs.Answer.{lexed_of};
-ghost use Rattle.pj_xnames.specs.Namings.{scoped, variable, variable_named, underived_variable, binding_naming, bound_of, mentions_of};
+ghost use Rattle.pj_xnames.specs.Namings.{variable, variable_named, underived_variable, binding_naming, bound_of, mentions_of};
+ghost use Rattle.pj_xnames.specs.Mentions.{scoped};
 ghost use Rattle.pj_xnames.specs.Readings.{seen_mentions, seen_variables, seen_naming};
 
 use crate::named::{Named, Spelling};
 use crate::operand::one;
 use crate::part::Part;
-use crate::token::{begins_with_name, behind_first, first_from, first_text};
 use pj_base::NoMemory;
-use pj_xtokens::Token;
+use pj_xtokens::{Token, begins_with_name, behind_first, first_from, first_text};
 use std::alloc::Global;
 
 /// The variable of this name, whose `$` is the first token.

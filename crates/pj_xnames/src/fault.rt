@@ -2,7 +2,7 @@
 
 ghost use Rattle.std.specs.Prelude.{◌≡◌, ℕ, List, map, IfOk, OnOk};
 ghost use Rattle.std.specs.Option.{option_map};
-ghost use Rattle.pj_xmeaning.specs.Seen.{beginning_of};
+ghost use Rattle.pj_xgrammar.specs.Seen.{beginning_of};
 ghost use Rattle.pj_xnames.specs.Meaning.{named_by};
 ghost use Rattle.pj_xnames.specs.Bound.{names_of, IsCounted};
 ghost use Rattle.pj_xnames.specs.Faults.{callee_takes, is_function, is_bound, fault_in, scope_behind, first_fault};
@@ -14,7 +14,7 @@ use crate::mentions::mentions;
 use crate::named::Named;
 use crate::written::{fits_role, is_given};
 use pj_base::{Names, NoMemory};
-use pj_xmeaning::Begun;
+use pj_xgrammar::Begun;
 use pj_xvalue::{Callee, function_named};
 use std::alloc::Global;
 

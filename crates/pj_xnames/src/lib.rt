@@ -12,7 +12,6 @@ mod operand;
 mod part;
 mod parts;
 mod role;
-mod token;
 mod written;
 
 pub use fault::{NameFault, first_fault};

@@ -3,8 +3,8 @@
 ghost use Rattle.std.specs.Prelude.{◌≡◌, ◌∷◌, ◌++◌, drop, map, IfOk, OnOk};
 ghost use Rattle.pj_xtokens.specs.Answer.{lexed_of};
 ghost use Rattle.pj_xvalue.specs.Expressions.{Other};
-ghost use Rattle.pj_xmeaning.specs.Fitting.{taken};
-ghost use Rattle.pj_xnames.specs.Namings.{Many, one, mentions_of, operand_of, operands_of, extent_from, leaf_naming, change_naming, single_naming, rest_naming, step_naming, made, acted};
+ghost use Rattle.pj_xgrammar.specs.Fitting.{taken};
+ghost use Rattle.pj_xnames.specs.Namings.{Many, one, mentions_of, operand_of, operands_of, extent_of, leaf_naming, change_naming, single_naming, rest_naming, step_naming, made, acted};
 ghost use Rattle.pj_xnames.specs.Readings.{seen_naming, seen_namings};
 
 use crate::call::named;
@@ -13,10 +13,9 @@ use crate::named::Spelling;
 use crate::operand::{one, primary, with_rest};
 use crate::part::{Part, before};
 use crate::parts::{put, take};
-use crate::token::first_text;
 use pj_base::NoMemory;
-use pj_xmeaning::{Action, Change, Leaf, Rest, Single, Step};
-use pj_xtokens::Token;
+use pj_xgrammar::{Action, Change, Leaf, Rest, Single, Step};
+use pj_xtokens::{Token, first_text};
 use std::alloc::Global;
 
 /// What a production without rules makes.
@@ -80,11 +79,11 @@ fn single<'t>(
 
 /// An expression before others.
 fn further<'t>(alloc: Global, first: Part<'t>, others: Part<'t>) -> Result<Part<'t>, NoMemory>
-    ensures { IfOk result (λ made. seen_naming made ≡ Many (operand_of (seen_naming first.entry) ++ operands_of (seen_naming others.entry)) (extent_from (seen_naming first.entry) (seen_naming others.entry))) }
+    ensures { IfOk result (λ made. seen_naming made ≡ Many (operand_of (seen_naming first.entry) ++ operands_of (seen_naming others.entry)) (extent_of (seen_naming others.entry))) }
 {
-    let extent = first.extent_before(&others);
+    let extent = others.extent();
     let mut all = others.into_pieces(alloc);
-    if let Some(piece) = first.into_piece() {
+    if let Some(piece) = first.into_piece(alloc) {
         all.push(piece)?;
     }
     Ok(Part::Many(all, extent))

@@ -1,7 +1,7 @@
 //! What the tokens of a text name.
 
 ghost use Rattle.std.specs.Prelude.{◌≡◌, map, IfOk};
-ghost use Rattle.pj_xmeaning.specs.Seen.{beginning_of};
+ghost use Rattle.pj_xgrammar.specs.Seen.{beginning_of};
 ghost use Rattle.pj_xnames.specs.Meaning.{named_by};
 ghost use Rattle.pj_xnames.specs.Readings.{seen_mentions};
 
@@ -9,7 +9,7 @@ use crate::made::act;
 use crate::named::Named;
 use crate::parts::take;
 use pj_base::NoMemory;
-use pj_xmeaning::{Begun, action_of};
+use pj_xgrammar::{Begun, action_of};
 use std::alloc::Global;
 
 /// What the tokens name, from the last on, by the productions of a leftmost derivation.

@@ -8,9 +8,8 @@ ghost use Rattle.pj_xnames.specs.Readings.{seen_written, seen_mentions, seen_nam
 
 use crate::named::{Named, Spelling};
 use crate::part::{Part, Piece, before};
-use crate::token::{begins_with_parenthesis, first_from};
 use pj_base::NoMemory;
-use pj_xtokens::Token;
+use pj_xtokens::{Token, begins_with_parenthesis, first_from};
 use std::alloc::Global;
 
 /// What begins at the first token.

@@ -2,7 +2,7 @@
 
 ghost use Rattle.std.specs.Prelude.{◌≡◌, ◌++◌, IfOk, option_to_list};
 ghost use Rattle.std.specs.Option.{option_map};
-ghost use Rattle.pj_xnames.specs.Namings.{mentions_in, mentions_of, written_in, written_of, count_ended, extent_behind, extent_from, extent_of, is_empty, word_of, operand_of, operands_of, bound_of};
+ghost use Rattle.pj_xnames.specs.Namings.{mentions_in, mentions_of, written_in, written_of, count_ended, extent_of, is_empty, word_of, operand_of, operands_of, bound_of};
 ghost use Rattle.pj_xnames.specs.Readings.{seen_written, seen_mentions, seen_operand, seen_operands, seen_variables, seen_naming};
 
 use crate::named::{Named, Spelling};
@@ -25,10 +25,8 @@ pub struct Piece<'t> {
 pub enum Extent {
     /// Up to its end.
     Whole,
-    /// Up to an expression that may go on.
+    /// Up to an expression that may go on, even if none of its tokens is there yet, or up to the place before the first one.
     Open,
-    /// Up to the place where its next expression would begin: behind a `,`, or before the first one.
-    Awaiting,
 }
 
 impl Extent {
@@ -37,8 +35,8 @@ impl Extent {
         ensures { result ≡ count_ended self count }
     {
         match self {
+            Extent::Whole => count,
             Extent::Open => count.saturating_sub(1),
-            Extent::Whole | Extent::Awaiting => count,
         }
     }
 }
@@ -119,27 +117,7 @@ impl<'t> Part<'t> {
         match self {
             Part::Nothing => Extent::Whole,
             Part::Many(_, extent) => *extent,
-            _ => Extent::Awaiting,
-        }
-    }
-
-    /// How far a list is there of which the tokens end behind this operand, or before it.
-    fn extent_behind(&self) -> Extent
-        ensures { result ≡ extent_behind (seen_naming self.now) }
-    {
-        match self {
-            Part::Missing => Extent::Awaiting,
             _ => Extent::Open,
-        }
-    }
-
-    /// How far a list is there, of this operand before others.
-    pub fn extent_before(&self, others: &Part<'t>) -> Extent
-        ensures { result ≡ extent_from (seen_naming self.now) (seen_naming others.now) }
-    {
-        match others {
-            Part::Missing => self.extent_behind(),
-            _ => others.extent(),
         }
     }
 
@@ -184,11 +162,16 @@ impl<'t> Part<'t> {
         }
     }
 
-    /// The expression, if it is one.
-    pub fn into_piece(self) -> Option<Piece<'t>>
+    /// The expression, if it is one; where the tokens end before it, one that is missing.
+    pub fn into_piece(self, alloc: Global) -> Option<Piece<'t>>
         ensures { option_to_list (option_map seen_operand result) ≡ operand_of (seen_naming self.entry) }
     {
         match self {
+            Part::Missing => Some(Piece {
+                from: 0,
+                written: Spelling::Other,
+                mentions: Vec::new(alloc),
+            }),
             Part::One(piece) => Some(piece),
             other => {
                 other.let_go();

@@ -12,7 +12,7 @@ use crate::bound::BoundNames;
 use crate::named::Spelling;
 use crate::role::Role;
 use pj_base::{Names, NoMemory};
-use pj_xmeaning::string_value;
+use pj_xtokens::string_value;
 use std::alloc::Global;
 
 /// Whether the rule set gives the variable.

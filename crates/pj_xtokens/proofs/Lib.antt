@@ -8,3 +8,4 @@ pub mod Gapped
 pub mod Reading
 pub mod Unique
 pub mod SomeTokens
+pub mod Digits

@@ -1,7 +1,9 @@
 -- definitions
 pub mod Answer
 pub mod Characters
+pub mod First
 pub mod Gaps
+pub mod Literals
 pub mod Pattern
 pub mod Rules
 pub mod Signs

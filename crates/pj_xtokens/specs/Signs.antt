@@ -1,4 +1,4 @@
--- The signs (XPath 2.0, A.2.1, with those that XPath 3.1 adds).
+-- The signs (XPath 2.0, A.2.2, with those that XPath 3.1 adds).
 use Rattle.std.specs.Prelude.{ℕ, List, [], ◌∷◌, codes}
 use Rattle.pj_xtokens.specs.declared.token.Sign.{Sign}
 use Rattle.pj_xtokens.specs.declared.token.Sign.TheVariants as s

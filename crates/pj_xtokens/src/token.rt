@@ -17,7 +17,7 @@ pub enum TokenKind {
     Sign(Sign),
 }
 
-/// The signs (XPath 2.0, A.2.1; XPath 3.1, A.2.1).
+/// The signs (XPath 2.0, A.2.2; XPath 3.1, A.2.2).
 #[derive(Clone, Copy, Debug, PartialEq, Eq)]
 pub enum Sign {
     /// `(`

@@ -3,9 +3,11 @@ use Rattle.std.proofs.lemmas.List.{take_all, take_more}
 use Rattle.pj_xtokens.specs.Answer.{lexed_of}
 use Rattle.pj_xmeaning.specs.Parts.{RuleValue, expression, values_of}
 use Rattle.pj_xmeaning.specs.Values.{acted, top}
-use Rattle.pj_xmeaning.specs.Meaning.{values, action_of, first_text}
-use Rattle.pj_xmeaning.specs.Seen.{beginning_of}
-use Rattle.pj_xmeaning.specs.declared.beginning.Begun.{Begun}
+use Rattle.pj_xgrammar.specs.Beginnings.{action_of}
+use Rattle.pj_xtokens.specs.First.{first_text}
+use Rattle.pj_xmeaning.specs.Meaning.{values}
+use Rattle.pj_xgrammar.specs.Seen.{beginning_of}
+use Rattle.pj_xgrammar.specs.declared.beginning.Begun.{Begun}
 use Rattle.pj_xmeaning.proofs.Values.{values_before}
 use Rattle.pj_xmeaning.proofs.expression.meaning.Goals as goal
 

@@ -1,7 +1,7 @@
 use Rattle.std.proofs.Common.{◌≡◌, ◌≤◌, [], map, take, length}
 use Rattle.pj_xmeaning.specs.Parts.{values_of}
 use Rattle.pj_xmeaning.specs.Meaning.{values}
-use Rattle.pj_xmeaning.specs.Seen.{beginning_of}
+use Rattle.pj_xgrammar.specs.Seen.{beginning_of}
 use Rattle.pj_xmeaning.proofs.expression.meaning.Given as goal
 
 abbrev pub invariant-steps : goal.invariant-steps

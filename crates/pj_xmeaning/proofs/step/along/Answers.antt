@@ -1,6 +1,6 @@
 use Rattle.std.proofs.Common.{◌∙◌, ap, map}
-use Rattle.pj_xmeaning.specs.Trees.{tree_of}
-use Rattle.pj_xmeaning.specs.Values.{along}
+use Rattle.pj_xvalue.specs.Trees.{tree_of}
+use Rattle.pj_xmeaning.specs.Steps.{along}
 use Rattle.pj_xmeaning.proofs.TreeForms.{tree_of_step, tree_of_attribute_step}
 use Rattle.pj_xmeaning.proofs.step.along.Goals as goal
 

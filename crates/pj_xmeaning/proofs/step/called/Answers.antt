@@ -1,6 +1,6 @@
 use Rattle.std.proofs.Common.{◌≡◌, ◌∙◌, ap, map, [], rules}
-use Rattle.pj_xmeaning.specs.Trees.{Comma, node, tree_of}
-use Rattle.pj_xmeaning.specs.Values.{called}
+use Rattle.pj_xvalue.specs.Trees.{Comma, node, tree_of}
+use Rattle.pj_xmeaning.specs.Steps.{called}
 use Rattle.pj_xmeaning.proofs.TreeForms.{tree_of_comma}
 use Rattle.pj_xmeaning.proofs.step.called.Goals as goal
 

@@ -1,9 +1,9 @@
 use Rattle.std.proofs.Common.{◌≡◌, ◌∙◌, ℕ, ◌+◌, ◌-◌, ◌≤◌, List, [], ◌∷◌, ◌++◌, map, take, get_or, length, ap, sym, subst, IfOk, arith}
 use Rattle.std.proofs.lemmas.List.{take_all, take_more}
 use Rattle.pj_xtokens.specs.Answer.{lexed_of}
-use Rattle.pj_xmeaning.specs.Meaning.{action_of}
-use Rattle.pj_xmeaning.specs.Seen.{beginning_of}
-use Rattle.pj_xmeaning.specs.declared.beginning.Begun.{Begun}
+use Rattle.pj_xgrammar.specs.Beginnings.{action_of}
+use Rattle.pj_xgrammar.specs.Seen.{beginning_of}
+use Rattle.pj_xgrammar.specs.declared.beginning.Begun.{Begun}
 use Rattle.pj_xnames.specs.Mentions.{Mention}
 use Rattle.pj_xnames.specs.Namings.{Naming, acted, top, mentions_of}
 use Rattle.pj_xnames.specs.Meaning.{namings}

@@ -1,7 +1,7 @@
 use Rattle.std.proofs.Common.{◌≡◌, ◌≤◌, [], map, take, length}
 use Rattle.pj_xnames.specs.Meaning.{namings}
 use Rattle.pj_xnames.specs.Readings.{seen_namings}
-use Rattle.pj_xmeaning.specs.Seen.{beginning_of}
+use Rattle.pj_xgrammar.specs.Seen.{beginning_of}
 use Rattle.pj_xnames.proofs.mentions.mentions.Given as goal
 
 abbrev pub invariant-steps : goal.invariant-steps

@@ -1,5 +1,5 @@
 use Rattle.std.proofs.Common.{◌≡◌, ◌∙◌, ap, sym, map, rules, []}
-use Rattle.pj_xmeaning.specs.Trees.{tree_of, node, Comma}
+use Rattle.pj_xvalue.specs.Trees.{tree_of, node, Comma}
 use Rattle.pj_xmeaning.proofs.Holding.{no_expression}
 use Rattle.pj_xmeaning.proofs.TreeForms.{tree_of_comma}
 use Rattle.pj_xmeaning.proofs.part.Part.into_expr.Goals as goal

@@ -1,5 +1,5 @@
 use Rattle.std.proofs.Common.{◌∙◌, ap, sym, map}
-use Rattle.pj_xmeaning.specs.Trees.{tree_of}
+use Rattle.pj_xvalue.specs.Trees.{tree_of}
 use Rattle.pj_xmeaning.proofs.Holding.{no_expressions}
 use Rattle.pj_xmeaning.proofs.part.Part.into_exprs.Goals as goal
 

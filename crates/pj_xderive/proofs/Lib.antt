@@ -1,0 +1,16 @@
+pub mod Apart
+pub mod Completing
+pub mod Deeper
+pub mod Endings
+pub mod LeftOutNumbers
+pub mod Lifting
+pub mod OneOutcome
+pub mod OneRun
+pub mod Outcomes
+pub mod Reading
+pub mod RuleFacts
+pub mod RunsFirst
+pub mod SameTable
+pub mod Standing
+pub mod Tried
+pub mod Widening

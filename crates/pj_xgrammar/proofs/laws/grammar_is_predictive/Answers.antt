@@ -1,8 +1,0 @@
-use Rattle.pj_ll.specs.Grammar.{entries_of}
-use Rattle.pj_xgrammar.specs.declared.table.TheConstants.{PIECES}
-use Rattle.pj_xgrammar.proofs.RuleFacts.{xpath_facts}
-use Rattle.pj_xgrammar.proofs.SameTable.{test_is, table_is}
-use Rattle.pj_xgrammar.proofs.laws.grammar_is_predictive.Goals as goal
-
-pub returns : goal.returns
-returns c = (xpath_facts, (entries_of PIECES, table_is, c.tested_tables_are_predictive.ensures xpath_facts (entries_of PIECES) test_is))

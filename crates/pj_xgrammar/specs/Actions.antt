@@ -1,0 +1,208 @@
+-- What the productions make: for each rule of the grammar an action for each of its productions, in their order. What the actions
+-- mean is in `Values`. The comments are the sections of XPath 2.0, A.1, as in the grammar.
+use Rattle.std.specs.Prelude.{List, [], ◌∷◌, ◌++◌}
+use Rattle.pj_xoperators.specs.declared.operator.Compare.TheVariants as compare
+use Rattle.pj_xoperators.specs.declared.operator.Additive.TheVariants as sum
+use Rattle.pj_xoperators.specs.declared.operator.Multiplicative.TheVariants as product
+use Rattle.pj_xoperators.specs.declared.operator.SetOperator.TheVariants as set
+use Rattle.pj_xoperators.specs.declared.operator.Sign.TheVariants as sign
+use Rattle.pj_xoperators.specs.declared.operator.Quantifier.TheVariants as quantifier
+use Rattle.pj_xgrammar.specs.declared.rule.Rule.{Rule}
+use Rattle.pj_xgrammar.specs.declared.rule.Rule.TheVariants as r
+use Rattle.pj_xgrammar.specs.XPath.{rules}
+use Rattle.pj_xgrammar.specs.declared.action.Action.{Action}
+use Rattle.pj_xgrammar.specs.declared.action.Action.TheVariants.{Leaf, Change, Single, Rest, Operation, Binder, Step, If, Binding}
+use Rattle.pj_xgrammar.specs.declared.action.Leaf.TheVariants as leaf
+use Rattle.pj_xgrammar.specs.declared.action.Kind.TheVariants as kind
+use Rattle.pj_xgrammar.specs.declared.action.Change.TheVariants as change
+use Rattle.pj_xgrammar.specs.declared.action.Single.TheVariants as single
+use Rattle.pj_xgrammar.specs.declared.action.Rest.TheVariants as rest
+use Rattle.pj_xgrammar.specs.declared.action.Chain.TheVariants as chain
+use Rattle.pj_xgrammar.specs.declared.action.Operation.TheVariants as operation
+use Rattle.pj_xgrammar.specs.declared.action.Binder.TheVariants as binder
+use Rattle.pj_xgrammar.specs.declared.action.Step.TheVariants as step
+
+-- no value: the end of a list, and what is left out
+abbrev pub nothing : Action
+nothing = Leaf leaf.Nothing
+
+-- the token's characters
+abbrev pub word : Action
+word = Leaf leaf.Word
+
+-- the value of the one rule
+abbrev pub same : Action
+same = Change change.Same
+
+-- an expression before others
+abbrev pub further : Action
+further = Rest rest.Further
+
+unfoldable pub actions_of : Rule → List Action
+-- 2
+actions_of r.Expr = Operation (operation.Chain chain.Comma) ∷ []
+actions_of r.ExprTail = further ∷ nothing ∷ []
+-- 3 to 7; XPath 3.1, 3.10
+actions_of r.ExprSingle =
+    Binder binder.For
+    ∷ Binder binder.Let
+    ∷ Binder (binder.Quantified quantifier.Some)
+    ∷ Binder (binder.Quantified quantifier.Every)
+    ∷ If
+    ∷ same
+    ∷ []
+-- 5, 6
+actions_of r.InBindings = Binding ∷ []
+actions_of r.InBindingsTail = same ∷ nothing ∷ []
+-- XPath 3.1, 3.10
+actions_of r.LetBindings = Binding ∷ []
+actions_of r.LetBindingsTail = same ∷ nothing ∷ []
+actions_of r.InClause = same ∷ []
+actions_of r.AssignClause = same ∷ []
+actions_of r.ReturnClause = same ∷ []
+actions_of r.SatisfiesClause = same ∷ []
+actions_of r.TestClause = same ∷ []
+actions_of r.ThenClause = same ∷ []
+actions_of r.ElseClause = same ∷ []
+-- 8
+actions_of r.OrExpr = Operation (operation.Chain chain.Or) ∷ []
+actions_of r.OrTail = further ∷ nothing ∷ []
+-- 9
+actions_of r.AndExpr = Operation (operation.Chain chain.And) ∷ []
+actions_of r.AndTail = further ∷ nothing ∷ []
+-- 10, 22
+actions_of r.ComparisonExpr = Operation operation.Comparison ∷ []
+actions_of r.ComparisonTail =
+    Change (change.Compared compare.Equal)
+    ∷ Change (change.Compared compare.NotEqual)
+    ∷ Change (change.Compared compare.Less)
+    ∷ Change (change.Compared compare.LessOrEqual)
+    ∷ Change (change.Compared compare.Greater)
+    ∷ Change (change.Compared compare.GreaterOrEqual)
+    ∷ nothing
+    ∷ []
+-- XPath 3.1, 3.6
+actions_of r.StringConcatExpr = Operation (operation.Chain chain.Concatenation) ∷ []
+actions_of r.StringConcatTail = further ∷ nothing ∷ []
+-- 11
+actions_of r.RangeExpr = Operation operation.Range ∷ []
+actions_of r.RangeTail = same ∷ nothing ∷ []
+-- 12
+actions_of r.AdditiveExpr = Operation operation.Sum ∷ []
+actions_of r.AdditiveTail =
+    Rest (rest.FurtherSum sum.Plus)
+    ∷ Rest (rest.FurtherSum sum.Minus)
+    ∷ nothing
+    ∷ []
+-- 13
+actions_of r.MultiplicativeExpr = Operation operation.Product ∷ []
+actions_of r.MultiplicativeTail =
+    Rest (rest.FurtherProduct product.Times)
+    ∷ Rest (rest.FurtherProduct product.IntegerDivide)
+    ∷ Rest (rest.FurtherProduct product.Modulo)
+    ∷ nothing
+    ∷ []
+-- 14
+actions_of r.UnionExpr = Operation (operation.Chain chain.Union) ∷ []
+actions_of r.UnionTail = further ∷ further ∷ nothing ∷ []
+-- 15
+actions_of r.IntersectExceptExpr = Operation operation.Sets ∷ []
+actions_of r.IntersectExceptTail =
+    Rest (rest.FurtherSet set.Intersect)
+    ∷ Rest (rest.FurtherSet set.Except)
+    ∷ nothing
+    ∷ []
+-- 20
+actions_of r.UnaryExpr =
+    Single (single.Signed sign.Minus)
+    ∷ Single (single.Signed sign.Plus)
+    ∷ same
+    ∷ []
+-- XPath 3.1, 3.15
+actions_of r.SimpleMapExpr = Operation (operation.Chain chain.SimpleMap) ∷ []
+actions_of r.SimpleMapTail = further ∷ nothing ∷ []
+-- behind an operand nothing stands that is left out
+actions_of r.Operand = Operation operation.Operand ∷ []
+actions_of r.LeftOutOperator =
+    nothing ∷ nothing ∷ nothing ∷ nothing ∷ nothing ∷ nothing ∷ nothing ∷ nothing ∷ nothing ∷ nothing
+    ∷ nothing ∷ nothing ∷ nothing ∷ nothing ∷ nothing ∷ nothing ∷ nothing ∷ nothing ∷ nothing
+    ∷ []
+-- 25
+actions_of r.PathExpr =
+    Leaf leaf.Root
+    ∷ Single single.RootedPath
+    ∷ Single single.RootedDescendants
+    ∷ Single single.RelativePath
+    ∷ []
+-- 26
+actions_of r.RelativePathExpr = further ∷ []
+actions_of r.RelativePathTail =
+    further
+    ∷ Rest rest.FurtherDescendants
+    ∷ nothing
+    ∷ []
+-- 27 to 34, 38, 47; nothing is made of what is left out
+actions_of r.StepExpr =
+    Single single.ContextItem
+    ∷ Step step.Primary
+    ∷ Single single.ParentStep
+    ∷ Step step.Attribute
+    ∷ Single single.AxisStep
+    ∷ Single single.AnyNameStep
+    ∷ Step (step.Kind kind.Node)
+    ∷ Step (step.Kind kind.Element)
+    ∷ Step step.Name
+    ∷ nothing ∷ nothing ∷ nothing ∷ nothing ∷ nothing ∷ nothing ∷ nothing
+    ∷ []
+actions_of r.AxisTail =
+    Rest rest.AxisTest
+    ∷ Rest rest.Called
+    ∷ same
+    ∷ []
+actions_of r.NameTail =
+    Rest rest.Called
+    ∷ same
+    ∷ []
+-- 35 to 37, 54
+actions_of r.NodeTest =
+    Change change.NameTest
+    ∷ Leaf leaf.NameTest
+    ∷ Leaf leaf.AnyNameTest
+    ∷ Change (change.KindTest kind.Node)
+    ∷ Change (change.KindTest kind.Element)
+    ∷ []
+actions_of r.KindTail =
+    Leaf leaf.Parentheses
+    ∷ nothing
+    ∷ []
+-- 39, 40
+actions_of r.PredicateList = further ∷ nothing ∷ []
+-- 41 to 46
+actions_of r.PrimaryExpr =
+    Leaf leaf.Integer
+    ∷ Leaf leaf.String
+    ∷ Single single.Variable
+    ∷ same
+    ∷ []
+actions_of r.Parenthesized =
+    same
+    ∷ Leaf leaf.EmptySequence
+    ∷ []
+-- 48
+actions_of r.Arguments = further ∷ nothing ∷ []
+actions_of r.ArgumentsTail = further ∷ nothing ∷ []
+-- 45
+actions_of r.VarName = same ∷ word ∷ word ∷ word ∷ []
+-- A.2
+actions_of r.PlainName =
+    word ∷ word ∷ word ∷ word ∷ word ∷ word ∷ word ∷ word ∷ word ∷ word ∷ word
+    ∷ word ∷ word ∷ word ∷ word ∷ word ∷ word ∷ word ∷ word ∷ word ∷ word ∷ word
+    ∷ []
+
+abbrev pub actions_by : List Rule → List Action
+actions_by [] = []
+actions_by (rule ∷ more) = actions_of rule ++ actions_by more
+
+-- the actions of the productions, by their numbers
+unfoldable pub actions : List Action
+actions = actions_by rules

@@ -1,0 +1,39 @@
+-- Where the productions of a leftmost derivation begin, with which token, and what they make.
+use Rattle.std.specs.Prelude.{ℕ, List, [], ◌∷◌, ◌++◌, Option, Some, None, slice_get}
+use Rattle.pj_xtokens.specs.First.{behind_first}
+use Rattle.pj_xtokens.specs.Tokens.{Lexed}
+use Rattle.pj_xgrammar.specs.Actions.{actions, nothing}
+use Rattle.pj_xgrammar.specs.Slots.{production_slots}
+use Rattle.pj_xgrammar.specs.declared.form.Slot.{Slot}
+use Rattle.pj_xgrammar.specs.declared.form.Slot.TheVariants as slot
+use Rattle.pj_xgrammar.specs.declared.action.Action.{Action}
+
+-- what is still to come: tokens and rules of productions, and the tokens of the text
+pub record Ahead : Type 0 where
+  pub slots : List Slot
+  pub tokens : List Lexed
+
+-- what is still to come behind the next rule, where each symbol before it that takes a token takes the next one
+abbrev pub to_rule : List Slot → List Lexed → Ahead
+to_rule [] tokens = record { slots = []; tokens = tokens }
+to_rule (slot.Token ∷ slots) tokens = to_rule slots (behind_first tokens)
+to_rule (slot.Rule ∷ slots) tokens = record { slots = slots; tokens = tokens }
+
+-- a production of a derivation, with the tokens from the one on at which it begins
+pub record Beginning : Type 0 where
+  pub production : ℕ
+  pub tokens : List Lexed
+
+-- The productions of a leftmost derivation, where they begin: the next rule is replaced by the symbols of the next production.
+abbrev pub beginnings : List ℕ → List Slot → List Lexed → List Beginning
+beginnings [] slots tokens = []
+beginnings (production ∷ more) slots tokens =
+    record { production = production; tokens = (to_rule slots tokens).tokens }
+    ∷ beginnings more (production_slots production ++ (to_rule slots tokens).slots) (to_rule slots tokens).tokens
+
+abbrev pub action_in : Option Action → Action
+action_in None = nothing
+action_in (Some action) = action
+
+unfoldable pub action_of : ℕ → Action
+action_of production = action_in (slice_get actions production)

@@ -1,0 +1,174 @@
+//! What the productions make of the values of their rules.
+
+use pj_xoperators::{Additive, Compare, Multiplicative, Quantifier, SetOperator, Sign};
+
+/// What a production makes. A rule's value is made by its production from the values of the rules in it, of which an action has
+/// as many as is said here, and from the token with which it begins.
+#[derive(Clone, Copy)]
+pub enum Action {
+    /// No value.
+    Leaf(Leaf),
+    /// One value.
+    Change(Change),
+    /// One value, of which an expression is made.
+    Single(Single),
+    /// Two values.
+    Rest(Rest),
+    /// Two values: an operand, and what stands behind it.
+    Operation(Operation),
+    /// Two values: variables, and what follows them.
+    Binder(Binder),
+    /// Two values: what a step or a primary expression begins with, and what stands behind it.
+    Step(Step),
+    /// Three values: the test of an `if`, what is chosen and what is chosen otherwise (XPath 2.0, 3.8).
+    If,
+    /// Three values: a variable's name, its expression, and further variables.
+    Binding,
+}
+
+/// A value of a token.
+#[derive(Clone, Copy)]
+pub enum Leaf {
+    /// No value: that of a list's end, and of what is left out.
+    Nothing,
+    /// The token's characters.
+    Word,
+    /// The integer that the digits write (XPath 2.0, 3.1.1).
+    Integer,
+    /// The string that the literal writes (XPath 2.0, 3.1.1).
+    String,
+    /// The empty sequence (XPath 2.0, 3.1.3).
+    EmptySequence,
+    /// `/` alone (XPath 2.0, 3.2).
+    Root,
+    /// The parentheses of a kind test.
+    Parentheses,
+    /// The test for the name that the token is (XPath 2.0, 3.2.1.2).
+    NameTest,
+    /// The test `*` (XPath 2.0, 3.2.1.2).
+    AnyNameTest,
+}
+
+/// The word of a kind test (XPath 2.0, 2.5.4).
+#[derive(Clone, Copy)]
+pub enum Kind {
+    /// `node`
+    Node,
+    /// `element`
+    Element,
+}
+
+/// A value of one other.
+#[derive(Clone, Copy)]
+pub enum Change {
+    /// The value itself.
+    Same,
+    /// The second operand of a comparison behind its operator (XPath 2.0, 3.5.2).
+    Compared(Compare),
+    /// The test for a name.
+    NameTest,
+    /// The test for a kind, or for the name that the token is.
+    KindTest(Kind),
+}
+
+/// An expression of one value.
+#[derive(Clone, Copy)]
+pub enum Single {
+    /// The operand of a sign (XPath 2.0, 3.4).
+    Signed(Sign),
+    /// The steps of a path behind `/` (XPath 2.0, 3.2).
+    RootedPath,
+    /// The steps of a path behind `//` (XPath 2.0, 3.2).
+    RootedDescendants,
+    /// The steps of a path, or the only one.
+    RelativePath,
+    /// `.` with its predicates (XPath 2.0, 3.1.4 and 3.3.2).
+    ContextItem,
+    /// `..` with its predicates (XPath 2.0, 3.2.4).
+    ParentStep,
+    /// `*` with its predicates.
+    AnyNameStep,
+    /// The name of an axis, which the token is, with what stands behind it: a test of the axis, arguments, or predicates.
+    AxisStep,
+    /// The name of a variable (XPath 2.0, 3.1.2).
+    Variable,
+}
+
+/// A value of two others that is no expression yet.
+#[derive(Clone, Copy)]
+pub enum Rest {
+    /// An expression before others.
+    Further,
+    /// A step behind `//` before others (XPath 2.0, 3.2.4).
+    FurtherDescendants,
+    /// An operand of a sum behind its operator, before others.
+    FurtherSum(Additive),
+    /// An operand of a product behind its operator, before others.
+    FurtherProduct(Multiplicative),
+    /// An operand of `intersect` or `except` behind it, before others.
+    FurtherSet(SetOperator),
+    /// A test of the axis before it, with its predicates.
+    AxisTest,
+    /// Arguments in parentheses, with the predicates behind them.
+    Called,
+}
+
+/// The operator of a chain of operands.
+#[derive(Clone, Copy)]
+pub enum Chain {
+    /// `a, b, ..` (XPath 2.0, 3.3.1).
+    Comma,
+    /// `a or b or ..` (XPath 2.0, 3.6).
+    Or,
+    /// `a and b and ..` (XPath 2.0, 3.6).
+    And,
+    /// `a || b || ..` (XPath 3.1, 3.6).
+    Concatenation,
+    /// `a union b | ..` (XPath 2.0, 3.3.3).
+    Union,
+    /// `a ! b ! ..` (XPath 3.1, 3.15).
+    SimpleMap,
+}
+
+/// An expression of an operand and what stands behind it: the operand itself where that is nothing.
+#[derive(Clone, Copy)]
+pub enum Operation {
+    /// Further operands of a chain.
+    Chain(Chain),
+    /// `a = b` and the like (XPath 2.0, 3.5.2).
+    Comparison,
+    /// `a to b` (XPath 2.0, 3.3.1).
+    Range,
+    /// `a + b - ..` (XPath 2.0, 3.4).
+    Sum,
+    /// `a * b idiv ..` (XPath 2.0, 3.4).
+    Product,
+    /// `a intersect b except ..` (XPath 2.0, 3.3.3).
+    Sets,
+    /// An operand behind which something could stand that is left out.
+    Operand,
+}
+
+/// The word before variables.
+#[derive(Clone, Copy)]
+pub enum Binder {
+    /// `for` (XPath 2.0, 3.7).
+    For,
+    /// `let` (XPath 3.1, 3.10).
+    Let,
+    /// `some` or `every` (XPath 2.0, 3.9).
+    Quantified(Quantifier),
+}
+
+/// What a step or a primary expression begins with.
+#[derive(Clone, Copy)]
+pub enum Step {
+    /// A primary expression (XPath 2.0, 3.3.2).
+    Primary,
+    /// The test behind `@` (XPath 2.0, 3.2.4).
+    Attribute,
+    /// The parentheses of a kind test, or none: then the token is a name.
+    Kind(Kind),
+    /// A name, behind which arguments or predicates stand.
+    Name,
+}
