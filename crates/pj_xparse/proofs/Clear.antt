@@ -7,9 +7,10 @@ use Rattle.pj_xtokens.specs.Tokens.{Lexed}
 use Rattle.pj_xgrammar.specs.declared.terminal.Behind.TheVariants as b
 use Rattle.pj_xgrammar.specs.Terminals.{numbers}
 use Rattle.pj_xgrammar.specs.XPath.{xpath_grammar}
-use Rattle.pj_xgrammar.specs.Expressions.{AreClear}
+use Rattle.pj_xderive.specs.Expressions.{AreClear}
 use Rattle.pj_xmeaning.specs.Parts.{RuleValue}
 use Rattle.pj_xnames.specs.Namings.{Naming}
+use Rattle.pj_xparse.specs.Reach.{All}
 use Rattle.pj_xparse.specs.Derived.{Derived}
 use Rattle.pj_xparse.proofs.Counts.{length_numbers}
 use Rattle.pj_xparse.proofs.Flattening.{tree_derives}
@@ -18,7 +19,7 @@ use Rattle.pj_xparse.proofs.Shallow.{tree_not_deep}
 -- where in what is derived nothing is left out, and what stands behind the same terminals is one
 module _ (not_left_out : (terminals ps : List ℕ) → Derives xpath_grammar terminals ps → (i : ℕ) → IsLeftOutAt xpath_grammar terminals i → ⊥)
     (one_stack : (before ps qs : List ℕ) (ss rs : List Symbol) → Behind xpath_grammar before ps ss → Behind xpath_grammar before qs rs → ss ≡ rs) where
-  pub tree_clear : (tokens : List Lexed) (ps : List ℕ) (v : RuleValue) (w : Naming) → Derived 0 [] 0 tokens ps v w → AreClear tokens (length tokens + 1)
+  pub tree_clear : (tokens : List Lexed) (ps : List ℕ) (v : RuleValue) (w : Naming) → Derived All 0 [] 0 tokens ps v w → AreClear tokens (length tokens + 1)
   tree_clear tokens ps v w d =
       let count = length_numbers b.End tokens in
       record {

@@ -6,30 +6,31 @@ use Rattle.std.proofs.lemmas.Bool.Decides.{eqb_tells}
 use Rattle.pj_xtokens.specs.Tokens.{Lexed}
 use Rattle.pj_xvalue.specs.declared.axis.Axis.{Axis}
 use Rattle.pj_xvalue.specs.declared.axis.Axis.TheVariants as axis
-use Rattle.pj_xvalue.specs.declared.expr.Additive.{Additive}
-use Rattle.pj_xvalue.specs.declared.expr.Multiplicative.{Multiplicative}
+use Rattle.pj_xoperators.specs.declared.operator.Additive.{Additive}
+use Rattle.pj_xoperators.specs.declared.operator.Multiplicative.{Multiplicative}
 use Rattle.pj_xvalue.specs.declared.expr.NodeTest.{NodeTest}
 use Rattle.pj_xvalue.specs.declared.expr.NodeTest.TheVariants as tests
-use Rattle.pj_xvalue.specs.declared.expr.SetOperator.{SetOperator}
-use Rattle.pj_xvalue.specs.declared.expr.Sign.{Sign}
-use Rattle.pj_xvalue.specs.declared.operator.Compare.{Compare}
+use Rattle.pj_xoperators.specs.declared.operator.SetOperator.{SetOperator}
+use Rattle.pj_xoperators.specs.declared.operator.Sign.{Sign}
+use Rattle.pj_xoperators.specs.declared.operator.Compare.{Compare}
 use Rattle.pj_xvalue.specs.Names.{axis_of, callee_of}
 use Rattle.pj_xmeaning.specs.Parts as part
 use Rattle.pj_xmeaning.specs.Parts.{RuleValue, expressions, expression}
-use Rattle.pj_xmeaning.specs.Trees as tree
-use Rattle.pj_xmeaning.specs.Trees.{Tree, Construct, Node, NoMore, More, node, alone}
+use Rattle.pj_xvalue.specs.Trees as tree
+use Rattle.pj_xvalue.specs.Trees.{Tree, Construct, Node, NoMore, More, node, alone}
 use Rattle.pj_xmeaning.specs.Values as value
-use Rattle.pj_xmeaning.specs.Values.{chain_construct, binder_construct, descendants, along, axis_step, named, called, filtered, child_step}
+use Rattle.pj_xmeaning.specs.Values.{chain_construct, binder_construct, axis_step, named}
+use Rattle.pj_xmeaning.specs.Steps.{descendants, along, called, filtered, child_step}
 use Rattle.pj_xvalue.specs.declared.name.Callee.{Callee}
 use Rattle.pj_xvalue.specs.declared.name.Callee.TheVariants as callee
-use Rattle.pj_xmeaning.specs.declared.action.Binder.{Binder}
-use Rattle.pj_xmeaning.specs.declared.action.Binder.TheVariants as binders
-use Rattle.pj_xmeaning.specs.declared.action.Chain.{Chain}
-use Rattle.pj_xmeaning.specs.declared.action.Chain.TheVariants as chains
-use Rattle.pj_xmeaning.specs.declared.action.Kind as test
-use Rattle.pj_xmeaning.specs.declared.action.Kind.TheVariants as kinds
-use Rattle.pj_xmeaning.specs.declared.action.Operation.TheVariants as operation
-use Rattle.pj_xmeaning.specs.declared.action.Single.TheVariants as single
+use Rattle.pj_xgrammar.specs.declared.action.Binder.{Binder}
+use Rattle.pj_xgrammar.specs.declared.action.Binder.TheVariants as binders
+use Rattle.pj_xgrammar.specs.declared.action.Chain.{Chain}
+use Rattle.pj_xgrammar.specs.declared.action.Chain.TheVariants as chains
+use Rattle.pj_xgrammar.specs.declared.action.Kind as test
+use Rattle.pj_xgrammar.specs.declared.action.Kind.TheVariants as kinds
+use Rattle.pj_xgrammar.specs.declared.action.Operation.TheVariants as operation
+use Rattle.pj_xgrammar.specs.declared.action.Single.TheVariants as single
 use Rattle.pj_xnames.specs.Namings.{Naming}
 use Rattle.pj_xshape.specs.Shapes.{level_by}
 use Rattle.pj_xshape.specs.Nesting.{Nested, operand_before, chain_before, clauses_before, step_before, further_before, enclosed, axis_nesting, test_nesting, nested_by, nested_of, nested_each}

@@ -6,12 +6,12 @@ use Rattle.std.proofs.lemmas.List.{append-nil}
 use Rattle.pj_xtokens.specs.Tokens.{Lexed}
 use Rattle.pj_xvalue.specs.declared.axis.Axis.TheVariants as axis
 use Rattle.pj_xvalue.specs.declared.expr.NodeTest.TheVariants as tests
-use Rattle.pj_xmeaning.specs.Literals.{integer_of, string_of}
-use Rattle.pj_xmeaning.specs.Meaning.{first_text}
+use Rattle.pj_xtokens.specs.Literals.{integer_of, string_of}
+use Rattle.pj_xtokens.specs.First.{first_text}
 use Rattle.pj_xmeaning.specs.Parts as part
 use Rattle.pj_xmeaning.specs.Parts.{RuleValue}
-use Rattle.pj_xmeaning.specs.Trees as tree
-use Rattle.pj_xmeaning.specs.Trees.{Tree}
+use Rattle.pj_xvalue.specs.Trees as tree
+use Rattle.pj_xvalue.specs.Trees.{Tree}
 use Rattle.pj_xmeaning.specs.Values as value
 use Rattle.pj_xnames.specs.Namings as naming
 use Rattle.pj_xparse.proofs.Typed as typed

@@ -1,13 +1,14 @@
 -- How deep the values of each kind nest, where so many things are open, and these tokens stand behind.
 use Rattle.std.proofs.Common.{◌≡◌, ℕ, suc, ◌+◌, ◌≤◌, Bool, true, false, List, [], ◌∷◌, ◌++◌, map, max}
 use Rattle.pj_xtokens.specs.Tokens.{Lexed}
-use Rattle.pj_xvalue.specs.declared.operator.Compare.{Compare}
+use Rattle.pj_xoperators.specs.declared.operator.Compare.{Compare}
 use Rattle.pj_xvalue.specs.declared.expr.NodeTest.{NodeTest}
 use Rattle.pj_xgrammar.specs.declared.terminal.Behind.TheVariants as b
 use Rattle.pj_xgrammar.specs.Terminals.{first_behind, begins_step}
-use Rattle.pj_xmeaning.specs.Trees.{Tree}
+use Rattle.pj_xvalue.specs.Trees.{Tree}
 use Rattle.pj_xmeaning.specs.Parts as value
-use Rattle.pj_xmeaning.specs.Parts.{RuleValue, empty_sequence}
+use Rattle.pj_xmeaning.specs.Parts.{RuleValue}
+use Rattle.pj_xmeaning.specs.Steps.{empty_sequence}
 use Rattle.pj_xshape.specs.Nesting.{Nested, operand_before, chain_before, step_before, further_before, enclosed, test_nesting, nested_of}
 use Rattle.pj_xparse.proofs.RuleKinds as kind
 use Rattle.pj_xparse.proofs.Induction.{Claim}

@@ -3,9 +3,9 @@ use Rattle.std.proofs.Common.{◌≡◌, ℕ, ◌+◌, List, length, None, sym, 
 use Rattle.pj_xtokens.specs.Size.{size}
 use Rattle.pj_xtokens.specs.Tokens.{Lexed, Tokens}
 use Rattle.pj_xtokens.specs.declared.token.End.TheVariants as ends
-use Rattle.pj_xgrammar.specs.Expressions.{AreDerived, AreClear}
+use Rattle.pj_xderive.specs.Expressions.{AreDerived, AreClear}
 use Rattle.pj_xmeaning.specs.Meaning.{meaning}
-use Rattle.pj_xmeaning.specs.Trees.{Tree}
+use Rattle.pj_xvalue.specs.Trees.{Tree}
 use Rattle.pj_xnames.specs.Faults.{first_fault}
 use Rattle.pj_xnames.specs.Meaning.{mentions}
 use Rattle.pj_xnames.specs.Mentions.{Mention}

@@ -6,6 +6,7 @@ use Rattle.pj_xmeaning.specs.Parts.{RuleValue, expression}
 use Rattle.pj_xgrammar.specs.XPath.{rules}
 use Rattle.pj_xnames.specs.Namings.{Naming, mentions_of}
 use Rattle.pj_xnames.specs.Faults.{first_fault, first_fault_from}
+use Rattle.pj_xparse.specs.Reach.{All}
 use Rattle.pj_xparse.specs.Derived.{Derived}
 use Rattle.pj_xshape.specs.Shapes.{part_of_tree}
 use Rattle.pj_xparse.proofs.RuleKinds.{kind_at}
@@ -27,7 +28,7 @@ use Rattle.pj_xshape.specs.Nesting.{nesting_of_tree}
 one_fits : {v : RuleValue} {w : Naming} (s : Scope) → FitOne v w → first_fault_from s (mentions_of w) ≡ None → (part_of_tree (expression v)).fits s ≡ true
 one_fits s (fit.one a) e = a.fits s e
 
-pub expression_fits : (tokens : List Lexed) (ps : List ℕ) (v : RuleValue) (w : Naming) (variables : List (List ℕ)) → Derived 0 [] 0 tokens ps v w → first_fault variables (mentions_of w) ≡ None →
+pub expression_fits : (tokens : List Lexed) (ps : List ℕ) (v : RuleValue) (w : Naming) (variables : List (List ℕ)) → Derived All 0 [] 0 tokens ps v w → first_fault variables (mentions_of w) ≡ None →
     (part_of_tree (expression v)).fits (record { given = variables; bound = [] }) ≡ true
 unfolding kind_at rules
 expression_fits tokens ps v w variables d e = one_fits (record { given = variables; bound = [] }) (derived_is Fits kept d) e
@@ -35,13 +36,13 @@ expression_fits tokens ps v w variables d e = one_fits (record { given = variabl
 one_nests : {v : RuleValue} → DeepOne 0 false 0 v → nesting_of_tree (expression v) ≤ 200
 one_nests (one {t} h) = let lower = open_operand false t in omega arith
 
-pub expression_nests : (tokens : List Lexed) (ps : List ℕ) (v : RuleValue) (w : Naming) → Derived 0 [] 0 tokens ps v w → nesting_of_tree (expression v) ≤ 200
+pub expression_nests : (tokens : List Lexed) (ps : List ℕ) (v : RuleValue) (w : Naming) → Derived All 0 [] 0 tokens ps v w → nesting_of_tree (expression v) ≤ 200
 unfolding kind_at rules
 expression_nests tokens ps v w d = one_nests (derived_is Nests deep.kept d)
 
 one_spelled : {v : RuleValue} → SpelledOne v → IsSpelled (expression v)
 one_spelled (spelled.one h) = h
 
-pub expression_spelled : (tokens : List Lexed) (ps : List ℕ) (v : RuleValue) (w : Naming) → AreWellSpelled tokens → Derived 0 [] 0 tokens ps v w → IsSpelled (expression v)
+pub expression_spelled : (tokens : List Lexed) (ps : List ℕ) (v : RuleValue) (w : Naming) → AreWellSpelled tokens → Derived All 0 [] 0 tokens ps v w → IsSpelled (expression v)
 unfolding kind_at rules
 expression_spelled tokens ps v w h d = one_spelled (derived_is SpelledWhere spelled_kept.kept d h)

@@ -3,8 +3,8 @@ use Rattle.std.proofs.Common.{◌≡◌, ℕ, suc, ◌+◌, ◌⊎◌, inl, inr,
 use Rattle.std.specs.Prelude.{nat_eq, nat_le, not}
 use Rattle.std.proofs.lemmas.Bool.{and_from, le-leb, eq-eqb}
 use Rattle.pj_xvalue.specs.Expressions.{Part, Scope, Written, Other, all_fit, chain_fits}
-use Rattle.pj_xmeaning.specs.Trees as tree
-use Rattle.pj_xmeaning.specs.Trees.{Tree, Construct, node, alone}
+use Rattle.pj_xvalue.specs.Trees as tree
+use Rattle.pj_xvalue.specs.Trees.{Tree, Construct, node, alone}
 use Rattle.pj_xnames.specs.Mentions.{Mention}
 use Rattle.pj_xnames.specs.Namings.{Operand, mentions_in}
 use Rattle.pj_xnames.specs.Faults.{first_fault_from}

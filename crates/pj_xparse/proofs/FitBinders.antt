@@ -3,12 +3,11 @@ use Rattle.std.proofs.Common.{◌≡◌, ℕ, suc, ◌+◌, inl, true, List, [],
 use Rattle.std.specs.Prelude.{nat_le}
 use Rattle.std.proofs.lemmas.Bool.{and_from, le-leb}
 use Rattle.pj_xvalue.specs.Expressions.{Part, Scope, Other, with_variable}
-use Rattle.pj_xmeaning.specs.Trees.{Tree, binder}
+use Rattle.pj_xvalue.specs.Trees.{Tree, binder}
 use Rattle.pj_xmeaning.specs.Values.{binder_construct}
-use Rattle.pj_xmeaning.specs.declared.action.Binder.{Binder}
-use Rattle.pj_xmeaning.specs.declared.action.Binder.TheVariants as binders
-use Rattle.pj_xnames.specs.Mentions.{Mention, Binds, Ends}
-use Rattle.pj_xnames.specs.Namings.{scoped}
+use Rattle.pj_xgrammar.specs.declared.action.Binder.{Binder}
+use Rattle.pj_xgrammar.specs.declared.action.Binder.TheVariants as binders
+use Rattle.pj_xnames.specs.Mentions.{Mention, Binds, Ends, scoped}
 use Rattle.pj_xnames.specs.Faults.{first_fault_from}
 use Rattle.pj_xshape.specs.Shapes.{part_of_tree, scoped_fit, fits_by}
 use Rattle.pj_xshape.specs.Nodes.{part_of_node}

@@ -6,10 +6,10 @@ use Rattle.pj_xvalue.specs.declared.function.Function.{Function}
 use Rattle.pj_xvalue.specs.declared.function.Function.TheVariants as f
 use Rattle.pj_xvalue.specs.Expressions.{Part, Scope, Written, Other, all_fit, arguments_fit, is_pattern, are_flags, is_replacement}
 use Rattle.pj_xvalue.specs.Functions.{takes, pmd_takes}
-use Rattle.pj_xmeaning.specs.Trees as tree
-use Rattle.pj_xmeaning.specs.Trees.{Tree}
+use Rattle.pj_xvalue.specs.Trees as tree
+use Rattle.pj_xvalue.specs.Trees.{Tree}
 use Rattle.pj_xvalue.specs.Names.{callee_of}
-use Rattle.pj_xmeaning.specs.Values.{called, filtered}
+use Rattle.pj_xmeaning.specs.Steps.{called, filtered}
 use Rattle.pj_xvalue.specs.declared.name.Callee.{Callee}
 use Rattle.pj_xvalue.specs.declared.name.Callee.TheVariants as callee
 use Rattle.pj_xnames.specs.declared.role.Role.{Role}

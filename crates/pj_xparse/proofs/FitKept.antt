@@ -6,33 +6,37 @@ use Rattle.std.proofs.lemmas.List.{append-nil}
 use Rattle.pj_xtokens.specs.Tokens.{Lexed}
 use Rattle.pj_xvalue.specs.declared.axis.Axis.{Axis}
 use Rattle.pj_xvalue.specs.declared.axis.Axis.TheVariants as axis
-use Rattle.pj_xvalue.specs.declared.expr.Additive.{Additive}
-use Rattle.pj_xvalue.specs.declared.expr.Multiplicative.{Multiplicative}
+use Rattle.pj_xoperators.specs.declared.operator.Additive.{Additive}
+use Rattle.pj_xoperators.specs.declared.operator.Multiplicative.{Multiplicative}
 use Rattle.pj_xvalue.specs.declared.expr.NodeTest.{NodeTest}
 use Rattle.pj_xvalue.specs.declared.expr.NodeTest.TheVariants as tests
-use Rattle.pj_xvalue.specs.declared.expr.SetOperator.{SetOperator}
+use Rattle.pj_xoperators.specs.declared.operator.SetOperator.{SetOperator}
 use Rattle.pj_xvalue.specs.Expressions.{Part, Scope, Number, Name, Other, is_digits}
-use Rattle.pj_xmeaning.specs.Literals.{integer_of, number_from, if_it_fits, string_of}
-use Rattle.pj_xmeaning.specs.Meaning.{first_text}
+use Rattle.pj_xtokens.specs.Literals.{integer_of, number_from, if_it_fits, string_of}
+use Rattle.pj_xtokens.specs.First.{first_text, first_from}
 use Rattle.pj_xvalue.specs.Names.{axis_of}
 use Rattle.pj_xmeaning.specs.Parts as part
 use Rattle.pj_xmeaning.specs.Parts.{RuleValue, expressions, expression}
-use Rattle.pj_xmeaning.specs.Trees as tree
-use Rattle.pj_xmeaning.specs.Trees.{Tree, Construct, alone, operated}
+use Rattle.pj_xvalue.specs.Trees as tree
+use Rattle.pj_xvalue.specs.Trees.{Tree, Construct, alone, operated}
 use Rattle.pj_xmeaning.specs.Values as value
-use Rattle.pj_xmeaning.specs.Values.{chain_construct, descendants, along, axis_step, named, filtered}
-use Rattle.pj_xmeaning.specs.declared.action.Chain.{Chain}
-use Rattle.pj_xmeaning.specs.declared.action.Chain.TheVariants as chains
-use Rattle.pj_xmeaning.specs.declared.action.Operation.TheVariants as operation
-use Rattle.pj_xmeaning.specs.declared.action.Binder.{Binder}
-use Rattle.pj_xmeaning.specs.declared.action.Change.TheVariants as change
-use Rattle.pj_xmeaning.specs.declared.action.Rest.TheVariants as rest
-use Rattle.pj_xmeaning.specs.declared.action.Single.TheVariants as single
-use Rattle.pj_xvalue.specs.declared.operator.Compare.{Compare}
-use Rattle.pj_xvalue.specs.declared.expr.Sign.{Sign}
+use Rattle.pj_xmeaning.specs.Steps as forms
+use Rattle.pj_xmeaning.specs.Values.{chain_construct, axis_step, named}
+use Rattle.pj_xmeaning.specs.Steps.{descendants, along, filtered}
+use Rattle.pj_xgrammar.specs.declared.action.Chain.{Chain}
+use Rattle.pj_xgrammar.specs.declared.action.Chain.TheVariants as chains
+use Rattle.pj_xgrammar.specs.declared.action.Operation.TheVariants as operation
+use Rattle.pj_xgrammar.specs.declared.action.Binder.{Binder}
+use Rattle.pj_xgrammar.specs.declared.action.Change.TheVariants as change
+use Rattle.pj_xgrammar.specs.declared.action.Rest.TheVariants as rest
+use Rattle.pj_xgrammar.specs.declared.action.Single.TheVariants as single
+use Rattle.pj_xoperators.specs.declared.operator.Compare.{Compare}
+use Rattle.pj_xoperators.specs.declared.operator.Sign.{Sign}
 use Rattle.pj_xnames.specs.Mentions.{Mention, Variable}
 use Rattle.pj_xnames.specs.Namings as naming
-use Rattle.pj_xnames.specs.Namings.{Naming, Operand, mentions_of, first_from, with_rest}
+use Rattle.pj_xnames.specs.Mentions as mention
+use Rattle.pj_xtokens.specs.First as front
+use Rattle.pj_xnames.specs.Namings.{Naming, Operand, mentions_of, with_rest}
 use Rattle.pj_xnames.specs.Faults as fault
 use Rattle.pj_xnames.specs.Faults.{is_bound}
 use Rattle.pj_xshape.specs.Shapes.{part_of_tree, operators_fit, fits_by}
@@ -195,7 +199,7 @@ along_fit : (a : Option Axis) (t : NodeTest) {ts : List Tree} {ms : List Mention
 along_fit (Some a) t are = node_fit (tree.Step a t) (λ s e. e) are
 along_fit None t are = node_fit (tree.AttributeStep t) (λ s e. e) are
 
-child_fit : (t : NodeTest) {ts : List Tree} {ms : List Mention} → AreFit ts ms → IsFit (value.child_step t ts) Other ms
+child_fit : (t : NodeTest) {ts : List Tree} {ms : List Mention} → AreFit ts ms → IsFit (forms.child_step t ts) Other ms
 child_fit t are = node_fit (tree.Step axis.Child t) (λ s e. e) are
 
 axis_kept : (tokens : List Lexed) (name : List ℕ) {v : RuleValue} {w : Naming} → FitBehind v w → FitOne (part.One (axis_step name v)) (naming.named tokens name w)
@@ -220,7 +224,7 @@ called_kept tokens (k.list a b) h = k.called (more_paired a b) (list_are h)
 -- ---- the rest
 
 binder_kept : (b : Binder) (tokens : List Lexed) {v u : RuleValue} {w x : Naming} → FitBindings v w → FitOne u x →
-    FitOne (part.One (value.binder_value b v u)) (naming.one tokens Other (naming.scoped (naming.bound_of w) 0 (mentions_of x)))
+    FitOne (part.One (value.binder_value b v u)) (naming.one tokens Other (mention.scoped (naming.bound_of w) 0 (mentions_of x)))
 binder_kept b tokens (k.bindings {name} {t} {ms = ns} {xs} {ys} a further) (k.one {t = body} {o} c) = k.one (binder_fit b name t body ns o.mentions xs ys a further (fit_behind c))
 
 choice_kept : (tokens : List Lexed) {v u t : RuleValue} {w x y : Naming} → FitOne v w → FitOne u x → FitOne t y →
@@ -304,7 +308,7 @@ kept around behind ts a ks c vs ws typed.path (value_of h (value_of g none e) f)
 kept around behind ts a ks c vs ws typed.steps (token x t r q (value_of h (value_of g none e) f)) = steps_kept (ts ++ behind) h g
 kept around behind ts a ks c vs ws typed.descendant_steps (token x t r q (value_of h (value_of g none e) f)) = descendant_steps_kept (ts ++ behind) h g
 kept around behind ts a ks c vs ws typed.context_item (token x t r q (value_of h none f)) = k.one (filtered_fit (alone_fit tree.ContextItem (λ s. refl)) (list_are h))
-kept around behind ts a ks c vs ws typed.primary (value_of h (value_of g none e) f) = primary_kept (ts ++ behind) (naming.begins_with_parenthesis (ts ++ behind)) h g
+kept around behind ts a ks c vs ws typed.primary (value_of h (value_of g none e) f) = primary_kept (ts ++ behind) (front.begins_with_parenthesis (ts ++ behind)) h g
 kept around behind ts a ks c vs ws typed.parent_step (token x t r q (value_of h none f)) = k.one (node_fit (tree.Step axis.Parent tests.AnyNode) (λ s e. e) (list_are h))
 kept around behind ts a ks c vs ws typed.attribute (token x t r q (value_of {v = v} h (value_of g none e) f)) = k.one (node_fit (tree.AttributeStep (part.test v)) (λ s e. e) (list_are g))
 kept around behind ts a ks c vs ws (typed.axis_step n) (token x t r q (value_of h none f)) = axis_kept (ts ++ behind) (first_text (ts ++ behind)) h

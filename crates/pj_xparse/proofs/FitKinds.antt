@@ -1,10 +1,10 @@
 -- What is said of each kind of value.
 use Rattle.std.proofs.Common.{ℕ, List, [], ◌∷◌, map}
 use Rattle.std.specs.Prelude.{⊤}
-use Rattle.pj_xvalue.specs.declared.operator.Compare.{Compare}
+use Rattle.pj_xoperators.specs.declared.operator.Compare.{Compare}
 use Rattle.pj_xvalue.specs.declared.expr.NodeTest.{NodeTest}
 use Rattle.pj_xvalue.specs.Expressions.{Other}
-use Rattle.pj_xmeaning.specs.Trees.{Tree}
+use Rattle.pj_xvalue.specs.Trees.{Tree}
 use Rattle.pj_xmeaning.specs.Parts as value
 use Rattle.pj_xmeaning.specs.Parts.{RuleValue}
 use Rattle.pj_xnames.specs.Mentions.{Mention}

@@ -8,10 +8,11 @@ use Rattle.pj_ll.specs.Leads.{Leads, take_terminal, expand, start}
 use Rattle.pj_xtokens.specs.Tokens.{Lexed}
 use Rattle.pj_xgrammar.specs.Terminals.{numbers}
 use Rattle.pj_xgrammar.specs.XPath.{xpath_grammar}
-use Rattle.pj_xgrammar.specs.Expressions.{AreDerived}
+use Rattle.pj_xderive.specs.Expressions.{AreDerived}
 use Rattle.pj_xmeaning.specs.Parts.{RuleValue}
 use Rattle.pj_xnames.specs.Namings.{Naming}
-use Rattle.pj_xparse.specs.Derived.{Derived, by, Fill, none, token, rule, close}
+use Rattle.pj_xparse.specs.Reach.{All}
+use Rattle.pj_xparse.specs.Derived.{Derived, by, Fill, none, token, rule, close, cut}
 use Rattle.pj_xparse.proofs.Splitting.{behind_is}
 
 -- the symbols derive the tokens up to the end by these productions
@@ -21,12 +22,12 @@ Lead ss tokens ps = Leads xpath_grammar ss (numbers tokens) ps []
 mutual
   -- a rule leads as it derives, where what stands behind it leads on to the end
   rule_leads : {around n : ℕ} {behind ts : List Lexed} {ps : List ℕ} {v : RuleValue} {w : Naming} (rest : List Symbol) (more : List ℕ) →
-      Derived around behind n ts ps v w → Lead rest behind more → Lead (Rule n ∷ rest) (ts ++ behind) (ps ++ more)
-  rule_leads {n = n} {behind} {ts} rest more (by p line at n_is f ps_are v_is w_is) on =
+      Derived All around behind n ts ps v w → Lead rest behind more → Lead (Rule n ∷ rest) (ts ++ behind) (ps ++ more)
+  rule_leads {n = n} {behind} {ts} rest more (by p line before at n_is f ps_are v_is w_is) on =
       subst (λ l. Lead (Rule n ∷ rest) (ts ++ behind) (l ++ more)) (sym ps_are) (expand n p line at n_is (fill_leads rest more f on))
 
   fill_leads : {around : ℕ} {behind ts : List Lexed} {ss : List Symbol} {ps : List ℕ} {vs : List RuleValue} {ws : List Naming} (rest : List Symbol) (more : List ℕ) →
-      Fill around behind ss ts ps vs ws → Lead rest behind more → Lead (ss ++ rest) (ts ++ behind) (ps ++ more)
+      Fill All around behind ss ts ps vs ws → Lead rest behind more → Lead (ss ++ rest) (ts ++ behind) (ps ++ more)
   fill_leads rest more none on = on
   fill_leads rest more (token {behind = behind} {ts} {ss} {ps} x t read few f) on =
       subst (λ k. Leads xpath_grammar (Terminal t ∷ (ss ++ rest)) (k ∷ numbers (ts ++ behind)) (ps ++ more) []) (sym read) (take_terminal t (fill_leads rest more f on))
@@ -36,8 +37,9 @@ mutual
       (subst (λ l. Lead (Rule n ∷ (ss ++ rest)) (all ++ behind) l) (sym (append_assoc ps qs more))
       (subst (λ l. Lead (Rule n ∷ (ss ++ rest)) l (ps ++ (qs ++ more))) (sym (behind_is behind all ts us ts_are)) here))
   fill_leads rest more (close f) on = leads.close (fill_leads rest more f on)
+  fill_leads rest more (cut c) on = absurd c
 
-pub tree_derives : (tokens : List Lexed) (ps : List ℕ) (v : RuleValue) (w : Naming) → Derived 0 [] 0 tokens ps v w → AreDerived tokens ps
+pub tree_derives : (tokens : List Lexed) (ps : List ℕ) (v : RuleValue) (w : Naming) → Derived All 0 [] 0 tokens ps v w → AreDerived tokens ps
 tree_derives tokens ps v w d =
     subst (λ l. Lead start tokens l) (append-nil ps)
     (subst (λ l. Lead start l (ps ++ [])) (append-nil tokens) (rule_leads [] [] d leads.stay))

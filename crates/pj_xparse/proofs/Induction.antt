@@ -4,15 +4,17 @@ use Rattle.pj_ll.specs.declared.grammar.Symbol.{Symbol}
 use Rattle.pj_ll.specs.declared.grammar.Symbol.TheVariants as symbol
 use Rattle.pj_ll.specs.Grammar.{closes}
 use Rattle.pj_xtokens.specs.Tokens.{Lexed}
-use Rattle.pj_xgrammar.specs.Expressions.{greatest_nesting}
-use Rattle.pj_xmeaning.specs.declared.action.Action.{Action}
-use Rattle.pj_xmeaning.specs.Meaning.{action_of, first_text}
+use Rattle.pj_xderive.specs.Expressions.{greatest_nesting}
+use Rattle.pj_xgrammar.specs.declared.action.Action.{Action}
+use Rattle.pj_xgrammar.specs.Beginnings.{action_of}
+use Rattle.pj_xtokens.specs.First.{first_text}
 use Rattle.pj_xmeaning.specs.Parts.{RuleValue}
 use Rattle.pj_xmeaning.specs.Values as value
 use Rattle.pj_xnames.specs.Namings as naming
 use Rattle.pj_xnames.specs.Namings.{Naming}
 use Rattle.pj_xparse.specs.Derived as d
 use Rattle.pj_xparse.specs.Derived.{Derived, Fill, IsRead}
+use Rattle.pj_xparse.specs.Reach.{All}
 use Rattle.pj_xparse.proofs.RuleKinds.{Kind, kind_at, Piece, Token, Of, Left, Close, pieces}
 use Rattle.pj_xparse.proofs.Typed.{Typed}
 use Rattle.pj_xparse.proofs.Typing.{production_typed}
@@ -58,17 +60,18 @@ module _ (Is : Claim) where
     mutual
       unfolding pieces
 
-      pub derived_is : {around n : ℕ} {behind ts : List Lexed} {ps : List ℕ} {v : RuleValue} {w : Naming} → Derived around behind n ts ps v w → Is around behind (kind_at n) ts v w
-      derived_is {around} {n} {behind} {ts} {ps} {v} {w} (d.by {vs = vs} {ws = ws} p line at rule f e ev ew) =
+      pub derived_is : {around n : ℕ} {behind ts : List Lexed} {ps : List ℕ} {v : RuleValue} {w : Naming} → Derived All around behind n ts ps v w → Is around behind (kind_at n) ts v w
+      derived_is {around} {n} {behind} {ts} {ps} {v} {w} (d.by {vs = vs} {ws = ws} p line before at rule f e ev ew) =
           let made = kept around behind ts (action_of p) (pieces line.symbols) (kind_at line.rule) vs ws (production_typed p line at) (fill_has f) in
           subst (λ (m : ℕ). Is around behind (kind_at m) ts v w) rule
           (subst (λ (y : RuleValue). Is around behind (kind_at line.rule) ts y w) (sym ev)
           (subst (λ (z : Naming). Is around behind (kind_at line.rule) ts (value.made (action_of p) (first_text (ts ++ behind)) vs) z) (sym ew) made))
 
-      fill_has : {around : ℕ} {behind ts : List Lexed} {ss : List Symbol} {ps : List ℕ} {vs : List RuleValue} {ws : List Naming} → Fill around behind ss ts ps vs ws →
+      fill_has : {around : ℕ} {behind ts : List Lexed} {ss : List Symbol} {ps : List ℕ} {vs : List RuleValue} {ws : List Naming} → Fill All around behind ss ts ps vs ws →
           Has around behind (pieces ss) ts vs ws
       fill_has d.none = none
       fill_has {around} (d.token {ss = ss} x t read few f) = token x t read (rw (opened-pieces around ss) few) (fill_has f)
       fill_has {around} (d.rule {n = n} {behind = behind} {ts = ts} {us = us} {ss = ss} {v = v} {w = w} r f e es) =
           value_of (subst (λ (m : ℕ). Is m (us ++ behind) (kind_at n) ts v w) (sym (opened-pieces around ss)) (derived_is r)) (fill_has f) e
       fill_has (d.close f) = close (fill_has f)
+      fill_has (d.cut c) = absurd c

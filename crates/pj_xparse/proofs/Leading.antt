@@ -12,12 +12,14 @@ use Rattle.pj_xtokens.specs.Tokens.{Lexed}
 use Rattle.pj_xgrammar.specs.declared.terminal.Behind.TheVariants as b
 use Rattle.pj_xgrammar.specs.Terminals.{first_behind, numbers}
 use Rattle.pj_xgrammar.specs.XPath.{xpath_grammar}
-use Rattle.pj_xgrammar.specs.Expressions.{AreDerived, AreClear}
-use Rattle.pj_xmeaning.specs.Meaning.{action_of, first_text}
+use Rattle.pj_xderive.specs.Expressions.{AreDerived, AreClear}
+use Rattle.pj_xgrammar.specs.Beginnings.{action_of}
+use Rattle.pj_xtokens.specs.First.{first_text}
 use Rattle.pj_xmeaning.specs.Parts.{RuleValue}
 use Rattle.pj_xmeaning.specs.Values as value
 use Rattle.pj_xnames.specs.Namings as naming
 use Rattle.pj_xnames.specs.Namings.{Naming}
+use Rattle.pj_xparse.specs.Reach.{All}
 use Rattle.pj_xparse.specs.Derived as derived
 use Rattle.pj_xparse.specs.Derived.{IsRead, Derived, Fill}
 use Rattle.pj_xparse.proofs.Counts.{number, length_numbers}
@@ -27,7 +29,7 @@ use Rattle.pj_xparse.proofs.Splitting.{split}
 pub record Filled (ss : List Symbol) (tokens : List Lexed) (productions : List ℕ) : Type 0 where
   pub values : List RuleValue
   pub names : List Naming
-  pub fill : Fill 0 [] ss tokens productions values names
+  pub fill : Fill All 0 [] ss tokens productions values names
 
 nothing_filled : Filled [] [] []
 nothing_filled = record { values = []; names = []; fill = derived.none }
@@ -51,7 +53,7 @@ filled_rule {ss} n p line at rule f =
     record {
       values = value.made (action_of p) (first_text (parts.first_tokens ++ behind)) parts.first_values ∷ parts.other_values;
       names = naming.made (action_of p) (parts.first_tokens ++ behind) parts.first_names ∷ parts.other_names;
-      fill = derived.rule (derived.by p line at rule parts.first refl refl refl) parts.other parts.tokens_are (ap (λ l. p ∷ l) parts.productions_are);
+      fill = derived.rule (derived.by p line (λ e. e) at rule parts.first refl refl refl) parts.other parts.tokens_are (ap (λ l. p ∷ l) parts.productions_are);
     }
 
 -- Directly behind each terminal of all no more is open than may be.
@@ -90,16 +92,18 @@ shallow_of tokens clear before t rest ps ss is way =
     (cases_lt 200 (closes ss))
 
 -- what fills the start is what its rule derives
-only_rule : {tokens : List Lexed} {ps : List ℕ} {vs : List RuleValue} {ws : List Naming} → Fill 0 [] start tokens ps vs ws →
-    (v : RuleValue) × ((w : Naming) × Derived 0 [] 0 tokens ps v w)
+only_rule : {tokens : List Lexed} {ps : List ℕ} {vs : List RuleValue} {ws : List Naming} → Fill All 0 [] start tokens ps vs ws →
+    (v : RuleValue) × ((w : Naming) × Derived All 0 [] 0 tokens ps v w)
 only_rule {tokens} {ps} (derived.rule {ts = ts} {ps = qs} {v = v} {w} d derived.none tokens_are ps_are) = (
   v,
   (
     w,
-    subst (λ l. Derived 0 [] 0 tokens l v w) (sym (ps_are ∙ append-nil qs)) (subst (λ l. Derived 0 [] 0 l qs v w) (sym (tokens_are ∙ append-nil ts)) d),
+    subst (λ l. Derived All 0 [] 0 tokens l v w) (sym (ps_are ∙ append-nil qs)) (subst (λ l. Derived All 0 [] 0 l qs v w) (sym (tokens_are ∙ append-nil ts)) d),
   ),
 )
+only_rule (derived.rule d (derived.cut c) tokens_are ps_are) = absurd c
+only_rule (derived.cut c) = absurd c
 
 pub leads_tree : (tokens : List Lexed) (ps : List ℕ) → AreDerived tokens ps → AreClear tokens (length tokens + 1) →
-    (v : RuleValue) × ((w : Naming) × Derived 0 [] 0 tokens ps v w)
+    (v : RuleValue) × ((w : Naming) × Derived All 0 [] 0 tokens ps v w)
 leads_tree tokens ps d clear = only_rule (filled (numbers tokens) (shallow_of tokens clear) tokens [] [] d refl refl refl stay).fill

@@ -3,12 +3,15 @@ pub mod Splitting
 pub mod Leading
 pub mod Valuing
 pub mod Flattening
+pub mod Mentioning
+pub mod Beginnings
 pub mod Shallow
 pub mod Clear
 pub mod Places
 pub mod Takings
 pub mod Links
 pub mod Linking
+pub mod Padding
 pub mod ReadsDerive
 pub mod DerivedReads
 pub mod Whole
@@ -41,3 +44,5 @@ pub mod SomeAnswer
 pub mod SomeRun
 pub mod TokenFacts
 pub mod Derivations
+pub mod Running
+pub mod FaultRuns

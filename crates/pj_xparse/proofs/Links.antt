@@ -1,27 +1,29 @@
 -- How the value that a rule reads stands to those that are made of a derivation: the one by which the expression is told, and the one by
--- which names are.
+-- which names are. A rule that is cut off has neither.
 use Rattle.std.proofs.Common.{◌≡◌, ℕ, Bool, true, false, List, [], ◌∷◌, map, Option, Some, None}
-use Rattle.pj_xvalue.specs.declared.operator.Compare.{Compare}
+use Rattle.pj_xoperators.specs.declared.operator.Compare.{Compare}
 use Rattle.pj_xvalue.specs.declared.expr.NodeTest.{NodeTest}
 use Rattle.pj_xvalue.specs.Expressions.{Other}
 use Rattle.pj_xtokens.specs.Tokens.{Lexed}
 use Rattle.pj_xgrammar.specs.declared.rule.Rule.{Rule}
 use Rattle.pj_xgrammar.specs.declared.rule.Rule.TheVariants as r
-use Rattle.pj_xmeaning.specs.Trees.{Tree}
+use Rattle.pj_xvalue.specs.Trees.{Tree}
 use Rattle.pj_xmeaning.specs.Parts as value
 use Rattle.pj_xmeaning.specs.Parts.{RuleValue}
 use Rattle.pj_xnames.specs.Mentions.{Mention}
 use Rattle.pj_xnames.specs.Namings as naming
-use Rattle.pj_xnames.specs.Namings.{Naming, first_from, mentions_in}
+use Rattle.pj_xtokens.specs.First as front
+use Rattle.pj_xnames.specs.Namings.{Naming, mentions_in}
+use Rattle.pj_xtokens.specs.First.{first_from}
+use Rattle.pj_xnames.specs.declared.part.Extent.{Extent}
 use Rattle.pj_xnames.specs.declared.part.Extent.TheVariants as extent
-use Rattle.pj_xparse.specs.Operands.{Operand, Binding, Given, Behind, Test, Called, Predicates, Value, trees_of, names_of, operations, bindings_of, scopes_of, values_of}
+use Rattle.pj_xparse.specs.Operands.{Operand, Binding, Arguments, Closed, Open, Next, Behind, Test, Called, Predicates, Value, absent, trees_of, names_of, operations, bindings_of, scopes_of, arguments_in}
+use Rattle.pj_xparse.specs.Operands as operands
+use Rattle.pj_xparse.specs.Reach.{Reach, IsBefore, IsCut}
 
 -- an operand as names are told of it, which begins at this offset
 abbrev pub said : ℕ → Operand → naming.Operand
 said from a = record { from = from; written = a.written; mentions = a.names }
-
-abbrev pub said_given : Given → naming.Operand
-said_given g = said g.from g.value
 
 -- operands one by one, wherever they begin
 pub data AreSaid : List Operand → List naming.Operand → Type 0 where
@@ -32,32 +34,43 @@ pub data AreSaid : List Operand → List naming.Operand → Type 0 where
 pub data IsOne (xs : List Lexed) (a : Operand) : RuleValue → Naming → Type 0 where
   one : IsOne xs a (value.One a.tree) (naming.One (said (first_from xs) a))
 
--- an expression that begins anywhere
-pub data IsInner (a : Operand) : RuleValue → Naming → Type 0 where
-  inner : (from : ℕ) → IsInner a (value.One a.tree) (naming.One (said from a))
+-- an expression that begins anywhere, or that is cut off behind the word of its clause
+pub data IsInner : Operand → RuleValue → Naming → Type 0 where
+  inner : {a : Operand} (from : ℕ) → IsInner a (value.One a.tree) (naming.One (said from a))
+  unread : IsInner operands.nothing value.Nothing naming.Missing
 
 -- a primary expression; one in parentheses is told as it is inside
 pub data IsPrimary (xs : List Lexed) : Operand → RuleValue → Naming → Type 0 where
-  plain : {a : Operand} (from : ℕ) → naming.begins_with_parenthesis xs ≡ false → IsPrimary xs a (value.One a.tree) (naming.One (said from a))
-  enclosed : {tree : Tree} (o : naming.Operand) → naming.begins_with_parenthesis xs ≡ true →
+  plain : {a : Operand} (from : ℕ) → front.begins_with_parenthesis xs ≡ false → IsPrimary xs a (value.One a.tree) (naming.One (said from a))
+  enclosed : {tree : Tree} (o : naming.Operand) → front.begins_with_parenthesis xs ≡ true →
       IsPrimary xs (record { tree = tree; written = Other; names = o.mentions }) (value.One tree) (naming.One o)
+  unread : front.begins_with_parenthesis xs ≡ true → IsPrimary xs operands.nothing value.Nothing naming.Missing
 
 -- expressions in a row
 pub data IsList : List Operand → RuleValue → Naming → Type 0 where
   nothing : IsList [] value.Nothing naming.Nothing
-  list : {a : Operand} {many : List Operand} {os : List naming.Operand} (from : ℕ) → AreSaid many os →
-      IsList (a ∷ many) (value.Many (a.tree ∷ trees_of many)) (naming.Many (said from a ∷ os) extent.Whole)
+  list : {a : Operand} {many : List Operand} {os : List naming.Operand} {e : Extent} (from : ℕ) → AreSaid many os →
+      IsList (a ∷ many) (value.Many (a.tree ∷ trees_of many)) (naming.Many (said from a ∷ os) e)
+
+-- arguments one by one, and how far their list is there; where the last one may go on, its offset tells nothing
+pub data AreGiven : Arguments → List naming.Operand → Extent → Type 0 where
+  closed : AreGiven Closed [] extent.Whole
+  unclosed : AreGiven Open [] extent.Open
+  last : {from : ℕ} {a : Operand} → AreGiven (Next from a Closed) (said from a ∷ []) extent.Whole
+  going : {from : ℕ} {a : Operand} (f : ℕ) → AreGiven (Next from a Open) (said f a ∷ []) extent.Open
+  next : {from f : ℕ} {a b : Operand} {g : Arguments} {os : List naming.Operand} {e : Extent} → AreGiven (Next f b g) os e → AreGiven (Next from a (Next f b g)) (said from a ∷ os) e
 
 -- arguments
-pub data IsGiven : List Given → RuleValue → Naming → Type 0 where
-  nothing : IsGiven [] value.Nothing naming.Nothing
-  list : {g : Given} {gs : List Given} → IsGiven (g ∷ gs) (value.Many (g.value.tree ∷ trees_of (values_of gs))) (naming.Many (said_given g ∷ map said_given gs) extent.Whole)
+pub data IsGiven : Arguments → RuleValue → Naming → Type 0 where
+  nothing : IsGiven Closed value.Nothing naming.Nothing
+  list : {from : ℕ} {a : Operand} {g : Arguments} {os : List naming.Operand} {e : Extent} → AreGiven (Next from a g) os e →
+      IsGiven (Next from a g) (value.Many (a.tree ∷ trees_of (arguments_in g))) (naming.Many os e)
 
 -- operands behind operators
 pub data IsMixed (Operator : Type 0) (wrap : List (Operator × Tree) → RuleValue) : List (Operator × Operand) → RuleValue → Naming → Type 0 where
   nothing : IsMixed Operator wrap [] value.Nothing naming.Nothing
-  list : {op : Operator} {a : Operand} {many : List (Operator × Operand)} {os : List naming.Operand} (from : ℕ) → AreSaid (map (λ (x : Operator × Operand). x.1) many) os →
-      IsMixed Operator wrap ((op, a) ∷ many) (wrap ((op, a.tree) ∷ operations many)) (naming.Many (said from a ∷ os) extent.Whole)
+  list : {op : Operator} {a : Operand} {many : List (Operator × Operand)} {os : List naming.Operand} {e : Extent} (from : ℕ) → AreSaid (map (λ (x : Operator × Operand). x.1) many) os →
+      IsMixed Operator wrap ((op, a) ∷ many) (wrap ((op, a.tree) ∷ operations many)) (naming.Many (said from a ∷ os) e)
 
 pub data IsCompared : Option (Compare × Operand) → RuleValue → Naming → Type 0 where
   nothing : IsCompared None value.Nothing naming.Nothing
@@ -65,6 +78,7 @@ pub data IsCompared : Option (Compare × Operand) → RuleValue → Naming → T
 
 pub data IsRanged : Option Operand → RuleValue → Naming → Type 0 where
   nothing : IsRanged None value.Nothing naming.Nothing
+  unread : IsRanged None value.Nothing naming.Missing
   some : {a : Operand} (from : ℕ) → IsRanged (Some a) (value.One a.tree) (naming.One (said from a))
 
 pub data IsNothing : RuleValue → Naming → Type 0 where
@@ -72,23 +86,24 @@ pub data IsNothing : RuleValue → Naming → Type 0 where
 
 pub data IsBound : List Binding → RuleValue → Naming → Type 0 where
   nothing : IsBound [] value.Nothing naming.Nothing
+  unread : IsBound [] value.Nothing naming.Missing
   bindings : {bs : List Binding} → IsBound bs (value.Bound (bindings_of bs)) (naming.Bound (scopes_of bs))
 
 -- The steps of a path. The step that `//` stands for names nothing, and is not told among those that name something.
 pub data IsSteps : List Operand → RuleValue → Naming → Type 0 where
   nothing : IsSteps [] value.Nothing naming.Nothing
-  steps : {a : Operand} {many : List Operand} {o : naming.Operand} {os : List naming.Operand} → mentions_in (o ∷ os) ≡ names_of (a ∷ many) →
-      IsSteps (a ∷ many) (value.Many (a.tree ∷ trees_of many)) (naming.Many (o ∷ os) extent.Whole)
+  steps : {a : Operand} {many : List Operand} {o : naming.Operand} {os : List naming.Operand} {e : Extent} → mentions_in (o ∷ os) ≡ names_of (a ∷ many) →
+      IsSteps (a ∷ many) (value.Many (a.tree ∷ trees_of many)) (naming.Many (o ∷ os) e)
 
 pub data IsPath : List Operand → RuleValue → Naming → Type 0 where
-  only : {a : Operand} (from : ℕ) → IsPath (a ∷ []) (value.Many (a.tree ∷ [])) (naming.Many (said from a ∷ []) extent.Whole)
-  path : {a b : Operand} {many : List Operand} {o p : naming.Operand} {os : List naming.Operand} → mentions_in (o ∷ p ∷ os) ≡ names_of (a ∷ b ∷ many) →
-      IsPath (a ∷ b ∷ many) (value.Many (a.tree ∷ b.tree ∷ trees_of many)) (naming.Many (o ∷ p ∷ os) extent.Whole)
+  only : {a : Operand} {e : Extent} (from : ℕ) → IsPath (a ∷ []) (value.Many (a.tree ∷ [])) (naming.Many (said from a ∷ []) e)
+  path : {a b : Operand} {many : List Operand} {o p : naming.Operand} {os : List naming.Operand} {e : Extent} → mentions_in (o ∷ p ∷ os) ≡ names_of (a ∷ b ∷ many) →
+      IsPath (a ∷ b ∷ many) (value.Many (a.tree ∷ b.tree ∷ trees_of many)) (naming.Many (o ∷ p ∷ os) e)
 
 -- what stands behind a name in a step that is no axis
 pub data IsNameBehind : Behind → RuleValue → Naming → Type 0 where
-  called : {gs : List Given} {ps : List Operand} {ms : List Mention} → ms ≡ names_of ps →
-      IsNameBehind (Called gs ps) (value.Called (trees_of (values_of gs)) (trees_of ps)) (naming.Called (map said_given gs) extent.Whole ms)
+  called : {gs : Arguments} {ps : List Operand} {os : List naming.Operand} {e : Extent} {ms : List Mention} → AreGiven gs os e → ms ≡ names_of ps →
+      IsNameBehind (Called gs ps) (value.Called (trees_of (arguments_in gs)) (trees_of ps)) (naming.Called os e ms)
   predicates : {ps : List Operand} {v : RuleValue} {w : Naming} → IsList ps v w → IsNameBehind (Predicates ps) v w
 
 -- and behind the name of an axis
@@ -161,3 +176,13 @@ Links r.Arguments xs a v w = IsGiven a v w
 Links r.ArgumentsTail xs a v w = IsGiven a v w
 Links r.VarName xs a v w = IsWord a v w
 Links r.PlainName xs a v w = IsWord a v w
+
+-- The value of a part, which reads these tokens up to those behind it, stands so to what is made of a derivation; or the part is cut off, so that
+-- it reads no token, says the least, and nothing is made of it.
+pub data Linked (reach : Reach) {V : Type 0} (least : V) (L : List Lexed → V → RuleValue → Naming → Type 0) : List Lexed → List Lexed → V → RuleValue → Naming → Type 0 where
+  linked : {xs ys : List Lexed} {a : V} {v : RuleValue} {w : Naming} → IsBefore reach xs → L xs a v w → Linked reach least L xs ys a v w
+  cut : {xs : List Lexed} → IsCut reach xs → Linked reach least L xs xs least value.Nothing naming.Missing
+
+-- the part is what a rule reads
+abbrev pub LinkedBy : Reach → (rule : Rule) → List Lexed → List Lexed → Value rule → RuleValue → Naming → Type 0
+LinkedBy reach rule = Linked reach (absent rule) (Links rule)

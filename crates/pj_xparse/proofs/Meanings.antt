@@ -3,22 +3,23 @@ use Rattle.std.proofs.Common.{◌≡◌, ℕ, ◌+◌, ◌≤◌, true, List, []
 use Rattle.pj_xtokens.specs.Tokens.{Lexed}
 use Rattle.pj_xvalue.specs.declared.expr.Expr.{Expr}
 use Rattle.pj_xvalue.specs.Expressions.{Part, IsExpression, part_of}
-use Rattle.pj_xgrammar.specs.Expressions.{AreDerived, AreClear}
+use Rattle.pj_xderive.specs.Expressions.{AreDerived, AreClear}
 use Rattle.pj_xmeaning.specs.Meaning.{meaning}
 use Rattle.pj_xmeaning.specs.Parts.{RuleValue, expression}
-use Rattle.pj_xmeaning.specs.Trees.{Tree, tree_of}
+use Rattle.pj_xvalue.specs.Trees.{Tree, tree_of}
 use Rattle.pj_xnames.specs.Mentions.{Mention}
 use Rattle.pj_xnames.specs.Meaning.{mentions}
 use Rattle.pj_xnames.specs.Namings.{Naming, mentions_of}
 use Rattle.pj_xnames.specs.Faults.{first_fault}
 use Rattle.pj_xshape.specs.Shapes.{part_of_tree}
 use Rattle.pj_xshape.specs.Nesting.{nesting_of_tree}
+use Rattle.pj_xparse.specs.Reach.{All}
 use Rattle.pj_xparse.specs.Derived.{Derived}
 use Rattle.pj_xparse.proofs.Derives.{expression_fits, expression_nests}
 
 -- where derivations are trees, expressions have the shapes of their trees, and the nesting that is said of an expression is the least
 module _ (trees : (tokens : List Lexed) (ps : List ℕ) → AreDerived tokens ps → AreClear tokens (length tokens + 1) →
-    (v : RuleValue) × ((w : Naming) × Derived 0 [] 0 tokens ps v w × (meaning ps tokens ≡ expression v) × (mentions ps tokens ≡ mentions_of w)))
+    (v : RuleValue) × ((w : Naming) × Derived All 0 [] 0 tokens ps v w × (meaning ps tokens ≡ expression v) × (mentions ps tokens ≡ mentions_of w)))
     (shapes : (e : Expr) → part_of e ≡ part_of_tree (tree_of e))
     (least : (t : Tree) → (part_of_tree t).nesting ≤ nesting_of_tree t) where
   pub meaning_is_expression : (variables : List (List ℕ)) (tokens : List Lexed) (ps : List ℕ) (e : Expr) → AreDerived tokens ps → AreClear tokens (length tokens + 1) →

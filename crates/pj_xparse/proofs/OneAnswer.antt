@@ -1,20 +1,20 @@
 -- A text spells one expression at most, or has one first fault at most, and not both.
-use Rattle.std.proofs.Common.{◌≡◌, ℕ, suc, ◌+◌, List, [], ◌∷◌, length, Some, None, sym, refl, ap, ◌∙◌, subst}
+use Rattle.std.proofs.Common.{◌≡◌, ℕ, ◌+◌, List, length, Some, None, sym, ap, ◌∙◌, subst}
 use Rattle.pj_ll.specs.declared.parser.End.{End}
 use Rattle.pj_ll.specs.declared.parser.End.TheVariants as outcome
 use Rattle.pj_xtokens.specs.Size.{size}
 use Rattle.pj_xtokens.specs.Tokens.{Lexed, Tokens}
 use Rattle.pj_xtokens.specs.declared.token.End as token
-use Rattle.pj_xgrammar.specs.Expressions.{AreDerived, AreClear, IsOutcome, IsRun}
-use Rattle.pj_xgrammar.specs.Terminals.{numbers_before}
-use Rattle.pj_xgrammar.specs.declared.terminal.Behind.{Behind}
+use Rattle.pj_xderive.specs.Expressions.{AreDerived, AreClear, IsOutcome, IsRun}
 use Rattle.pj_xgrammar.specs.declared.terminal.Behind.TheVariants as b
 use Rattle.pj_xmeaning.specs.Meaning.{meaning}
-use Rattle.pj_xmeaning.specs.Trees.{Tree}
+use Rattle.pj_xvalue.specs.Trees.{Tree}
 use Rattle.pj_xnames.specs.Faults.{first_fault}
 use Rattle.pj_xnames.specs.Meaning.{mentions}
 use Rattle.pj_xparse.specs.Spells.{Spells}
 use Rattle.pj_xparse.proofs.Derivations.{ReadingsAreDerived, derivation_of}
+use Rattle.pj_xparse.proofs.FaultRuns.{run_of}
+use Rattle.pj_xparse.proofs.Running.{SayingsAreRuns, length_numbers}
 use Rattle.pj_xparse.specs.Faults.{IsFault, named_first, syntax_fault}
 use Rattle.pj_xparse.specs.declared.fault.XSyntax.{XSyntax}
 
@@ -34,11 +34,6 @@ module _ (derives : ReadingsAreDerived) (one_tokens : TokensAreOne)
       one_derivation y.tokens x.productions y.productions (subst (λ ts. AreDerived ts x.productions) tokens x.derived) y.derived in
       x.means ∙ ap (λ ps. meaning ps x.tokens) productions ∙ ap (λ ts. meaning y.productions ts) tokens ∙ sym y.means
 
--- each token has a terminal
-length_numbers : (end : Behind) (xs : List Lexed) → length (numbers_before end xs) ≡ length xs
-length_numbers end [] = refl
-length_numbers end (x ∷ xs) = ap suc (length_numbers end xs)
-
 -- the tokens of an expression have the outcome of one, and the productions that derive them are those of their run
 module _ (tokens : List Lexed) (productions : List ℕ) (derived : AreDerived tokens productions) (clear : AreClear tokens (length tokens + 1)) where
   pub whole_outcome : IsOutcome tokens outcome.Whole
@@ -56,10 +51,11 @@ module _ (tokens : List Lexed) (productions : List ℕ) (derived : AreDerived to
 
 -- where tokens are one and have one outcome, and one list of productions derives them as far as their terminals go
 module _ (one_tokens : TokensAreOne) (one_outcome : (tokens : List Lexed) (a b : End) → IsOutcome tokens a → IsOutcome tokens b → a ≡ b)
-    (one_run : (tokens : List Lexed) (ps qs : List ℕ) → IsRun tokens ps → IsRun tokens qs → ps ≡ qs) where
+    (one_run : (tokens : List Lexed) (ps qs : List ℕ) → IsRun tokens ps → IsRun tokens qs → ps ≡ qs) (are_runs : SayingsAreRuns) where
   pub not_both : ReadingsAreDerived → (variables : List (List ℕ)) (text : List ℕ) (tree : Tree) (fault : XSyntax) → Spells variables text tree → IsFault variables text fault → ⊥
-  not_both derives variables text tree fault s y =
+  not_both derives variables text tree fault s f =
       let x = derivation_of derives s in
+      let y = run_of are_runs f in
       let same = one_tokens text y.tokens x.tokens _ _ y.read x.read in
       let is_outcome : y.outcome ≡ outcome.Whole =
       one_outcome x.tokens y.outcome outcome.Whole (subst (λ ts. IsOutcome ts y.outcome) same.0 y.is_outcome)
@@ -77,7 +73,9 @@ module _ (one_tokens : TokensAreOne) (one_outcome : (tokens : List Lexed) (a b :
       absurd (cc)
 
   pub one_fault : (variables : List (List ℕ)) (text : List ℕ) (f g : XSyntax) → IsFault variables text f → IsFault variables text g → f ≡ g
-  one_fault variables text f g x y =
+  one_fault variables text f g first second =
+      let x = run_of are_runs first in
+      let y = run_of are_runs second in
       let same = one_tokens text x.tokens y.tokens _ _ x.read y.read in
       let outcomes : x.outcome ≡ y.outcome =
       one_outcome y.tokens x.outcome y.outcome (subst (λ ts. IsOutcome ts x.outcome) same.0 x.is_outcome) y.is_outcome in

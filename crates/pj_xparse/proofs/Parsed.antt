@@ -14,7 +14,7 @@ use Rattle.pj_xtokens.specs.declared.token.TokenKind.{TokenKind}
 use Rattle.pj_xtokens.specs.declared.token.End as token
 use Rattle.pj_xtokens.specs.declared.token.End.TheVariants as ends
 use Rattle.pj_xparse.proofs.Sizes.{size_chars}
-use Rattle.pj_xgrammar.specs.Expressions.{IsOutcome, LeadTo}
+use Rattle.pj_xderive.specs.Expressions.{IsOutcome, LeadTo}
 use Rattle.pj_xmeaning.specs.Meaning.{meaning}
 use Rattle.pj_xnames.specs.Faults.{first_fault}
 use Rattle.pj_xnames.specs.Meaning.{mentions}

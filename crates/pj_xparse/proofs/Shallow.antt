@@ -13,8 +13,9 @@ use Rattle.pj_xgrammar.specs.Terminals.{numbers}
 use Rattle.pj_xgrammar.specs.XPath.{xpath_grammar}
 use Rattle.pj_xmeaning.specs.Parts.{RuleValue}
 use Rattle.pj_xnames.specs.Namings.{Naming}
+use Rattle.pj_xparse.specs.Reach.{All}
 use Rattle.pj_xparse.specs.Derived as derived
-use Rattle.pj_xparse.specs.Derived.{Derived, by, Fill, none, token, rule}
+use Rattle.pj_xparse.specs.Derived.{Derived, by, Fill, none, token, rule, cut}
 use Rattle.pj_xparse.proofs.Splitting.{behind_is}
 use Rattle.pj_xparse.proofs.Counts.{closes-append}
 
@@ -50,12 +51,12 @@ flat_rule tokens n p line ss at n_is on before ps way = on before (ps ++ p ∷ [
 
 mutual
   rule_flat : {around n : ℕ} {behind ts : List Lexed} {ps : List ℕ} {v : RuleValue} {w : Naming} (rest : List Symbol) → closes rest ≤ around →
-      Derived around behind n ts ps v w → StayFlat rest behind → StayFlat (Rule n ∷ rest) (ts ++ behind)
-  rule_flat {n = n} {behind} {ts} rest room (by p line at n_is f ps_are v_is w_is) on =
+      Derived All around behind n ts ps v w → StayFlat rest behind → StayFlat (Rule n ∷ rest) (ts ++ behind)
+  rule_flat {n = n} {behind} {ts} rest room (by p line before at n_is f ps_are v_is w_is) on =
       flat_rule (ts ++ behind) n p line rest at n_is (fill_flat rest room f on)
 
   fill_flat : {around : ℕ} {behind ts : List Lexed} {ss : List Symbol} {ps : List ℕ} {vs : List RuleValue} {ws : List Naming} (rest : List Symbol) → closes rest ≤ around →
-      Fill around behind ss ts ps vs ws → StayFlat rest behind → StayFlat (ss ++ rest) (ts ++ behind)
+      Fill All around behind ss ts ps vs ws → StayFlat rest behind → StayFlat (ss ++ rest) (ts ++ behind)
   fill_flat rest room none on = on
   fill_flat rest room (token {behind = behind} {ts} {ss} x t read few f) on =
       let sum = closes-append ss rest in
@@ -65,8 +66,9 @@ mutual
       subst (λ l. StayFlat (Rule n ∷ (ss ++ rest)) l) (sym (behind_is behind all ts us ts_are))
       (rule_flat (ss ++ rest) (omega arith) d (fill_flat rest room f on))
   fill_flat rest room (derived.close {behind = behind} {ts} {ss} f) on = flat_close (ts ++ behind) (ss ++ rest) (fill_flat rest room f on)
+  fill_flat rest room (cut c) on = absurd c
 
-tree_flat : (tokens : List Lexed) (ps : List ℕ) (v : RuleValue) (w : Naming) → Derived 0 [] 0 tokens ps v w → AreFlat [] (numbers tokens)
+tree_flat : (tokens : List Lexed) (ps : List ℕ) (v : RuleValue) (w : Naming) → Derived All 0 [] 0 tokens ps v w → AreFlat [] (numbers tokens)
 tree_flat tokens ps v w d = subst (λ l. AreFlat [] (numbers l)) (append-nil tokens) (rule_flat [] (omega arith) d (λ before qs way. tt) [] [] stay)
 
 -- at each place
@@ -84,7 +86,7 @@ module _ (one_stack : (before ps qs : List ℕ) (ss rs : List Symbol) → Behind
       let few = flat.few in
       omega arith
 
-  pub tree_not_deep : (tokens : List Lexed) (ps : List ℕ) (v : RuleValue) (w : Naming) → Derived 0 [] 0 tokens ps v w → (i : ℕ) → i ≤ length (numbers tokens) →
+  pub tree_not_deep : (tokens : List Lexed) (ps : List ℕ) (v : RuleValue) (w : Naming) → Derived All 0 [] 0 tokens ps v w → (i : ℕ) → i ≤ length (numbers tokens) →
       IsDeeper xpath_grammar (take i (numbers tokens)) 200 → ⊥
   tree_not_deep tokens ps v w d i le =
       not_deep (take i (numbers tokens))

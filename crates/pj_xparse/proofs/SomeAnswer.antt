@@ -5,15 +5,17 @@ use Rattle.pj_ll.specs.declared.parser.End.TheVariants as outcome
 use Rattle.pj_xtokens.specs.Size.{size}
 use Rattle.pj_xtokens.specs.Tokens.{Lexed, Tokens}
 use Rattle.pj_xtokens.specs.declared.token.End as token
-use Rattle.pj_xgrammar.specs.Expressions.{IsOutcome, IsRun, LeadTo}
+use Rattle.pj_xderive.specs.Expressions.{IsOutcome, IsRun, LeadTo}
 use Rattle.pj_xmeaning.specs.Meaning.{meaning}
-use Rattle.pj_xmeaning.specs.Trees.{Tree}
+use Rattle.pj_xvalue.specs.Trees.{Tree}
 use Rattle.pj_xnames.specs.Faults.{Fault, first_fault}
 use Rattle.pj_xnames.specs.Meaning.{mentions}
 use Rattle.pj_xparse.specs.Spells.{Spells}
 use Rattle.pj_xparse.specs.Faults.{IsFault, named_first, syntax_fault, named_fault}
 use Rattle.pj_xparse.specs.declared.fault.XSyntax.{XSyntax}
 use Rattle.pj_xparse.proofs.Derivations.{DerivedAreReadings}
+use Rattle.pj_xparse.proofs.FaultRuns.{told_by_run}
+use Rattle.pj_xparse.proofs.Running.{RunsSay}
 use Rattle.pj_xparse.proofs.OneAnswer.{whole_run}
 use Rattle.pj_xparse.proofs.Parsed.{spells_meaning}
 
@@ -21,7 +23,7 @@ abbrev Answer : List (List ℕ) → List ℕ → Type 0
 Answer variables text = ((tree : Tree) × Spells variables text tree) ⊎ ((fault : XSyntax) × IsFault variables text fault)
 
 -- where what is derived is read, and each list of tokens has a run
-module _ (reads : DerivedAreReadings) (some_run : (tokens : List Lexed) → (productions : List ℕ) × IsRun tokens productions) where
+module _ (reads : DerivedAreReadings) (runs_say : RunsSay) (some_run : (tokens : List Lexed) → (productions : List ℕ) × IsRun tokens productions) where
   module _ (variables : List (List ℕ)) (text : List ℕ) (tokens : List Lexed) (end : token.End) (read : Tokens (size text) text tokens end) where
     module _ (o : End) (is : IsOutcome tokens o) (productions : List ℕ) (run : IsRun tokens productions) where
       -- a fault of what is named, of the tokens, or none
@@ -30,7 +32,7 @@ module _ (reads : DerivedAreReadings) (some_run : (tokens : List Lexed) → (pro
       by_faults (Some fault) later n s leads =
           inr (
             named_fault fault,
-            record {
+            told_by_run runs_say (record {
               tokens = tokens;
               end = end;
               outcome = o;
@@ -39,12 +41,12 @@ module _ (reads : DerivedAreReadings) (some_run : (tokens : List Lexed) → (pro
               is_outcome = is;
               run = run;
               is = ap (λ (f : Option Fault). named_first f (syntax_fault tokens end o)) (sym n);
-            },
+            }),
           )
       by_faults None (Some fault) n s leads =
           inr (
             fault,
-            record {
+            told_by_run runs_say (record {
               tokens = tokens;
               end = end;
               outcome = o;
@@ -53,7 +55,7 @@ module _ (reads : DerivedAreReadings) (some_run : (tokens : List Lexed) → (pro
               is_outcome = is;
               run = run;
               is = sym s ∙ ap (λ (f : Option Fault). named_first f (syntax_fault tokens end o)) (sym n);
-            },
+            }),
           )
       by_faults None None n s leads = inl (meaning productions tokens, spells_meaning variables text tokens productions n reads end o read is (leads refl) s)
 

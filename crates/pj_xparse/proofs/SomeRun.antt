@@ -9,7 +9,7 @@ use Rattle.pj_ll.specs.Leads.{Leads, stay, take_terminal, close, expand, start, 
 use Rattle.pj_ll.specs.Outcome.{IsEnd, LeadBehind}
 use Rattle.pj_ll.specs.Predictive.{RuleFacts, IsPredictive}
 use Rattle.pj_xtokens.specs.Tokens.{Lexed}
-use Rattle.pj_xgrammar.specs.Expressions.{IsRun}
+use Rattle.pj_xderive.specs.Expressions.{IsRun}
 use Rattle.pj_xgrammar.specs.Terminals.{numbers}
 use Rattle.pj_xgrammar.specs.XPath.{xpath_grammar}
 

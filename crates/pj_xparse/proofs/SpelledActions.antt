@@ -2,22 +2,23 @@
 use Rattle.std.proofs.Common.{◌≡◌, ℕ, List, [], ◌∷◌, ◌++◌, map, Option, Some, None, sym, subst}
 use Rattle.pj_xvalue.specs.declared.axis.Axis.{Axis}
 use Rattle.pj_xvalue.specs.declared.axis.Axis.TheVariants as axis
-use Rattle.pj_xvalue.specs.declared.operator.Compare.{Compare}
+use Rattle.pj_xoperators.specs.declared.operator.Compare.{Compare}
 use Rattle.pj_xvalue.specs.declared.expr.NodeTest.{NodeTest}
 use Rattle.pj_xvalue.specs.declared.expr.NodeTest.TheVariants as tests
 use Rattle.pj_xvalue.specs.Names.{axis_of, callee_of}
 use Rattle.pj_xmeaning.specs.Parts as part
 use Rattle.pj_xmeaning.specs.Parts.{RuleValue, expression, expressions, bindings, word}
-use Rattle.pj_xmeaning.specs.Trees as tree
-use Rattle.pj_xmeaning.specs.Trees.{Tree, Construct, node, alone}
+use Rattle.pj_xvalue.specs.Trees as tree
+use Rattle.pj_xvalue.specs.Trees.{Tree, Construct, node, alone}
 use Rattle.pj_xmeaning.specs.Values as value
-use Rattle.pj_xmeaning.specs.Values.{chained, chain_construct, comparison, range, mixed, descendants, relative, filtered, called, along, axis_step, named, binder_construct}
-use Rattle.pj_xmeaning.specs.declared.action.Binder.{Binder}
-use Rattle.pj_xmeaning.specs.declared.action.Binder.TheVariants as binders
-use Rattle.pj_xmeaning.specs.declared.action.Chain.{Chain}
-use Rattle.pj_xmeaning.specs.declared.action.Chain.TheVariants as chains
-use Rattle.pj_xmeaning.specs.declared.action.Kind as words
-use Rattle.pj_xmeaning.specs.declared.action.Kind.TheVariants as which
+use Rattle.pj_xmeaning.specs.Values.{chained, chain_construct, comparison, range, mixed, relative, axis_step, named, binder_construct}
+use Rattle.pj_xmeaning.specs.Steps.{descendants, filtered, called, along}
+use Rattle.pj_xgrammar.specs.declared.action.Binder.{Binder}
+use Rattle.pj_xgrammar.specs.declared.action.Binder.TheVariants as binders
+use Rattle.pj_xgrammar.specs.declared.action.Chain.{Chain}
+use Rattle.pj_xgrammar.specs.declared.action.Chain.TheVariants as chains
+use Rattle.pj_xgrammar.specs.declared.action.Kind as words
+use Rattle.pj_xgrammar.specs.declared.action.Kind.TheVariants as which
 use Rattle.pj_xvalue.specs.declared.name.Callee.{Callee}
 use Rattle.pj_xvalue.specs.declared.name.Callee.TheVariants as callee
 use Rattle.pj_xshape.specs.Spelled.{IsName, AreNames, IsTestSpelled, IsConstructSpelled, IsSpelled}

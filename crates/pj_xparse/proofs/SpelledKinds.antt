@@ -3,9 +3,9 @@ use Rattle.std.proofs.Common.{◌≡◌, ℕ, true, List, [], ◌∷◌, map}
 use Rattle.std.specs.Prelude.{⊤}
 use Rattle.std.specs.Str.{encode_utf8_all}
 use Rattle.pj_xtokens.specs.Tokens.{Lexed}
-use Rattle.pj_xvalue.specs.declared.operator.Compare.{Compare}
+use Rattle.pj_xoperators.specs.declared.operator.Compare.{Compare}
 use Rattle.pj_xvalue.specs.declared.expr.NodeTest.{NodeTest}
-use Rattle.pj_xmeaning.specs.Trees.{Tree, Construct, node, trees}
+use Rattle.pj_xvalue.specs.Trees.{Tree, Construct, node, trees}
 use Rattle.pj_xmeaning.specs.Parts as value
 use Rattle.pj_xmeaning.specs.Parts.{RuleValue}
 use Rattle.pj_xshape.specs.Spelled.{IsName, AreNames, IsTestSpelled, IsConstructSpelled, IsSpelled, AreSpelled}

@@ -9,7 +9,7 @@ use Rattle.pj_xtokens.specs.Rules.{Spells}
 use Rattle.pj_xtokens.specs.Tokens.{Lexed}
 use Rattle.pj_xtokens.specs.declared.token.TokenKind.{TokenKind}
 use Rattle.pj_xtokens.specs.declared.token.TokenKind.TheVariants as kind
-use Rattle.pj_xmeaning.specs.Literals.{unquoted, kept, is_left_out, characters_of, string_of, number_from, integer_of}
+use Rattle.pj_xtokens.specs.Literals.{unquoted, kept, is_left_out, characters_of, string_of, number_from, integer_of}
 use Rattle.pj_xshape.specs.Spelled.{IsText, IsName, IsInteger}
 use Rattle.pj_xparse.specs.WellSpelled.{IsWellSpelled, AreWellSpelled}
 

@@ -15,8 +15,9 @@ use Rattle.pj_xgrammar.specs.declared.terminal.Behind.{Behind}
 use Rattle.pj_xgrammar.specs.declared.terminal.Behind.TheVariants as b
 use Rattle.pj_xgrammar.specs.declared.terminal.Terminal.TheVariants as terminal
 use Rattle.pj_xgrammar.specs.Terminals.{first_behind, begins_step, kind_terminal, sign_terminal, word_terminal, makes_phrase, terminal_number}
-use Rattle.pj_xnames.specs.Namings.{is_parenthesis, begins_with_parenthesis}
-use Rattle.pj_xparse.specs.Reads.{Takes, token}
+use Rattle.pj_xtokens.specs.First.{is_parenthesis, begins_with_parenthesis}
+use Rattle.pj_xparse.specs.Reach.{Reach, IsBefore}
+use Rattle.pj_xparse.specs.Reads.{Takes, token, cut}
 
 -- the number of `(`
 abbrev parenthesis : ℕ
@@ -32,8 +33,9 @@ kind_not t.String text behind n e h = refl
 kind_not (t.Sign s.LeftParenthesis) text behind n e h = absurd (let z = subst (λ (m : ℕ). nat_eq m parenthesis ≡ false) (sym e) h in cc)
 kind_not (t.Sign _) text behind n e h = refl
 
-pub no_parenthesis : {d n : ℕ} {xs ys : List Lexed} → Takes d (Terminal n) xs ys → nat_eq n parenthesis ≡ false → begins_with_parenthesis xs ≡ false
-no_parenthesis {n = n} (token {x} {xs} e few) h = kind_not x.kind x.text (first_behind b.End xs) n e h
+pub no_parenthesis : {reach : Reach} {d n : ℕ} {xs ys : List Lexed} → IsBefore reach xs → Takes reach d (Terminal n) xs ys → nat_eq n parenthesis ≡ false → begins_with_parenthesis xs ≡ false
+no_parenthesis {n = n} before (token {x} {xs} e few) h = kind_not x.kind x.text (first_behind b.End xs) n e h
+no_parenthesis before (cut c) h = absurd (before c)
 
 slash_not : (c : Bool) → terminal_number (cond c (terminal.Sign s.Slash) terminal.LoneSlash) ≡ parenthesis → ⊥
 slash_not true e = omega (arith, e)
@@ -62,5 +64,6 @@ kind_is t.String text behind e = absurd (omega (arith, e))
 kind_is (t.Sign sign) text behind e = sign_is sign behind e
 
 -- one that is read as `(` is one
-pub with_parenthesis : {d n : ℕ} {xs ys : List Lexed} → Takes d (Terminal n) xs ys → n ≡ parenthesis → begins_with_parenthesis xs ≡ true
-with_parenthesis {n = n} (token {x} {xs} e few) h = kind_is x.kind x.text (first_behind b.End xs) (subst (λ m. terminal_number (kind_terminal x.kind x.text (first_behind b.End xs)) ≡ m) h e)
+pub with_parenthesis : {reach : Reach} {d n : ℕ} {xs ys : List Lexed} → IsBefore reach xs → Takes reach d (Terminal n) xs ys → n ≡ parenthesis → begins_with_parenthesis xs ≡ true
+with_parenthesis {n = n} before (token {x} {xs} e few) h = kind_is x.kind x.text (first_behind b.End xs) (subst (λ m. terminal_number (kind_terminal x.kind x.text (first_behind b.End xs)) ≡ m) h e)
+with_parenthesis before (cut c) h = absurd (before c)

@@ -1,23 +1,23 @@
 -- Which kind of value an action makes of which.
 use Rattle.std.proofs.Common.{ℕ, Bool, true, false, List, [], ◌∷◌}
 use Rattle.std.specs.Prelude.{nat_le, nat_eq, ◌||◌, not, IsTrue}
-use Rattle.pj_xmeaning.specs.declared.action.Action.{Action}
-use Rattle.pj_xmeaning.specs.declared.action.Action.TheVariants as action
-use Rattle.pj_xmeaning.specs.declared.action.Leaf.TheVariants as leaf
-use Rattle.pj_xmeaning.specs.declared.action.Kind as test
-use Rattle.pj_xmeaning.specs.declared.action.Change.TheVariants as change
-use Rattle.pj_xmeaning.specs.declared.action.Single.TheVariants as single
-use Rattle.pj_xmeaning.specs.declared.action.Rest.TheVariants as rest
-use Rattle.pj_xmeaning.specs.declared.action.Chain.{Chain}
-use Rattle.pj_xmeaning.specs.declared.action.Chain.TheVariants as chains
-use Rattle.pj_xmeaning.specs.declared.action.Operation.TheVariants as operation
-use Rattle.pj_xmeaning.specs.declared.action.Binder.{Binder}
-use Rattle.pj_xmeaning.specs.declared.action.Step.TheVariants as step
-use Rattle.pj_xvalue.specs.declared.operator.Compare.{Compare}
-use Rattle.pj_xvalue.specs.declared.expr.Additive.{Additive}
-use Rattle.pj_xvalue.specs.declared.expr.Multiplicative.{Multiplicative}
-use Rattle.pj_xvalue.specs.declared.expr.SetOperator.{SetOperator}
-use Rattle.pj_xvalue.specs.declared.expr.Sign.{Sign}
+use Rattle.pj_xgrammar.specs.declared.action.Action.{Action}
+use Rattle.pj_xgrammar.specs.declared.action.Action.TheVariants as action
+use Rattle.pj_xgrammar.specs.declared.action.Leaf.TheVariants as leaf
+use Rattle.pj_xgrammar.specs.declared.action.Kind as test
+use Rattle.pj_xgrammar.specs.declared.action.Change.TheVariants as change
+use Rattle.pj_xgrammar.specs.declared.action.Single.TheVariants as single
+use Rattle.pj_xgrammar.specs.declared.action.Rest.TheVariants as rest
+use Rattle.pj_xgrammar.specs.declared.action.Chain.{Chain}
+use Rattle.pj_xgrammar.specs.declared.action.Chain.TheVariants as chains
+use Rattle.pj_xgrammar.specs.declared.action.Operation.TheVariants as operation
+use Rattle.pj_xgrammar.specs.declared.action.Binder.{Binder}
+use Rattle.pj_xgrammar.specs.declared.action.Step.TheVariants as step
+use Rattle.pj_xoperators.specs.declared.operator.Compare.{Compare}
+use Rattle.pj_xoperators.specs.declared.operator.Additive.{Additive}
+use Rattle.pj_xoperators.specs.declared.operator.Multiplicative.{Multiplicative}
+use Rattle.pj_xoperators.specs.declared.operator.SetOperator.{SetOperator}
+use Rattle.pj_xoperators.specs.declared.operator.Sign.{Sign}
 use Rattle.pj_xparse.proofs.RuleKinds.{Kind, Expression, Listed, Summed, Multiplied, SetListed, Compared, Ranged, LeftOut, Clause, Tested, Bindings, MoreBindings, Word, Test, TestBehind, Predicates, Path, Steps, NameBehind, Parenthesized, Piece, Token, Of, Left, Close}
 
 -- the level of a chain, the least one of its operands, and whether its operators begin a step in another place

@@ -7,18 +7,18 @@ use Rattle.pj_xgrammar.specs.declared.rule.Rule.{Rule}
 use Rattle.pj_xgrammar.specs.declared.rule.Rule.TheVariants as r
 use Rattle.pj_xgrammar.specs.Notation.{rule_number}
 use Rattle.pj_xgrammar.specs.XPath.{xpath, rules, line, lines_of, xpath_grammar}
-use Rattle.pj_xmeaning.specs.Actions.{actions_of, actions_by, actions}
-use Rattle.pj_xmeaning.specs.Meaning.{action_in, action_of}
-use Rattle.pj_xmeaning.specs.declared.action.Action.{Action}
-use Rattle.pj_xmeaning.specs.declared.action.Chain.TheVariants as chains
-use Rattle.pj_xmeaning.specs.declared.action.Binder.TheVariants as binders
-use Rattle.pj_xmeaning.specs.declared.action.Kind.TheVariants as kinds
-use Rattle.pj_xvalue.specs.declared.operator.Compare.TheVariants as compare
-use Rattle.pj_xvalue.specs.declared.expr.Additive.TheVariants as additive
-use Rattle.pj_xvalue.specs.declared.expr.Multiplicative.TheVariants as multiplicative
-use Rattle.pj_xvalue.specs.declared.expr.SetOperator.TheVariants as set
-use Rattle.pj_xvalue.specs.declared.expr.Sign.TheVariants as signs
-use Rattle.pj_xvalue.specs.declared.expr.Quantifier.TheVariants as quantifier
+use Rattle.pj_xgrammar.specs.Actions.{actions_of, actions_by, actions}
+use Rattle.pj_xgrammar.specs.Beginnings.{action_in, action_of}
+use Rattle.pj_xgrammar.specs.declared.action.Action.{Action}
+use Rattle.pj_xgrammar.specs.declared.action.Chain.TheVariants as chains
+use Rattle.pj_xgrammar.specs.declared.action.Binder.TheVariants as binders
+use Rattle.pj_xgrammar.specs.declared.action.Kind.TheVariants as kinds
+use Rattle.pj_xoperators.specs.declared.operator.Compare.TheVariants as compare
+use Rattle.pj_xoperators.specs.declared.operator.Additive.TheVariants as additive
+use Rattle.pj_xoperators.specs.declared.operator.Multiplicative.TheVariants as multiplicative
+use Rattle.pj_xoperators.specs.declared.operator.SetOperator.TheVariants as set
+use Rattle.pj_xoperators.specs.declared.operator.Sign.TheVariants as signs
+use Rattle.pj_xoperators.specs.declared.operator.Quantifier.TheVariants as quantifier
 use Rattle.pj_xparse.proofs.RuleKinds.{Kind, kind_at, pieces}
 use Rattle.pj_xparse.proofs.Typed.{Typed, left_out, ends, chain, further, arguments, binder, choice, lower, binding, more_bindings, clause, tested, comparison, compared, range, ranged, sum, summed, product, multiplied, sets, set_listed, signed, operand, root, rooted, rooted_descendants, relative, path, steps, descendant_steps, context_item, primary, parent_step, attribute, axis_step, any_name_step, kind_step, name_step, axis_test, called, not_called, name_test, axis_name_test, any_name_test, kind_test, parentheses, predicates, integer, string, variable, parenthesized, inside, empty, word, same_word}
 

@@ -1,4 +1,4 @@
--- The values of rules and what they name, from the productions of a leftmost derivation.
+-- The values of rules, from the productions of a leftmost derivation.
 use Rattle.std.proofs.Common.{◌≡◌, ℕ, List, [], ◌∷◌, ◌++◌, map, length, Option, Some, None, slice_get, refl, sym, ◌∙◌, ap, arith, append_assoc}
 use Rattle.std.proofs.lemmas.List.{append-nil}
 use Rattle.std.specs.Option.{option_map}
@@ -7,21 +7,22 @@ use Rattle.pj_ll.specs.declared.grammar.Symbol.{Symbol}
 use Rattle.pj_ll.specs.Grammar.{Line}
 use Rattle.pj_xtokens.specs.Tokens.{Lexed}
 use Rattle.pj_xgrammar.specs.XPath.{xpath_grammar}
-use Rattle.pj_xmeaning.specs.Actions.{actions}
-use Rattle.pj_xmeaning.specs.Fitting.{ActionsFit, taken, rules_among}
-use Rattle.pj_xmeaning.specs.Slots.{slots, slots_in, production_slots}
-use Rattle.pj_xmeaning.specs.Meaning.{beginnings, action_in, action_of, first_text, values, meaning}
+use Rattle.pj_xgrammar.specs.Actions.{actions}
+use Rattle.pj_xgrammar.specs.Fitting.{ActionsFit, taken, rules_among}
+use Rattle.pj_xgrammar.specs.Slots.{slots, slots_in, production_slots}
+use Rattle.pj_xgrammar.specs.Beginnings.{beginnings, action_in, action_of}
+use Rattle.pj_xtokens.specs.First.{first_text}
+use Rattle.pj_xmeaning.specs.Meaning.{values, meaning}
 use Rattle.pj_xmeaning.specs.Parts.{RuleValue, expression}
 use Rattle.pj_xmeaning.specs.Values as value
-use Rattle.pj_xmeaning.specs.declared.form.Slot.{Slot}
-use Rattle.pj_xmeaning.specs.declared.form.Slot.TheVariants as slot
-use Rattle.pj_xmeaning.specs.declared.action.Action.{Action}
-use Rattle.pj_xmeaning.specs.declared.action.Action.TheVariants as action
-use Rattle.pj_xnames.specs.Namings as naming
-use Rattle.pj_xnames.specs.Namings.{Naming, mentions_of}
-use Rattle.pj_xnames.specs.Meaning.{namings, mentions}
+use Rattle.pj_xgrammar.specs.declared.form.Slot.{Slot}
+use Rattle.pj_xgrammar.specs.declared.form.Slot.TheVariants as slot
+use Rattle.pj_xgrammar.specs.declared.action.Action.{Action}
+use Rattle.pj_xgrammar.specs.declared.action.Action.TheVariants as action
+use Rattle.pj_xnames.specs.Namings.{Naming}
 use Rattle.pj_xparse.proofs.Splitting.{behind_is}
-use Rattle.pj_xparse.specs.Derived.{Derived, by, Fill, none, token, rule, close}
+use Rattle.pj_xparse.specs.Reach.{All}
+use Rattle.pj_xparse.specs.Derived.{Derived, by, Fill, none, token, rule, close, cut}
 
 -- ---- an action takes the values of its production
 
@@ -38,7 +39,7 @@ taken_there None count e = absurd (none-some count e)
 taken_there (Some a) count e = same_Some (taken a) count e
 
 -- where the actions fit the grammar, the action of a production takes as many values as there are rules in it
-takes : ActionsFit → (p : ℕ) (line : Line) → slice_get xpath_grammar p ≡ Some line → taken (action_of p) ≡ rules_among (slots line.symbols)
+pub takes : ActionsFit → (p : ℕ) (line : Line) → slice_get xpath_grammar p ≡ Some line → taken (action_of p) ≡ rules_among (slots line.symbols)
 unfolding action_of count_of
 takes actions_fit p line at =
     let here : slice_get (map count_of xpath_grammar) p ≡ Some (count_of line) = slice_get-map count_of xpath_grammar p ∙ ap (option_map count_of) at in
@@ -47,7 +48,7 @@ takes actions_fit p line at =
 
 -- ---- what an action makes of the values of its production is not changed by those that stand behind them
 
-value_made : (a : Action) (text : List ℕ) (vs others : List RuleValue) → length vs ≡ taken a → value.acted a text (vs ++ others) ≡ value.made a text vs ∷ others
+pub value_made : (a : Action) (text : List ℕ) (vs others : List RuleValue) → length vs ≡ taken a → value.acted a text (vs ++ others) ≡ value.made a text vs ∷ others
 value_made (action.Leaf a) text [] others e = refl
 value_made (action.Change a) text (u ∷ []) others e = refl
 value_made (action.Single a) text (u ∷ []) others e = refl
@@ -59,42 +60,24 @@ value_made action.If text (u ∷ v ∷ w ∷ []) others e = refl
 value_made action.Binding text (u ∷ v ∷ w ∷ []) others e = refl
 value_made _ _ _ others e = absurd (omega arith)
 
-name_made : (a : Action) (tokens : List Lexed) (ws others : List Naming) → length ws ≡ taken a → naming.acted a tokens (ws ++ others) ≡ naming.made a tokens ws ∷ others
-name_made (action.Leaf a) tokens [] others e = refl
-name_made (action.Change a) tokens (u ∷ []) others e = refl
-name_made (action.Single a) tokens (u ∷ []) others e = refl
-name_made (action.Rest a) tokens (u ∷ v ∷ []) others e = refl
-name_made (action.Operation a) tokens (u ∷ v ∷ []) others e = refl
-name_made (action.Binder a) tokens (u ∷ v ∷ []) others e = refl
-name_made (action.Step a) tokens (u ∷ v ∷ []) others e = refl
-name_made action.If tokens (u ∷ v ∷ w ∷ []) others e = refl
-name_made action.Binding tokens (u ∷ v ∷ w ∷ []) others e = refl
-name_made _ _ _ others e = absurd (omega arith)
-
 -- each rule among the symbols has a value
 pub values_count : {around : ℕ} {behind ts : List Lexed} {ss : List Symbol} {ps : List ℕ} {vs : List RuleValue} {ws : List Naming} →
-    Fill around behind ss ts ps vs ws → length vs ≡ rules_among (slots ss)
+    Fill All around behind ss ts ps vs ws → length vs ≡ rules_among (slots ss)
 values_count none = refl
 values_count (token x t read few f) = values_count f
 values_count (rule d f ts_are ps_are) = let e = values_count f in omega arith
 values_count (close f) = values_count f
-
-pub names_count : {around : ℕ} {behind ts : List Lexed} {ss : List Symbol} {ps : List ℕ} {vs : List RuleValue} {ws : List Naming} →
-    Fill around behind ss ts ps vs ws → length ws ≡ rules_among (slots ss)
-names_count none = refl
-names_count (token x t read few f) = names_count f
-names_count (rule d f ts_are ps_are) = let e = names_count f in omega arith
-names_count (close f) = names_count f
+values_count (cut c) = absurd c
 
 -- ---- where productions begin
 
 -- a symbol that takes a token takes the next one
-past_token : (ps : List ℕ) (next : List Slot) (x : Lexed) (xs : List Lexed) → beginnings ps (slot.Token ∷ next) (x ∷ xs) ≡ beginnings ps next xs
+pub past_token : (ps : List ℕ) (next : List Slot) (x : Lexed) (xs : List Lexed) → beginnings ps (slot.Token ∷ next) (x ∷ xs) ≡ beginnings ps next xs
 past_token [] next x xs = refl
 past_token (p ∷ ps) next x xs = refl
 
 -- a rule's production begins at the next token
-at_rule : (p : ℕ) (line : Line) (ps : List ℕ) (next : List Slot) (xs : List Lexed) → slice_get xpath_grammar p ≡ Some line →
+pub at_rule : (p : ℕ) (line : Line) (ps : List ℕ) (next : List Slot) (xs : List Lexed) → slice_get xpath_grammar p ≡ Some line →
     beginnings (p ∷ ps) (slot.Rule ∷ next) xs ≡ record { production = p; tokens = xs } ∷ beginnings ps (slots line.symbols ++ next) xs
 at_rule p line ps next xs at = ap (λ l. record { production = p; tokens = xs } ∷ beginnings ps (l ++ next) xs) (slots_are p line at)
 
@@ -104,9 +87,9 @@ module _ (actions_fit : ActionsFit) where
   mutual
     -- the value of a rule stands before those that come behind it
     pub rule_value : {around n : ℕ} {behind ts : List Lexed} {ps : List ℕ} {v : RuleValue} {w : Naming} (more : List ℕ) (next : List Slot) (others : List RuleValue) →
-        Derived around behind n ts ps v w →
+        Derived All around behind n ts ps v w →
         values (beginnings (ps ++ more) (slot.Rule ∷ next) (ts ++ behind)) others ≡ v ∷ values (beginnings more next behind) others
-    rule_value {behind = behind} {ts} more next others (by {qs = qs} {vs} p line at n_is f ps_are v_is w_is) =
+    rule_value {behind = behind} {ts} more next others (by {qs = qs} {vs} p line before at n_is f ps_are v_is w_is) =
         let text = first_text (ts ++ behind) in
         let last = values (beginnings more next behind) others in
         ap (λ l. values (beginnings (l ++ more) (slot.Rule ∷ next) (ts ++ behind)) others) ps_are
@@ -116,7 +99,7 @@ module _ (actions_fit : ActionsFit) where
         ∙ ap (λ u. u ∷ last) (sym v_is)
 
     pub fill_values : {around : ℕ} {behind ts : List Lexed} {ss : List Symbol} {ps : List ℕ} {vs : List RuleValue} {ws : List Naming} (more : List ℕ) (next : List Slot) (others : List RuleValue) →
-        Fill around behind ss ts ps vs ws →
+        Fill All around behind ss ts ps vs ws →
         values (beginnings (ps ++ more) (slots ss ++ next) (ts ++ behind)) others ≡ vs ++ values (beginnings more next behind) others
     fill_values more next others none = refl
     fill_values more next others (token {behind = behind} {ts} {ss} {ps} x t read few f) =
@@ -128,49 +111,13 @@ module _ (actions_fit : ActionsFit) where
         ∙ rule_value (qs ++ more) (slots ss ++ next) others d
         ∙ ap (λ l. v ∷ l) (fill_values more next others f)
     fill_values more next others (close f) = fill_values more next others f
-
-  -- ---- what rules name
-
-  mutual
-    -- what a rule names stands before what those name that come behind it
-    pub rule_names : {around n : ℕ} {behind ts : List Lexed} {ps : List ℕ} {v : RuleValue} {w : Naming} (more : List ℕ) (next : List Slot) (others : List Naming) →
-        Derived around behind n ts ps v w →
-        namings (beginnings (ps ++ more) (slot.Rule ∷ next) (ts ++ behind)) others ≡ w ∷ namings (beginnings more next behind) others
-    rule_names {behind = behind} {ts} more next others (by {qs = qs} {ws = ws} p line at n_is f ps_are v_is w_is) =
-        let tokens = ts ++ behind in
-        let last = namings (beginnings more next behind) others in
-        ap (λ l. namings (beginnings (l ++ more) (slot.Rule ∷ next) tokens) others) ps_are
-        ∙ ap (λ l. namings l others) (at_rule p line (qs ++ more) next tokens at)
-        ∙ ap (naming.acted (action_of p) tokens) (fill_names more next others f)
-        ∙ name_made (action_of p) tokens ws last (names_count f ∙ sym (takes actions_fit p line at))
-        ∙ ap (λ u. u ∷ last) (sym w_is)
-
-    pub fill_names : {around : ℕ} {behind ts : List Lexed} {ss : List Symbol} {ps : List ℕ} {vs : List RuleValue} {ws : List Naming} (more : List ℕ) (next : List Slot) (others : List Naming) →
-        Fill around behind ss ts ps vs ws →
-        namings (beginnings (ps ++ more) (slots ss ++ next) (ts ++ behind)) others ≡ ws ++ namings (beginnings more next behind) others
-    fill_names more next others none = refl
-    fill_names more next others (token {behind = behind} {ts} {ss} {ps} x t read few f) =
-        ap (λ l. namings l others) (past_token (ps ++ more) (slots ss ++ next) x (ts ++ behind)) ∙ fill_names more next others f
-    fill_names more next others (rule {behind = behind} {ts} {us} {all} {ss} {ps} {qs} {w = w} d f ts_are ps_are) =
-        ap (λ l. namings (beginnings (l ++ more) (slot.Rule ∷ (slots ss ++ next)) (all ++ behind)) others) ps_are
-        ∙ ap (λ l. namings (beginnings l (slot.Rule ∷ (slots ss ++ next)) (all ++ behind)) others) (append_assoc ps qs more)
-        ∙ ap (λ l. namings (beginnings (ps ++ (qs ++ more)) (slot.Rule ∷ (slots ss ++ next)) l) others) (behind_is behind all ts us ts_are)
-        ∙ rule_names (qs ++ more) (slots ss ++ next) others d
-        ∙ ap (λ l. w ∷ l) (fill_names more next others f)
-    fill_names more next others (close f) = fill_names more next others f
+    fill_values more next others (cut c) = absurd c
 
   -- ---- a whole text
 
-  pub tree_meaning : (tokens : List Lexed) (ps : List ℕ) (v : RuleValue) (w : Naming) → Derived 0 [] 0 tokens ps v w → meaning ps tokens ≡ expression v
+  pub tree_meaning : (tokens : List Lexed) (ps : List ℕ) (v : RuleValue) (w : Naming) → Derived All 0 [] 0 tokens ps v w → meaning ps tokens ≡ expression v
   unfolding meaning
   tree_meaning tokens ps v w d =
       ap (λ l. expression (value.top (values (beginnings l (slot.Rule ∷ []) tokens) []))) (sym (append-nil ps))
       ∙ ap (λ l. expression (value.top (values (beginnings (ps ++ []) (slot.Rule ∷ []) l) []))) (sym (append-nil tokens))
       ∙ ap (λ l. expression (value.top l)) (rule_value [] [] [] d)
-
-  pub tree_mentions : (tokens : List Lexed) (ps : List ℕ) (v : RuleValue) (w : Naming) → Derived 0 [] 0 tokens ps v w → mentions ps tokens ≡ mentions_of w
-  unfolding mentions
-  tree_mentions tokens ps v w d =
-      ap (λ l. mentions_of (naming.top (namings (beginnings l (slot.Rule ∷ []) tokens) []))) (sym (append-nil ps))
-      ∙ ap (λ l. mentions_of (naming.top (namings (beginnings (ps ++ []) (slot.Rule ∷ []) l) []))) (sym (append-nil tokens))
-      ∙ ap (λ l. mentions_of (naming.top l)) (rule_names [] [] [] d)

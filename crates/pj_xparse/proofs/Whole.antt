@@ -1,26 +1,30 @@
 -- Whole texts: what their tokens read is what a leftmost derivation means and names.
-use Rattle.std.proofs.Common.{◌≡◌, ℕ, ◌+◌, List, [], length, Some, refl, sym, ◌∙◌, ap, subst}
+use Rattle.std.proofs.Common.{◌≡◌, ℕ, ◌+◌, List, [], ◌++◌, length, Some, refl, sym, ◌∙◌, ap, subst}
 use Rattle.std.specs.Prelude.{slice_get}
 use Rattle.std.proofs.lemmas.List.{append-nil}
 use Rattle.pj_xtokens.specs.Tokens.{Lexed}
 use Rattle.pj_xgrammar.specs.declared.rule.Rule.{Rule}
 use Rattle.pj_xgrammar.specs.declared.rule.Rule.TheVariants as r
-use Rattle.pj_xgrammar.specs.Expressions.{AreDerived, AreClear}
+use Rattle.pj_xderive.specs.Expressions.{AreDerived, AreClear}
 use Rattle.pj_xgrammar.specs.Notation.{rule_number}
 use Rattle.pj_xgrammar.specs.XPath.{rules}
-use Rattle.pj_xmeaning.specs.Fitting.{ActionsFit}
+use Rattle.pj_xgrammar.specs.Fitting.{ActionsFit}
 use Rattle.pj_xmeaning.specs.Meaning.{meaning}
 use Rattle.pj_xmeaning.specs.Parts.{RuleValue, expression}
 use Rattle.pj_xnames.specs.Meaning.{mentions}
 use Rattle.pj_xnames.specs.Namings.{Naming, mentions_of}
+use Rattle.pj_xparse.specs.Reach.{All}
 use Rattle.pj_xparse.specs.Derived.{Derived}
 use Rattle.pj_xparse.specs.Operands.{Operand}
 use Rattle.pj_xparse.specs.Reads.{AreRead, Reads}
 use Rattle.pj_xparse.proofs.Links.{IsOne, one}
+use Rattle.pj_xparse.proofs.Linking.{raw}
 use Rattle.pj_xparse.proofs.Leading.{leads_tree}
 use Rattle.pj_xparse.proofs.Flattening.{tree_derives}
-use Rattle.pj_xparse.proofs.Valuing.{tree_meaning, tree_mentions}
-use Rattle.pj_xparse.proofs.ReadsDerive.{reads_derive}
+use Rattle.pj_xparse.proofs.Valuing.{tree_meaning}
+use Rattle.pj_xparse.proofs.Mentioning.{tree_mentions}
+use Rattle.pj_xparse.proofs.ReadsDerive as got
+use Rattle.pj_xparse.proofs.ReadsDerive.{Got, reads_derive}
 use Rattle.pj_xparse.proofs.DerivedReads.{derived_reads}
 
 tree_is : {xs : List Lexed} {a : Operand} {v : RuleValue} {w : Naming} → IsOne xs a v w → expression v ≡ a.tree
@@ -39,34 +43,38 @@ pub record Derivation (tokens : List Lexed) (a : Operand) : Type 0 where
 
 -- that no derivation by rules nests too deep, and nothing is left out of it
 abbrev TreesAreClear : Type 0
-TreesAreClear = (tokens : List Lexed) (ps : List ℕ) (v : RuleValue) (w : Naming) → Derived 0 [] 0 tokens ps v w → AreClear tokens (length tokens + 1)
+TreesAreClear = (tokens : List Lexed) (ps : List ℕ) (v : RuleValue) (w : Naming) → Derived All 0 [] 0 tokens ps v w → AreClear tokens (length tokens + 1)
 
 -- where the actions fit the grammar, and each rule stands at its number
 module _ (actions_fit : ActionsFit) (rule_at : (rule : Rule) → slice_get rules (rule_number rule) ≡ Some rule) where
-  pub read_derives : TreesAreClear → (tokens : List Lexed) (a : Operand) → AreRead tokens a → Derivation tokens a
-  read_derives tree_clear tokens a h =
-      let g = reads_derive rule_at h in
-      let i = g.is in
+  -- a whole expression is not cut off
+  got_derives : TreesAreClear → (tokens : List Lexed) {a : Operand} → Got All r.Expr 0 tokens [] a → Derivation tokens a
+  got_derives tree_clear tokens (got.derived v w before i stand) =
       let same : i.tokens ≡ tokens = sym (i.are ∙ append-nil i.tokens) in
-      let tree : Derived 0 [] 0 tokens i.productions g.value g.name = subst (λ l. Derived 0 [] 0 l i.productions g.value g.name) same i.derived in
+      let tree : Derived All 0 [] 0 tokens i.productions v w = subst (λ l. Derived All 0 [] 0 l i.productions v w) same i.derived in
       record {
         productions = i.productions;
-        derived = tree_derives tokens i.productions g.value g.name tree;
-        clear = tree_clear tokens i.productions g.value g.name tree;
-        means = tree_meaning actions_fit tokens i.productions g.value g.name tree ∙ tree_is g.links;
-        names = tree_mentions actions_fit tokens i.productions g.value g.name tree ∙ names_are g.links;
+        derived = tree_derives tokens i.productions v w tree;
+        clear = tree_clear tokens i.productions v w tree;
+        means = tree_meaning actions_fit tokens i.productions v w tree ∙ tree_is stand;
+        names = tree_mentions actions_fit tokens i.productions v w tree ∙ names_are stand;
       }
+  got_derives tree_clear tokens (got.cut c) = absurd c
+
+  pub read_derives : TreesAreClear → (tokens : List Lexed) (a : Operand) → AreRead tokens a → Derivation tokens a
+  read_derives tree_clear tokens a h = got_derives tree_clear tokens (reads_derive rule_at h)
 
   pub derivation_reads : (tokens : List Lexed) (ps : List ℕ) → AreDerived tokens ps → AreClear tokens (length tokens + 1) →
       (a : Operand) × AreRead tokens a × (meaning ps tokens ≡ a.tree) × (mentions ps tokens ≡ a.names)
   derivation_reads tokens ps derived clear =
       let (v, rest) = leads_tree tokens ps derived clear in
       let (w, tree) = rest in
-      let m = derived_reads rule_at tree r.Expr refl in (
+      let m = derived_reads rule_at tree r.Expr refl in
+      let whole : IsOne (tokens ++ []) m.value v w = raw (λ e. e) m.links in (
         m.value,
-        subst (λ l. Reads r.Expr 0 l [] m.value) (append-nil tokens) m.reads,
-        tree_meaning actions_fit tokens ps v w tree ∙ tree_is m.links,
-        tree_mentions actions_fit tokens ps v w tree ∙ names_are m.links,
+        subst (λ l. Reads All r.Expr 0 l [] m.value) (append-nil tokens) m.reads,
+        tree_meaning actions_fit tokens ps v w tree ∙ tree_is whole,
+        tree_mentions actions_fit tokens ps v w tree ∙ names_are whole,
       )
 
   -- where tokens have one leftmost derivation, what they read is one

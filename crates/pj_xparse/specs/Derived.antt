@@ -1,6 +1,6 @@
 -- Which tokens a rule derives, by which productions, what expression they mean and what they name: rule by rule, where leftmost
--- derivations say the same of a whole text production by production.
-use Rattle.std.specs.Prelude.{◌≡◌, ℕ, ◌+◌, ◌≤◌, List, [], ◌∷◌, ◌++◌, Some, slice_get}
+-- derivations say the same of a text, or of the beginning of one, production by production.
+use Rattle.std.specs.Prelude.{◌≡◌, ℕ, ◌+◌, List, [], ◌∷◌, ◌++◌, Some, slice_get}
 use Rattle.pj_ll.specs.declared.grammar.Symbol.{Symbol}
 use Rattle.pj_ll.specs.declared.grammar.Symbol.TheVariants as symbol
 use Rattle.pj_ll.specs.Grammar.{Line, closes}
@@ -8,41 +8,44 @@ use Rattle.pj_xtokens.specs.Tokens.{Lexed}
 use Rattle.pj_xgrammar.specs.declared.terminal.Behind.TheVariants as b
 use Rattle.pj_xgrammar.specs.Terminals.{first_behind, terminal_of, terminal_number}
 use Rattle.pj_xgrammar.specs.XPath.{xpath_grammar}
-use Rattle.pj_xgrammar.specs.Expressions.{greatest_nesting}
-use Rattle.pj_xmeaning.specs.Meaning.{action_of, first_text}
+use Rattle.pj_xgrammar.specs.Beginnings.{action_of}
+use Rattle.pj_xtokens.specs.First.{first_text}
 use Rattle.pj_xmeaning.specs.Parts.{RuleValue}
 use Rattle.pj_xmeaning.specs.Values as value
 use Rattle.pj_xnames.specs.Namings as naming
 use Rattle.pj_xnames.specs.Namings.{Naming}
+use Rattle.pj_xparse.specs.Reach.{Reach, IsBefore, IsCut, Within}
 
 -- the token has this terminal's number, where these tokens stand behind it
 abbrev pub IsRead : Lexed → List Lexed → ℕ → Type 0
 IsRead x behind t = terminal_number (terminal_of x (first_behind b.End behind)) ≡ t
 
 mutual
-  -- `Derived around behind n ts ps v w`: where so many things that nest are open, and these tokens stand behind, rule n derives the tokens
-  -- by the productions (in the order of a leftmost derivation); v is the value of the rule, and w what its text names. At each place
-  -- directly behind one of its tokens no more is open than may be.
-  pub data Derived : ℕ → List Lexed → ℕ → List Lexed → List ℕ → RuleValue → Naming → Type 0 where
+  -- `Derived reach around behind n ts ps v w`: where so many things that nest are open, and these tokens stand behind, rule n derives the tokens
+  -- by the productions (in the order of a leftmost derivation); v is the value of the rule, and w what its text names. Each of its tokens
+  -- is within reach.
+  pub data Derived (reach : Reach) : ℕ → List Lexed → ℕ → List Lexed → List ℕ → RuleValue → Naming → Type 0 where
     -- the rule is replaced by the symbols of one of its productions
     by : {around n : ℕ} {behind ts : List Lexed} {ps qs : List ℕ} {vs : List RuleValue} {ws : List Naming} {v : RuleValue} {w : Naming} (p : ℕ) (line : Line) →
-        slice_get xpath_grammar p ≡ Some line → line.rule ≡ n → Fill around behind line.symbols ts qs vs ws → ps ≡ p ∷ qs →
+        IsBefore reach (ts ++ behind) → slice_get xpath_grammar p ≡ Some line → line.rule ≡ n → Fill reach around behind line.symbols ts qs vs ws → ps ≡ p ∷ qs →
         v ≡ value.made (action_of p) (first_text (ts ++ behind)) vs → w ≡ naming.made (action_of p) (ts ++ behind) ws →
-        Derived around behind n ts ps v w
+        Derived reach around behind n ts ps v w
 
-  -- `Fill around behind ss ts ps vs ws`: the symbols of a production derive the tokens by the productions; vs are the values of the rules
+  -- `Fill reach around behind ss ts ps vs ws`: the symbols of a production derive the tokens by the productions; vs are the values of the rules
   -- among them, and ws what these name. What is left out derives nothing.
-  pub data Fill : ℕ → List Lexed → List Symbol → List Lexed → List ℕ → List RuleValue → List Naming → Type 0 where
+  pub data Fill (reach : Reach) : ℕ → List Lexed → List Symbol → List Lexed → List ℕ → List RuleValue → List Naming → Type 0 where
     -- the empty list of symbols derives the empty list of tokens
-    none : {around : ℕ} {behind : List Lexed} → Fill around behind [] [] [] [] []
-    -- a terminal derives a token that is read as it, and behind which no more is open than may be
+    none : {around : ℕ} {behind : List Lexed} → Fill reach around behind [] [] [] [] []
+    -- a terminal derives a token within reach that is read as it
     token : {around : ℕ} {behind ts : List Lexed} {ss : List Symbol} {ps : List ℕ} {vs : List RuleValue} {ws : List Naming} (x : Lexed) (t : ℕ) →
-        IsRead x (ts ++ behind) t → around + closes ss ≤ greatest_nesting → Fill around behind ss ts ps vs ws →
-        Fill around behind (symbol.Terminal t ∷ ss) (x ∷ ts) ps vs ws
+        IsRead x (ts ++ behind) t → Within reach (around + closes ss) (x ∷ (ts ++ behind)) → Fill reach around behind ss ts ps vs ws →
+        Fill reach around behind (symbol.Terminal t ∷ ss) (x ∷ ts) ps vs ws
     -- A rule derives the first tokens, and the symbols behind it derive the others. What ends among these symbols is open within the rule.
     rule : {around n : ℕ} {behind ts us all : List Lexed} {ss : List Symbol} {ps qs rs : List ℕ} {v : RuleValue} {w : Naming} {vs : List RuleValue} {ws : List Naming} →
-        Derived (around + closes ss) (us ++ behind) n ts ps v w → Fill around behind ss us qs vs ws → all ≡ ts ++ us → rs ≡ ps ++ qs →
-        Fill around behind (symbol.Rule n ∷ ss) all rs (v ∷ vs) (w ∷ ws)
+        Derived reach (around + closes ss) (us ++ behind) n ts ps v w → Fill reach around behind ss us qs vs ws → all ≡ ts ++ us → rs ≡ ps ++ qs →
+        Fill reach around behind (symbol.Rule n ∷ ss) all rs (v ∷ vs) (w ∷ ws)
     -- the end of something that nests takes no token
     close : {around : ℕ} {behind ts : List Lexed} {ss : List Symbol} {ps : List ℕ} {vs : List RuleValue} {ws : List Naming} →
-        Fill around behind ss ts ps vs ws → Fill around behind (symbol.Close ∷ ss) ts ps vs ws
+        Fill reach around behind ss ts ps vs ws → Fill reach around behind (symbol.Close ∷ ss) ts ps vs ws
+    -- where the tokens are cut off, whatever symbols there are derive nothing
+    cut : {around : ℕ} {behind : List Lexed} {ss : List Symbol} → IsCut reach behind → Fill reach around behind ss [] [] [] []

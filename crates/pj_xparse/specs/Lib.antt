@@ -1,6 +1,7 @@
 -- definitions
 pub mod Spells
 pub mod Reads
+pub mod Reach
 pub mod Operands
 pub mod Faults
 -- laws

@@ -1,26 +1,27 @@
 -- The values of the rules: what the tokens of a rule say.
-use Rattle.std.specs.Prelude.{ℕ, Bool, true, false, List, [], ◌∷◌, ◌++◌, map, length, Option, Some, None}
+use Rattle.std.specs.Prelude.{ℕ, Bool, true, false, List, [], ◌∷◌, ◌++◌, map, length, Option, Some, None, if◌then◌else◌}
 use Rattle.pj_xvalue.specs.declared.axis.Axis.{Axis}
-use Rattle.pj_xvalue.specs.declared.operator.Compare.{Compare}
-use Rattle.pj_xvalue.specs.declared.expr.Additive.{Additive}
-use Rattle.pj_xvalue.specs.declared.expr.Multiplicative.{Multiplicative}
-use Rattle.pj_xvalue.specs.declared.expr.SetOperator.{SetOperator}
-use Rattle.pj_xvalue.specs.declared.expr.Sign.{Sign}
+use Rattle.pj_xoperators.specs.declared.operator.Compare.{Compare}
+use Rattle.pj_xoperators.specs.declared.operator.Additive.{Additive}
+use Rattle.pj_xoperators.specs.declared.operator.Multiplicative.{Multiplicative}
+use Rattle.pj_xoperators.specs.declared.operator.SetOperator.{SetOperator}
+use Rattle.pj_xoperators.specs.declared.operator.Sign.{Sign}
 use Rattle.pj_xvalue.specs.declared.expr.NodeTest.{NodeTest}
-use Rattle.pj_xvalue.specs.declared.expr.NodeTest.TheVariants.{Name}
+use Rattle.pj_xvalue.specs.declared.expr.NodeTest.TheVariants.{Name, AnyName}
 use Rattle.pj_xvalue.specs.Expressions as written
 use Rattle.pj_xvalue.specs.Expressions.{Written}
 use Rattle.pj_xtokens.specs.Tokens.{Lexed}
 use Rattle.pj_xgrammar.specs.declared.rule.Rule.{Rule}
 use Rattle.pj_xgrammar.specs.declared.rule.Rule.TheVariants as r
-use Rattle.pj_xmeaning.specs.Literals.{integer_of, string_of}
-use Rattle.pj_xmeaning.specs.Meaning.{first_text}
+use Rattle.pj_xtokens.specs.Literals.{integer_of, string_of}
+use Rattle.pj_xtokens.specs.First.{behind_first, first_text, begins_with_name, first_from}
+use Rattle.pj_xmeaning.specs.Steps.{empty_sequence}
 use Rattle.pj_xvalue.specs.Names.{callee_of, axis_of}
-use Rattle.pj_xmeaning.specs.Trees as tree
-use Rattle.pj_xmeaning.specs.Trees.{Tree, Construct, node, alone, binder, operated}
-use Rattle.pj_xmeaning.specs.Values as value
-use Rattle.pj_xnames.specs.Mentions.{Mention, Variable, Call, Argument, roles_named}
-use Rattle.pj_xnames.specs.Namings.{first_from, scoped}
+use Rattle.pj_xvalue.specs.declared.name.Callee.{Callee}
+use Rattle.pj_xvalue.specs.Trees as tree
+use Rattle.pj_xvalue.specs.Trees.{Tree, Construct, node, alone, binder, operated}
+use Rattle.pj_xmeaning.specs.Steps as forms
+use Rattle.pj_xnames.specs.Mentions.{Mention, Variable, Call, Argument, roles_named, scoped}
 use Rattle.pj_xnames.specs.declared.role.Role.{Role}
 
 -- ---- expressions
@@ -107,6 +108,14 @@ chosen test yes_part no_part =
 abbrev pub variable : List Lexed → List ℕ → Operand
 variable tokens name = record { tree = alone (tree.Variable name); written = written.Name name; names = Variable name (first_from tokens) ∷ [] }
 
+-- A variable that is cut off behind its `$`, which is the first token. A name behind the `$` is its name (XPath 2.0, A.2); only a word that is
+-- another terminal because of what stands behind it can stand there, as in `$for $x`.
+abbrev pub cut_variable : List Lexed → Operand
+cut_variable tokens =
+    if begins_with_name (behind_first tokens)
+    then record { tree = alone (tree.Variable []); written = written.Name (first_text (behind_first tokens)); names = Variable (first_text (behind_first tokens)) (first_from tokens) ∷ [] }
+    else other (alone (tree.Variable [])) []
+
 -- ---- literals: the first token
 
 abbrev pub integer_literal : List Lexed → Operand
@@ -124,7 +133,7 @@ rooted steps = other (node tree.Path (alone tree.Root ∷ trees_of steps)) (name
 
 -- the step that `//` stands for: `descendant-or-self::node()`
 abbrev pub descendants : Operand
-descendants = other value.descendants []
+descendants = other forms.descendants []
 
 -- one step alone is no path
 abbrev pub path : List Operand → Operand
@@ -140,7 +149,7 @@ step axis test predicates = other (node (tree.Step axis test) (trees_of predicat
 
 -- a step to children
 abbrev pub child_step : NodeTest → List Operand → Operand
-child_step test predicates = other (value.child_step test (trees_of predicates)) (names_of predicates)
+child_step test predicates = other (forms.child_step test (trees_of predicates)) (names_of predicates)
 
 -- a step to attributes
 abbrev pub attribute_step : NodeTest → List Operand → Operand
@@ -148,7 +157,7 @@ attribute_step test predicates = other (node (tree.AttributeStep test) (trees_of
 
 -- a step of the axis with this name
 abbrev pub axis_step : List ℕ → NodeTest → List Operand → Operand
-axis_step name test predicates = other (value.along (axis_of name) test (trees_of predicates)) (names_of predicates)
+axis_step name test predicates = other (forms.along (axis_of name) test (trees_of predicates)) (names_of predicates)
 
 -- a primary expression with its predicates, if there are any
 abbrev pub filtered : Operand → List Operand → Operand
@@ -162,35 +171,52 @@ kind_test kind name false = Name name
 
 -- ---- calls
 
--- an argument, and the offset of its first token
-pub record Given : Type 0 where
-  pub from : ℕ
-  pub value : Operand
+-- The arguments of a call, each with the offset of its first token. Their list is closed where a `)` stands behind it, and open where the tokens
+-- are cut off before. The last one of an open list may go on, or none of it is there yet; its offset then tells nothing.
+pub data Arguments : Type 0 where
+  Closed : Arguments
+  Open : Arguments
+  Next : ℕ → Operand → Arguments → Arguments
 
--- the argument that begins at the first token
-abbrev pub given : List Lexed → Operand → Given
-given tokens a = record { from = first_from tokens; value = a }
+abbrev pub arguments_in : Arguments → List Operand
+arguments_in Closed = []
+arguments_in Open = []
+arguments_in (Next from a more) = a ∷ arguments_in more
 
-abbrev pub values_of : List Given → List Operand
-values_of arguments = map (λ argument. argument.value) arguments
+abbrev pub is_closed : Arguments → Bool
+is_closed Closed = true
+is_closed Open = false
+is_closed (Next from a more) = is_closed more
+
+-- An argument is judged where it is told that it ends: a `,` or the `)` stands behind it.
+abbrev pub judged : Arguments → Mention → List Mention
+judged Open mention = []
+judged _ mention = mention ∷ []
 
 -- what arguments name, each behind what its role wants
-abbrev pub in_roles : List Role → List Given → List Mention
-in_roles roles [] = []
-in_roles [] (a ∷ more) = a.value.names ++ in_roles [] more
-in_roles (role ∷ roles) (a ∷ more) = Argument role a.value.written a.from ∷ (a.value.names ++ in_roles roles more)
+abbrev pub in_roles : List Role → Arguments → List Mention
+in_roles roles Closed = []
+in_roles roles Open = []
+in_roles [] (Next from a more) = a.names ++ in_roles [] more
+in_roles (role ∷ roles) (Next from a more) = judged more (Argument role a.written from) ++ (a.names ++ in_roles roles more)
+
+-- With how many arguments a function is called is told at the `)`; that there is none of the name is told before, whatever their number.
+abbrev pub told : Bool → Option Callee → Mention → List Mention
+told true callee mention = mention ∷ []
+told false None mention = mention ∷ []
+told false (Some callee) mention = []
 
 -- The call of the function with this name, which stands at the offset, with its arguments and the predicates behind them. Where there is no
 -- such function, which is a fault of the text, the empty sequence stands for the call.
-abbrev pub call : List ℕ → ℕ → List Given → List Operand → Operand
+abbrev pub call : List ℕ → ℕ → Arguments → List Operand → Operand
 call name from arguments predicates =
-    other (value.filtered (value.called (callee_of name) (trees_of (values_of arguments))) (trees_of predicates))
-    (Call name (length arguments) from ∷ (in_roles (roles_named name) arguments ++ names_of predicates))
+    other (forms.filtered (forms.called (callee_of name) (trees_of (arguments_in arguments))) (trees_of predicates))
+    (told (is_closed arguments) (callee_of name) (Call name (length (arguments_in arguments)) from) ++ (in_roles (roles_named name) arguments ++ names_of predicates))
 
 -- what stands behind a name in a step: a test, where the name is that of an axis; arguments; predicates alone
 pub data Behind : Type 0 where
   Test : NodeTest → List Operand → Behind
-  Called : List Given → List Operand → Behind
+  Called : Arguments → List Operand → Behind
   Predicates : List Operand → Behind
 
 -- a step whose first token is a name
@@ -225,8 +251,68 @@ Value r.NameTail = Behind
 Value r.NodeTest = NodeTest
 Value r.KindTail = Bool
 Value r.PredicateList = List Operand
-Value r.Arguments = List Given
-Value r.ArgumentsTail = List Given
+Value r.Arguments = Arguments
+Value r.ArgumentsTail = Arguments
 Value r.VarName = List ℕ
 Value r.PlainName = List ℕ
 Value _ = Operand
+
+-- what an operand says before whose first token the tokens are cut off
+abbrev pub nothing : Operand
+nothing = other empty_sequence []
+
+-- What a rule says before whose first token the tokens are cut off. No fault is seen in it, since it names nothing; its tree stands for no
+-- expression, and a variable without a name is seen by nothing.
+abbrev pub absent : (rule : Rule) → Value rule
+absent r.Expr = nothing
+absent r.ExprTail = []
+absent r.ExprSingle = nothing
+absent r.InBindings = []
+absent r.InBindingsTail = []
+absent r.LetBindings = []
+absent r.LetBindingsTail = []
+absent r.InClause = nothing
+absent r.AssignClause = nothing
+absent r.ReturnClause = nothing
+absent r.SatisfiesClause = nothing
+absent r.TestClause = nothing
+absent r.ThenClause = nothing
+absent r.ElseClause = nothing
+absent r.OrExpr = nothing
+absent r.OrTail = []
+absent r.AndExpr = nothing
+absent r.AndTail = []
+absent r.ComparisonExpr = nothing
+absent r.ComparisonTail = None
+absent r.StringConcatExpr = nothing
+absent r.StringConcatTail = []
+absent r.RangeExpr = nothing
+absent r.RangeTail = None
+absent r.AdditiveExpr = nothing
+absent r.AdditiveTail = []
+absent r.MultiplicativeExpr = nothing
+absent r.MultiplicativeTail = []
+absent r.UnionExpr = nothing
+absent r.UnionTail = []
+absent r.IntersectExceptExpr = nothing
+absent r.IntersectExceptTail = []
+absent r.UnaryExpr = nothing
+absent r.SimpleMapExpr = nothing
+absent r.SimpleMapTail = []
+absent r.Operand = nothing
+absent r.LeftOutOperator = tt
+absent r.PathExpr = nothing
+absent r.RelativePathExpr = []
+absent r.RelativePathTail = []
+absent r.StepExpr = nothing
+absent r.AxisTail = Predicates []
+absent r.NameTail = Predicates []
+absent r.NodeTest = AnyName
+absent r.KindTail = false
+absent r.PredicateList = []
+absent r.PrimaryExpr = nothing
+absent r.Parenthesized = nothing
+absent r.Arguments = Open
+absent r.ArgumentsTail = Open
+absent r.VarName = []
+absent r.PlainName = []

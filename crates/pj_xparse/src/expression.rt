@@ -3,18 +3,19 @@
 ghost use Rattle.std.specs.Prelude.{◌≡◌, ◌≢◌, IfOk, IfErr};
 ghost use Rattle.std.specs.Str.{chars};
 ghost use Rattle.pj_xvalue.specs.Expressions.{IsExpression};
-ghost use Rattle.pj_xmeaning.specs.Trees.{tree_of};
+ghost use Rattle.pj_xvalue.specs.Trees.{tree_of};
 ghost use Rattle.pj_xnames.specs.Seen.{fault_of};
 ghost use Rattle.pj_xparse.specs.Faults.{IsFault, named_fault};
 ghost use Rattle.pj_xparse.specs.Spells.{Spells};
 ghost use Rattle.pj_xparse.specs.declared.fault.XSyntax.TheVariants.{Memory};
 
 use crate::fault::XSyntax;
-use crate::laws::{derivations_are_readings, meanings_are_expressions};
+use crate::laws::{derivations_are_readings, meanings_are_expressions, runs_say};
 use crate::syntax::syntax_fault;
 use pj_base::{Names, NoMemory, Text};
-use pj_xgrammar::{Parser, derivation};
-use pj_xmeaning::{beginnings, meaning};
+use pj_xderive::{Parser, derivation};
+use pj_xgrammar::beginnings;
+use pj_xmeaning::meaning;
 use pj_xnames::{NameFault, first_fault};
 use pj_xtokens::{gaps_stand_in_front, tokens, tokens_are_not_empty};
 use pj_xvalue::Expr;
@@ -61,6 +62,7 @@ pub fn parse_with(
     let tokens = found.list.as_slice();
     gaps_stand_in_front();
     tokens_are_not_empty();
+    runs_say();
     let run = derivation(alloc, parser, tokens)?;
     let productions = run.productions.as_slice();
     let begun = beginnings(alloc, productions, tokens)?;

@@ -7,10 +7,10 @@ ghost use Rattle.pj_xtokens.specs.Tokens.{Lexed, Tokens};
 ghost use Rattle.pj_xtokens.specs.declared.token.End.{End};
 ghost use Rattle.pj_xvalue.specs.Expressions.{IsExpression};
 ghost use Rattle.pj_xvalue.specs.declared.expr.Expr.{Expr};
-ghost use Rattle.pj_xgrammar.specs.Expressions.{AreClear, AreDerived};
+ghost use Rattle.pj_xderive.specs.Expressions.{AreClear, AreDerived, IsRun};
 ghost use Rattle.pj_xmeaning.specs.Meaning.{meaning};
 ghost use Rattle.pj_xmeaning.specs.Parts.{RuleValue, expression};
-ghost use Rattle.pj_xmeaning.specs.Trees.{Tree, tree_of};
+ghost use Rattle.pj_xvalue.specs.Trees.{Tree, tree_of};
 ghost use Rattle.pj_xnames.specs.Faults.{first_fault};
 ghost use Rattle.pj_xnames.specs.Meaning.{mentions};
 ghost use Rattle.pj_xnames.specs.Namings.{Naming, mentions_of};
@@ -18,18 +18,17 @@ ghost use Rattle.pj_xshape.specs.Nesting.{nesting_of_tree};
 ghost use Rattle.pj_xshape.specs.Shapes.{part_of_tree};
 ghost use Rattle.pj_xshape.specs.Spelled.{IsSpelled};
 ghost use Rattle.pj_xparse.specs.Derived.{Derived};
-ghost use Rattle.pj_xparse.specs.Faults.{IsFault};
+ghost use Rattle.pj_xparse.specs.Faults.{IsFault, SaySoFar};
 ghost use Rattle.pj_xparse.specs.Operands.{Operand};
+ghost use Rattle.pj_xparse.specs.Reach.{All};
 ghost use Rattle.pj_xparse.specs.Reads.{AreRead};
 ghost use Rattle.pj_xparse.specs.Spells.{Spells};
 ghost use Rattle.pj_xparse.specs.WellSpelled.{AreWellSpelled};
 ghost use Rattle.pj_xparse.specs.declared.fault.XSyntax.{XSyntax};
 
 use pj_ll::{derived_is_not_left_out, one_end};
-use pj_xgrammar::{
-    grammar_is_predictive, one_derivation, one_outcome, one_run, rules_have_their_numbers,
-};
-use pj_xmeaning::actions_fit_the_grammar;
+use pj_xderive::{grammar_is_predictive, one_derivation, one_outcome, one_run};
+use pj_xgrammar::{actions_fit_the_grammar, rules_have_their_numbers};
 use pj_xshape::{expressions_have_shapes, nesting_is_least};
 use pj_xtokens::{each_text_has_tokens, gaps_stand_in_front, tokens_are_one};
 
@@ -51,6 +50,7 @@ pub fn some_answer()
     grammar_is_predictive();
     one_end();
     one_outcome();
+    runs_say();
 }
 
 /// A text that spells an expression has no fault, and each other text has one first fault at most.
@@ -61,6 +61,7 @@ pub fn one_answer()
     one_outcome();
     one_run();
     readings_are_derivations();
+    sayings_are_runs();
     tokens_are_one();
 }
 
@@ -83,6 +84,24 @@ pub fn derivations_are_readings()
     rules_have_their_numbers();
 }
 
+/// What tokens say as far as their terminals go, all of them or those before the first one that cannot follow, is left out or stands where too
+/// much is open, is what the productions name that derive them so far.
+pub fn runs_say()
+    ensures { (tokens : List Lexed) (productions : List ℕ) → IsRun tokens productions → (a : Operand) × SaySoFar tokens a × (mentions productions tokens ≡ a.names) }
+{
+    actions_fit_the_grammar();
+    rules_have_their_numbers();
+}
+
+/// What productions name that derive tokens as far as their terminals go is what the tokens say so far.
+pub fn sayings_are_runs()
+    ensures { (tokens : List Lexed) (a : Operand) → SaySoFar tokens a → (productions : List ℕ) × IsRun tokens productions × (mentions productions tokens ≡ a.names) }
+{
+    actions_fit_the_grammar();
+    rules_have_their_numbers();
+    trees_are_derivations();
+}
+
 /// Tokens read one expression at most, and name one list of things.
 pub fn one_reading()
     ensures tree { (tokens : List Lexed) (a b : Operand) → AreRead tokens a → AreRead tokens b → a.tree ≡ b.tree }
@@ -97,7 +116,7 @@ pub fn one_reading()
 /// A leftmost derivation of a text that nests no deeper than it may is one by rules, with the same meaning and the same names.
 pub fn derivations_are_trees()
     ensures { (tokens : List Lexed) (productions : List ℕ) → AreDerived tokens productions → AreClear tokens (length tokens + 1) →
-        (v : RuleValue) × ((w : Naming) × Derived 0 [] 0 tokens productions v w × (meaning productions tokens ≡ expression v) × (mentions productions tokens ≡ mentions_of w)) }
+        (v : RuleValue) × ((w : Naming) × Derived All 0 [] 0 tokens productions v w × (meaning productions tokens ≡ expression v) × (mentions productions tokens ≡ mentions_of w)) }
 {
     actions_fit_the_grammar();
 }
@@ -105,10 +124,10 @@ pub fn derivations_are_trees()
 /// What the start derives, rule by rule, has a leftmost derivation, which nests no deeper than it may, and has the same meaning and the same
 /// names.
 pub fn trees_are_derivations()
-    ensures derived { (tokens : List Lexed) (productions : List ℕ) (v : RuleValue) (w : Naming) → Derived 0 [] 0 tokens productions v w → AreDerived tokens productions }
-    ensures clear { (tokens : List Lexed) (productions : List ℕ) (v : RuleValue) (w : Naming) → Derived 0 [] 0 tokens productions v w → AreClear tokens (length tokens + 1) }
-    ensures meaning { (tokens : List Lexed) (productions : List ℕ) (v : RuleValue) (w : Naming) → Derived 0 [] 0 tokens productions v w → meaning productions tokens ≡ expression v }
-    ensures mentions { (tokens : List Lexed) (productions : List ℕ) (v : RuleValue) (w : Naming) → Derived 0 [] 0 tokens productions v w → mentions productions tokens ≡ mentions_of w }
+    ensures derived { (tokens : List Lexed) (productions : List ℕ) (v : RuleValue) (w : Naming) → Derived All 0 [] 0 tokens productions v w → AreDerived tokens productions }
+    ensures clear { (tokens : List Lexed) (productions : List ℕ) (v : RuleValue) (w : Naming) → Derived All 0 [] 0 tokens productions v w → AreClear tokens (length tokens + 1) }
+    ensures meaning { (tokens : List Lexed) (productions : List ℕ) (v : RuleValue) (w : Naming) → Derived All 0 [] 0 tokens productions v w → meaning productions tokens ≡ expression v }
+    ensures mentions { (tokens : List Lexed) (productions : List ℕ) (v : RuleValue) (w : Naming) → Derived All 0 [] 0 tokens productions v w → mentions productions tokens ≡ mentions_of w }
 {
     actions_fit_the_grammar();
     derived_is_not_left_out();
@@ -118,10 +137,10 @@ pub fn trees_are_derivations()
 
 /// The expression of a text whose names have no fault is one that may be evaluated where the rule set gives these variables.
 pub fn derived_expressions_fit()
-    ensures fits { (tokens : List Lexed) (productions : List ℕ) (v : RuleValue) (w : Naming) (variables : List (List ℕ)) → Derived 0 [] 0 tokens productions v w →
+    ensures fits { (tokens : List Lexed) (productions : List ℕ) (v : RuleValue) (w : Naming) (variables : List (List ℕ)) → Derived All 0 [] 0 tokens productions v w →
         first_fault variables (mentions_of w) ≡ None → IsTrue ((part_of_tree (expression v)).fits (record { given = variables; bound = [] })) }
-    ensures nesting { (tokens : List Lexed) (productions : List ℕ) (v : RuleValue) (w : Naming) → Derived 0 [] 0 tokens productions v w → nesting_of_tree (expression v) ≤ 200 }
-    ensures spelled { (tokens : List Lexed) (productions : List ℕ) (v : RuleValue) (w : Naming) → AreWellSpelled tokens → Derived 0 [] 0 tokens productions v w → IsSpelled (expression v) }
+    ensures nesting { (tokens : List Lexed) (productions : List ℕ) (v : RuleValue) (w : Naming) → Derived All 0 [] 0 tokens productions v w → nesting_of_tree (expression v) ≤ 200 }
+    ensures spelled { (tokens : List Lexed) (productions : List ℕ) (v : RuleValue) (w : Naming) → AreWellSpelled tokens → Derived All 0 [] 0 tokens productions v w → IsSpelled (expression v) }
 {}
 
 /// The tokens of every text are well spelled.

@@ -19,6 +19,6 @@ pub use fault::XSyntax;
 pub use laws::{
     derivations_are_readings, derivations_are_trees, derived_expressions_fit,
     meanings_are_expressions, one_answer, one_expression, one_reading, readings_are_derivations,
-    some_answer, tokens_are_well_spelled, trees_are_derivations,
+    runs_say, sayings_are_runs, some_answer, tokens_are_well_spelled, trees_are_derivations,
 };
-pub use pj_xgrammar::Parser;
+pub use pj_xderive::Parser;

@@ -11,22 +11,21 @@ use Rattle.pj_xgrammar.specs.declared.terminal.Terminal.TheVariants as terminal
 use Rattle.pj_xgrammar.specs.declared.word.Phrase.TheVariants as phrase
 use Rattle.pj_xgrammar.specs.Terminals.{first_behind, behind_of, is_dollar, terminal_number}
 use Rattle.pj_xsyntax_laws.specs.Spaced.{Word, placed}
-use Rattle.pj_xvalue.specs.declared.expr.Quantifier.{Quantifier}
-use Rattle.pj_xvalue.specs.declared.expr.Quantifier.TheVariants as quantifier
+use Rattle.pj_xoperators.specs.declared.operator.Quantifier.{Quantifier}
+use Rattle.pj_xoperators.specs.declared.operator.Quantifier.TheVariants as quantifier
 use Rattle.pj_xvalue.specs.Expressions.{Scope, Other, with_variable}
-use Rattle.pj_xmeaning.specs.Trees as tree
-use Rattle.pj_xmeaning.specs.Trees.{Tree, Trees, Node, NoMore, More, trees}
+use Rattle.pj_xvalue.specs.Trees as tree
+use Rattle.pj_xvalue.specs.Trees.{Tree, Trees, Node, NoMore, More, trees}
 use Rattle.pj_xmeaning.specs.Parts as part
 use Rattle.pj_xmeaning.specs.Parts.{One}
 use Rattle.pj_xmeaning.specs.Values.{binder_construct}
-use Rattle.pj_xmeaning.specs.declared.action.Action.TheVariants as action
-use Rattle.pj_xmeaning.specs.declared.action.Binder.{Binder}
-use Rattle.pj_xmeaning.specs.declared.action.Binder.TheVariants as binding
-use Rattle.pj_xmeaning.specs.declared.action.Leaf.TheVariants as leaf
-use Rattle.pj_xmeaning.specs.declared.action.Change.TheVariants as change
-use Rattle.pj_xnames.specs.Mentions.{Mention}
+use Rattle.pj_xgrammar.specs.declared.action.Action.TheVariants as action
+use Rattle.pj_xgrammar.specs.declared.action.Binder.{Binder}
+use Rattle.pj_xgrammar.specs.declared.action.Binder.TheVariants as binding
+use Rattle.pj_xgrammar.specs.declared.action.Leaf.TheVariants as leaf
+use Rattle.pj_xgrammar.specs.declared.action.Change.TheVariants as change
+use Rattle.pj_xnames.specs.Mentions.{Mention, scoped}
 use Rattle.pj_xnames.specs.Namings as naming
-use Rattle.pj_xnames.specs.Namings.{scoped}
 use Rattle.pj_xparse.specs.Derived.{IsRead}
 use Rattle.pj_xshape.specs.Spelled.{IsText}
 use Rattle.pj_xshape.specs.Nesting.{Nested, operand_before, clauses_before, nested_of, nested_each}

@@ -15,10 +15,10 @@ use Rattle.pj_xvalue.specs.declared.pmd_function.PmdFunction.{PmdFunction}
 use Rattle.pj_xvalue.specs.Functions.{takes, pmd_takes}
 use Rattle.pj_xvalue.specs.Expressions.{Scope, Other, arguments_fit}
 use Rattle.pj_xvalue.specs.Names.{callee_of}
-use Rattle.pj_xmeaning.specs.Trees as tree
-use Rattle.pj_xmeaning.specs.Trees.{Tree, Trees, Node}
+use Rattle.pj_xvalue.specs.Trees as tree
+use Rattle.pj_xvalue.specs.Trees.{Tree, Trees, Node}
 use Rattle.pj_xmeaning.specs.Parts.{One, expressions}
-use Rattle.pj_xmeaning.specs.Values.{filtered, called}
+use Rattle.pj_xmeaning.specs.Steps.{filtered, called}
 use Rattle.pj_xvalue.specs.declared.name.Callee.{Callee}
 use Rattle.pj_xnames.specs.Faults.{callee_takes, is_function}
 use Rattle.pj_xnames.specs.Mentions.{Mention, roles_in, roles_named}

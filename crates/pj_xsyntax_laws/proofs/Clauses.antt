@@ -7,10 +7,10 @@ use Rattle.pj_ll.specs.declared.grammar.Symbol.TheVariants.{Terminal, Rule, Clos
 use Rattle.pj_xtokens.specs.Tokens.{Lexed, lexed}
 use Rattle.pj_xsyntax_laws.specs.Spaced.{Word, placed}
 use Rattle.pj_xvalue.specs.Expressions.{Scope, Written, Other}
-use Rattle.pj_xmeaning.specs.Trees as tree
-use Rattle.pj_xmeaning.specs.Trees.{Tree, Trees, Node, NoMore, More}
-use Rattle.pj_xmeaning.specs.declared.action.Action.TheVariants as action
-use Rattle.pj_xmeaning.specs.declared.action.Change.TheVariants as change
+use Rattle.pj_xvalue.specs.Trees as tree
+use Rattle.pj_xvalue.specs.Trees.{Tree, Trees, Node, NoMore, More}
+use Rattle.pj_xgrammar.specs.declared.action.Action.TheVariants as action
+use Rattle.pj_xgrammar.specs.declared.action.Change.TheVariants as change
 use Rattle.pj_xparse.specs.Derived.{IsRead}
 use Rattle.pj_xshape.specs.Nesting.{operand_before, nested_of}
 use Rattle.pj_xsyntax_laws.specs.Printed.{operand, enclosed, left, right, printed_of, printed_each, words_of, keyword}

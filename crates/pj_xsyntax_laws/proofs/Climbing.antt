@@ -4,15 +4,15 @@ use Rattle.std.proofs.lemmas.List.{append-nil}
 use Rattle.pj_ll.specs.declared.grammar.Symbol.TheVariants.{Rule}
 use Rattle.pj_xsyntax_laws.specs.Spaced.{Word, placed}
 use Rattle.pj_xvalue.specs.Expressions.{Scope, Written}
-use Rattle.pj_xmeaning.specs.Trees.{Tree}
+use Rattle.pj_xvalue.specs.Trees.{Tree}
 use Rattle.pj_xmeaning.specs.Parts.{Nothing, One}
 use Rattle.pj_xmeaning.specs.Values.{operation_value}
-use Rattle.pj_xmeaning.specs.declared.action.Action.TheVariants as action
-use Rattle.pj_xmeaning.specs.declared.action.Leaf.TheVariants as leaf
-use Rattle.pj_xmeaning.specs.declared.action.Change.TheVariants as change
-use Rattle.pj_xmeaning.specs.declared.action.Operation.{Operation}
+use Rattle.pj_xgrammar.specs.declared.action.Action.TheVariants as action
+use Rattle.pj_xgrammar.specs.declared.action.Leaf.TheVariants as leaf
+use Rattle.pj_xgrammar.specs.declared.action.Change.TheVariants as change
+use Rattle.pj_xgrammar.specs.declared.action.Operation.{Operation}
 use Rattle.pj_xnames.specs.Namings as naming
-use Rattle.pj_xnames.specs.Namings.{first_from}
+use Rattle.pj_xtokens.specs.First.{first_from}
 use Rattle.pj_xsyntax_laws.proofs.Productions as p
 use Rattle.pj_xsyntax_laws.proofs.Productions.{Production}
 use Rattle.pj_xsyntax_laws.proofs.Deriving.{Ruled, ruled, f-none, f-rule}

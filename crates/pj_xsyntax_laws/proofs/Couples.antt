@@ -7,23 +7,23 @@ use Rattle.pj_ll.specs.declared.grammar.Symbol.TheVariants.{Terminal, Rule, Clos
 use Rattle.pj_xtokens.specs.Tokens.{Lexed, lexed}
 use Rattle.pj_xgrammar.specs.Terminals.{behind_of}
 use Rattle.pj_xsyntax_laws.specs.Spaced.{Word, placed}
-use Rattle.pj_xvalue.specs.declared.operator.Compare.{Compare}
-use Rattle.pj_xvalue.specs.declared.operator.Compare.TheVariants as compare
-use Rattle.pj_xvalue.specs.declared.expr.Sign.{Sign}
-use Rattle.pj_xvalue.specs.declared.expr.Sign.TheVariants as signed
+use Rattle.pj_xoperators.specs.declared.operator.Compare.{Compare}
+use Rattle.pj_xoperators.specs.declared.operator.Compare.TheVariants as compare
+use Rattle.pj_xoperators.specs.declared.operator.Sign.{Sign}
+use Rattle.pj_xoperators.specs.declared.operator.Sign.TheVariants as signed
 use Rattle.pj_xvalue.specs.Expressions.{Scope, Other}
-use Rattle.pj_xmeaning.specs.Meaning.{first_text}
-use Rattle.pj_xmeaning.specs.Trees as tree
-use Rattle.pj_xmeaning.specs.Trees.{Tree, Trees, Node, NoMore, More}
+use Rattle.pj_xtokens.specs.First.{first_text, first_from}
+use Rattle.pj_xvalue.specs.Trees as tree
+use Rattle.pj_xvalue.specs.Trees.{Tree, Trees, Node, NoMore, More}
 use Rattle.pj_xmeaning.specs.Parts.{One}
 use Rattle.pj_xmeaning.specs.Values.{operation_value, change_value}
-use Rattle.pj_xmeaning.specs.declared.action.Action.TheVariants as action
-use Rattle.pj_xmeaning.specs.declared.action.Change.{Change}
-use Rattle.pj_xmeaning.specs.declared.action.Single.TheVariants as single
-use Rattle.pj_xmeaning.specs.declared.action.Operation.{Operation}
-use Rattle.pj_xmeaning.specs.declared.action.Operation.TheVariants as operation
+use Rattle.pj_xgrammar.specs.declared.action.Action.TheVariants as action
+use Rattle.pj_xgrammar.specs.declared.action.Change.{Change}
+use Rattle.pj_xgrammar.specs.declared.action.Single.TheVariants as single
+use Rattle.pj_xgrammar.specs.declared.action.Operation.{Operation}
+use Rattle.pj_xgrammar.specs.declared.action.Operation.TheVariants as operation
 use Rattle.pj_xnames.specs.Namings as naming
-use Rattle.pj_xnames.specs.Namings.{Operand, first_from, change_naming}
+use Rattle.pj_xnames.specs.Namings.{Operand, change_naming}
 use Rattle.pj_xparse.specs.Derived.{IsRead}
 use Rattle.pj_xshape.specs.Nesting.{operand_before, nested_of}
 use Rattle.pj_xsyntax_laws.specs.Printed.{operand, printed_of, printed_each, compare_word, signed_word, keyword}

@@ -7,24 +7,25 @@ use Rattle.pj_xtokens.specs.Size.{size}
 use Rattle.pj_xtokens.specs.Tokens.{Lexed, lexed}
 use Rattle.pj_xsyntax_laws.specs.Spaced.{Word, placed, spaced}
 use Rattle.pj_xsyntax_laws.proofs.Appending.{placed-append}
-use Rattle.pj_xmeaning.specs.Meaning.{first_text}
+use Rattle.pj_xtokens.specs.First.{first_text}
 use Rattle.pj_xmeaning.specs.Parts.{RuleValue}
 use Rattle.pj_xmeaning.specs.Values as value
-use Rattle.pj_xmeaning.specs.declared.action.Action.{Action}
+use Rattle.pj_xgrammar.specs.declared.action.Action.{Action}
 use Rattle.pj_xnames.specs.Namings as naming
 use Rattle.pj_xnames.specs.Namings.{Naming}
 use Rattle.pj_xparse.specs.Derived.{IsRead, Derived, Fill, by, none, token, rule, close}
+use Rattle.pj_xparse.specs.Reach.{All}
 use Rattle.pj_xsyntax_laws.proofs.Productions.{Production}
 
 -- the rule derives the words, with this value and naming
 pub record Ruled (around : ℕ) (behind : List Lexed) (n from : ℕ) (ws : List Word) (v : RuleValue) (w : Naming) : Type 0 where
   pub productions : List ℕ
-  pub derived : Derived around behind n (placed from ws) productions v w
+  pub derived : Derived All around behind n (placed from ws) productions v w
 
 -- the symbols derive the words
 pub record Filled (around : ℕ) (behind : List Lexed) (ss : List Symbol) (from : ℕ) (ws : List Word) (vs : List RuleValue) (ns : List Naming) : Type 0 where
   pub productions : List ℕ
-  pub fill : Fill around behind ss (placed from ws) productions vs ns
+  pub fill : Fill All around behind ss (placed from ws) productions vs ns
 
 -- the offset behind words
 abbrev pub next : ℕ → List Word → ℕ
@@ -39,7 +40,7 @@ pub ruled : {around : ℕ} {behind : List Lexed} {p n from : ℕ} {ss : List Sym
     → Ruled around behind n from ws (value.made a (first_text (placed from ws ++ behind)) vs) (naming.made a (placed from ws ++ behind) ns)
 ruled {behind = behind} {p = p} {n = n} {from = from} {ss = ss} {ws = ws} {vs = vs} {ns = ns} production f = record {
   productions = p ∷ f.productions;
-  derived = by p (record { rule = n; symbols = ss }) production.line refl f.fill refl
+  derived = by p (record { rule = n; symbols = ss }) (λ e. e) production.line refl f.fill refl
       (ap (λ a. value.made a (first_text (placed from ws ++ behind)) vs) (sym production.acts))
       (ap (λ a. naming.made a (placed from ws ++ behind) ns) (sym production.acts));
 }

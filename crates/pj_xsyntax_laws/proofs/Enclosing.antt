@@ -3,11 +3,12 @@ use Rattle.std.proofs.Common.{ℕ, ◌+◌, List, [], ◌∷◌, ◌++◌, false
 use Rattle.std.proofs.lemmas.List.{append-nil}
 use Rattle.pj_xsyntax_laws.specs.Spaced.{Word, placed}
 use Rattle.pj_xvalue.specs.Expressions.{Scope, Written, Other}
-use Rattle.pj_xmeaning.specs.Trees.{Tree}
+use Rattle.pj_xvalue.specs.Trees.{Tree}
 use Rattle.pj_xmeaning.specs.Parts.{One}
-use Rattle.pj_xmeaning.specs.Values.{filtered}
+use Rattle.pj_xmeaning.specs.Steps.{filtered}
 use Rattle.pj_xnames.specs.Namings as naming
-use Rattle.pj_xnames.specs.Namings.{first_from, mentions_of}
+use Rattle.pj_xnames.specs.Namings.{mentions_of}
+use Rattle.pj_xtokens.specs.First.{first_from}
 use Rattle.pj_xsyntax_laws.specs.Printed.{left, right, enclosed}
 use Rattle.pj_xsyntax_laws.proofs.Productions as p
 use Rattle.pj_xsyntax_laws.proofs.Deriving.{next, past, Ruled, ruled, f-none, f-rule, f-token, f-close}

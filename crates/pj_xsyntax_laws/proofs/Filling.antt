@@ -1,15 +1,18 @@
 -- The values of the rules that are still to come stand behind each other, from the next token on.
-use Rattle.std.proofs.Common.{◌≡◌, ℕ, zero, suc, ◌+◌, ◌*◌, ◌≤◌, Bool, true, false, List, [], ◌∷◌, ◌++◌, length, drop, sym, refl, subst, arith}
+use Rattle.std.proofs.Common.{◌≡◌, ℕ, zero, suc, ◌+◌, ◌*◌, ◌≤◌, Bool, true, false, List, [], ◌∷◌, ◌++◌, length, drop, sym, refl, subst, ◌∙◌, arith}
 use Rattle.std.specs.Prelude.{◌&&◌}
 use Rattle.std.proofs.lemmas.Bool.{and_parts, false≢true}
 use Rattle.pj_xtokens.specs.Tokens.{Lexed}
-use Rattle.pj_xmeaning.specs.Fitting.{taken}
-use Rattle.pj_xmeaning.specs.declared.action.Action.{Action}
-use Rattle.pj_xmeaning.specs.declared.action.Action.TheVariants as action
-use Rattle.pj_xnames.specs.Namings.{Naming, first_from, top, behind, acted}
+use Rattle.pj_xgrammar.specs.Fitting.{taken}
+use Rattle.pj_xgrammar.specs.declared.action.Action.{Action}
+use Rattle.pj_xgrammar.specs.declared.action.Action.TheVariants as action
+use Rattle.pj_xgrammar.specs.declared.action.Change.TheVariants as change
+use Rattle.pj_xnames.specs.Namings.{Naming, Missing, top, behind, made, acted}
+use Rattle.pj_xtokens.specs.First.{first_from}
 use Rattle.pj_xsyntax_laws.proofs.Placed.{Grade, is_solid, Placed}
 use Rattle.pj_xsyntax_laws.proofs.Fitting.{Rows, no_rules, one_rule, two_rules, three_rules, fits, fits_change, fits_rest, head, implies, implied}
 use Rattle.pj_xsyntax_laws.proofs.Making.{made_at}
+use Rattle.pj_xsyntax_laws.proofs.There.{IsThere, leaf_there, single_there, rest_there, with_rest_there, step_there}
 
 -- a symbol: one that takes a token, a rule of a grade, or something that is left out
 pub data Part : Type 0 where
@@ -35,13 +38,13 @@ token_first (Token ∷ ss) = true
 token_first _ = false
 
 -- The symbols begin at the lower bound, and these are the values of the rules among them, each where it stands. Only where not the whole text is
--- derived do the values end before the symbols.
+-- derived do the values end before the symbols, and none is behind one that is missing.
 pub data Fills (whole : Bool) (high : ℕ) : List Part → ℕ → List Naming → Type 0 where
   done : {low : ℕ} → low ≤ high → Fills whole high [] low []
   stopped : {ss : List Part} {low : ℕ} → whole ≡ false → low ≤ high → Fills whole high ss low []
   token : {ss : List Part} {low : ℕ} {ws : List Naming} (middle : ℕ) → low + 2 ≤ middle → Fills whole high ss middle ws → Fills whole high (Token ∷ ss) low ws
   rule : {ss : List Part} {low : ℕ} {w : Naming} {ws : List Naming} (g : Grade) (middle : ℕ) → low ≤ middle → (is_solid g ≡ true → low + 2 ≤ middle) → Placed g low middle w →
-      Fills whole high ss middle ws → Fills whole high (Rule g ∷ ss) low (w ∷ ws)
+      (w ≡ Missing → ws ≡ []) → Fills whole high ss middle ws → Fills whole high (Rule g ∷ ss) low (w ∷ ws)
 
 rows_lower : (gs : List Grade) (low low' high : ℕ) (ws : List Naming) → low' ≤ low → Rows gs low high ws → Rows gs low' high ws
 rows_lower [] low low' high ws le r = omega arith
@@ -68,7 +71,13 @@ module _ (whole : Bool) (high : ℕ) where
   fills_within (done le) = le
   fills_within (stopped is le) = le
   fills_within (token middle lt f) = let le = fills_within f in omega arith
-  fills_within (rule g middle lt solid p f) = let le = fills_within f in omega arith
+  fills_within (rule g middle lt solid p none f) = let le = fills_within f in omega arith
+
+  none_behind : {ss : List Part} {low : ℕ} {ws : List Naming} → Fills whole high ss low ws → top ws ≡ Missing → behind ws ≡ []
+  none_behind (done le) is = refl
+  none_behind (stopped e le) is = refl
+  none_behind (token middle lt f) is = none_behind f is
+  none_behind (rule g middle lt solid p none f) is = none is
 
   next_token : {ss : List Part} {low : ℕ} {ws : List Naming} → Fills whole high (Token ∷ ss) low ws → (middle : ℕ) × (low ≤ middle) × Fills whole high ss middle ws
   next_token {low = low} (stopped is le) = (low, omega arith, stopped is le)
@@ -77,7 +86,7 @@ module _ (whole : Bool) (high : ℕ) where
   pub next_rule : {g : Grade} {ss : List Part} {low : ℕ} {ws : List Naming} → Fills whole high (Rule g ∷ ss) low ws →
       (middle : ℕ) × (low ≤ middle) × Placed g low middle (top ws) × Fills whole high ss middle (behind ws)
   next_rule {low = low} (stopped is le) = (low, omega arith, tt, stopped is le)
-  next_rule (rule g middle lt solid p f) = (middle, lt, p, f)
+  next_rule (rule g middle lt solid p none f) = (middle, lt, p, f)
 
   -- the first symbols, and the others
   record Cut (ss rest : List Part) (low : ℕ) (ws : List Naming) : Type 0 where
@@ -111,7 +120,7 @@ module _ (whole : Bool) (high : ℕ) where
     first_rule : {g : Grade} {ss : List Part} {ws : List Naming} → Fills whole high (Rule g ∷ ss) low ws →
         (middle : ℕ) × (low ≤ middle) × (is_solid g ≡ true → low + 2 ≤ middle) × Placed g low middle (top ws) × Fills whole high ss middle (behind ws)
     first_rule (stopped is le) = (high, le, (λ solid. gap is), tt, stopped is (omega arith))
-    first_rule (rule g middle lt solid p f) = (middle, lt, solid, p, f)
+    first_rule (rule g middle lt solid p none f) = (middle, lt, solid, p, f)
 
     record Begun (ss rest : List Part) (ws : List Naming) : Type 0 where
       middle : ℕ
@@ -187,6 +196,21 @@ fits_count g (action.Step a) gs b e = count_of_two gs (and_parts (two_rules gs) 
 fits_count g action.If gs b e = count_of_three gs e
 fits_count g action.Binding gs b e = count_of_three gs e
 
+-- What is missing is made only of what is missing: then the action takes the last of the values.
+none_left : (a : Action) (tokens : List Lexed) (ws : List Naming) → (top ws ≡ Missing → behind ws ≡ []) → made a tokens ws ≡ Missing → drop (taken a) ws ≡ []
+none_left (action.Change change.Same) tokens ws none is = sym (drop_behind 0 ws) ∙ drop_zero (behind ws) ∙ none is
+none_left (action.Change change.NameTest) tokens ws none is = absurd (let z = is in cc)
+none_left (action.Change (change.Compared c)) tokens ws none is = absurd (let z = is in cc)
+none_left (action.Change (change.KindTest k)) tokens ws none is = absurd (let z = is in cc)
+none_left (action.Leaf a) tokens ws none is = absurd (subst IsThere is (leaf_there tokens a))
+none_left (action.Single a) tokens ws none is = absurd (subst IsThere is (single_there tokens a (top ws)))
+none_left (action.Rest a) tokens ws none is = absurd (subst IsThere is (rest_there tokens a (top ws) (top (behind ws))))
+none_left (action.Operation a) tokens ws none is = absurd (subst IsThere is (with_rest_there tokens (top ws) (top (behind ws))))
+none_left (action.Binder a) tokens ws none is = absurd (let z = is in cc)
+none_left (action.Step a) tokens ws none is = absurd (subst IsThere is (step_there tokens a (top ws) (top (behind ws))))
+none_left action.If tokens ws none is = absurd (let z = is in cc)
+none_left action.Binding tokens ws none is = absurd (let z = is in cc)
+
 -- the action fits the production of a rule of the grade
 abbrev pub fits_parts : Grade → Action → List Part → Bool
 fits_parts g a ss = fits g a (rules_in ss) (token_first ss) && implies (is_solid g) (begins ss)
@@ -200,6 +224,8 @@ filled whole high g a ss rest tokens low ws e gap at f =
     let solid = implied (is_solid g) (begins ss) (and_parts (fits g a (rules_in ss) (token_first ss)) (implies (is_solid g) (begins ss)) e).1 in
     let within : low ≤ b.middle = rows_within (rules_in ss) low b.middle ws b.rows in
     let end : b.middle ≤ high = fills_within whole high b.others in
+    let none = none_behind whole high f in
     rule g b.middle within (λ is. b.solid (solid is))
-    (made_at g tokens low b.middle within (λ is. (b.solid (solid is), at (let l = b.solid (solid is) in omega arith))) a (rules_in ss) (token_first ss) ws fit b.rows b.opened)
+    (made_at g tokens low b.middle within (λ is. (b.solid (solid is), at (let l = b.solid (solid is) in omega arith))) a (rules_in ss) (token_first ss) ws fit b.rows b.opened none)
+    (none_left a tokens ws none)
     (subst (λ n. Fills whole high rest b.middle (drop n ws)) (fits_count g a (rules_in ss) (token_first ss) fit) b.others)

@@ -8,7 +8,7 @@ use Rattle.pj_xtokens.specs.declared.token.End.TheVariants as ends
 use Rattle.pj_xsyntax_laws.proofs.Sizes.{size-append}
 use Rattle.pj_xgrammar.specs.Terminals.{first_behind, begins_step}
 use Rattle.pj_xgrammar.specs.declared.terminal.Behind.TheVariants as b
-use Rattle.pj_xmeaning.specs.Trees.{Tree}
+use Rattle.pj_xvalue.specs.Trees.{Tree}
 use Rattle.pj_xparse.specs.Spells.{Spells}
 use Rattle.pj_xsyntax_laws.specs.Abbreviations.{WrittenOut, done, kept}
 use Rattle.pj_xsyntax_laws.specs.Gapped.{Piece, words_in, gapped, located, IsGap, ArePieces}

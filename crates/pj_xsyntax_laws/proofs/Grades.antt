@@ -7,9 +7,9 @@ use Rattle.pj_ll.specs.declared.grammar.Symbol.{Symbol}
 use Rattle.pj_ll.specs.declared.grammar.Symbol.TheVariants as symbol
 use Rattle.pj_ll.specs.Grammar.{Line}
 use Rattle.pj_xgrammar.specs.XPath.{xpath, rules, xpath_grammar}
-use Rattle.pj_xmeaning.specs.Actions.{actions_of, actions}
-use Rattle.pj_xmeaning.specs.Meaning.{action_in, action_of}
-use Rattle.pj_xmeaning.specs.declared.action.Action.{Action}
+use Rattle.pj_xgrammar.specs.Actions.{actions_of, actions}
+use Rattle.pj_xgrammar.specs.Beginnings.{action_in, action_of}
+use Rattle.pj_xgrammar.specs.declared.action.Action.{Action}
 use Rattle.pj_xsyntax_laws.proofs.Placed.{Grade, Loose, Solid, Exact}
 use Rattle.pj_xsyntax_laws.proofs.Filling.{Part, Token, Rule, Out, fits_parts}
 

@@ -7,15 +7,16 @@ use Rattle.pj_xtokens.specs.Tokens.{Lexed, lexed}
 use Rattle.pj_xgrammar.specs.Terminals.{behind_of}
 use Rattle.pj_xsyntax_laws.specs.Spaced.{Word, placed}
 use Rattle.pj_xvalue.specs.Expressions.{Scope, Other}
-use Rattle.pj_xmeaning.specs.Trees.{Tree, Trees, NoMore, More, trees}
+use Rattle.pj_xvalue.specs.Trees.{Tree, Trees, NoMore, More, trees}
 use Rattle.pj_xmeaning.specs.Parts.{One, Many, expressions}
 use Rattle.pj_xmeaning.specs.Values.{operation_value}
-use Rattle.pj_xmeaning.specs.declared.action.Action.TheVariants as action
-use Rattle.pj_xmeaning.specs.declared.action.Leaf.TheVariants as leaf
-use Rattle.pj_xmeaning.specs.declared.action.Rest.TheVariants as rest
-use Rattle.pj_xmeaning.specs.declared.action.Operation.{Operation}
+use Rattle.pj_xgrammar.specs.declared.action.Action.TheVariants as action
+use Rattle.pj_xgrammar.specs.declared.action.Leaf.TheVariants as leaf
+use Rattle.pj_xgrammar.specs.declared.action.Rest.TheVariants as rest
+use Rattle.pj_xgrammar.specs.declared.action.Operation.{Operation}
 use Rattle.pj_xnames.specs.Namings as naming
-use Rattle.pj_xnames.specs.Namings.{Operand, first_from, mentions_of, with_rest, operands_of, extent_from}
+use Rattle.pj_xnames.specs.Namings.{Operand, mentions_of, with_rest, operands_of, extent_of}
+use Rattle.pj_xtokens.specs.First.{first_from}
 use Rattle.pj_xparse.specs.Derived.{IsRead}
 use Rattle.pj_xshape.specs.Nesting.{operand_before, nested_of, nested_each, chain_before}
 use Rattle.pj_xsyntax_laws.specs.Printed.{operand, chain, printed_of, printed_each, Printed}
@@ -89,7 +90,7 @@ units-words w (More t ts) = ap (λ l. w ∷ l) (units-words w ts)
 pub further-many : (t : Tree) (ts : List Tree) → Many (t ∷ expressions (many ts)) ≡ many (t ∷ ts)
 further-many t ts = ap (λ l. Many (t ∷ l)) (expressions-many ts)
 
-pub further-whole : (x : Operand) (os : List Operand) → naming.Many (x ∷ operands_of (whole os)) (extent_from (naming.One x) (whole os)) ≡ whole (x ∷ os)
+pub further-whole : (x : Operand) (os : List Operand) → naming.Many (x ∷ operands_of (whole os)) (extent_of (whole os)) ≡ whole (x ∷ os)
 further-whole x [] = refl
 further-whole x (o ∷ os) = refl
 

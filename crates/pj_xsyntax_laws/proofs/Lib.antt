@@ -11,6 +11,7 @@ pub mod Placed
 pub mod Calling
 pub mod Fitting
 pub mod Making
+pub mod There
 pub mod Filling
 pub mod Grades
 pub mod Running
@@ -18,6 +19,7 @@ pub mod TokenOffsets
 pub mod RunNames
 pub mod Firsts
 pub mod NamedFirst
+pub mod Sayings
 pub mod Examples
 pub mod Productions
 pub mod Deriving
@@ -51,6 +53,7 @@ pub mod Trees
 pub mod PrintedWords
 pub mod Reread
 pub mod Placeless
+pub mod WholeReadings
 pub mod Looks
 pub mod Expanding
 pub mod Prefixes

@@ -4,7 +4,7 @@ use Rattle.std.proofs.Math.Nat.{add-zero}
 use Rattle.pj_xtokens.specs.Tokens.{Lexed}
 use Rattle.pj_xsyntax_laws.specs.Spaced.{Word}
 use Rattle.pj_xvalue.specs.Expressions.{Scope, Other}
-use Rattle.pj_xmeaning.specs.Trees.{Tree}
+use Rattle.pj_xvalue.specs.Trees.{Tree}
 use Rattle.pj_xmeaning.specs.Parts.{RuleValue, expressions}
 use Rattle.pj_xnames.specs.Namings.{Naming, Operand, mentions_in, mentions_of}
 use Rattle.pj_xsyntax_laws.proofs.Deriving.{Ruled}

@@ -10,7 +10,7 @@ use Rattle.pj_xtokens.specs.declared.token.Sign.{Sign}
 use Rattle.pj_xtokens.specs.declared.token.Sign.TheVariants as s
 use Rattle.pj_xtokens.specs.declared.token.TokenKind.{TokenKind}
 use Rattle.pj_xtokens.specs.declared.token.TokenKind.TheVariants as kind
-use Rattle.pj_xgrammar.specs.Expressions.{greatest_nesting}
+use Rattle.pj_xderive.specs.Expressions.{greatest_nesting}
 use Rattle.pj_xgrammar.specs.Notation.{t, string, number_of}
 use Rattle.pj_xgrammar.specs.Words.{word_of, same}
 use Rattle.pj_xgrammar.specs.declared.word.Phrase.{Phrase}
@@ -21,9 +21,10 @@ use Rattle.pj_xgrammar.specs.declared.terminal.Behind.{Behind}
 use Rattle.pj_xgrammar.specs.declared.terminal.Behind.TheVariants as b
 use Rattle.pj_xgrammar.specs.declared.terminal.Terminal.TheVariants as terminal
 use Rattle.pj_xgrammar.specs.Terminals.{first_behind, kind_behind, begins_step, is_dollar, is_parenthesis, is_brace, is_as, is_of, makes_phrase, word_terminal, sign_terminal, kind_terminal, terminal_of, terminal_number}
-use Rattle.pj_xmeaning.specs.Meaning.{first_text}
-use Rattle.pj_xmeaning.specs.Literals.{string_of}
-use Rattle.pj_xparse.specs.Reads.{Takes, token, IsAmong, here, further}
+use Rattle.pj_xtokens.specs.First.{first_text}
+use Rattle.pj_xtokens.specs.Literals.{string_of}
+use Rattle.pj_xparse.specs.Reach.{All}
+use Rattle.pj_xparse.specs.Reads.{Takes, token, cut, IsAmong, here, further}
 use Rattle.pj_xsyntax_laws.specs.Abbreviations.{sign, word, WrittenOut, done, kept, descendants, attribute, parent, union, literal}
 
 -- ---- how deep it is
@@ -140,7 +141,7 @@ stays n =
 -- the terminal is taken of the written out tokens, too
 pub record On (nests : Bool) (end : List Lexed) (depth : ℕ) (x : Symbol) (xs ys out : List Lexed) : Type 0 where
   pub rest : List Lexed
-  pub takes : Takes depth x out rest
+  pub takes : Takes All depth x out rest
   pub more : WrittenOut nests end ys rest
   pub text : first_text xs ≡ first_text out
 
@@ -157,19 +158,20 @@ still q {xs = xs} {ys} x from slash more e few = record {
   text = refl;
 }
 
-pub on : {nests : Bool} {end : List Lexed} → LooksEnd end → {deep depth : ℕ} {x : Symbol} {xs ys out : List Lexed} → Takes deep x xs ys → HasRoom nests deep depth → symbol_is stays x ≡ true → WrittenOut nests end xs out → On nests end depth x xs ys out
+pub on : {nests : Bool} {end : List Lexed} → LooksEnd end → {deep depth : ℕ} {x : Symbol} {xs ys out : List Lexed} → Takes All deep x xs ys → HasRoom nests deep depth → symbol_is stays x ≡ true → WrittenOut nests end xs out → On nests end depth x xs ys out
 on q (token {x = x} e few) p h (kept from slash more) = still q x from slash more e (fewer p few)
 on q (token {number = n} e few) p h (descendants room from a c d f g i j more) = absurd (no_stay (number_of (codes "//")) n e h refl)
 on q (token {number = n} e few) p h (attribute from a c more) = absurd (no_stay (number_of (codes "@")) n e h refl)
 on q (token {number = n} e few) p h (parent room from a c d f g more) = absurd (no_stay (number_of (codes "..")) n e h refl)
 on q (token {number = n} e few) p h (union from a more) = absurd (no_stay (number_of (codes "|")) n e h refl)
 on q (token {number = n} e few) p h (literal from a l more) = absurd (no_stay 4 n e h refl)
+on q (cut c) p h w = absurd c
 
 -- ---- tokens that may be
 
 -- `//`
 pub data Slashes (depth : ℕ) : List Lexed → List Lexed → Type 0 where
-  slashes_kept : {xs ys : List Lexed} → Takes depth (t "//") xs ys → Slashes depth xs ys
+  slashes_kept : {xs ys : List Lexed} → Takes All depth (t "//") xs ys → Slashes depth xs ys
   as_steps : {ys : List Lexed} (a c d e f g i : ℕ) → suc depth ≤ greatest_nesting → depth ≤ greatest_nesting →
       Slashes depth
       (sign s.Slash "/" a ∷ word "descendant-or-self" c ∷ sign s.ColonColon "::" d ∷ word "node" e ∷ sign s.LeftParenthesis "(" f ∷ sign s.RightParenthesis ")" g ∷ sign s.Slash "/" i ∷ ys)
@@ -183,17 +185,18 @@ pub record OnSlashes (nests : Bool) (end : List Lexed) (depth : ℕ) (ys out : L
 wrong : {A : Type 0} (m n : ℕ) → m ≡ n → nat_eq m n ≡ false → A
 wrong m n e h = absurd (false≢true (sym h ∙ eq-eqb m n e))
 
-pub on_slashes : {nests : Bool} {end : List Lexed} → LooksEnd end → {deep depth : ℕ} {xs ys out : List Lexed} → Takes deep (t "//") xs ys → HasRoom nests deep depth → WrittenOut nests end xs out → OnSlashes nests end depth ys out
+pub on_slashes : {nests : Bool} {end : List Lexed} → LooksEnd end → {deep depth : ℕ} {xs ys out : List Lexed} → Takes All deep (t "//") xs ys → HasRoom nests deep depth → WrittenOut nests end xs out → OnSlashes nests end depth ys out
 on_slashes q (token {x = x} e few) p (kept from slash more) = let o = still q x from slash more e (fewer p few) in record { rest = o.rest; way = slashes_kept o.takes; more = o.more }
 on_slashes q (token e few) p (descendants {ys = rest} room from a c d f g i j more) = record { rest = rest; way = as_steps a c d f g i j (room_for room p few) (fewer p few); more = more }
 on_slashes q (token e few) p (attribute from a c more) = wrong (number_of (codes "@")) (number_of (codes "//")) e refl
 on_slashes q (token e few) p (parent room from a c d f g more) = wrong (number_of (codes "..")) (number_of (codes "//")) e refl
 on_slashes q (token e few) p (union from a more) = wrong (number_of (codes "|")) (number_of (codes "//")) e refl
 on_slashes q (token e few) p (literal from a l more) = wrong 4 (number_of (codes "//")) e refl
+on_slashes q (cut c) p w = absurd c
 
 -- `@`
 pub data At (depth : ℕ) : List Lexed → List Lexed → Type 0 where
-  at_kept : {xs ys : List Lexed} → Takes depth (t "@") xs ys → At depth xs ys
+  at_kept : {xs ys : List Lexed} → Takes All depth (t "@") xs ys → At depth xs ys
   as_axis : {ys : List Lexed} (a c : ℕ) → depth ≤ greatest_nesting → At depth (word "attribute" a ∷ sign s.ColonColon "::" c ∷ ys) ys
 
 pub record OnAt (nests : Bool) (end : List Lexed) (depth : ℕ) (ys out : List Lexed) : Type 0 where
@@ -201,17 +204,18 @@ pub record OnAt (nests : Bool) (end : List Lexed) (depth : ℕ) (ys out : List L
   pub way : At depth out rest
   pub more : WrittenOut nests end ys rest
 
-pub on_at : {nests : Bool} {end : List Lexed} → LooksEnd end → {deep depth : ℕ} {xs ys out : List Lexed} → Takes deep (t "@") xs ys → HasRoom nests deep depth → WrittenOut nests end xs out → OnAt nests end depth ys out
+pub on_at : {nests : Bool} {end : List Lexed} → LooksEnd end → {deep depth : ℕ} {xs ys out : List Lexed} → Takes All deep (t "@") xs ys → HasRoom nests deep depth → WrittenOut nests end xs out → OnAt nests end depth ys out
 on_at q (token {x = x} e few) p (kept from slash more) = let o = still q x from slash more e (fewer p few) in record { rest = o.rest; way = at_kept o.takes; more = o.more }
 on_at q (token e few) p (attribute {ys = rest} from a c more) = record { rest = rest; way = as_axis a c (fewer p few); more = more }
 on_at q (token e few) p (descendants room from a c d f g i j more) = wrong (number_of (codes "//")) (number_of (codes "@")) e refl
 on_at q (token e few) p (parent room from a c d f g more) = wrong (number_of (codes "..")) (number_of (codes "@")) e refl
 on_at q (token e few) p (union from a more) = wrong (number_of (codes "|")) (number_of (codes "@")) e refl
 on_at q (token e few) p (literal from a l more) = wrong 4 (number_of (codes "@")) e refl
+on_at q (cut c) p w = absurd c
 
 -- `..`
 pub data Dots (depth : ℕ) : List Lexed → List Lexed → Type 0 where
-  dots_kept : {xs ys : List Lexed} → Takes depth (t "..") xs ys → Dots depth xs ys
+  dots_kept : {xs ys : List Lexed} → Takes All depth (t "..") xs ys → Dots depth xs ys
   as_parent : {ys : List Lexed} (a c d e f : ℕ) → suc depth ≤ greatest_nesting → depth ≤ greatest_nesting →
       Dots depth (word "parent" a ∷ sign s.ColonColon "::" c ∷ word "node" d ∷ sign s.LeftParenthesis "(" e ∷ sign s.RightParenthesis ")" f ∷ ys) ys
 
@@ -220,17 +224,18 @@ pub record OnDots (nests : Bool) (end : List Lexed) (depth : ℕ) (ys out : List
   pub way : Dots depth out rest
   pub more : WrittenOut nests end ys rest
 
-pub on_dots : {nests : Bool} {end : List Lexed} → LooksEnd end → {deep depth : ℕ} {xs ys out : List Lexed} → Takes deep (t "..") xs ys → HasRoom nests deep depth → WrittenOut nests end xs out → OnDots nests end depth ys out
+pub on_dots : {nests : Bool} {end : List Lexed} → LooksEnd end → {deep depth : ℕ} {xs ys out : List Lexed} → Takes All deep (t "..") xs ys → HasRoom nests deep depth → WrittenOut nests end xs out → OnDots nests end depth ys out
 on_dots q (token {x = x} e few) p (kept from slash more) = let o = still q x from slash more e (fewer p few) in record { rest = o.rest; way = dots_kept o.takes; more = o.more }
 on_dots q (token e few) p (parent {ys = rest} room from a c d f g more) = record { rest = rest; way = as_parent a c d f g (room_for room p few) (fewer p few); more = more }
 on_dots q (token e few) p (descendants room from a c d f g i j more) = wrong (number_of (codes "//")) (number_of (codes "..")) e refl
 on_dots q (token e few) p (attribute from a c more) = wrong (number_of (codes "@")) (number_of (codes "..")) e refl
 on_dots q (token e few) p (union from a more) = wrong (number_of (codes "|")) (number_of (codes "..")) e refl
 on_dots q (token e few) p (literal from a l more) = wrong 4 (number_of (codes "..")) e refl
+on_dots q (cut c) p w = absurd c
 
 -- `|`
 pub data Bar (depth : ℕ) : List Lexed → List Lexed → Type 0 where
-  bar_kept : {xs ys : List Lexed} → Takes depth (t "|") xs ys → Bar depth xs ys
+  bar_kept : {xs ys : List Lexed} → Takes All depth (t "|") xs ys → Bar depth xs ys
   as_union : {ys : List Lexed} (a : ℕ) → depth ≤ greatest_nesting → Bar depth (word "union" a ∷ ys) ys
 
 pub record OnBar (nests : Bool) (end : List Lexed) (depth : ℕ) (ys out : List Lexed) : Type 0 where
@@ -238,28 +243,30 @@ pub record OnBar (nests : Bool) (end : List Lexed) (depth : ℕ) (ys out : List 
   pub way : Bar depth out rest
   pub more : WrittenOut nests end ys rest
 
-pub on_bar : {nests : Bool} {end : List Lexed} → LooksEnd end → {deep depth : ℕ} {xs ys out : List Lexed} → Takes deep (t "|") xs ys → HasRoom nests deep depth → WrittenOut nests end xs out → OnBar nests end depth ys out
+pub on_bar : {nests : Bool} {end : List Lexed} → LooksEnd end → {deep depth : ℕ} {xs ys out : List Lexed} → Takes All deep (t "|") xs ys → HasRoom nests deep depth → WrittenOut nests end xs out → OnBar nests end depth ys out
 on_bar q (token {x = x} e few) p (kept from slash more) = let o = still q x from slash more e (fewer p few) in record { rest = o.rest; way = bar_kept o.takes; more = o.more }
 on_bar q (token e few) p (union {ys = rest} from a more) = record { rest = rest; way = as_union a (fewer p few); more = more }
 on_bar q (token e few) p (descendants room from a c d f g i j more) = wrong (number_of (codes "//")) (number_of (codes "|")) e refl
 on_bar q (token e few) p (attribute from a c more) = wrong (number_of (codes "@")) (number_of (codes "|")) e refl
 on_bar q (token e few) p (parent room from a c d f g more) = wrong (number_of (codes "..")) (number_of (codes "|")) e refl
 on_bar q (token e few) p (literal from a l more) = wrong 4 (number_of (codes "|")) e refl
+on_bar q (cut c) p w = absurd c
 
 -- a string's literal
 pub record OnString (nests : Bool) (end : List Lexed) (depth : ℕ) (xs ys out : List Lexed) : Type 0 where
   pub rest : List Lexed
-  pub takes : Takes depth string out rest
+  pub takes : Takes All depth string out rest
   pub more : WrittenOut nests end ys rest
   pub means : string_of (first_text xs) ≡ string_of (first_text out)
 
-pub on_string : {nests : Bool} {end : List Lexed} → LooksEnd end → {deep depth : ℕ} {xs ys out : List Lexed} → Takes deep string xs ys → HasRoom nests deep depth → WrittenOut nests end xs out → OnString nests end depth xs ys out
+pub on_string : {nests : Bool} {end : List Lexed} → LooksEnd end → {deep depth : ℕ} {xs ys out : List Lexed} → Takes All deep string xs ys → HasRoom nests deep depth → WrittenOut nests end xs out → OnString nests end depth xs ys out
 on_string q (token {x = x} e few) p (kept from slash more) = let o = still q x from slash more e (fewer p few) in record { rest = o.rest; takes = o.takes; more = o.more; means = refl }
 on_string q (token e few) p (literal {ys = rest} from a l more) = record { rest = rest; takes = token refl (fewer p few); more = more; means = l }
 on_string q (token e few) p (descendants room from a c d f g i j more) = wrong (number_of (codes "//")) 4 e refl
 on_string q (token e few) p (attribute from a c more) = wrong (number_of (codes "@")) 4 e refl
 on_string q (token e few) p (parent room from a c d f g more) = wrong (number_of (codes "..")) 4 e refl
 on_string q (token e few) p (union from a more) = wrong (number_of (codes "|")) 4 e refl
+on_string q (cut c) p w = absurd c
 
 -- ---- the token with which a step begins
 
@@ -300,5 +307,6 @@ kind_begins kind.Double text behind n e h = refl
 kind_begins kind.String text behind n e h = refl
 kind_begins (kind.Sign sign) text behind n e h = sign_begins sign behind n e h
 
-pub takes_begin : {depth : ℕ} {x : Symbol} {xs ys : List Lexed} → Takes depth x xs ys → symbol_is begins x ≡ true → begins_step (first_behind b.End xs) ≡ true
+pub takes_begin : {depth : ℕ} {x : Symbol} {xs ys : List Lexed} → Takes All depth x xs ys → symbol_is begins x ≡ true → begins_step (first_behind b.End xs) ≡ true
 takes_begin (token {x = x} {xs = xs} {number = n} e few) h = kind_begins x.kind x.text (first_behind b.End xs) n e h
+takes_begin (cut c) h = absurd c

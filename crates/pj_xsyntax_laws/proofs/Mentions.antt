@@ -4,8 +4,7 @@ use Rattle.std.specs.Prelude.{IsTrue}
 use Rattle.pj_xvalue.specs.Expressions.{Scope, Written, with_variable}
 use Rattle.pj_xnames.specs.Faults.{Variable, Function, Form, is_bound, is_function, fits_role, unless, earlier, first_fault_from}
 use Rattle.pj_xnames.specs.Mentions as mention
-use Rattle.pj_xnames.specs.Mentions.{Mention}
-use Rattle.pj_xnames.specs.Namings.{scoped}
+use Rattle.pj_xnames.specs.Mentions.{Mention, scoped}
 use Rattle.pj_xnames.specs.declared.role.Role.{Role}
 
 -- none of it has a fault, and the variables behind it are those before it

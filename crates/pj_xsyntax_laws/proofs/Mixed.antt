@@ -7,18 +7,18 @@ use Rattle.pj_xtokens.specs.Tokens.{Lexed, lexed}
 use Rattle.pj_xgrammar.specs.Terminals.{behind_of}
 use Rattle.pj_xparse.specs.Derived.{IsRead}
 use Rattle.pj_xsyntax_laws.specs.Spaced.{placed}
-use Rattle.pj_xvalue.specs.declared.expr.Additive.{Additive}
-use Rattle.pj_xvalue.specs.declared.expr.Additive.TheVariants as sum
-use Rattle.pj_xvalue.specs.declared.expr.Multiplicative.{Multiplicative}
-use Rattle.pj_xvalue.specs.declared.expr.Multiplicative.TheVariants as product
-use Rattle.pj_xvalue.specs.declared.expr.SetOperator.{SetOperator}
-use Rattle.pj_xvalue.specs.declared.expr.SetOperator.TheVariants as set
+use Rattle.pj_xoperators.specs.declared.operator.Additive.{Additive}
+use Rattle.pj_xoperators.specs.declared.operator.Additive.TheVariants as sum
+use Rattle.pj_xoperators.specs.declared.operator.Multiplicative.{Multiplicative}
+use Rattle.pj_xoperators.specs.declared.operator.Multiplicative.TheVariants as product
+use Rattle.pj_xoperators.specs.declared.operator.SetOperator.{SetOperator}
+use Rattle.pj_xoperators.specs.declared.operator.SetOperator.TheVariants as set
 use Rattle.pj_xvalue.specs.Expressions.{Scope}
-use Rattle.pj_xmeaning.specs.Trees as tree
-use Rattle.pj_xmeaning.specs.Trees.{Tree, Trees, Node, More}
+use Rattle.pj_xvalue.specs.Trees as tree
+use Rattle.pj_xvalue.specs.Trees.{Tree, Trees, Node, More}
 use Rattle.pj_xmeaning.specs.Parts.{RuleValue, Nothing, Sums, Products, Sets, sums, products, sets}
-use Rattle.pj_xmeaning.specs.declared.action.Action.TheVariants as action
-use Rattle.pj_xmeaning.specs.declared.action.Rest.TheVariants as rest
+use Rattle.pj_xgrammar.specs.declared.action.Action.TheVariants as action
+use Rattle.pj_xgrammar.specs.declared.action.Rest.TheVariants as rest
 use Rattle.pj_xshape.specs.Nesting.{nested_of}
 use Rattle.pj_xsyntax_laws.specs.Printed.{operand, printed_of, sum_word, product_word, set_word}
 use Rattle.pj_xsyntax_laws.proofs.Productions as p

@@ -4,7 +4,7 @@ use Rattle.pj_ll.specs.declared.parser.End as outcome
 use Rattle.pj_ll.specs.Outcome as terminals
 use Rattle.pj_xtokens.specs.Tokens.{Lexed, Tokens}
 use Rattle.pj_xtokens.specs.declared.token.End.{End}
-use Rattle.pj_xgrammar.specs.Expressions.{IsOutcome, IsRun, greatest_nesting, place_of}
+use Rattle.pj_xderive.specs.Expressions.{IsOutcome, IsRun, greatest_nesting, place_of}
 use Rattle.pj_xgrammar.specs.Terminals.{numbers}
 use Rattle.pj_xgrammar.specs.XPath.{xpath_grammar}
 use Rattle.pj_xnames.specs.Meaning.{mentions}

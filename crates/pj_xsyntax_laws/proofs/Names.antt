@@ -21,10 +21,10 @@ use Rattle.pj_xvalue.specs.declared.expr.NodeTest.{NodeTest}
 use Rattle.pj_xvalue.specs.declared.expr.NodeTest.TheVariants as test
 use Rattle.pj_xmeaning.specs.Parts.{Test}
 use Rattle.pj_xmeaning.specs.Parts as part
-use Rattle.pj_xmeaning.specs.declared.action.Action.TheVariants as action
-use Rattle.pj_xmeaning.specs.declared.action.Leaf.TheVariants as leaf
+use Rattle.pj_xgrammar.specs.declared.action.Action.TheVariants as action
+use Rattle.pj_xgrammar.specs.declared.action.Leaf.TheVariants as leaf
 use Rattle.pj_xnames.specs.Namings as naming
-use Rattle.pj_xnames.specs.Namings.{first_from}
+use Rattle.pj_xtokens.specs.First.{first_from}
 use Rattle.pj_xparse.specs.Derived.{IsRead}
 use Rattle.pj_xshape.specs.Spelled.{IsText, IsTestSpelled}
 use Rattle.pj_xshape.specs.Nesting.{test_nesting}

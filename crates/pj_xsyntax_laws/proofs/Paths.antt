@@ -13,12 +13,13 @@ use Rattle.pj_xsyntax_laws.specs.Spaced.{Word, placed}
 use Rattle.pj_xvalue.specs.declared.axis.Axis.TheVariants as axis
 use Rattle.pj_xvalue.specs.declared.expr.NodeTest.TheVariants as test
 use Rattle.pj_xvalue.specs.Expressions.{Scope, Other}
-use Rattle.pj_xmeaning.specs.Trees as tree
-use Rattle.pj_xmeaning.specs.Trees.{Tree, Trees, Construct, Node, NoMore, More}
+use Rattle.pj_xvalue.specs.Trees as tree
+use Rattle.pj_xvalue.specs.Trees.{Tree, Trees, Construct, Node, NoMore, More}
 use Rattle.pj_xmeaning.specs.Parts.{One, Many, expressions}
-use Rattle.pj_xmeaning.specs.Values.{descendants}
+use Rattle.pj_xmeaning.specs.Steps.{descendants}
 use Rattle.pj_xnames.specs.Namings as naming
-use Rattle.pj_xnames.specs.Namings.{Operand, first_from, mentions_in}
+use Rattle.pj_xnames.specs.Namings.{Operand, mentions_in}
+use Rattle.pj_xtokens.specs.First.{first_from}
 use Rattle.pj_xparse.specs.Derived.{IsRead}
 use Rattle.pj_xshape.specs.Nesting.{operand_before, step_before, further_before, is_descendants_by, nested_of, nested_each}
 use Rattle.pj_xsyntax_laws.specs.Printed.{operand, enclosed, from_step, further_steps, printed_of, printed_each, slash, slashes}
@@ -129,11 +130,11 @@ pair_more {scope} t r around from behind us u ts h f o =
 
 -- the values of a step and those behind it in a row
 in_row : {around n from : ℕ} {behind : List Lexed} {ws : List Word} (front : List Tree) (t : Tree) (ts : List Tree) (first : Operand) (more : List Operand)
-    → Ruled around behind n from ws (Many (front ++ t ∷ expressions (many ts))) (naming.Many (first ∷ naming.operands_of (whole more)) (naming.extent_from (naming.One first) (whole more)))
+    → Ruled around behind n from ws (Many (front ++ t ∷ expressions (many ts))) (naming.Many (first ∷ naming.operands_of (whole more)) (naming.extent_of (whole more)))
     → Ruled around behind n from ws (Many (front ++ t ∷ ts)) (whole (first ∷ more))
 in_row {around} {n} {from} {behind} {ws} front t ts first more r =
-    subst (λ w. Ruled around behind n from ws (Many (front ++ t ∷ ts)) w) {x = naming.Many (first ∷ naming.operands_of (whole more)) (naming.extent_from (naming.One first) (whole more))} (further-whole first more)
-    (subst (λ l. Ruled around behind n from ws (Many (front ++ t ∷ l)) (naming.Many (first ∷ naming.operands_of (whole more)) (naming.extent_from (naming.One first) (whole more)))) (expressions-many ts) r)
+    subst (λ w. Ruled around behind n from ws (Many (front ++ t ∷ ts)) w) {x = naming.Many (first ∷ naming.operands_of (whole more)) (naming.extent_of (whole more))} (further-whole first more)
+    (subst (λ l. Ruled around behind n from ws (Many (front ++ t ∷ l)) (naming.Many (first ∷ naming.operands_of (whole more)) (naming.extent_of (whole more)))) (expressions-many ts) r)
 
 -- steps behind a `/`
 behind_slash : {scope : Scope} {around from : ℕ} {behind : List Lexed} {ws : List Word} {t : Tree} {ts : List Tree} → around ≤ 200

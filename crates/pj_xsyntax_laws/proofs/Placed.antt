@@ -2,6 +2,8 @@
 use Rattle.std.proofs.Common.{◌≡◌, ℕ, ◌+◌, ◌*◌, ◌<◌, ◌≤◌, Bool, true, false, List, [], ◌∷◌, arith}
 use Rattle.std.specs.Prelude.{⊤}
 use Rattle.pj_xnames.specs.Mentions.{Mention}
+use Rattle.pj_xnames.specs.declared.part.Extent.{Extent}
+use Rattle.pj_xnames.specs.declared.part.Extent.TheVariants.{Whole, Open}
 use Rattle.pj_xnames.specs.Namings.{Operand, Naming, Missing, Nothing, Word, One, Many, Called, Bound, mentions_in, mentions_of}
 use Rattle.pj_xsyntax_laws.proofs.Ordered.{InOrder, none_in_order, widened, joined}
 
@@ -34,15 +36,21 @@ pub record IsOne (grade : Grade) (low high : ℕ) (operand : Operand) : Type 0 w
   pub names : InOrder (low + 1) high operand.mentions
   pub exact : is_exact grade ≡ true → Exactly low high operand
 
--- the operands stand behind each other
-abbrev pub Operands : ℕ → ℕ → List Operand → Type 0
-Operands low high [] = ⊤
-Operands low high (o ∷ os) = (middle : ℕ) × Exactly low middle o × (low ≤ middle) × (middle ≤ high) × Operands middle high os
+-- An operand of a list, before others. The last one of an open list may be missing.
+abbrev pub Listed : Extent → List Operand → ℕ → ℕ → Operand → Type 0
+Listed Whole others low high operand = Exactly low high operand
+Listed Open [] low high operand = InOrder (low + 1) high operand.mentions
+Listed Open (o ∷ os) low high operand = Exactly low high operand
+
+-- the operands of a list stand behind each other
+abbrev pub Operands : Extent → ℕ → ℕ → List Operand → Type 0
+Operands extent low high [] = ⊤
+Operands extent low high (o ∷ os) = (middle : ℕ) × Listed extent os low middle o × (low ≤ middle) × (middle ≤ high) × Operands extent middle high os
 
 -- arguments in parentheses, and predicates behind them
-pub record IsCalled (low high : ℕ) (arguments : List Operand) (predicates : List Mention) : Type 0 where
+pub record IsCalled (extent : Extent) (low high : ℕ) (arguments : List Operand) (predicates : List Mention) : Type 0 where
   pub end : ℕ
-  pub inside : Operands (low + 2) end arguments
+  pub inside : Operands extent (low + 2) end arguments
   pub opened : low + 2 ≤ end
   pub within : end ≤ high
   pub behind : InOrder (end + 1) high predicates
@@ -58,8 +66,8 @@ Placed grade low high Missing = ⊤
 Placed grade low high Nothing = ⊤
 Placed grade low high (Word name) = ⊤
 Placed grade low high (One operand) = IsOne grade low high operand
-Placed grade low high (Many operands all) = Operands low high operands
-Placed grade low high (Called arguments all predicates) = IsCalled low high arguments predicates
+Placed grade low high (Many operands extent) = Operands extent low high operands
+Placed grade low high (Called arguments extent predicates) = IsCalled extent low high arguments predicates
 Placed grade low high (Bound variables) = Variables low high variables
 
 -- ---- bounds further apart
@@ -70,10 +78,15 @@ wider_exactly {o = o} low' high' a b e =
     let l = e.before in
     record { within = omega arith; before = omega arith; names = widened (2 * o.from + 1) high' (omega arith) b e.names }
 
-pub wider_operands : (low high low' high' : ℕ) (os : List Operand) → low' ≤ low → high ≤ high' → Operands low high os → Operands low' high' os
-wider_operands low high low' high' [] a b p = tt
-wider_operands low high low' high' (o ∷ os) a b (middle, e, c, d, p) =
-    (middle, wider_exactly low' middle a (omega arith) e, omega arith, omega arith, wider_operands middle high middle high' os (omega arith) b p)
+wider_listed : (extent : Extent) (others : List Operand) (low high low' high' : ℕ) (o : Operand) → low' ≤ low → high ≤ high' → Listed extent others low high o → Listed extent others low' high' o
+wider_listed Whole others low high low' high' o a b e = wider_exactly low' high' a b e
+wider_listed Open [] low high low' high' o a b e = widened (low' + 1) high' (omega arith) b e
+wider_listed Open (next ∷ others) low high low' high' o a b e = wider_exactly low' high' a b e
+
+pub wider_operands : (extent : Extent) (low high low' high' : ℕ) (os : List Operand) → low' ≤ low → high ≤ high' → Operands extent low high os → Operands extent low' high' os
+wider_operands extent low high low' high' [] a b p = tt
+wider_operands extent low high low' high' (o ∷ os) a b (middle, e, c, d, p) =
+    (middle, wider_listed extent os low middle low' middle o a (omega arith) e, omega arith, omega arith, wider_operands extent middle high middle high' os (omega arith) b p)
 
 pub wider_variables : (low high low' high' : ℕ) (vs : List (List ℕ × List Mention)) → low' ≤ low → high ≤ high' → Variables low high vs → Variables low' high' vs
 wider_variables low high low' high' [] a b p = tt
@@ -87,13 +100,13 @@ wider g h low high low' high' Nothing a b e p = tt
 wider g h low high low' high' (Word name) a b e p = tt
 wider g h low high low' high' (One o) a b e p =
     record { names = widened (low' + 1) high' (omega arith) b p.names; exact = λ is. wider_exactly low' high' a b (p.exact (e is)) }
-wider g h low high low' high' (Many os all) a b e p = wider_operands low high low' high' os a b p
-wider g h low high low' high' (Called arguments all predicates) a b e p =
+wider g h low high low' high' (Many os extent) a b e p = wider_operands extent low high low' high' os a b p
+wider g h low high low' high' (Called arguments extent predicates) a b e p =
     let opened = p.opened in
     let within = p.within in
     record {
       end = p.end;
-      inside = wider_operands (low + 2) p.end (low' + 2) p.end arguments (omega arith) (omega arith) p.inside;
+      inside = wider_operands extent (low + 2) p.end (low' + 2) p.end arguments (omega arith) (omega arith) p.inside;
       opened = omega arith;
       within = omega arith;
       behind = widened (p.end + 1) high' (omega arith) b p.behind;
@@ -102,19 +115,32 @@ wider g h low high low' high' (Bound vs) a b e p = wider_variables low high low'
 
 -- ---- what is named
 
-pub operands_name : (low high : ℕ) (os : List Operand) → Operands low high os → InOrder (low + 1) high (mentions_in os)
-operands_name low high [] p = none_in_order (low + 1) high
-operands_name low high (o ∷ os) (middle, e, c, d, p) =
-    let w = e.within in
-    joined (omega arith) (omega arith) d (widened (low + 1) middle (omega arith) (omega arith) e.names) (operands_name middle high os p)
+exactly_names : (low high : ℕ) (o : Operand) → Exactly low high o → InOrder (low + 1) high o.mentions
+exactly_names low high o e = let w = e.within in widened (low + 1) high (omega arith) (omega arith) e.names
+
+pub listed_names : (extent : Extent) (others : List Operand) (low high : ℕ) (o : Operand) → Listed extent others low high o → InOrder (low + 1) high o.mentions
+listed_names Whole others low high o e = exactly_names low high o e
+listed_names Open [] low high o e = e
+listed_names Open (next ∷ others) low high o e = exactly_names low high o e
+
+-- one that begins at its offset stands in any list
+pub listed : (extent : Extent) (others : List Operand) (low high : ℕ) (o : Operand) → Exactly low high o → Listed extent others low high o
+listed Whole others low high o e = e
+listed Open [] low high o e = exactly_names low high o e
+listed Open (next ∷ others) low high o e = e
+
+pub operands_name : (extent : Extent) (low high : ℕ) (os : List Operand) → Operands extent low high os → InOrder (low + 1) high (mentions_in os)
+operands_name extent low high [] p = none_in_order (low + 1) high
+operands_name extent low high (o ∷ os) (middle, e, c, d, p) =
+    joined (omega arith) (omega arith) d (listed_names extent os low middle o e) (operands_name extent middle high os p)
 
 pub names : (g : Grade) (low high : ℕ) (w : Naming) → Placed g low high w → InOrder (low + 1) high (mentions_of w)
 names g low high Missing p = none_in_order (low + 1) high
 names g low high Nothing p = none_in_order (low + 1) high
 names g low high (Word name) p = none_in_order (low + 1) high
 names g low high (One o) p = p.names
-names g low high (Many os all) p = operands_name low high os p
-names g low high (Called arguments all predicates) p =
+names g low high (Many os extent) p = operands_name extent low high os p
+names g low high (Called arguments extent predicates) p =
     let opened = p.opened in
-    joined (omega arith) (omega arith) p.within (widened (low + 1) p.end (omega arith) (omega arith) (operands_name (low + 2) p.end arguments p.inside)) p.behind
+    joined (omega arith) (omega arith) p.within (widened (low + 1) p.end (omega arith) (omega arith) (operands_name extent (low + 2) p.end arguments p.inside)) p.behind
 names g low high (Bound vs) p = none_in_order (low + 1) high

@@ -3,28 +3,28 @@ use Rattle.std.proofs.Common.{◌≡◌, ℕ, suc, ◌+◌, Bool, true, false, L
 use Rattle.std.proofs.lemmas.Bool.{false≢true}
 use Rattle.std.proofs.lemmas.List.{map-append}
 use Rattle.pj_xvalue.specs.declared.axis.Axis.{Axis}
-use Rattle.pj_xvalue.specs.declared.operator.Compare.{Compare}
+use Rattle.pj_xoperators.specs.declared.operator.Compare.{Compare}
 use Rattle.pj_xvalue.specs.declared.expr.NodeTest.{NodeTest}
 use Rattle.pj_xvalue.specs.declared.expr.NodeTest.TheVariants as tests
-use Rattle.pj_xvalue.specs.declared.expr.Sign.{Sign}
+use Rattle.pj_xoperators.specs.declared.operator.Sign.{Sign}
 use Rattle.pj_xvalue.specs.Expressions as written
 use Rattle.pj_xvalue.specs.Expressions.{Written, Scope}
 use Rattle.pj_xtokens.specs.Tokens.{Lexed}
 use Rattle.pj_xgrammar.specs.declared.rule.Rule.{Rule}
 use Rattle.pj_xgrammar.specs.declared.rule.Rule.TheVariants as r
-use Rattle.pj_xmeaning.specs.Literals.{integer_of, string_of}
-use Rattle.pj_xmeaning.specs.Meaning.{first_text}
+use Rattle.pj_xtokens.specs.Literals.{integer_of, string_of}
+use Rattle.pj_xtokens.specs.First.{first_text, first_from}
 use Rattle.pj_xvalue.specs.Names.{callee_of, axis_of}
-use Rattle.pj_xmeaning.specs.Trees as tree
-use Rattle.pj_xmeaning.specs.Trees.{Tree, Construct, node, alone, binder, operated}
-use Rattle.pj_xmeaning.specs.Values as value
+use Rattle.pj_xvalue.specs.declared.name.Callee.{Callee}
+use Rattle.pj_xvalue.specs.Trees as tree
+use Rattle.pj_xvalue.specs.Trees.{Tree, Construct, node, alone, binder, operated}
+use Rattle.pj_xmeaning.specs.Steps as forms
 use Rattle.pj_xnames.specs.Mentions as mention
-use Rattle.pj_xnames.specs.Mentions.{Mention, roles_named}
-use Rattle.pj_xnames.specs.Namings.{scoped, first_from}
+use Rattle.pj_xnames.specs.Mentions.{Mention, roles_named, scoped}
 use Rattle.pj_xnames.specs.Faults as fault
 use Rattle.pj_xnames.specs.Faults.{Fault, first_fault_from, first_fault, fault_in, scope_behind, unless, earlier, is_bound, is_function, fits_role}
 use Rattle.pj_xnames.specs.declared.role.Role.{Role}
-use Rattle.pj_xparse.specs.Operands.{Operand, Binding, Given, Behind, Test, Called, Predicates, Value, other, trees_of, names_of, names_behind, operations, bindings_of, scopes_of, values_of, in_roles, chain, mixed, compared, ranging, signed, bound, chosen, variable, integer_literal, string_literal, rooted, path, step, child_step, attribute_step, axis_step, filtered, kind_test, given, call, named}
+use Rattle.pj_xparse.specs.Operands.{Operand, Binding, Arguments, Closed, Open, Next, Behind, Test, Called, Predicates, Value, other, trees_of, names_of, names_behind, operations, bindings_of, scopes_of, arguments_in, is_closed, judged, in_roles, told, chain, mixed, compared, ranging, signed, bound, chosen, variable, integer_literal, string_literal, rooted, path, step, child_step, attribute_step, axis_step, filtered, kind_test, call, named}
 
 -- ---- without offsets
 
@@ -41,9 +41,6 @@ operand_with t w ms = record { tree = t; written = w; names = ms }
 abbrev pub binding_with : List ℕ → Operand → Binding
 binding_with name a = record { name = name; bound = a }
 
-abbrev pub given_at : ℕ → Operand → Given
-given_at from a = record { from = from; value = a }
-
 abbrev pub next_with : {Operator : Type 0} → Operator → Operand → Operator × Operand
 next_with op a = (op, a)
 
@@ -56,8 +53,10 @@ bare a = operand_with a.tree a.written (map unplaced a.names)
 abbrev pub bare_binding : Binding → Binding
 bare_binding b = binding_with b.name (bare b.bound)
 
-abbrev pub bare_given : Given → Given
-bare_given g = given_at 0 (bare g.value)
+abbrev pub bare_arguments : Arguments → Arguments
+bare_arguments Closed = Closed
+bare_arguments Open = Open
+bare_arguments (Next from a more) = Next 0 (bare a) (bare_arguments more)
 
 abbrev pub bare_next : {Operator : Type 0} → Operator × Operand → Operator × Operand
 bare_next next = next_with next.0 (bare next.1)
@@ -72,7 +71,7 @@ bare_last (Some a) = Some (bare a)
 
 abbrev pub bare_behind : Behind → Behind
 bare_behind (Test test ps) = Test test (map bare ps)
-bare_behind (Called gs ps) = Called (map bare_given gs) (map bare ps)
+bare_behind (Called gs ps) = Called (bare_arguments gs) (map bare ps)
 bare_behind (Predicates ps) = Predicates (map bare ps)
 
 abbrev pub bare_value : (rule : Rule) → Value rule → Value rule
@@ -99,8 +98,8 @@ bare_value r.NameTail v = bare_behind v
 bare_value r.NodeTest v = v
 bare_value r.KindTail v = v
 bare_value r.PredicateList v = map bare v
-bare_value r.Arguments v = map bare_given v
-bare_value r.ArgumentsTail v = map bare_given v
+bare_value r.Arguments v = bare_arguments v
+bare_value r.ArgumentsTail v = bare_arguments v
 bare_value r.VarName v = v
 bare_value r.PlainName v = v
 bare_value _ v = bare v
@@ -186,32 +185,62 @@ bare_filtered a (b ∷ l) =
     same (ap (λ (ts : List Tree). node tree.Filter (a.tree ∷ b.tree ∷ ts)) (sym (trees_bare l)))
     (joined a.names (b.names ++ names_of l) (sym (joined b.names (names_of l) (names_bare l))))
 
-values_bare : (gs : List Given) → trees_of (values_of (map bare_given gs)) ≡ trees_of (values_of gs)
-values_bare [] = refl
-values_bare (g ∷ gs) = ap (λ (ts : List Tree). g.value.tree ∷ ts) (values_bare gs)
+arguments_bare : (gs : Arguments) → trees_of (arguments_in (bare_arguments gs)) ≡ trees_of (arguments_in gs)
+arguments_bare Closed = refl
+arguments_bare Open = refl
+arguments_bare (Next from a more) = ap (λ (ts : List Tree). a.tree ∷ ts) (arguments_bare more)
 
-count_bare : (gs : List Given) → length (map bare_given gs) ≡ length gs
-count_bare [] = refl
-count_bare (g ∷ gs) = ap suc (count_bare gs)
+count_bare : (gs : Arguments) → length (arguments_in (bare_arguments gs)) ≡ length (arguments_in gs)
+count_bare Closed = refl
+count_bare Open = refl
+count_bare (Next from a more) = ap suc (count_bare more)
 
-roles_bare : (roles : List Role) (gs : List Given) → in_roles roles (map bare_given gs) ≡ map unplaced (in_roles roles gs)
-roles_bare [] [] = refl
-roles_bare (role ∷ roles) [] = refl
-roles_bare [] (g ∷ gs) = sym (joined g.value.names (in_roles [] gs) (roles_bare [] gs))
-roles_bare (role ∷ roles) (g ∷ gs) =
-    ap (λ (ms : List Mention). mention.Argument role g.value.written 0 ∷ ms) (sym (joined g.value.names (in_roles roles gs) (roles_bare roles gs)))
+closed_bare : (gs : Arguments) → is_closed (bare_arguments gs) ≡ is_closed gs
+closed_bare Closed = refl
+closed_bare Open = refl
+closed_bare (Next from a more) = closed_bare more
+
+judged_bare : (more : Arguments) (m : Mention) → judged (bare_arguments more) (unplaced m) ≡ map unplaced (judged more m)
+judged_bare Closed m = refl
+judged_bare Open m = refl
+judged_bare (Next from a more) m = refl
+
+roles_bare : (roles : List Role) (gs : Arguments) → in_roles roles (bare_arguments gs) ≡ map unplaced (in_roles roles gs)
+roles_bare [] Closed = refl
+roles_bare (role ∷ roles) Closed = refl
+roles_bare [] Open = refl
+roles_bare (role ∷ roles) Open = refl
+roles_bare [] (Next from a more) = sym (joined a.names (in_roles [] more) (roles_bare [] more))
+roles_bare (role ∷ roles) (Next from a more) =
+    let argument = mention.Argument role a.written from in
+    ap (λ (ms : List Mention). ms ++ (map unplaced a.names ++ in_roles roles (bare_arguments more))) (judged_bare more argument)
+    ∙ sym (joined (judged more argument) (a.names ++ in_roles roles more) (sym (joined a.names (in_roles roles more) (roles_bare roles more))))
+
+told_unplaced : (closed : Bool) (callee : Option Callee) (m : Mention) → map unplaced (told closed callee m) ≡ told closed callee (unplaced m)
+told_unplaced true callee m = refl
+told_unplaced false None m = refl
+told_unplaced false (Some callee) m = refl
+
+told_bare : (name : List ℕ) (from : ℕ) (gs : Arguments) → map unplaced (told (is_closed gs) (callee_of name) (mention.Call name (length (arguments_in gs)) from)) ≡
+    told (is_closed (bare_arguments gs)) (callee_of name) (mention.Call name (length (arguments_in (bare_arguments gs))) 0)
+told_bare name from gs =
+    told_unplaced (is_closed gs) (callee_of name) (mention.Call name (length (arguments_in gs)) from)
+    ∙ ap (λ (closed : Bool). told closed (callee_of name) (mention.Call name (length (arguments_in gs)) 0)) (sym (closed_bare gs))
+    ∙ ap (λ (n : ℕ). told (is_closed (bare_arguments gs)) (callee_of name) (mention.Call name n 0)) (sym (count_bare gs))
 
 -- a call without the offset of its name
-abbrev call_bare : List ℕ → List Given → List Operand → Operand
-call_bare name gs ps = call name 0 (map bare_given gs) (map bare ps)
+abbrev call_bare : List ℕ → Arguments → List Operand → Operand
+call_bare name gs ps = call name 0 (bare_arguments gs) (map bare ps)
 
-bare_call : (name : List ℕ) (from : ℕ) (gs : List Given) (ps : List Operand) → bare (call name from gs ps) ≡ call_bare name gs ps
+bare_call : (name : List ℕ) (from : ℕ) (gs : Arguments) (ps : List Operand) → bare (call name from gs ps) ≡ call_bare name gs ps
 bare_call name from gs ps =
+    let behind = in_roles (roles_named name) gs ++ names_of ps in
     same
-    (ap (λ (ts : List Tree). value.filtered (value.called (callee_of name) ts) (trees_of ps)) (sym (values_bare gs))
-    ∙ ap (λ (ts : List Tree). value.filtered (value.called (callee_of name) (trees_of (values_of (map bare_given gs)))) ts) (sym (trees_bare ps)))
-    (ap (λ (n : ℕ). mention.Call name n 0 ∷ map unplaced (in_roles (roles_named name) gs ++ names_of ps)) (sym (count_bare gs))
-    ∙ ap (λ (ms : List Mention). mention.Call name (length (map bare_given gs)) 0 ∷ ms)
+    (ap (λ (ts : List Tree). forms.filtered (forms.called (callee_of name) ts) (trees_of ps)) (sym (arguments_bare gs))
+    ∙ ap (λ (ts : List Tree). forms.filtered (forms.called (callee_of name) (trees_of (arguments_in (bare_arguments gs)))) ts) (sym (trees_bare ps)))
+    (map-append unplaced (told (is_closed gs) (callee_of name) (mention.Call name (length (arguments_in gs)) from)) behind
+    ∙ ap (λ (ms : List Mention). ms ++ map unplaced behind) (told_bare name from gs)
+    ∙ ap (λ (ms : List Mention). told (is_closed (bare_arguments gs)) (callee_of name) (mention.Call name (length (arguments_in (bare_arguments gs))) 0) ++ ms)
     (joined (in_roles (roles_named name) gs) (names_of ps) (names_bare ps)
     ∙ ap (λ (ms : List Mention). ms ++ names_of (map bare ps)) (sym (roles_bare (roles_named name) gs))))
 
@@ -222,9 +251,9 @@ bare_named name (Called gs ps) = call name 0 gs ps
 bare_named name (Predicates ps) = child_step (tests.Name name) ps
 
 bare_named_is : (xs : List Lexed) (name : List ℕ) (b : Behind) → bare (named xs name b) ≡ bare_named name (bare_behind b)
-bare_named_is xs name (Test test ps) = bare_with (λ ts. value.along (axis_of name) test ts) ps
+bare_named_is xs name (Test test ps) = bare_with (λ ts. forms.along (axis_of name) test ts) ps
 bare_named_is xs name (Called gs ps) = bare_call name (first_from xs) gs ps
-bare_named_is xs name (Predicates ps) = bare_with (λ ts. value.child_step (tests.Name name) ts) ps
+bare_named_is xs name (Predicates ps) = bare_with (λ ts. forms.child_step (tests.Name name) ts) ps
 
 -- ---- what is made of things that agree agrees
 
@@ -294,7 +323,7 @@ pub attribute_agree : (t u : NodeTest) (l m : List Operand) → t ≡ u → map 
 attribute_agree t u l m e d = ap (λ (z : NodeTest). bare (attribute_step z l)) e ∙ with_agree (λ ts. node (tree.AttributeStep u) ts) l m d
 
 pub child_agree : (t u : NodeTest) (l m : List Operand) → t ≡ u → map bare l ≡ map bare m → bare (child_step t l) ≡ bare (child_step u m)
-child_agree t u l m e d = ap (λ (z : NodeTest). bare (child_step z l)) e ∙ with_agree (λ ts. value.child_step u ts) l m d
+child_agree t u l m e d = ap (λ (z : NodeTest). bare (child_step z l)) e ∙ with_agree (λ ts. forms.child_step u ts) l m d
 
 pub step_agree : (axis : Axis) (t : NodeTest) (l m : List Operand) → map bare l ≡ map bare m → bare (step axis t l) ≡ bare (step axis t m)
 step_agree axis t = with_agree (λ ts. node (tree.Step axis t) ts)
@@ -309,15 +338,15 @@ named_agree xs ys v w b c e d =
 pub test_agree : (t u : NodeTest) (l m : List Operand) → t ≡ u → map bare l ≡ map bare m → bare_behind (Test t l) ≡ bare_behind (Test u m)
 test_agree t u l m e d = ap (λ (z : NodeTest). Test z (map bare l)) e ∙ ap (λ (z : List Operand). Test u z) d
 
-pub called_agree : (gs hs : List Given) (l m : List Operand) → map bare_given gs ≡ map bare_given hs → map bare l ≡ map bare m → bare_behind (Called gs l) ≡ bare_behind (Called hs m)
-called_agree gs hs l m e d = ap (λ (z : List Given). Called z (map bare l)) e ∙ ap (λ (z : List Operand). Called (map bare_given hs) z) d
+pub called_agree : (gs hs : Arguments) (l m : List Operand) → bare_arguments gs ≡ bare_arguments hs → map bare l ≡ map bare m → bare_behind (Called gs l) ≡ bare_behind (Called hs m)
+called_agree gs hs l m e d = ap (λ (z : Arguments). Called z (map bare l)) e ∙ ap (λ (z : List Operand). Called (bare_arguments hs) z) d
 
 pub predicates_agree : (l m : List Operand) → map bare l ≡ map bare m → bare_behind (Predicates l) ≡ bare_behind (Predicates m)
 predicates_agree l m d = ap Predicates d
 
-pub given_agree : (xs ys : List Lexed) (a b : Operand) (l m : List Given) → bare a ≡ bare b → map bare_given l ≡ map bare_given m
-    → map bare_given (given xs a ∷ l) ≡ map bare_given (given ys b ∷ m)
-given_agree xs ys a b l m e d = cons_agree bare_given (given xs a) (given ys b) l m (ap (given_at 0) e) d
+pub argument_agree : (xs ys : List Lexed) (a b : Operand) (gs hs : Arguments) → bare a ≡ bare b → bare_arguments gs ≡ bare_arguments hs
+    → bare_arguments (Next (first_from xs) a gs) ≡ bare_arguments (Next (first_from ys) b hs)
+argument_agree xs ys a b gs hs e d = ap (λ (z : Operand). Next 0 z (bare_arguments gs)) e ∙ ap (λ (z : Arguments). Next 0 (bare b) z) d
 
 pub integer_agree : (xs ys : List Lexed) → first_text xs ≡ first_text ys → bare (integer_literal xs) ≡ bare (integer_literal ys)
 integer_agree xs ys e = ap (λ (z : List ℕ). operand_with (alone (tree.Integer (integer_of z))) written.Number []) e

@@ -12,14 +12,16 @@ use Rattle.pj_xgrammar.specs.declared.terminal.Behind.TheVariants as b
 use Rattle.pj_xgrammar.specs.Terminals.{first_behind, begins_step}
 use Rattle.pj_xsyntax_laws.specs.Spaced.{Word, word, literal, placed}
 use Rattle.pj_xvalue.specs.Expressions.{Scope, Written, Literal, Number, Name, Other}
-use Rattle.pj_xmeaning.specs.Trees as tree
-use Rattle.pj_xmeaning.specs.Trees.{Tree, Trees, Node, NoMore, More}
+use Rattle.pj_xvalue.specs.Trees as tree
+use Rattle.pj_xvalue.specs.Trees.{Tree, Trees, Node, NoMore, More}
 use Rattle.pj_xmeaning.specs.Parts.{One, expressions}
-use Rattle.pj_xmeaning.specs.Values.{filtered}
+use Rattle.pj_xmeaning.specs.Steps.{filtered}
 use Rattle.pj_xnames.specs.Faults.{is_bound}
 use Rattle.pj_xnames.specs.Mentions as mention
 use Rattle.pj_xnames.specs.Namings as naming
-use Rattle.pj_xnames.specs.Namings.{Operand, first_from, mentions_of, primary, is_parenthesis}
+use Rattle.pj_xtokens.specs.First as front
+use Rattle.pj_xnames.specs.Namings.{Operand, mentions_of, primary}
+use Rattle.pj_xtokens.specs.First.{first_from, is_parenthesis}
 use Rattle.pj_xshape.specs.Shapes.{part_of_tree}
 use Rattle.pj_xshape.specs.Spelled.{IsText, IsInteger}
 use Rattle.pj_xshape.specs.Nesting as nesting
@@ -73,7 +75,7 @@ filter_reads scope first t ts rf rs = record {
 -- ---- literals and variables
 
 -- what a primary expression names with its predicates, where it does not begin with a parenthesis
-with_predicates : {scope : Scope} {written : Written} {ts : List Tree} {os : List Operand} (tokens : List Lexed) (x : Operand) → naming.begins_with_parenthesis tokens ≡ false → Names scope written x → AllNames scope ts os
+with_predicates : {scope : Scope} {written : Written} {ts : List Tree} {os : List Operand} (tokens : List Lexed) (x : Operand) → front.begins_with_parenthesis tokens ≡ false → Names scope written x → AllNames scope ts os
     → (y : Operand) × (primary tokens (naming.One x) (whole os) ≡ naming.One y) × Names scope (written_with written ts) y
 with_predicates tokens x e n no_names = (
   operand_at (first_from tokens) x.written x.mentions,

@@ -3,26 +3,26 @@ use Rattle.std.proofs.Common.{◌≡◌, ℕ, List, [], ◌∷◌, Some, refl}
 use Rattle.std.specs.Prelude.{slice_get}
 use Rattle.pj_ll.specs.declared.grammar.Symbol.{Symbol}
 use Rattle.pj_ll.specs.declared.grammar.Symbol.TheVariants.{Terminal, Rule, Close}
-use Rattle.pj_xvalue.specs.declared.operator.Compare.TheVariants as compare
-use Rattle.pj_xvalue.specs.declared.expr.Additive.TheVariants as sum
-use Rattle.pj_xvalue.specs.declared.expr.Multiplicative.TheVariants as product
-use Rattle.pj_xvalue.specs.declared.expr.SetOperator.TheVariants as set
-use Rattle.pj_xvalue.specs.declared.expr.Sign.TheVariants as signed
-use Rattle.pj_xvalue.specs.declared.expr.Quantifier.TheVariants as quantifier
+use Rattle.pj_xoperators.specs.declared.operator.Compare.TheVariants as compare
+use Rattle.pj_xoperators.specs.declared.operator.Additive.TheVariants as sum
+use Rattle.pj_xoperators.specs.declared.operator.Multiplicative.TheVariants as product
+use Rattle.pj_xoperators.specs.declared.operator.SetOperator.TheVariants as set
+use Rattle.pj_xoperators.specs.declared.operator.Sign.TheVariants as signed
+use Rattle.pj_xoperators.specs.declared.operator.Quantifier.TheVariants as quantifier
 use Rattle.pj_xgrammar.specs.XPath.{xpath, rules, xpath_grammar}
-use Rattle.pj_xmeaning.specs.Actions.{actions, actions_of}
-use Rattle.pj_xmeaning.specs.Meaning.{action_of}
-use Rattle.pj_xmeaning.specs.declared.action.Action.{Action}
-use Rattle.pj_xmeaning.specs.declared.action.Action.TheVariants as action
-use Rattle.pj_xmeaning.specs.declared.action.Leaf.TheVariants as leaf
-use Rattle.pj_xmeaning.specs.declared.action.Kind.TheVariants as kind
-use Rattle.pj_xmeaning.specs.declared.action.Change.TheVariants as change
-use Rattle.pj_xmeaning.specs.declared.action.Single.TheVariants as single
-use Rattle.pj_xmeaning.specs.declared.action.Rest.TheVariants as rest
-use Rattle.pj_xmeaning.specs.declared.action.Chain.TheVariants as chain
-use Rattle.pj_xmeaning.specs.declared.action.Operation.TheVariants as operation
-use Rattle.pj_xmeaning.specs.declared.action.Binder.TheVariants as binder
-use Rattle.pj_xmeaning.specs.declared.action.Step.TheVariants as step
+use Rattle.pj_xgrammar.specs.Actions.{actions, actions_of}
+use Rattle.pj_xgrammar.specs.Beginnings.{action_of}
+use Rattle.pj_xgrammar.specs.declared.action.Action.{Action}
+use Rattle.pj_xgrammar.specs.declared.action.Action.TheVariants as action
+use Rattle.pj_xgrammar.specs.declared.action.Leaf.TheVariants as leaf
+use Rattle.pj_xgrammar.specs.declared.action.Kind.TheVariants as kind
+use Rattle.pj_xgrammar.specs.declared.action.Change.TheVariants as change
+use Rattle.pj_xgrammar.specs.declared.action.Single.TheVariants as single
+use Rattle.pj_xgrammar.specs.declared.action.Rest.TheVariants as rest
+use Rattle.pj_xgrammar.specs.declared.action.Chain.TheVariants as chain
+use Rattle.pj_xgrammar.specs.declared.action.Operation.TheVariants as operation
+use Rattle.pj_xgrammar.specs.declared.action.Binder.TheVariants as binder
+use Rattle.pj_xgrammar.specs.declared.action.Step.TheVariants as step
 
 -- production p is that of rule n to these symbols, with this action
 pub record Production (p n : ℕ) (ss : List Symbol) (a : Action) : Type 0 where

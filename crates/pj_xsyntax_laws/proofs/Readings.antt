@@ -6,9 +6,9 @@ use Rattle.pj_xgrammar.specs.declared.terminal.Behind.TheVariants as b
 use Rattle.pj_xgrammar.specs.Terminals.{first_behind, begins_step}
 use Rattle.pj_xsyntax_laws.specs.Spaced.{Word, placed}
 use Rattle.pj_xvalue.specs.Expressions.{Scope, Written, Other}
-use Rattle.pj_xmeaning.specs.Trees.{Tree, Trees, NoMore, More, trees}
+use Rattle.pj_xvalue.specs.Trees.{Tree, Trees, NoMore, More, trees}
 use Rattle.pj_xmeaning.specs.Parts.{RuleValue, Nothing, One, Many}
-use Rattle.pj_xmeaning.specs.Values.{filtered}
+use Rattle.pj_xmeaning.specs.Steps.{filtered}
 use Rattle.pj_xnames.specs.Mentions.{Mention}
 use Rattle.pj_xnames.specs.Namings as naming
 use Rattle.pj_xnames.specs.Namings.{Naming, Operand}

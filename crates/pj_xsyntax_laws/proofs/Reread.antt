@@ -8,11 +8,11 @@ use Rattle.pj_xtokens.specs.Gaps.{here}
 use Rattle.pj_xtokens.specs.Size.{size}
 use Rattle.pj_xtokens.specs.Tokens.{Lexed, Tokens}
 use Rattle.pj_xtokens.specs.declared.token.End.{End}
-use Rattle.pj_xgrammar.specs.Expressions.{AreClear, AreDerived}
+use Rattle.pj_xderive.specs.Expressions.{AreClear, AreDerived}
 use Rattle.pj_xsyntax_laws.specs.Spaced.{placed, spaced}
 use Rattle.pj_xsyntax_laws.proofs.Placing.{tokens_from}
 use Rattle.pj_xvalue.specs.Expressions.{Scope}
-use Rattle.pj_xmeaning.specs.Trees.{Tree}
+use Rattle.pj_xvalue.specs.Trees.{Tree}
 use Rattle.pj_xmeaning.specs.Meaning.{meaning}
 use Rattle.pj_xmeaning.specs.Parts.{RuleValue, One, expression}
 use Rattle.pj_xnames.specs.Faults.{first_fault, first_fault_from}
@@ -22,6 +22,7 @@ use Rattle.pj_xnames.specs.Namings.{Naming, mentions_of}
 use Rattle.pj_xnames.specs.Namings as naming
 use Rattle.pj_xparse.specs.Derived.{Derived}
 use Rattle.pj_xparse.specs.Operands.{Operand}
+use Rattle.pj_xparse.specs.Reach.{All}
 use Rattle.pj_xparse.specs.Reads.{AreRead}
 use Rattle.pj_xparse.specs.WellSpelled.{AreWellSpelled}
 use Rattle.pj_xparse.specs.Spells.{Spells}
@@ -37,10 +38,10 @@ use Rattle.pj_xsyntax_laws.proofs.WordKinds.{SpelledAreTold, ToldAreSpelled}
 
 -- what is derived rule by rule is derived from the left, means and names the same, and is what the tokens read; and the scanner follows the rules of tokens
 pub record TreesAreRead : Type 0 where
-  pub derived : (tokens : List Lexed) (productions : List ℕ) (v : RuleValue) (w : Naming) → Derived 0 [] 0 tokens productions v w → AreDerived tokens productions
-  pub clear : (tokens : List Lexed) (productions : List ℕ) (v : RuleValue) (w : Naming) → Derived 0 [] 0 tokens productions v w → AreClear tokens (length tokens + 1)
-  pub value : (tokens : List Lexed) (productions : List ℕ) (v : RuleValue) (w : Naming) → Derived 0 [] 0 tokens productions v w → meaning productions tokens ≡ expression v
-  pub names : (tokens : List Lexed) (productions : List ℕ) (v : RuleValue) (w : Naming) → Derived 0 [] 0 tokens productions v w → mentions productions tokens ≡ mentions_of w
+  pub derived : (tokens : List Lexed) (productions : List ℕ) (v : RuleValue) (w : Naming) → Derived All 0 [] 0 tokens productions v w → AreDerived tokens productions
+  pub clear : (tokens : List Lexed) (productions : List ℕ) (v : RuleValue) (w : Naming) → Derived All 0 [] 0 tokens productions v w → AreClear tokens (length tokens + 1)
+  pub value : (tokens : List Lexed) (productions : List ℕ) (v : RuleValue) (w : Naming) → Derived All 0 [] 0 tokens productions v w → meaning productions tokens ≡ expression v
+  pub names : (tokens : List Lexed) (productions : List ℕ) (v : RuleValue) (w : Naming) → Derived All 0 [] 0 tokens productions v w → mentions productions tokens ≡ mentions_of w
   pub read : (tokens : List Lexed) (productions : List ℕ) → AreDerived tokens productions → AreClear tokens (length tokens + 1) →
       (a : Operand) × AreRead tokens a × (meaning productions tokens ≡ a.tree) × (mentions productions tokens ≡ a.names)
   pub told : SpelledAreTold
@@ -51,11 +52,11 @@ pub record ReadingsAreTrees : Type 0 where
   pub derived : (tokens : List Lexed) (a : Operand) → AreRead tokens a →
       (productions : List ℕ) × AreDerived tokens productions × AreClear tokens (length tokens + 1) × (meaning productions tokens ≡ a.tree) × (mentions productions tokens ≡ a.names)
   pub trees : (tokens : List Lexed) (productions : List ℕ) → AreDerived tokens productions → AreClear tokens (length tokens + 1) →
-      (v : RuleValue) × ((w : Naming) × Derived 0 [] 0 tokens productions v w × (meaning productions tokens ≡ expression v) × (mentions productions tokens ≡ mentions_of w))
-  pub fit : (tokens : List Lexed) (productions : List ℕ) (v : RuleValue) (w : Naming) (variables : List (List ℕ)) → Derived 0 [] 0 tokens productions v w →
+      (v : RuleValue) × ((w : Naming) × Derived All 0 [] 0 tokens productions v w × (meaning productions tokens ≡ expression v) × (mentions productions tokens ≡ mentions_of w))
+  pub fit : (tokens : List Lexed) (productions : List ℕ) (v : RuleValue) (w : Naming) (variables : List (List ℕ)) → Derived All 0 [] 0 tokens productions v w →
       first_fault variables (mentions_of w) ≡ None → IsTrue ((part_of_tree (expression v)).fits (record { given = variables; bound = [] }))
-  pub nest : (tokens : List Lexed) (productions : List ℕ) (v : RuleValue) (w : Naming) → Derived 0 [] 0 tokens productions v w → nesting_of_tree (expression v) ≤ 200
-  pub spelled : (tokens : List Lexed) (productions : List ℕ) (v : RuleValue) (w : Naming) → AreWellSpelled tokens → Derived 0 [] 0 tokens productions v w → IsSpelled (expression v)
+  pub nest : (tokens : List Lexed) (productions : List ℕ) (v : RuleValue) (w : Naming) → Derived All 0 [] 0 tokens productions v w → nesting_of_tree (expression v) ≤ 200
+  pub spelled : (tokens : List Lexed) (productions : List ℕ) (v : RuleValue) (w : Naming) → AreWellSpelled tokens → Derived All 0 [] 0 tokens productions v w → IsSpelled (expression v)
   pub tokens_spelled : (total : ℕ) (text : List ℕ) (tokens : List Lexed) (end : End) → IsTrue (all_scalars text) → Tokens total text tokens end → AreWellSpelled tokens
 
 abbrev whole_scope : List (List ℕ) → Scope

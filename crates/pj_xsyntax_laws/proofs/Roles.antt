@@ -6,7 +6,7 @@ use Rattle.pj_xvalue.specs.declared.function.Function.{Function}
 use Rattle.pj_xvalue.specs.declared.function.Function.TheVariants as f
 use Rattle.pj_xvalue.specs.Functions.{takes}
 use Rattle.pj_xvalue.specs.Expressions.{Scope, Written, arguments_fit}
-use Rattle.pj_xmeaning.specs.Trees.{Tree}
+use Rattle.pj_xvalue.specs.Trees.{Tree}
 use Rattle.pj_xnames.specs.Faults.{fits_role}
 use Rattle.pj_xnames.specs.Mentions.{roles_of}
 use Rattle.pj_xnames.specs.Namings.{Operand, in_roles}

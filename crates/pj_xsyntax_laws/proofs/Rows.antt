@@ -8,11 +8,11 @@ use Rattle.pj_xgrammar.specs.declared.terminal.Behind.TheVariants as b
 use Rattle.pj_xgrammar.specs.Terminals.{first_behind, behind_of}
 use Rattle.pj_xsyntax_laws.specs.Spaced.{Word, placed}
 use Rattle.pj_xvalue.specs.Expressions.{Scope}
-use Rattle.pj_xmeaning.specs.Trees.{Tree, Trees, More}
+use Rattle.pj_xvalue.specs.Trees.{Tree, Trees, More}
 use Rattle.pj_xmeaning.specs.Parts.{Many}
-use Rattle.pj_xmeaning.specs.declared.action.Action.TheVariants as action
-use Rattle.pj_xmeaning.specs.declared.action.Leaf.TheVariants as leaf
-use Rattle.pj_xmeaning.specs.declared.action.Rest.TheVariants as rest
+use Rattle.pj_xgrammar.specs.declared.action.Action.TheVariants as action
+use Rattle.pj_xgrammar.specs.declared.action.Leaf.TheVariants as leaf
+use Rattle.pj_xgrammar.specs.declared.action.Rest.TheVariants as rest
 use Rattle.pj_xparse.specs.Derived.{IsRead}
 use Rattle.pj_xshape.specs.Nesting.{operand_before, nested_of, nested_each, chain_before}
 use Rattle.pj_xsyntax_laws.specs.Printed.{operand, chain, joined, printed_of, printed_each, comma}

@@ -9,7 +9,7 @@ use Rattle.pj_ll.specs.Outcome as ll
 use Rattle.pj_xtokens.specs.Tokens.{Lexed}
 use Rattle.pj_xgrammar.specs.declared.terminal.Behind as other
 use Rattle.pj_xgrammar.specs.declared.terminal.Behind.TheVariants as b
-use Rattle.pj_xgrammar.specs.Expressions.{place_of}
+use Rattle.pj_xderive.specs.Expressions.{place_of}
 use Rattle.pj_xgrammar.specs.Terminals.{numbers, numbers_before}
 use Rattle.pj_xgrammar.specs.XPath.{xpath_grammar}
 use Rattle.pj_xnames.specs.Namings.{Naming, top, mentions_of}

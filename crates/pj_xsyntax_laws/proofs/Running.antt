@@ -7,11 +7,12 @@ use Rattle.pj_ll.specs.Grammar.{Line}
 use Rattle.pj_ll.specs.Leads.{Leads, stay, take_terminal, close, expand}
 use Rattle.pj_xtokens.specs.Tokens.{Lexed}
 use Rattle.pj_xgrammar.specs.XPath.{xpath_grammar}
-use Rattle.pj_xmeaning.specs.Slots.{slots, slots_in, production_slots}
-use Rattle.pj_xmeaning.specs.Meaning.{Beginning, beginnings, action_of}
-use Rattle.pj_xmeaning.specs.declared.form.Slot.{Slot}
-use Rattle.pj_xmeaning.specs.declared.form.Slot.TheVariants as slot
-use Rattle.pj_xnames.specs.Namings.{first_from, acted}
+use Rattle.pj_xgrammar.specs.Slots.{slots, slots_in, production_slots}
+use Rattle.pj_xgrammar.specs.Beginnings.{Beginning, beginnings, action_of}
+use Rattle.pj_xgrammar.specs.declared.form.Slot.{Slot}
+use Rattle.pj_xgrammar.specs.declared.form.Slot.TheVariants as slot
+use Rattle.pj_xnames.specs.Namings.{acted}
+use Rattle.pj_xtokens.specs.First.{first_from}
 use Rattle.pj_xnames.specs.Meaning.{namings}
 use Rattle.pj_xsyntax_laws.proofs.Filling as filling
 use Rattle.pj_xsyntax_laws.proofs.Filling.{Fills, done, stopped, token, filled}

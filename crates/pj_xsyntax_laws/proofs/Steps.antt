@@ -19,10 +19,10 @@ use Rattle.pj_xvalue.specs.declared.expr.NodeTest.{NodeTest}
 use Rattle.pj_xvalue.specs.declared.expr.NodeTest.TheVariants as tests
 use Rattle.pj_xvalue.specs.Expressions.{Scope, Other}
 use Rattle.pj_xvalue.specs.Names.{axis_of}
-use Rattle.pj_xmeaning.specs.Trees as tree
-use Rattle.pj_xmeaning.specs.Trees.{Tree, Trees, Node, NoMore, More, node}
+use Rattle.pj_xvalue.specs.Trees as tree
+use Rattle.pj_xvalue.specs.Trees.{Tree, Trees, Node, NoMore, More, node}
 use Rattle.pj_xmeaning.specs.Parts.{One, Many, expressions}
-use Rattle.pj_xmeaning.specs.Values.{along}
+use Rattle.pj_xmeaning.specs.Steps.{along}
 use Rattle.pj_xnames.specs.Namings as naming
 use Rattle.pj_xnames.specs.Namings.{mentions_of}
 use Rattle.pj_xparse.specs.Derived.{IsRead}
@@ -61,8 +61,8 @@ predicates_read _ (more_parts {t = t} {ts = ts} r rs) around from behind h =
     let derived = ruled p.predicates_more (f-token opening 8 refl (omega (arith, i)) (f-rule inside.derived (f-close (f-token closing 9 refl (omega (arith, i)) (f-rule rest.derived f-none (sym (append-nil us))))) refl)) in
     record {
       operands = inside.operand ∷ rest.operands;
-      derived = subst (λ w. Ruled around behind 45 from (opening ∷ (ws ++ closing ∷ us)) (Many (t ∷ list_of ts)) w) {x = naming.Many (inside.operand ∷ naming.operands_of (whole rest.operands)) (naming.extent_from (naming.One inside.operand) (whole rest.operands))} (further-whole inside.operand rest.operands)
-          (subst (λ l. Ruled around behind 45 from (opening ∷ (ws ++ closing ∷ us)) (Many (t ∷ l)) (naming.Many (inside.operand ∷ naming.operands_of (whole rest.operands)) (naming.extent_from (naming.One inside.operand) (whole rest.operands)))) (expressions-many (list_of ts)) derived);
+      derived = subst (λ w. Ruled around behind 45 from (opening ∷ (ws ++ closing ∷ us)) (Many (t ∷ list_of ts)) w) {x = naming.Many (inside.operand ∷ naming.operands_of (whole rest.operands)) (naming.extent_of (whole rest.operands))} (further-whole inside.operand rest.operands)
+          (subst (λ l. Ruled around behind 45 from (opening ∷ (ws ++ closing ∷ us)) (Many (t ∷ l)) (naming.Many (inside.operand ∷ naming.operands_of (whole rest.operands)) (naming.extent_of (whole rest.operands)))) (expressions-many (list_of ts)) derived);
       names = more_names inside.names rest.names;
     }
 

@@ -8,12 +8,12 @@ use Rattle.pj_xgrammar.specs.declared.terminal.Behind.TheVariants as b
 use Rattle.pj_xgrammar.specs.Terminals.{first_behind, behind_of}
 use Rattle.pj_xsyntax_laws.specs.Spaced.{Word, placed}
 use Rattle.pj_xvalue.specs.Expressions.{Scope}
-use Rattle.pj_xmeaning.specs.Trees.{Tree, Trees, NoMore, More}
+use Rattle.pj_xvalue.specs.Trees.{Tree, Trees, NoMore, More}
 use Rattle.pj_xmeaning.specs.Parts.{RuleValue, Nothing, One}
 use Rattle.pj_xmeaning.specs.Values.{rest_value}
-use Rattle.pj_xmeaning.specs.declared.action.Action.TheVariants as action
-use Rattle.pj_xmeaning.specs.declared.action.Leaf.TheVariants as leaf
-use Rattle.pj_xmeaning.specs.declared.action.Rest.{Rest}
+use Rattle.pj_xgrammar.specs.declared.action.Action.TheVariants as action
+use Rattle.pj_xgrammar.specs.declared.action.Leaf.TheVariants as leaf
+use Rattle.pj_xgrammar.specs.declared.action.Rest.{Rest}
 use Rattle.pj_xnames.specs.Namings as naming
 use Rattle.pj_xnames.specs.Namings.{Operand, rest_naming}
 use Rattle.pj_xnames.specs.declared.part.Extent.TheVariants as extent

@@ -8,7 +8,7 @@ use Rattle.pj_xtokens.specs.declared.token.Sign.TheVariants as s
 use Rattle.pj_xtokens.specs.declared.token.TokenKind.TheVariants as kind
 use Rattle.pj_xgrammar.specs.declared.terminal.Behind.TheVariants as b
 use Rattle.pj_xgrammar.specs.Terminals.{first_behind, begins_step}
-use Rattle.pj_xmeaning.specs.Literals.{string_of}
+use Rattle.pj_xtokens.specs.Literals.{string_of}
 
 -- the token of a sign, and of a name, at an offset
 abbrev pub sign : Sign → String → ℕ → Lexed

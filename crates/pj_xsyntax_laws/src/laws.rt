@@ -14,7 +14,7 @@ ghost use Rattle.pj_xtokens.specs.declared.token.TokenKind.TheVariants as kinds;
 ghost use Rattle.pj_xsyntax_laws.specs.Spaced.{AreSpelled, Word, literal, placed, spaced};
 ghost use Rattle.pj_ll.specs.declared.parser.End as outcome;
 ghost use Rattle.pj_xtokens.specs.declared.token.End.{End};
-ghost use Rattle.pj_xgrammar.specs.Expressions.{IsOutcome, IsRun, place_of};
+ghost use Rattle.pj_xderive.specs.Expressions.{IsOutcome, IsRun, place_of};
 ghost use Rattle.pj_xnames.specs.Faults.{Fault, first_fault};
 ghost use Rattle.pj_xnames.specs.Meaning.{mentions};
 ghost use Rattle.pj_xnames.specs.Mentions.{Mention};
@@ -26,9 +26,11 @@ ghost use Rattle.pj_xvalue.specs.declared.function.Function.{Function};
 ghost use Rattle.pj_xgrammar.specs.Notation.{t};
 ghost use Rattle.pj_xgrammar.specs.declared.rule.Rule.TheVariants as r;
 ghost use Rattle.pj_xvalue.specs.Names.{callee_of};
-ghost use Rattle.pj_xmeaning.specs.Trees.{Tree};
+ghost use Rattle.pj_xvalue.specs.Trees.{Tree};
 ghost use Rattle.pj_xvalue.specs.declared.name.Callee.TheVariants as callee;
+ghost use Rattle.pj_xparse.specs.Faults.{SaySoFar};
 ghost use Rattle.pj_xparse.specs.Operands.{Operand, child_step, other};
+ghost use Rattle.pj_xparse.specs.Reach as reach;
 ghost use Rattle.pj_xparse.specs.Reads.{Reads, Takes};
 ghost use Rattle.pj_xparse.specs.Spells.{Spells};
 ghost use Rattle.pj_xshape.specs.Nesting.{nesting_of_tree};
@@ -38,10 +40,10 @@ ghost use Rattle.pj_xsyntax_laws.specs.Abbreviations.{WrittenOut, along_child, s
 ghost use Rattle.pj_xsyntax_laws.specs.Gapped.{ArePieces, IsGap, Piece, gapped, located, words_in};
 ghost use Rattle.pj_xsyntax_laws.specs.Printed.{function_name, printed};
 
-use pj_xgrammar::runs_end_before_faults;
+use pj_xderive::runs_end_before_faults;
 use pj_xparse::{
     derivations_are_readings, derivations_are_trees, derived_expressions_fit,
-    readings_are_derivations, tokens_are_well_spelled, trees_are_derivations,
+    readings_are_derivations, sayings_are_runs, tokens_are_well_spelled, trees_are_derivations,
 };
 use pj_xtokens::{
     gaps_stand_in_front, scanner_follows_the_rules, tokens_are_not_empty, tokens_are_one,
@@ -70,26 +72,35 @@ pub fn strings_alone_have_spaces()
     ensures { (kind : TokenKind) (text : List ℕ) → lexical.Spells kind text → kind ≢ kinds.String → All (λ c. c ≢ 32) text }
 {}
 
-/// What the tokens of a text name stands in strictly ascending order: by offset, and at one offset an argument before what it names.
+/// What the tokens of a text name stands in strictly ascending order: by offset, and at one offset an argument before what it names. That is so of the
+/// names by which a fault of the text is told, too: those that the tokens say as far as their terminals go.
 pub fn mentions_ascend()
-    ensures { (total : ℕ) (text : List ℕ) (tokens : List Lexed) (end : End) (productions : List ℕ) → Tokens total text tokens end → IsRun tokens productions →
+    ensures runs { (total : ℕ) (text : List ℕ) (tokens : List Lexed) (end : End) (productions : List ℕ) → Tokens total text tokens end → IsRun tokens productions →
         Ascend (positions (mentions productions tokens)) }
+    ensures said { (total : ℕ) (text : List ℕ) (tokens : List Lexed) (end : End) (a : Operand) → Tokens total text tokens end → SaySoFar tokens a → Ascend (positions a.names) }
 {
     gaps_stand_in_front();
+    sayings_are_runs();
     tokens_are_not_empty();
 }
 
 /// What the tokens of a text name stands before the place where the tokens have their fault, and where they have none before the end. So do the
-/// faults of it.
+/// faults of it, and both are so of the names by which a fault of the text is told.
 pub fn names_come_first()
     ensures names { (total : ℕ) (text : List ℕ) (tokens : List Lexed) (end : End) (productions : List ℕ) (fault : outcome.End) → Tokens total text tokens end →
         IsRun tokens productions → IsOutcome tokens fault → AreBelow (offset_at tokens end (place_of tokens fault)) (positions (mentions productions tokens)) }
     ensures faults { (total : ℕ) (text : List ℕ) (tokens : List Lexed) (end : End) (productions : List ℕ) (fault : outcome.End) (variables : List (List ℕ)) (named : Fault) →
         Tokens total text tokens end → IsRun tokens productions → IsOutcome tokens fault → HasFault (given variables) (mentions productions tokens) named →
         (position_of named).from < offset_at tokens end (place_of tokens fault) }
+    ensures said_names { (total : ℕ) (text : List ℕ) (tokens : List Lexed) (end : End) (a : Operand) (fault : outcome.End) → Tokens total text tokens end →
+        SaySoFar tokens a → IsOutcome tokens fault → AreBelow (offset_at tokens end (place_of tokens fault)) (positions a.names) }
+    ensures said_faults { (total : ℕ) (text : List ℕ) (tokens : List Lexed) (end : End) (a : Operand) (fault : outcome.End) (variables : List (List ℕ)) (named : Fault) →
+        Tokens total text tokens end → SaySoFar tokens a → IsOutcome tokens fault → HasFault (given variables) a.names named →
+        (position_of named).from < offset_at tokens end (place_of tokens fault) }
 {
     gaps_stand_in_front();
     runs_end_before_faults();
+    sayings_are_runs();
     tokens_are_not_empty();
 }
 
@@ -100,8 +111,12 @@ pub fn first_fault_is_first()
     ensures first { (total : ℕ) (text : List ℕ) (tokens : List Lexed) (end : End) (productions : List ℕ) (variables : List (List ℕ)) (fault other : Fault) →
         Tokens total text tokens end → IsRun tokens productions → first_fault variables (mentions productions tokens) ≡ Some fault →
         HasFault (given variables) (mentions productions tokens) other → (other ≡ fault) ⊎ IsBefore (position_of fault) (position_of other) }
+    ensures said_first { (total : ℕ) (text : List ℕ) (tokens : List Lexed) (end : End) (a : Operand) (variables : List (List ℕ)) (fault other : Fault) →
+        Tokens total text tokens end → SaySoFar tokens a → first_fault variables a.names ≡ Some fault → HasFault (given variables) a.names other →
+        (other ≡ fault) ⊎ IsBefore (position_of fault) (position_of other) }
 {
     gaps_stand_in_front();
+    sayings_are_runs();
     tokens_are_not_empty();
 }
 
@@ -136,17 +151,17 @@ pub fn abbreviations_stand_for_longer_forms()
     ensures as_deep { (variables : List (List ℕ)) (text other : List ℕ) (tokens others : List Lexed) (tree : Tree) → Tokens (size text) text tokens (ends.Text (size text)) →
         Tokens (size other) other others (ends.Text (size other)) → WrittenOut false [] tokens others → Spells variables text tree → Spells variables other tree }
     ensures with_kind_tests { (variables : List (List ℕ)) (other : List ℕ) (tokens others : List Lexed) (a : Operand) → Tokens (size other) other others (ends.Text (size other)) →
-        WrittenOut true [] tokens others → Reads r.Expr 1 tokens [] a → first_fault variables a.names ≡ None → Spells variables other a.tree }
+        WrittenOut true [] tokens others → Reads reach.All r.Expr 1 tokens [] a → first_fault variables a.names ≡ None → Spells variables other a.tree }
 {
     tokens_are_one();
 }
 
 /// A step without an axis is one along `child`: a test with its predicates is read as the same step with `child::` before it and without (XPath 2.0, 3.2.4).
 pub fn steps_without_axis_are_children()
-    ensures without_axis { (depth : ℕ) (xs ys zs : List Lexed) (test : NodeTest) (predicates : List Operand) → Reads r.NodeTest depth xs ys test → Reads r.PredicateList depth ys zs predicates →
-        Reads r.StepExpr depth xs zs (child_step test predicates) }
-    ensures with_axis { (depth from to : ℕ) (xs ys zs : List Lexed) (test : NodeTest) (predicates : List Operand) → Reads r.NodeTest depth xs ys test → Reads r.PredicateList depth ys zs predicates →
-        Reads r.StepExpr depth (along_child from to xs) zs (child_step test predicates) }
+    ensures without_axis { (depth : ℕ) (xs ys zs : List Lexed) (test : NodeTest) (predicates : List Operand) → Reads reach.All r.NodeTest depth xs ys test → Reads reach.All r.PredicateList depth ys zs predicates →
+        Reads reach.All r.StepExpr depth xs zs (child_step test predicates) }
+    ensures with_axis { (depth from to : ℕ) (xs ys zs : List Lexed) (test : NodeTest) (predicates : List Operand) → Reads reach.All r.NodeTest depth xs ys test → Reads reach.All r.PredicateList depth ys zs predicates →
+        Reads reach.All r.StepExpr depth (along_child from to xs) zs (child_step test predicates) }
 {}
 
 /// Comments change nothing, and neither does white space: of words that each spell a token, with white space and comments before the first one, and
@@ -173,9 +188,9 @@ pub fn prefix_of_functions_is_optional()
 /// Parentheses leave no trace: an expression in parentheses, where one more thing may be open, is read as the expression, but that it is no literal and
 /// no variable alone; and a text whose tokens say an expression where one more thing may be open spells that in parentheses, too.
 pub fn parentheses_leave_no_trace()
-    ensures operands { (depth : ℕ) (xs ys zs us : List Lexed) (a : Operand) → Takes (suc depth) (t "(") xs ys → Reads r.Expr (suc depth) ys zs a → Takes depth (t ")") zs us →
-        Reads r.PrimaryExpr depth xs us (other a.tree a.names) }
+    ensures operands { (depth : ℕ) (xs ys zs us : List Lexed) (a : Operand) → Takes reach.All (suc depth) (t "(") xs ys → Reads reach.All r.Expr (suc depth) ys zs a → Takes reach.All depth (t ")") zs us →
+        Reads reach.All r.PrimaryExpr depth xs us (other a.tree a.names) }
     ensures texts { (variables : List (List ℕ)) (text : List ℕ) (tokens others : List Lexed) (from to : ℕ) (a : Operand) →
         Tokens (size text) text (sign s.LeftParenthesis "(" from ∷ others) (ends.Text (size text)) → WrittenOut false (sign s.RightParenthesis ")" to ∷ []) tokens others →
-        Reads r.Expr 1 tokens [] a → first_fault variables a.names ≡ None → Spells variables text a.tree }
+        Reads reach.All r.Expr 1 tokens [] a → first_fault variables a.names ≡ None → Spells variables text a.tree }
 {}

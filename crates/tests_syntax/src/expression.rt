@@ -5,7 +5,9 @@ use crate::fault_rows::{
     PLACES_2, TOKENS,
 };
 use crate::fixtures::{Table, expect};
-use crate::name_fault_rows::{ARGUMENTS, FUNCTIONS_1, FUNCTIONS_2, VARIABLES_1, VARIABLES_2};
+use crate::name_fault_rows::{
+    ARGUMENTS, BEGINNINGS, FUNCTIONS_1, FUNCTIONS_2, VARIABLES_1, VARIABLES_2,
+};
 use pj_base::{Names, NoMemory, Text};
 use pj_xparse::{XSyntax, parse};
 use std::alloc::{AllocError, Global};
@@ -170,12 +172,13 @@ fn faults(rt: HostRuntime) -> Result<(), Fail> {
 
 #[test]
 fn faults_of_names(rt: HostRuntime) -> Result<(), Fail> {
-    let tables: [Table; 5] = [
+    let tables: [Table; 6] = [
         &FUNCTIONS_1,
         &FUNCTIONS_2,
         &VARIABLES_1,
         &VARIABLES_2,
         &ARGUMENTS,
+        &BEGINNINGS,
     ];
     check_all(rt.alloc(), &tables)
 }

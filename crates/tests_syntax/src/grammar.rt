@@ -9,7 +9,7 @@ use crate::grammar_rows::{
 };
 use pj_base::NoMemory;
 use pj_ll::End;
-use pj_xgrammar::{Parser, derivation};
+use pj_xderive::{Parser, derivation};
 use pj_xtokens::{End as TextEnd, Token, TokenList, tokens};
 use std::alloc::{AllocError, Global};
 use std::fmt::Write;

@@ -8,8 +8,9 @@ use crate::meaning_rows::{
 use crate::printed::is_printed;
 use pj_base::NoMemory;
 use pj_ll::End;
-use pj_xgrammar::{Parser, derivation};
-use pj_xmeaning::{beginnings, meaning};
+use pj_xderive::{Parser, derivation};
+use pj_xgrammar::beginnings;
+use pj_xmeaning::meaning;
 use pj_xtokens::{Token, tokens};
 use std::alloc::Global;
 use std::test::Fail;

@@ -4,8 +4,8 @@
 use crate::expression::variables;
 use crate::fixtures::{Table, expect};
 use pj_base::{Names, NoMemory};
-use pj_xgrammar::{Parser, derivation};
-use pj_xmeaning::beginnings;
+use pj_xderive::{Parser, derivation};
+use pj_xgrammar::beginnings;
 use pj_xnames::{NameFault, first_fault};
 use pj_xtokens::{Token, tokens};
 use std::alloc::{AllocError, Global};

@@ -4,15 +4,17 @@ use Rattle.std.specs.Str.{chars}
 use Rattle.std.proofs.lemmas.List.{length-map}
 use Rattle.pj_xtokens.specs.Answer.{lexed_of}
 use Rattle.pj_xtokens.specs.Tokens.{Lexed}
-use Rattle.pj_xgrammar.specs.Expressions.{IsRun, LeadTo}
-use Rattle.pj_xmeaning.specs.Meaning.{Beginning, beginnings, expression_of, meaning}
-use Rattle.pj_xmeaning.specs.Seen.{beginning_of}
-use Rattle.pj_xmeaning.specs.declared.form.Slot.TheVariants.{Rule}
+use Rattle.pj_xderive.specs.Expressions.{IsRun, LeadTo}
+use Rattle.pj_xgrammar.specs.Beginnings.{Beginning, beginnings}
+use Rattle.pj_xmeaning.specs.Meaning.{expression_of, meaning}
+use Rattle.pj_xgrammar.specs.Seen.{beginning_of}
+use Rattle.pj_xgrammar.specs.declared.form.Slot.TheVariants.{Rule}
 use Rattle.pj_xnames.specs.Seen.{fault_of}
 use Rattle.pj_xnames.specs.Faults.{Fault, first_fault}
 use Rattle.pj_xnames.specs.Meaning.{named_by, mentions}
 use Rattle.pj_xparse.specs.Faults.{named_first, syntax_fault}
 use Rattle.pj_xparse.specs.Spells.{Spells}
+use Rattle.pj_xparse.proofs.FaultRuns.{told_by_run}
 use Rattle.pj_xparse.proofs.Parsed.{count_of_tokens, read_slice, derived_meaning, spells_meaning}
 use Rattle.pj_xparse.proofs.expression.parse_with.Goals as goal
 
@@ -44,7 +46,7 @@ returns-in-Some-clause-fault c = λ _.
     let later = syntax_fault tokens c.in_ok-found.found.end c.in_ok-run.run'.end in
     let first : first_fault c.args.variables.now (mentions productions tokens) ≡ Some (fault_of c.in-Some.fault) =
     sym (c.in_ok-fault.ensures ∙ named_by_steps _ productions tokens _ begun) ∙ ap (option_map fault_of) c.in-Some.is in
-    record {
+    told_by_run c.runs_say.ensures (record {
       tokens = tokens;
       end = c.in_ok-found.found.end;
       outcome = c.in_ok-run.run'.end;
@@ -53,7 +55,7 @@ returns-in-Some-clause-fault c = λ _.
       is_outcome = c.in_ok-run.ensures.outcome;
       run = subst (IsRun tokens) (sym c.as_slice-productions.ensures.value) c.in_ok-run.ensures.run;
       is = ap Some c.in_ok-named_fault.ensures ∙ ap (λ (f : Option Fault). named_first f later) (sym first);
-    }
+    })
 
 pub returns-in-Some-syntax_fault-clause-fault : goal.returns-in-Some-syntax_fault-clause-fault
 returns-in-Some-syntax_fault-clause-fault c = λ _.
@@ -62,7 +64,7 @@ returns-in-Some-syntax_fault-clause-fault c = λ _.
     let begun : map beginning_of c.as_slice-steps.result.now ≡ beginnings productions (Rule ∷ []) tokens = ap (map beginning_of) c.as_slice-steps.ensures.value ∙ c.in_ok-begun.ensures in
     let later = syntax_fault tokens c.in_ok-found.found.end c.in_ok-run.run'.end in
     let none : first_fault c.args.variables.now (mentions productions tokens) ≡ None = sym (c.in_ok-fault.ensures ∙ named_by_steps _ productions tokens _ begun) ∙ ap (option_map fault_of) c.in_default.is in
-    record {
+    told_by_run c.runs_say.ensures (record {
       tokens = tokens;
       end = c.in_ok-found.found.end;
       outcome = c.in_ok-run.run'.end;
@@ -71,7 +73,7 @@ returns-in-Some-syntax_fault-clause-fault c = λ _.
       is_outcome = c.in_ok-run.ensures.outcome;
       run = subst (IsRun tokens) (sym c.as_slice-productions.ensures.value) c.in_ok-run.ensures.run;
       is = c.in-Some-syntax_fault.ensures ∙ ap (λ (f : Option Fault). named_first f later) (sym none);
-    }
+    })
 
 pub returns-clause-spells : goal.returns-clause-spells
 returns-clause-spells c =

@@ -1,5 +1,6 @@
 use Rattle.pj_xparse.proofs.Leading.{leads_tree}
-use Rattle.pj_xparse.proofs.Valuing.{tree_meaning, tree_mentions}
+use Rattle.pj_xparse.proofs.Valuing.{tree_meaning}
+use Rattle.pj_xparse.proofs.Mentioning.{tree_mentions}
 use Rattle.pj_xparse.proofs.laws.derivations_are_trees.Goals as goal
 
 pub returns : goal.returns

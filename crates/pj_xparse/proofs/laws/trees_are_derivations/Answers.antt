@@ -1,10 +1,11 @@
 use Rattle.std.proofs.Common.{◌≡◌}
 use Rattle.pj_ll.specs.Leads.{Behind, Derives}
 use Rattle.pj_ll.specs.Outcome.{IsLeftOutAt}
-use Rattle.pj_xgrammar.specs.Predictive.{of_xpath}
+use Rattle.pj_xderive.specs.Predictive.{of_xpath}
 use Rattle.pj_xparse.proofs.Flattening.{tree_derives}
 use Rattle.pj_xparse.proofs.Clear.{tree_clear}
-use Rattle.pj_xparse.proofs.Valuing.{tree_meaning, tree_mentions}
+use Rattle.pj_xparse.proofs.Valuing.{tree_meaning}
+use Rattle.pj_xparse.proofs.Mentioning.{tree_mentions}
 use Rattle.pj_xparse.proofs.laws.trees_are_derivations.Goals as goal
 
 pub returns-clause-derived : goal.returns-clause-derived
