@@ -4,8 +4,8 @@ use Rattle.std.proofs.lemmas.List.Elements.{All-contains}
 use Rattle.pj_outside.specs.Files.{Bytes, Files}
 use Rattle.pj_rule_sets.specs.Rules.{EffectiveRules}
 use Rattle.pj_rules.specs.Outcome.{IsRefused}
-use Rattle.pj_rule_parts.specs.declared.fault.RuleRefused.{RuleRefused}
-use Rattle.pj_rule_parts.specs.declared.fault.RuleRefused.TheVariants as unloaded
+use Rattle.pj_rules.specs.declared.fault.RuleRefused.{RuleRefused}
+use Rattle.pj_rules.specs.declared.fault.RuleRefused.TheVariants as unloaded
 use Rattle.pj_settings.specs.Job.{Gives, job}
 use Rattle.pj_settings.specs.declared.settings.Settings.{Settings}
 use Rattle.pj_settings.specs.declared.usage.UsageFault.{UsageFault}

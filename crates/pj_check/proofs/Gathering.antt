@@ -4,10 +4,10 @@ use Rattle.std.proofs.lemmas.List.{append_assoc, map-append, take_more}
 use Rattle.std.specs.List.{AllZip}
 use Rattle.pj_reports.specs.declared.rows.FileRows.{FileRows}
 use Rattle.pj_outside.specs.Files.{Bytes, Files}
-use Rattle.pj_rule_expressions.specs.Expressions.{AreOf, Both, IsKept, IsSpelledBy, names_of}
-use Rattle.pj_rule_expressions.specs.Patterns.{suppression_of}
-use Rattle.pj_rule_expressions.specs.declared.expressions.RuleExpressions.{RuleExpressions}
-use Rattle.pj_rule_expressions.specs.declared.spelled.Spelled.{Spelled}
+use Rattle.pj_rule_sets.specs.Expressions.{AreOf, Both, IsKept, IsSpelledBy, names_of}
+use Rattle.pj_rule_sets.specs.Patterns.{suppression_of}
+use Rattle.pj_rule_sets.specs.declared.expressions.RuleExpressions.{RuleExpressions}
+use Rattle.pj_rule_sets.specs.declared.spelled.Spelled.{Spelled}
 use Rattle.pj_rule_sets.specs.Rules.{EffectiveRule, EffectiveRules, texts_of}
 use Rattle.pj_rule_texts.specs.Values.{Text}
 use Rattle.pj_rule_texts.specs.declared.rule.RuleTexts.{RuleTexts}

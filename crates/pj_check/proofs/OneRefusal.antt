@@ -4,7 +4,7 @@ use Rattle.pj_outside.specs.Files.{Bytes, Files}
 use Rattle.pj_rule_sets.specs.Rules.{EffectiveRules}
 use Rattle.pj_rules.specs.Laws.{OneFirstFault, OneSet, RulesOrFault}
 use Rattle.pj_rules.specs.Load.{AreTooMany, IsEffective, IsFirstFault, count_of, greatest_count}
-use Rattle.pj_rule_parts.specs.declared.fault.RuleFault.{RuleFault}
+use Rattle.pj_rules.specs.declared.fault.RuleFault.{RuleFault}
 use Rattle.pj_settings.specs.Job.{job}
 use Rattle.pj_settings.specs.declared.settings.Settings.{Settings}
 use Rattle.pj_settings.specs.declared.usage.UsageFault.{UsageFault}

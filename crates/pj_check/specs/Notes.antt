@@ -4,8 +4,8 @@ use Rattle.pj_notes.specs.NoteText.{limit_text, line_of, usage_text}
 use Rattle.pj_outside.specs.Faults.{Rises}
 use Rattle.pj_outside.specs.Files.{Bytes}
 use Rattle.pj_outside.specs.Putting.{Gets, GetsPrefix}
-use Rattle.pj_rule_parts.specs.declared.fault.RuleWhat.{RuleWhat}
-use Rattle.pj_rule_parts.specs.declared.fault.RuleWhat.TheVariants as what
+use Rattle.pj_rules.specs.declared.fault.RuleWhat.{RuleWhat}
+use Rattle.pj_rules.specs.declared.fault.RuleWhat.TheVariants as what
 use Rattle.pj_check.specs.declared.outcome.Outcome.{Outcome}
 use Rattle.pj_check.specs.declared.outcome.Outcome.TheVariants.{Clean, Violations, Errors, Usage, Rules, TreeFault, ClassFault, SinkFault, Missing, Limit, Memory}
 

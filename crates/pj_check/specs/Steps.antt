@@ -5,8 +5,8 @@ use Rattle.pj_outside.specs.Faults.{Rises}
 use Rattle.pj_outside.specs.Files.{Files, Bytes}
 use Rattle.pj_reports.specs.declared.rows.FileRows.{FileRows}
 use Rattle.pj_rule_sets.specs.Rules.{EffectiveRules}
-use Rattle.pj_rule_parts.specs.declared.fault.RuleRefused.{RuleRefused}
-use Rattle.pj_rule_parts.specs.declared.fault.RuleRefused.TheVariants as unloaded
+use Rattle.pj_rules.specs.declared.fault.RuleRefused.{RuleRefused}
+use Rattle.pj_rules.specs.declared.fault.RuleRefused.TheVariants as unloaded
 use Rattle.pj_settings.specs.declared.usage.UsageRefused.{UsageRefused}
 use Rattle.pj_settings.specs.declared.usage.UsageRefused.TheVariants as unasked
 use Rattle.pj_sources.specs.declared.limits.LimitKind.TheVariants as limit

@@ -1,10 +1,10 @@
 -- From what is kept of a rule, what its calls tell of its suppression.
 use Rattle.std.proofs.Common.{◌≡◌, Option, Some, None, sym, subst}
 use Rattle.std.specs.Option.{option_map}
-use Rattle.pj_rule_expressions.specs.Expressions.{AreOf, Both, IsParsed, names_of}
-use Rattle.pj_rule_expressions.specs.Patterns.{suppression_of}
-use Rattle.pj_rule_expressions.specs.declared.expressions.RuleExpressions.{RuleExpressions}
-use Rattle.pj_rule_expressions.specs.declared.spelled.Spelled.{Spelled}
+use Rattle.pj_rule_sets.specs.Expressions.{AreOf, Both, IsParsed, names_of}
+use Rattle.pj_rule_sets.specs.Patterns.{suppression_of}
+use Rattle.pj_rule_sets.specs.declared.expressions.RuleExpressions.{RuleExpressions}
+use Rattle.pj_rule_sets.specs.declared.spelled.Spelled.{Spelled}
 use Rattle.pj_rule_texts.specs.declared.rule.RuleTexts.{RuleTexts}
 use Rattle.pj_rule_sets.specs.Kept.{ArePatternsOf}
 

@@ -2,7 +2,7 @@
 use Rattle.std.specs.Prelude.{ℕ, Bool, false, ◌||◌, not, List, slice_get}
 use Rattle.std.specs.List.{list_any}
 use Rattle.std.specs.Option.{option_map_or}
-use Rattle.pj_rule_expressions.specs.Patterns.{is_covered, whole}
+use Rattle.pj_rule_sets.specs.Patterns.{is_covered, whole}
 use Rattle.pj_rule_texts.specs.Values.{Text}
 use Rattle.pj_rule_sets.specs.Rules.{EffectiveRule, EffectiveRules, texts_of}
 use Rattle.pj_xpatterns.specs.Meaning.{is_found}

@@ -1,7 +1,7 @@
 -- What is kept of a rule beside what contracts see of it.
 use Rattle.std.specs.Prelude.{◌≡◌, List}
-use Rattle.pj_rule_expressions.specs.Expressions.{AreOf, IsParsed, names_of, variables_of}
-use Rattle.pj_rule_expressions.specs.declared.expressions.RuleExpressions.{RuleExpressions}
+use Rattle.pj_rule_sets.specs.Expressions.{AreOf, IsParsed, names_of, variables_of}
+use Rattle.pj_rule_sets.specs.declared.expressions.RuleExpressions.{RuleExpressions}
 use Rattle.pj_rule_texts.specs.Values.{Text}
 use Rattle.pj_rule_texts.specs.declared.rule.RuleTexts.{RuleTexts}
 use Rattle.pj_rule_sets.specs.declared.path_patterns.PathPatterns.{PathPatterns}

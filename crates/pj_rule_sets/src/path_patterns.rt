@@ -1,12 +1,12 @@
 //! The path patterns of top rulesets.
 ghost use Rattle.std.specs.Prelude.{◌≡◌, [], IfOk, IfErr, OnOk};
-ghost use Rattle.pj_rule_expressions.specs.Faults.{IfNoPattern};
-ghost use Rattle.pj_rule_expressions.specs.Patterns as patterns;
+ghost use Rattle.pj_rule_sets.specs.Faults.{IfNoPattern};
+ghost use Rattle.pj_rule_sets.specs.Patterns as patterns;
 ghost use Rattle.pj_rule_sets.specs.Active.{are_active, matches_some};
 ghost use Rattle.pj_xpatterns.specs.Meaning.{IsNoPattern, is_found};
 
+use crate::patterns::whole;
 use pj_base::{Copied, ListOf, Names, NoMemory, Text};
-use pj_rule_expressions::whole;
 use pj_xpatterns::{CompiledPattern, PatternFault};
 use std::alloc::Global;
 use std::marker::Model;
@@ -20,7 +20,7 @@ pub struct PathPattern {
 
 impl Model for PathPattern {
     ghost use Rattle.std.specs.Prelude.{◌≡◌, List, ℕ};
-    ghost use Rattle.pj_rule_expressions.specs.Patterns.{whole};
+    ghost use Rattle.pj_rule_sets.specs.Patterns.{whole};
 
     ghost Value = { List ℕ };
 

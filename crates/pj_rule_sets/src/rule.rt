@@ -2,16 +2,17 @@
 ghost use Rattle.std.specs.Prelude.{◌≡◌, IfOk, OnOk};
 ghost use Rattle.std.specs.Arc.{arc_value};
 ghost use Rattle.std.specs.Option.{option_copied};
-ghost use Rattle.pj_rule_expressions.specs.Expressions.{AreOf, Both, IsParsed, IsSound, names_of, variables_of};
-ghost use Rattle.pj_rule_expressions.specs.Patterns.{suppression_of};
+ghost use Rattle.pj_rule_sets.specs.Expressions.{AreOf, Both, IsParsed, IsSound, names_of, variables_of};
+ghost use Rattle.pj_rule_sets.specs.Patterns.{suppression_of};
 ghost use Rattle.pj_rule_texts.specs.Seen.{variables_seen};
 ghost use Rattle.pj_rule_sets.specs.Active.{covers, is_active};
 ghost use Rattle.pj_rule_sets.specs.Rules.{rule_of, texts_of};
 ghost use Rattle.pj_rule_sets.specs.Kept.{ArePatternsOf};
 
+use crate::expressions::RuleExpressions;
 use crate::path_patterns::{PathPatterns, texts_of};
+use crate::usable::UsableRule;
 use pj_base::{Names, NoMemory, Text};
-use pj_rule_expressions::{RuleExpressions, UsableRule};
 use pj_rule_rows::RuleRow;
 use pj_rule_texts::{Properties, RuleTexts};
 use pj_xpatterns::Patterns;

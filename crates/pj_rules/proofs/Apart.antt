@@ -7,15 +7,15 @@ use Rattle.pj_markup.specs.declared.element.Row.{Row}
 use Rattle.pj_markup.specs.Faults.{CannotFollow, IsMarkup, IsTooDeepAt, StopsAt}
 use Rattle.pj_markup.specs.Markup.{Doc}
 use Rattle.pj_outside.specs.Files.{Files, bytes_at}
-use Rattle.pj_rule_expressions.specs.Expressions.{IsSound}
-use Rattle.pj_rule_expressions.specs.Faults as expressions
-use Rattle.pj_rule_expressions.specs.Laws.{SoundOrFault}
-use Rattle.pj_rule_expressions.specs.declared.fault.ExpressionFault.{ExpressionFault}
+use Rattle.pj_rule_sets.specs.Expressions.{IsSound}
+use Rattle.pj_rule_sets.specs.Faults as expressions
+use Rattle.pj_rule_sets.specs.Laws.{SoundOrFault}
+use Rattle.pj_rule_sets.specs.declared.fault.ExpressionFault.{ExpressionFault}
 use Rattle.pj_rule_files.specs.Files.{AreFault, AreRuleset, IsRead, IsRuleset, IsTextFault, IsUnreadable, greatest_size, is_there}
 use Rattle.pj_rule_files.specs.declared.fault.FileFault.{FileFault}
-use Rattle.pj_rule_parts.specs.Lists.{Taken, is_among, named}
-use Rattle.pj_rule_parts.specs.declared.entry.Entry.{Entry}
-use Rattle.pj_rule_parts.specs.declared.entry.Entry.TheVariants as entry
+use Rattle.pj_rule_sets.specs.Lists.{Taken, is_among, named}
+use Rattle.pj_rule_sets.specs.declared.entry.Entry.{Entry}
+use Rattle.pj_rule_sets.specs.declared.entry.Entry.TheVariants as entry
 use Rattle.pj_rule_texts.specs.References.{Meant, WholeFile, OneRule, is_from_elsewhere, reference_of}
 use Rattle.pj_rule_texts.specs.Rules.{defined, is_xpath_rule, overridden}
 use Rattle.pj_rule_texts.specs.Values.{Text, is_same}
@@ -25,15 +25,15 @@ use Rattle.pj_rule_texts.specs.declared.written.Part.{Part}
 use Rattle.pj_rule_texts.specs.declared.written.Part.TheVariants as part
 use Rattle.pj_rule_texts.specs.declared.written.WrittenRule.{WrittenRule}
 use Rattle.pj_rule_texts.specs.declared.written.WrittenRuleset.{WrittenRuleset}
-use Rattle.pj_rule_parts.specs.Defining.{IsDefinedAs}
-use Rattle.pj_rule_parts.specs.Effective.{AddAll, Adds, AreJudged, CannotChange, CannotDefine, Changes, Defines, FileFaults, HasRules, PartFault, RefersTo, nothing, path_pattern, what_of_expressions}
+use Rattle.pj_rules.specs.Defining.{IsDefinedAs}
+use Rattle.pj_rules.specs.Effective.{AddAll, Adds, AreJudged, CannotChange, CannotDefine, Changes, Defines, FileFaults, HasRules, PartFault, RefersTo, nothing, path_pattern, what_of_expressions}
 use Rattle.pj_rules.specs.Load.{AreTops, IsTop, IsTopFault, TopRules}
-use Rattle.pj_rule_parts.specs.LookUp.{look_up}
-use Rattle.pj_rule_parts.specs.Referring.{ChangesEntry}
-use Rattle.pj_rule_parts.specs.declared.fault.RuleFault.{RuleFault}
-use Rattle.pj_rule_parts.specs.declared.fault.RuleWhat.{RuleWhat}
-use Rattle.pj_rule_parts.specs.declared.progress.Progress.{Progress}
-use Rattle.pj_rule_parts.proofs.KnownFiles.{same_texts, there_read}
+use Rattle.pj_rules.specs.LookUp.{look_up}
+use Rattle.pj_rules.specs.Referring.{ChangesEntry}
+use Rattle.pj_rules.specs.declared.fault.RuleFault.{RuleFault}
+use Rattle.pj_rules.specs.declared.fault.RuleWhat.{RuleWhat}
+use Rattle.pj_rules.specs.declared.progress.Progress.{Progress}
+use Rattle.pj_rules.proofs.KnownFiles.{same_texts, there_read}
 use Rattle.pj_rules.proofs.OneSet.{true_false}
 use Rattle.pj_rules.proofs.OneList.{Gives, View, all_steps, file_of, file_steps, none_some, not_both, one_list, one_ok, one_read, one_some, part_steps, same_rule, same_up_to, view, view_same, view_steps}
 use Rattle.pj_xpatterns.specs.Meaning.{Pattern}

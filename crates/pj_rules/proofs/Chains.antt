@@ -4,13 +4,13 @@ use Rattle.pj_outside.specs.Files.{Files}
 use Rattle.pj_rule_texts.specs.Values.{Text}
 use Rattle.pj_rule_texts.specs.declared.written.Part.{Part}
 use Rattle.pj_rule_texts.specs.declared.written.Part.TheVariants as part
-use Rattle.pj_rule_parts.specs.Effective.{FileFaults, PartFault}
-use Rattle.pj_rule_parts.specs.Referring.{Leads}
+use Rattle.pj_rules.specs.Effective.{FileFaults, PartFault}
+use Rattle.pj_rules.specs.Referring.{Leads}
 use Rattle.pj_rules.specs.States.{IsChain, IsFaultOfTop, IsOpen, is_top, left}
-use Rattle.pj_rule_parts.specs.declared.fault.RuleFault.{RuleFault}
+use Rattle.pj_rules.specs.declared.fault.RuleFault.{RuleFault}
 use Rattle.pj_rules.specs.declared.open_file.OpenFile.{OpenFile}
 use Rattle.pj_rules.specs.declared.open_file.Waiting.{Waiting}
-use Rattle.pj_rule_parts.proofs.TakeFacts.{refers}
+use Rattle.pj_rules.proofs.TakeFacts.{refers}
 use Rattle.pj_rules.proofs.Lists.{nothing_snoc, snoc_same}
 
 module _ (files : Files) where

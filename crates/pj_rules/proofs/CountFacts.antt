@@ -5,8 +5,8 @@ use Rattle.std.specs.List.{filter_map, flat_map}
 use Rattle.std.specs.Option.{option_to_list}
 use Rattle.std.proofs.lemmas.List.{at_drop_more}
 use Rattle.std.proofs.lemmas.List.Recursion.{is_count_by}
-use Rattle.pj_rule_parts.specs.Lists.{Taken}
-use Rattle.pj_rule_parts.specs.declared.entry.Entry.TheVariants as entry
+use Rattle.pj_rule_sets.specs.Lists.{Taken}
+use Rattle.pj_rule_sets.specs.declared.entry.Entry.TheVariants as entry
 use Rattle.pj_rule_texts.specs.Values.{Text}
 use Rattle.pj_rules.specs.Gathering.{counted, is_kept}
 use Rattle.pj_rules.specs.Load.{TopRules, count_of, effective, error_of, errors_of_top, kept_rule, rules_from, rules_of_top}

@@ -1,3 +1,9 @@
+mod Told
+mod KnownFiles
+mod Refusing
+mod Finding
+mod Definitions
+mod TakeFacts
 mod Lists
 mod Rests
 mod Chains

@@ -6,12 +6,12 @@ use Rattle.pj_rule_sets.specs.Rules.{EffectiveRules}
 use Rattle.pj_rule_texts.specs.Values.{Text}
 use Rattle.pj_rules.specs.Gathering.{IsTooMany}
 use Rattle.pj_rules.specs.Load.{AreTops, IsFirstFault, TopRules, effective}
-use Rattle.pj_rule_parts.specs.Counts.{CountsFaults}
+use Rattle.pj_rules.specs.Counts.{CountsFaults}
 use Rattle.pj_rules.specs.Outcome.{IsRefused}
-use Rattle.pj_rule_parts.specs.Refusals.{IfFault}
-use Rattle.pj_rule_parts.specs.declared.fault.RuleRefused.{RuleRefused}
-use Rattle.pj_rule_parts.specs.declared.fault.RuleRefused.TheVariants.{Rule, TooManyRules, Failed, Memory}
-use Rattle.pj_rule_parts.proofs.Told.{all_told}
+use Rattle.pj_rules.specs.Refusals.{IfFault}
+use Rattle.pj_rules.specs.declared.fault.RuleRefused.{RuleRefused}
+use Rattle.pj_rules.specs.declared.fault.RuleRefused.TheVariants.{Rule, TooManyRules, Failed, Memory}
+use Rattle.pj_rules.proofs.Told.{all_told}
 
 -- ---- counts of faults
 

@@ -4,15 +4,15 @@ use Rattle.std.specs.List.{flat_map}
 use Rattle.pj_markup.specs.declared.element.Row.{Row}
 use Rattle.pj_markup.specs.Faults.{IsMarkup}
 use Rattle.pj_outside.specs.Files.{Files}
-use Rattle.pj_rule_expressions.specs.Laws.{OneFault, SoundOrFault}
-use Rattle.pj_rule_expressions.specs.Faults as expressions
-use Rattle.pj_rule_expressions.specs.declared.fault.ExpressionFault.{ExpressionFault}
-use Rattle.pj_rule_expressions.specs.declared.fault.ExpressionFault.TheVariants as unsound
+use Rattle.pj_rule_sets.specs.Laws.{OneFault, SoundOrFault}
+use Rattle.pj_rule_sets.specs.Faults as expressions
+use Rattle.pj_rule_sets.specs.declared.fault.ExpressionFault.{ExpressionFault}
+use Rattle.pj_rule_sets.specs.declared.fault.ExpressionFault.TheVariants as unsound
 use Rattle.pj_rule_files.specs.Files.{IsRead, is_there}
-use Rattle.pj_rule_parts.specs.Lists.{Taken, is_among, named}
-use Rattle.pj_rule_parts.specs.declared.entry.Entry.{Entry}
-use Rattle.pj_rule_parts.specs.declared.entry.Entry.TheVariants as entry
-use Rattle.pj_rule_parts.specs.declared.entry.Origin.{Origin}
+use Rattle.pj_rule_sets.specs.Lists.{Taken, is_among, named}
+use Rattle.pj_rule_sets.specs.declared.entry.Entry.{Entry}
+use Rattle.pj_rule_sets.specs.declared.entry.Entry.TheVariants as entry
+use Rattle.pj_rule_sets.specs.declared.entry.Origin.{Origin}
 use Rattle.pj_rule_texts.specs.References.{Meant, WholeFile, OneRule, reference_of}
 use Rattle.pj_rule_texts.specs.Rules.{defined, new_name, overridden}
 use Rattle.pj_rule_texts.specs.Values.{Text}
@@ -22,13 +22,13 @@ use Rattle.pj_rule_texts.specs.declared.written.Part.{Part}
 use Rattle.pj_rule_texts.specs.declared.written.Part.TheVariants as part
 use Rattle.pj_rule_texts.specs.declared.written.WrittenRule.{WrittenRule}
 use Rattle.pj_rule_texts.specs.declared.written.WrittenRuleset.{WrittenRuleset}
-use Rattle.pj_rule_parts.specs.Effective.{AddAll, AreJudged, CannotChange, CannotDefine, FileFaults, HasRules, PartFault, RefersTo, nothing, path_pattern, what_of_expressions, what_of_file, what_of_texts}
+use Rattle.pj_rules.specs.Effective.{AddAll, AreJudged, CannotChange, CannotDefine, FileFaults, HasRules, PartFault, RefersTo, nothing, path_pattern, what_of_expressions, what_of_file, what_of_texts}
 use Rattle.pj_rules.specs.Load.{IsFirstFault, IsTopFault}
-use Rattle.pj_rule_parts.specs.LookUp.{look_up}
-use Rattle.pj_rule_parts.specs.declared.fault.RuleFault.{RuleFault}
-use Rattle.pj_rule_parts.specs.declared.fault.RuleWhat.{RuleWhat}
-use Rattle.pj_rule_parts.specs.declared.fault.RuleWhat.TheVariants as what
-use Rattle.pj_rule_parts.specs.declared.progress.Progress.{Progress}
+use Rattle.pj_rules.specs.LookUp.{look_up}
+use Rattle.pj_rules.specs.declared.fault.RuleFault.{RuleFault}
+use Rattle.pj_rules.specs.declared.fault.RuleWhat.{RuleWhat}
+use Rattle.pj_rules.specs.declared.fault.RuleWhat.TheVariants as what
+use Rattle.pj_rules.specs.declared.progress.Progress.{Progress}
 use Rattle.pj_rules.proofs.Apart.{among_more, among_one, apart_file, apart_part, judged_at, meant_file, not_unreadable, ok_err, reach, there_of_fault, tops_apart}
 use Rattle.pj_rules.proofs.OneList.{file_of, is_pattern, none_some, one_list, one_ok, one_read, one_some, same_rule, same_up_to, view_same}
 use Rattle.pj_rules.proofs.OneSet.{true_false}

@@ -6,9 +6,9 @@ use Rattle.pj_markup.specs.declared.element.Row.{Row}
 use Rattle.pj_markup.specs.Faults.{IsMarkup}
 use Rattle.pj_outside.specs.Files.{Files, bytes_at}
 use Rattle.pj_rule_files.specs.Files.{IsRead, IsRuleset}
-use Rattle.pj_rule_parts.specs.Lists.{Taken, defined_in, is_among, named, not_available, referred_in, without}
-use Rattle.pj_rule_parts.specs.declared.entry.Entry.{Entry}
-use Rattle.pj_rule_parts.specs.declared.entry.Entry.TheVariants as entry
+use Rattle.pj_rule_sets.specs.Lists.{Taken, defined_in, is_among, named, not_available, referred_in, without}
+use Rattle.pj_rule_sets.specs.declared.entry.Entry.{Entry}
+use Rattle.pj_rule_sets.specs.declared.entry.Entry.TheVariants as entry
 use Rattle.pj_rule_texts.specs.References.{Meant, WholeFile, OneRule, is_from_elsewhere, reference_of}
 use Rattle.pj_rule_texts.specs.Rules.{defined, overridden}
 use Rattle.pj_rule_texts.specs.Values.{Text}
@@ -18,11 +18,11 @@ use Rattle.pj_rule_texts.specs.declared.written.Part.{Part}
 use Rattle.pj_rule_texts.specs.declared.written.Part.TheVariants as part
 use Rattle.pj_rule_texts.specs.declared.written.WrittenRule.{WrittenRule}
 use Rattle.pj_rule_texts.specs.declared.written.WrittenRuleset.{WrittenRuleset}
-use Rattle.pj_rule_parts.specs.Defining.{IsDefinedAs}
-use Rattle.pj_rule_parts.specs.Effective.{AddAll, Adds, Changes, Defines, HasRules, or_name, with_list, with_rule, with_taken}
-use Rattle.pj_rule_parts.specs.LookUp.{look_up}
-use Rattle.pj_rule_parts.specs.Referring.{ChangesEntry}
-use Rattle.pj_rule_parts.specs.declared.progress.Progress.{Progress}
+use Rattle.pj_rules.specs.Defining.{IsDefinedAs}
+use Rattle.pj_rules.specs.Effective.{AddAll, Adds, Changes, Defines, HasRules, or_name, with_list, with_rule, with_taken}
+use Rattle.pj_rules.specs.LookUp.{look_up}
+use Rattle.pj_rules.specs.Referring.{ChangesEntry}
+use Rattle.pj_rules.specs.declared.progress.Progress.{Progress}
 
 -- ---- a part, by what decides it
 

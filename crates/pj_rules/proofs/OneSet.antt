@@ -5,13 +5,13 @@ use Rattle.pj_markup.specs.declared.element.Row.{Row}
 use Rattle.pj_markup.specs.Faults.{IsMarkup}
 use Rattle.pj_outside.specs.Files.{Files}
 use Rattle.pj_rule_files.specs.Files.{is_there}
-use Rattle.pj_rule_parts.specs.Lists.{Taken}
+use Rattle.pj_rule_sets.specs.Lists.{Taken}
 use Rattle.pj_rule_sets.specs.Rules.{EffectiveRules}
 use Rattle.pj_rule_texts.specs.Values.{Text}
 use Rattle.pj_rule_texts.specs.declared.written.WrittenRuleset.{WrittenRuleset}
 use Rattle.pj_rules.specs.Load.{AreTops, IsEffective, IsTop, TopRules, effective, exclude_of, include_of}
-use Rattle.pj_rule_parts.specs.declared.progress.Progress.{Progress}
-use Rattle.pj_rule_parts.proofs.KnownFiles.{there_read}
+use Rattle.pj_rules.specs.declared.progress.Progress.{Progress}
+use Rattle.pj_rules.proofs.KnownFiles.{there_read}
 use Rattle.pj_rules.proofs.OneList.{one_read, same_up_to}
 
 pub true_false : (b : Bool) → b ≡ true → b ≡ false → ⊥

@@ -2,27 +2,28 @@
 use Rattle.std.proofs.Common.{◌≡◌, true, false, List, Option, Some, None, sym, ap, subst}
 use Rattle.pj_outside.specs.Files.{Files}
 use Rattle.pj_rule_files.specs.Files.{IsRead}
-use Rattle.pj_rule_parts.specs.Lists.{Taken, is_among}
+use Rattle.pj_rule_sets.specs.Lists.{Taken, is_among}
 use Rattle.pj_rule_texts.specs.Values.{Text}
 use Rattle.pj_rule_texts.specs.declared.written.Part.TheVariants as part
 use Rattle.pj_rule_texts.specs.declared.written.WrittenRule.{WrittenRule}
 use Rattle.pj_rule_texts.specs.declared.written.WrittenRuleset.{WrittenRuleset}
-use Rattle.pj_rule_parts.specs.Effective.{Adds, PartFault}
-use Rattle.pj_rule_parts.specs.Finding.{IsBefore, IsFoundFault}
-use Rattle.pj_rule_parts.specs.Known.{AreRead, list_at}
-use Rattle.pj_rule_parts.specs.LookUp.{look_up}
+use Rattle.pj_rules.specs.Effective.{Adds, PartFault}
+use Rattle.pj_rules.specs.Finding.{IsBefore, IsFoundFault}
+use Rattle.pj_rules.specs.Known.{AreRead}
+use Rattle.pj_rule_sets.specs.ReadFiles.{list_at}
+use Rattle.pj_rules.specs.LookUp.{look_up}
 use Rattle.pj_rules.specs.Patterns.{IsPatternFault}
-use Rattle.pj_rule_parts.specs.Referring.{AddsNothing, AddsTaken, IsNoForm, IsNothingFault, IsReferral, IsTakenFault, Leads, LeadsNowhere}
+use Rattle.pj_rules.specs.Referring.{AddsNothing, AddsTaken, IsNoForm, IsNothingFault, IsReferral, IsTakenFault, Leads, LeadsNowhere}
 use Rattle.pj_rules.specs.States.{Gathers, IsFaultOf, Opens, Takes, is_top, left}
-use Rattle.pj_rule_parts.specs.declared.fault.RuleFault.{RuleFault}
-use Rattle.pj_rule_parts.specs.declared.fault.RuleWhat.TheVariants.{PatternRefused, RefCycle}
-use Rattle.pj_rule_parts.specs.declared.known.Known.{Known}
+use Rattle.pj_rules.specs.declared.fault.RuleFault.{RuleFault}
+use Rattle.pj_rules.specs.declared.fault.RuleWhat.TheVariants.{PatternRefused, RefCycle}
+use Rattle.pj_rule_sets.specs.declared.known.Known.{Known}
 use Rattle.pj_rules.specs.declared.open_file.OpenFile.{OpenFile}
 use Rattle.pj_rule_sets.specs.declared.path_patterns.PathPatterns.{PathPatterns}
-use Rattle.pj_rule_parts.specs.declared.referral.Referral.{Referral}
-use Rattle.pj_rule_parts.proofs.KnownFiles.{list_found}
-use Rattle.pj_rule_parts.proofs.Refusing.{same_fault}
-use Rattle.pj_rule_parts.proofs.TakeFacts.{goes_round, refers}
+use Rattle.pj_rules.specs.declared.referral.Referral.{Referral}
+use Rattle.pj_rules.proofs.KnownFiles.{list_found}
+use Rattle.pj_rules.proofs.Refusing.{same_fault}
+use Rattle.pj_rules.proofs.TakeFacts.{goes_round, refers}
 use Rattle.pj_rules.proofs.Turns.{gathers_rule}
 
 module _ (files : Files) where

@@ -7,12 +7,12 @@ use Rattle.std.proofs.lemmas.List.Elements.{filter_map-append}
 use Rattle.pj_outside.specs.Files.{Files}
 use Rattle.pj_rule_texts.specs.Values.{Text}
 use Rattle.pj_rule_texts.specs.declared.written.Part.{Part}
-use Rattle.pj_rule_parts.specs.Effective.{AddAll, Adds, AreJudged, nothing, path_pattern}
+use Rattle.pj_rules.specs.Effective.{AddAll, Adds, AreJudged, nothing, path_pattern}
 use Rattle.pj_rules.specs.Load.{exclude_of, include_of}
 use Rattle.pj_rules.specs.States.{AreGathered, Gathers, IsOpen, Takes}
 use Rattle.pj_rules.specs.declared.open_file.OpenFile.{OpenFile}
 use Rattle.pj_rule_sets.specs.declared.path_patterns.PathPatterns.{PathPatterns}
-use Rattle.pj_rule_parts.specs.declared.progress.Progress.{Progress}
+use Rattle.pj_rules.specs.declared.progress.Progress.{Progress}
 
 all_more : {A : Type 0} (P : A → Type 0) (xs ys : List A) → AllByRecursion P xs → AllByRecursion P ys → AllByRecursion P (xs ++ ys)
 all_more P [] ys all more = more

@@ -4,19 +4,19 @@ use Rattle.std.specs.List.{filter_map}
 use Rattle.std.proofs.lemmas.List.{drop_more, take_more, take-append-drop, map-append}
 use Rattle.pj_outside.specs.Files.{Files}
 use Rattle.pj_rule_files.specs.Files.{is_there}
-use Rattle.pj_rule_parts.specs.Lists.{Taken, not_available, referred_in}
-use Rattle.pj_rule_parts.specs.declared.entry.Entry.{Entry}
+use Rattle.pj_rule_sets.specs.Lists.{Taken, not_available, referred_in}
+use Rattle.pj_rule_sets.specs.declared.entry.Entry.{Entry}
 use Rattle.pj_rule_texts.specs.References.{is_from_elsewhere}
 use Rattle.pj_rule_texts.specs.Values.{Text}
-use Rattle.pj_rule_parts.specs.Effective.{AddAll, AreJudged, nothing}
+use Rattle.pj_rules.specs.Effective.{AddAll, AreJudged, nothing}
 use Rattle.pj_rules.specs.Load.{AreTops, IsFirstFault, IsTop, IsTopFault, TopRules, exclude_of, include_of}
 use Rattle.pj_rules.specs.States.{AreGathered, IsEnded, top_rules}
-use Rattle.pj_rule_parts.specs.declared.fault.RuleFault.{RuleFault}
-use Rattle.pj_rule_parts.specs.declared.fault.RuleWhat.TheVariants.{MissingRef}
+use Rattle.pj_rules.specs.declared.fault.RuleFault.{RuleFault}
+use Rattle.pj_rules.specs.declared.fault.RuleWhat.TheVariants.{MissingRef}
 use Rattle.pj_rules.specs.declared.open_file.OpenFile.{OpenFile}
 use Rattle.pj_rule_sets.specs.declared.path_patterns.PathPatterns.{PathPatterns}
 use Rattle.pj_rules.specs.declared.top.Top.{Top}
-use Rattle.pj_rule_parts.proofs.Refusing.{same_fault}
+use Rattle.pj_rules.proofs.Refusing.{same_fault}
 
 module _ (files : Files) where
   -- the top ruleset that is read to its end

@@ -3,25 +3,26 @@ use Rattle.std.proofs.Common.{◌≡◌, ◌∙◌, Bool, true, false, List, [],
 use Rattle.std.specs.Prelude.{MatchOption}
 use Rattle.pj_outside.specs.Files.{Files}
 use Rattle.pj_rule_files.specs.Files.{IsRead}
-use Rattle.pj_rule_parts.specs.Lists.{Taken}
+use Rattle.pj_rule_sets.specs.Lists.{Taken}
 use Rattle.pj_rule_texts.specs.Values.{Text}
 use Rattle.pj_rule_texts.specs.declared.written.Part.{Part}
 use Rattle.pj_rule_texts.specs.declared.written.Part.TheVariants as part
 use Rattle.pj_rule_texts.specs.declared.written.WrittenRule.{WrittenRule}
 use Rattle.pj_rule_texts.specs.declared.written.WrittenRuleset.{WrittenRuleset}
-use Rattle.pj_rule_parts.specs.Effective.{AddAll, AreJudged, HasRules, nothing}
-use Rattle.pj_rule_parts.specs.Known.{AreRead, AreThere, put_list}
-use Rattle.pj_rule_parts.specs.Referring.{AddsTaken, IsTakenFault}
+use Rattle.pj_rules.specs.Effective.{AddAll, AreJudged, HasRules, nothing}
+use Rattle.pj_rules.specs.Known.{AreRead, AreThere}
+use Rattle.pj_rule_sets.specs.ReadFiles.{put_list}
+use Rattle.pj_rules.specs.Referring.{AddsTaken, IsTakenFault}
 use Rattle.pj_rules.specs.States.{AreGathered, Gathers, IsChain, IsDone, IsEnded, IsFaultOf, IsFaultOfTop, IsOpen, IsStack, IsTaking, Opens, Takes, is_top, left}
-use Rattle.pj_rule_parts.specs.declared.fault.RuleFault.{RuleFault}
-use Rattle.pj_rule_parts.specs.declared.known.Known.{Known}
+use Rattle.pj_rules.specs.declared.fault.RuleFault.{RuleFault}
+use Rattle.pj_rule_sets.specs.declared.known.Known.{Known}
 use Rattle.pj_rules.specs.declared.open_file.OpenFile.{OpenFile}
 use Rattle.pj_rules.specs.declared.open_file.Waiting.{Waiting}
 use Rattle.pj_rule_sets.specs.declared.path_patterns.PathPatterns.{PathPatterns}
 use Rattle.pj_rules.specs.declared.reading.Opening.{Opening}
 use Rattle.pj_rules.proofs.Chains.{alone, fault_of_file, go_below, raise}
 use Rattle.pj_rules.proofs.Lists.{nothing_snoc, snoc_same}
-use Rattle.pj_rule_parts.proofs.KnownFiles.{read_put, there_less, there_more, there_read}
+use Rattle.pj_rules.proofs.KnownFiles.{read_put, there_less, there_more, there_read}
 use Rattle.pj_rules.proofs.Parts.{gathers_top, took}
 
 judged_nothing : (b : Bool) → AreJudged b []

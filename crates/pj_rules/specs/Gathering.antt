@@ -1,11 +1,11 @@
 -- For private clauses: how the lists of top rulesets are counted and gathered.
 use Rattle.std.specs.Prelude.{⊤, ◌≡◌, ℕ, ◌+◌, ◌<◌, Bool, true, List, [], ◌∷◌, count_by, nat_le}
-use Rattle.pj_rule_parts.specs.Lists.{Taken}
-use Rattle.pj_rule_parts.specs.declared.entry.Entry.TheVariants as entry
+use Rattle.pj_rule_sets.specs.Lists.{Taken}
+use Rattle.pj_rule_sets.specs.declared.entry.Entry.TheVariants as entry
 use Rattle.pj_rule_sets.specs.Rules.{EffectiveRules}
 use Rattle.pj_rules.specs.Load.{TopRules, count_of, greatest_count}
-use Rattle.pj_rule_parts.specs.declared.fault.RuleRefused.{RuleRefused}
-use Rattle.pj_rule_parts.specs.declared.fault.RuleRefused.TheVariants.{Rule, TooManyRules, Failed, Memory}
+use Rattle.pj_rules.specs.declared.fault.RuleRefused.{RuleRefused}
+use Rattle.pj_rules.specs.declared.fault.RuleRefused.TheVariants.{Rule, TooManyRules, Failed, Memory}
 
 abbrev pub is_kept : ℕ → Taken → Bool
 is_kept minimum (origin, entry.Rule texts) = nat_le texts.row.priority minimum

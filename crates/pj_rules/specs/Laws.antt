@@ -1,12 +1,12 @@
 -- Laws of the definitions.
 use Rattle.std.specs.Prelude.{◌≡◌, ℕ, List}
 use Rattle.pj_outside.specs.Files.{Files}
-use Rattle.pj_rule_parts.specs.Lists.{Taken}
+use Rattle.pj_rule_sets.specs.Lists.{Taken}
 use Rattle.pj_rule_sets.specs.Rules.{EffectiveRules}
 use Rattle.pj_rule_texts.specs.Values.{Text}
-use Rattle.pj_rule_parts.specs.Effective.{HasRules}
+use Rattle.pj_rules.specs.Effective.{HasRules}
 use Rattle.pj_rules.specs.Load.{IsEffective, IsFirstFault}
-use Rattle.pj_rule_parts.specs.declared.fault.RuleFault.{RuleFault}
+use Rattle.pj_rules.specs.declared.fault.RuleFault.{RuleFault}
 
 -- A file has one list of rules at most.
 abbrev pub OneList : Type 0

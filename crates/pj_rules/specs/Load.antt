@@ -3,19 +3,19 @@ use Rattle.std.specs.Prelude.{◌≡◌, ℕ, ◌+◌, ◌<◌, true, false, Lis
 use Rattle.std.specs.List.{filter_map, flat_map}
 use Rattle.pj_outside.specs.Files.{Files}
 use Rattle.pj_rule_files.specs.Files.{IsRead, is_there}
-use Rattle.pj_rule_parts.specs.Lists.{Taken, not_available, referred_in}
-use Rattle.pj_rule_parts.specs.declared.entry.Entry.TheVariants as entry
+use Rattle.pj_rule_sets.specs.Lists.{Taken, not_available, referred_in}
+use Rattle.pj_rule_sets.specs.declared.entry.Entry.TheVariants as entry
 use Rattle.pj_rule_rows.specs.declared.rule_row.ConfigError.{ConfigError}
 use Rattle.pj_rule_texts.specs.References.{is_from_elsewhere}
 use Rattle.pj_rule_texts.specs.Values.{Text}
 use Rattle.pj_rule_texts.specs.declared.written.Part.{Part}
 use Rattle.pj_rule_texts.specs.declared.written.Part.TheVariants as part
 use Rattle.pj_rule_texts.specs.declared.written.WrittenRuleset.{WrittenRuleset}
-use Rattle.pj_rule_parts.specs.Effective.{AddAll, AreJudged, FileFaults, nothing}
+use Rattle.pj_rules.specs.Effective.{AddAll, AreJudged, FileFaults, nothing}
 use Rattle.pj_rule_sets.specs.Rules.{EffectiveRule, EffectiveRules, rule_of}
-use Rattle.pj_rule_parts.specs.declared.fault.RuleFault.{RuleFault}
-use Rattle.pj_rule_parts.specs.declared.fault.RuleWhat.TheVariants.{MissingRef}
-use Rattle.pj_rule_parts.specs.declared.progress.Progress.{Progress}
+use Rattle.pj_rules.specs.declared.fault.RuleFault.{RuleFault}
+use Rattle.pj_rules.specs.declared.fault.RuleWhat.TheVariants.{MissingRef}
+use Rattle.pj_rules.specs.declared.progress.Progress.{Progress}
 
 -- a top ruleset: its list, and its path patterns
 pub record TopRules : Type 0 where

@@ -1,9 +1,9 @@
 -- For private clauses: the fault of a path pattern.
 use Rattle.std.specs.Prelude.{◌≡◌}
-use Rattle.pj_rule_expressions.specs.Patterns.{whole}
+use Rattle.pj_rule_sets.specs.Patterns.{whole}
 use Rattle.pj_rule_texts.specs.Values.{Text}
-use Rattle.pj_rule_parts.specs.declared.fault.RuleFault.{RuleFault}
-use Rattle.pj_rule_parts.specs.declared.fault.RuleWhat.TheVariants.{PatternRefused}
+use Rattle.pj_rules.specs.declared.fault.RuleFault.{RuleFault}
+use Rattle.pj_rules.specs.declared.fault.RuleWhat.TheVariants.{PatternRefused}
 use Rattle.pj_xpatterns.specs.Meaning.{IsNoPattern}
 
 -- the text is no pattern

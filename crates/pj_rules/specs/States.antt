@@ -4,17 +4,17 @@ use Rattle.std.specs.List.{filter_map}
 use Rattle.std.specs.Option.{option_to_list}
 use Rattle.pj_outside.specs.Files.{Files}
 use Rattle.pj_rule_files.specs.Files.{IsRead}
-use Rattle.pj_rule_parts.specs.Lists.{is_among}
+use Rattle.pj_rule_sets.specs.Lists.{is_among}
 use Rattle.pj_rule_texts.specs.Values.{Text}
 use Rattle.pj_rule_texts.specs.declared.written.Part.{Part}
 use Rattle.pj_rule_texts.specs.declared.written.Part.TheVariants as part
 use Rattle.pj_rule_texts.specs.declared.written.WrittenRuleset.{WrittenRuleset}
-use Rattle.pj_rule_parts.specs.Effective.{AddAll, Adds, AreJudged, FileFaults, PartFault, nothing, path_pattern}
-use Rattle.pj_rule_parts.specs.Known.{AreKnown, AreRead}
+use Rattle.pj_rules.specs.Effective.{AddAll, Adds, AreJudged, FileFaults, PartFault, nothing, path_pattern}
+use Rattle.pj_rules.specs.Known.{AreKnown, AreRead}
 use Rattle.pj_rules.specs.Load.{TopRules, exclude_of, include_of}
-use Rattle.pj_rule_parts.specs.Referring.{Leads}
-use Rattle.pj_rule_parts.specs.declared.fault.RuleFault.{RuleFault}
-use Rattle.pj_rule_parts.specs.declared.known.Known.{Known}
+use Rattle.pj_rules.specs.Referring.{Leads}
+use Rattle.pj_rules.specs.declared.fault.RuleFault.{RuleFault}
+use Rattle.pj_rule_sets.specs.declared.known.Known.{Known}
 use Rattle.pj_rules.specs.declared.open_file.OpenFile.{OpenFile}
 use Rattle.pj_rules.specs.declared.open_file.Waiting.{Waiting}
 use Rattle.pj_rule_sets.specs.declared.path_patterns.PathPatterns.{PathPatterns}

@@ -5,7 +5,7 @@ ghost use Rattle.pj_rules.specs.States.{top_rules};
 
 use crate::top::Top;
 use pj_base::NoMemory;
-use pj_rule_parts::{Entry, Origin};
+use pj_rule_sets::{Entry, Origin};
 
 /// Whether a member of a list counts: a rule of a priority number that is not above the minimum, or what cannot be used.
 fn is_kept(minimum: u8, taken: &(Origin, Entry)) -> bool

@@ -8,9 +8,8 @@ ghost use Rattle.pj_rules.specs.States.{top_rules};
 
 use crate::top::Top;
 use pj_base::{ListOf, NoMemory};
-use pj_rule_parts::{Entry, Origin};
 use pj_rule_rows::ConfigErrors;
-use pj_rule_sets::{PathPatterns, Rule, Rules};
+use pj_rule_sets::{Entry, Origin, PathPatterns, Rule, Rules};
 use std::alloc::Global;
 use std::sync::Arc;
 

@@ -2,7 +2,7 @@
 ghost use Rattle.pj_rules.specs.Laws.{OneFirstFault, OneList, OneSet, RulesOrFault};
 
 use pj_markup::one_reading;
-use pj_rule_expressions::{one_fault, sound_or_fault};
+use pj_rule_sets::{one_fault, sound_or_fault};
 
 /// A file has one list of rules at most, and the files that are named have one set of rules at most.
 pub fn one_set()

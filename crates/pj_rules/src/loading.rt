@@ -2,16 +2,16 @@
 ghost use Rattle.std.specs.Prelude.{◌≡◌, ◌≢◌, ◌≤◌, map, Err, IfOk, IfErr, IfSome};
 ghost use Rattle.pj_rules.specs.Gathering.{IsTooMany};
 ghost use Rattle.pj_rules.specs.Load.{IsEffective, count_of, effective, greatest_count};
-ghost use Rattle.pj_rule_parts.specs.Counts.{CountsFaults};
+ghost use Rattle.pj_rules.specs.Counts.{CountsFaults};
 ghost use Rattle.pj_rules.specs.Outcome.{IsRefused};
 ghost use Rattle.pj_rules.specs.States.{top_rules};
 
 use crate::counting::count_of;
+use crate::fault::RuleRefused;
 use crate::gathering::{Gathered, gather};
 use crate::top::{Top, read_tops};
 use pj_base::{Copied, ListOf, Names, Text};
 use pj_outside::Tree;
-use pj_rule_parts::RuleRefused;
 use pj_rule_sets::RuleSet;
 use std::alloc::Global;
 

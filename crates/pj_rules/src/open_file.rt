@@ -1,16 +1,19 @@
 //! Files that are being read.
 ghost use Rattle.std.specs.Prelude.{◌≡◌, true, IfOk, IfErr, OnOk, is_some};
-ghost use Rattle.pj_rule_expressions.specs.Patterns.{whole};
+ghost use Rattle.pj_rule_sets.specs.Patterns.{whole};
 ghost use Rattle.pj_rule_texts.specs.declared.written.Part.TheVariants as part;
-ghost use Rattle.pj_rule_parts.specs.Effective.{nothing};
+ghost use Rattle.pj_rules.specs.Effective.{nothing};
 ghost use Rattle.pj_rules.specs.Patterns.{IsPatternFault};
-ghost use Rattle.pj_rule_parts.specs.Refusals.{IfOwn};
+ghost use Rattle.pj_rules.specs.Refusals.{IfOwn};
 ghost use Rattle.pj_rules.specs.States.{Gathers};
 ghost use Rattle.pj_xpatterns.specs.Meaning.{IsNoPattern};
 
+use crate::defining::refused;
+use crate::fault::{RuleRefused, RuleWhat};
+use crate::progress::Progress;
+use crate::referral::Referral;
 use crate::rest::Rest;
 use pj_base::{Copied, Text};
-use pj_rule_parts::{Progress, Referral, RuleRefused, RuleWhat, refused};
 use pj_rule_sets::{PathPattern, PathPatterns};
 use pj_rule_texts::WrittenRuleset;
 use pj_xpatterns::PatternFault;

@@ -3,21 +3,24 @@ ghost use Rattle.std.specs.Prelude.{◌≡◌, ◌≢◌, ◌++◌, ◌∷◌, [
 ghost use Rattle.pj_outside.specs.Files.{Files};
 ghost use Rattle.pj_rule_texts.specs.declared.written.Part.{Part};
 ghost use Rattle.pj_rule_texts.specs.declared.written.Part.TheVariants as part;
-ghost use Rattle.pj_rule_parts.specs.Finding.{IsBefore};
-ghost use Rattle.pj_rule_parts.specs.Known.{AreKnown, AreRead};
-ghost use Rattle.pj_rule_parts.specs.Counts.{CountsFaults};
-ghost use Rattle.pj_rule_parts.specs.Refusals.{IfFault, IfOwn};
-ghost use Rattle.pj_rule_parts.specs.Referring.{Leads};
+ghost use Rattle.pj_rules.specs.Finding.{IsBefore};
+ghost use Rattle.pj_rules.specs.Known.{AreKnown, AreRead};
+ghost use Rattle.pj_rules.specs.Counts.{CountsFaults};
+ghost use Rattle.pj_rules.specs.Refusals.{IfFault, IfOwn};
+ghost use Rattle.pj_rules.specs.Referring.{Leads};
 ghost use Rattle.pj_rules.specs.States.{GoesOn, IsDone, IsEnded, IsFaultOf, IsFaultOfTop, IsStack, IsTaking, Opens, Takes, TakesOrOpens};
-ghost use Rattle.pj_rule_parts.specs.declared.known.Known.{Known};
+ghost use Rattle.pj_rule_sets.specs.declared.known.Known.{Known};
 
+use crate::defining::{define, refused};
+use crate::fault::{RuleRefused, RuleWhat};
+use crate::looking_up::{Found, look_up};
 use crate::open_file::{OpenFile, Waiting, with_exclude, with_include};
+use crate::progress::Progress;
+use crate::referral::{Referral, referral_of};
+use crate::taking::{take, take_nothing};
 use pj_base::{Copied, ListOf, NoMemory, Text};
 use pj_outside::Tree;
-use pj_rule_parts::{
-    Found, Known, Progress, ReadFiles, Referral, RuleRefused, RuleWhat, define, look_up,
-    referral_of, refused, take, take_nothing,
-};
+use pj_rule_sets::{Known, ReadFiles};
 use pj_rule_texts::{Part, WrittenRule, WrittenRuleset};
 use pj_xparse::Parser;
 use std::alloc::Global;

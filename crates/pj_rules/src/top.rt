@@ -3,20 +3,21 @@ ghost use Rattle.std.specs.Prelude.{◌≡◌, ◌≢◌, Some, map, false, Err,
 ghost use Rattle.pj_outside.specs.Files.{Files};
 ghost use Rattle.pj_rule_files.specs.Files.{IsRead, is_there};
 ghost use Rattle.pj_rule_texts.specs.Values.{Text};
-ghost use Rattle.pj_rule_parts.specs.Known.{AreRead};
+ghost use Rattle.pj_rules.specs.Known.{AreRead};
 ghost use Rattle.pj_rules.specs.Load.{AreTops, IsFirstFault, IsTop, IsTopFault};
-ghost use Rattle.pj_rule_parts.specs.Counts.{CountsFaults};
-ghost use Rattle.pj_rule_parts.specs.Refusals.{IfFault, IfOwn};
+ghost use Rattle.pj_rules.specs.Counts.{CountsFaults};
+ghost use Rattle.pj_rules.specs.Refusals.{IfFault, IfOwn};
 ghost use Rattle.pj_rules.specs.States.{IsEnded, IsStack, top_rules};
 
+use crate::defining::refused;
+use crate::fault::{RuleRefused, RuleWhat};
+use crate::looking_up::written_at;
 use crate::open_file::OpenFile;
+use crate::progress::Progress;
 use crate::reading::{Stack, read_to_end};
 use pj_base::{Copied, ListOf, Names, NoMemory, Text};
 use pj_outside::Tree;
-use pj_rule_parts::{
-    Known, Origin, Progress, RuleList, RuleRefused, RuleWhat, not_available, refused, written_at,
-};
-use pj_rule_sets::PathPatterns;
+use pj_rule_sets::{Known, Origin, PathPatterns, RuleList, not_available};
 use pj_rule_texts::{WrittenRuleset, is_from_elsewhere};
 use pj_xparse::Parser;
 use std::alloc::Global;

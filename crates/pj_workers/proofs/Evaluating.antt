@@ -6,8 +6,8 @@ use Rattle.pj_names.proofs.AskingLaws.{asks-refused, asks-return, asks-then}
 use Rattle.pj_names.specs.Told.{Asks, Told}
 use Rattle.pj_parse.specs.JavaFile.{JavaFile}
 use Rattle.pj_reports.specs.declared.rows.Reason.{Reason}
-use Rattle.pj_rule_expressions.specs.Expressions.{HasPatterns, variables_of}
-use Rattle.pj_rule_expressions.specs.declared.spelled.Spelled.{Spelled}
+use Rattle.pj_rule_sets.specs.Expressions.{HasPatterns, variables_of}
+use Rattle.pj_rule_sets.specs.declared.spelled.Spelled.{Spelled}
 use Rattle.pj_rule_sets.specs.Rules.{texts_of}
 use Rattle.pj_tree.specs.Tree.{Tree}
 use Rattle.pj_tree.specs.declared.node.Node.{Node}

@@ -4,10 +4,10 @@ use Rattle.std.specs.List.{AllZip}
 use Rattle.std.specs.Option.{option_map}
 use Rattle.std.proofs.lemmas.List.{take_more}
 use Rattle.std.proofs.lemmas.Slice.Zip.{all_zipped_more}
-use Rattle.pj_rule_expressions.specs.Expressions.{AreOf, Both, HasPatterns, IsKept, IsSpelledBy, names_of, variables_of}
-use Rattle.pj_rule_expressions.specs.Patterns.{suppression_of}
-use Rattle.pj_rule_expressions.specs.declared.expressions.RuleExpressions.{RuleExpressions}
-use Rattle.pj_rule_expressions.specs.declared.spelled.Spelled.{Spelled}
+use Rattle.pj_rule_sets.specs.Expressions.{AreOf, Both, HasPatterns, IsKept, IsSpelledBy, names_of, variables_of}
+use Rattle.pj_rule_sets.specs.Patterns.{suppression_of}
+use Rattle.pj_rule_sets.specs.declared.expressions.RuleExpressions.{RuleExpressions}
+use Rattle.pj_rule_sets.specs.declared.spelled.Spelled.{Spelled}
 use Rattle.pj_rule_sets.specs.Rules.{EffectiveRule, texts_of}
 use Rattle.pj_rule_texts.specs.Values.{Text}
 use Rattle.pj_rule_texts.specs.declared.rule.RuleTexts.{RuleTexts}

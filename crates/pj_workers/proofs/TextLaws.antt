@@ -11,9 +11,10 @@ use Rattle.pj_tree.specs.declared.node.Node.{Node}
 use Rattle.pj_xdenotes.specs.Context.{Context, Variables, at}
 use Rattle.pj_xdenotes.specs.Denotes.{denotes}
 use Rattle.pj_xdenotes.specs.Means.{Means, give, judged, ◌>>=◌}
-use Rattle.pj_xmeaning.specs.Trees.{Tree, tree_of}
+use Rattle.pj_xvalue.specs.Trees.{Tree, tree_of}
 use Rattle.pj_xparse.specs.Spells.{Spells}
-use Rattle.pj_xtrees.specs.Laws.{DenotesByTree, PatternsByTree}
+use Rattle.pj_xpatterns.specs.Laws.{PatternsByTree}
+use Rattle.pj_xtrees.specs.Laws.{DenotesByTree}
 use Rattle.pj_xvalue.specs.Boolean.{effective_boolean}
 use Rattle.pj_xvalue.specs.Items.{ItemValue, Document, Element}
 use Rattle.pj_xvalue.specs.declared.expr.Expr.{Expr}
@@ -22,8 +23,8 @@ use Rattle.pj_workers.specs.FileMeaning.{Bytes, Replies, file_meaning, head_of, 
 use Rattle.pj_workers.specs.Laws.{AreAlike, RulesAreTexts}
 use Rattle.pj_workers.specs.Reasons.{plain_reason_of, xpath_reason}
 use Rattle.pj_workers.specs.RuleMeaning.{Reply, found_at, found_of, reason_after, result_of, rule_in_file, spot_at, value_of}
-use Rattle.pj_rule_expressions.specs.Expressions.{Both, IsSpelledBy, names_of, variables_of}
-use Rattle.pj_rule_expressions.specs.Patterns.{suppression_of}
+use Rattle.pj_rule_sets.specs.Expressions.{Both, IsSpelledBy, names_of, variables_of}
+use Rattle.pj_rule_sets.specs.Patterns.{suppression_of}
 use Rattle.pj_workers.specs.Rules.{IsSpelled, Rule, Source, is_active, patterns_of}
 
 abbrev pub OneExpression : Type 0

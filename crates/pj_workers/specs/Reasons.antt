@@ -5,7 +5,7 @@ use Rattle.pj_findings.specs.declared.spot.Spot.{Spot}
 use Rattle.pj_parse.specs.JavaFile.{JavaFile}
 use Rattle.pj_reports.specs.declared.rows.Reason.{Reason}
 use Rattle.pj_reports.specs.declared.rows.Reason.TheVariants as reason
-use Rattle.pj_rule_expressions.specs.Patterns.{is_covered}
+use Rattle.pj_rule_sets.specs.Patterns.{is_covered}
 use Rattle.pj_suppress.specs.Annotation.{by_annotation}
 use Rattle.pj_tree.specs.declared.node.Node.{Node}
 use Rattle.pj_workers.specs.FileFacts.{attribute_of}

@@ -12,7 +12,7 @@ use Rattle.pj_findings.specs.declared.spot.Spot.{Spot}
 use Rattle.pj_names.specs.Asking.{Asking, Return, bind}
 use Rattle.pj_parse.specs.JavaFile.{JavaFile}
 use Rattle.pj_reports.specs.declared.rows.Reason.{Reason}
-use Rattle.pj_rule_expressions.specs.Expressions.{variables_of}
+use Rattle.pj_rule_sets.specs.Expressions.{variables_of}
 use Rattle.pj_tree.specs.declared.node.Node.{Node}
 use Rattle.pj_xdenotes.specs.Context.{Context, at}
 use Rattle.pj_xdenotes.specs.Denotes.{denotes}

@@ -1,8 +1,8 @@
 -- What a rule means by its texts.
 use Rattle.std.specs.Prelude.{◌≡◌, Bool, List, Option}
 use Rattle.std.specs.List.{AllZip}
-use Rattle.pj_rule_expressions.specs.Expressions.{Both, IsSpelledBy, names_of, variables_of}
-use Rattle.pj_rule_expressions.specs.Patterns.{suppression_of}
+use Rattle.pj_rule_sets.specs.Expressions.{Both, IsSpelledBy, names_of, variables_of}
+use Rattle.pj_rule_sets.specs.Patterns.{suppression_of}
 use Rattle.pj_rule_sets.specs.Active.{are_active}
 use Rattle.pj_rule_sets.specs.Rules.{EffectiveRule, EffectiveRules, texts_of}
 use Rattle.pj_rule_texts.specs.Values.{Text}

@@ -13,9 +13,9 @@ use Rattle.pj_parse.specs.declared.file_fault.FileFault.{FileFault}
 use Rattle.pj_parse.specs.declared.file_fault.FileRefused.{FileRefused}
 use Rattle.pj_parse.specs.declared.file_fault.FileRefused.TheVariants.{Fault, Memory}
 use Rattle.pj_reports.specs.declared.rows.FileRows.{FileRows}
-use Rattle.pj_rule_expressions.specs.Expressions.{HasPatterns, variables_of}
-use Rattle.pj_rule_expressions.specs.declared.expressions.RuleExpressions.{RuleExpressions}
-use Rattle.pj_rule_expressions.specs.declared.spelled.Spelled.{Spelled}
+use Rattle.pj_rule_sets.specs.Expressions.{HasPatterns, variables_of}
+use Rattle.pj_rule_sets.specs.declared.expressions.RuleExpressions.{RuleExpressions}
+use Rattle.pj_rule_sets.specs.declared.spelled.Spelled.{Spelled}
 use Rattle.pj_rule_sets.specs.Rules.{EffectiveRule, EffectiveRules, texts_of}
 use Rattle.pj_tree.specs.declared.node.Node.{Node}
 use Rattle.pj_xdenotes.specs.Means.{Means, give, ◌>>=◌}

@@ -3,7 +3,7 @@ ghost use Rattle.std.specs.Prelude.{◌≡◌, ◌<◌, IfOk, None, length};
 ghost use Rattle.std.specs.List.{All};
 ghost use Rattle.pj_findings.specs.Spots.{spot_of};
 ghost use Rattle.pj_names.specs.Told.{Asks};
-ghost use Rattle.pj_rule_expressions.specs.Expressions.{HasPatterns, variables_of};
+ghost use Rattle.pj_rule_sets.specs.Expressions.{HasPatterns, variables_of};
 ghost use Rattle.pj_rule_sets.specs.Rules.{texts_of};
 ghost use Rattle.pj_xdenotes.specs.Context.{at};
 ghost use Rattle.pj_xvalue.specs.Items.{IsOfTree, value_of_item, values_of};
@@ -21,8 +21,7 @@ use pj_findings::{
 };
 use pj_names::AskFault;
 use pj_reports::Reason;
-use pj_rule_expressions::Spelled;
-use pj_rule_sets::Rule;
+use pj_rule_sets::{Rule, Spelled};
 use pj_tree::Node;
 use pj_xeval::{Focus, evaluate};
 use pj_xtrees::patterns_are_a_set;

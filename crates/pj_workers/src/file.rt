@@ -35,6 +35,7 @@ use pj_source::Source;
 use pj_suppress::marks;
 use pj_symbols::Symbols;
 use pj_xparse::one_expression;
+use pj_xpatterns::trees_tell_patterns;
 use pj_xtrees::trees_tell_expressions;
 use std::alloc::Global;
 
@@ -51,6 +52,7 @@ fn active_result<'t>(
 {
     one_expression();
     trees_tell_expressions();
+    trees_tell_patterns();
     match rule_result(file, rule, calls) {
         Ok(result) => Ok(result),
         Err(AskFault::Memory) => Err(NoMemory),

@@ -6,6 +6,7 @@ ghost use Rattle.pj_workers.specs.Laws.{InactiveIsNothing, ListsAreTexts, MarksA
 use pj_findings::nodes_are_the_items;
 use pj_rule_sets::RuleSet;
 use pj_xparse::one_expression;
+use pj_xpatterns::trees_tell_patterns;
 use pj_xtrees::trees_tell_expressions;
 
 /// A rule that is not active for a path means nothing at a file of that path, and asks for no class.
@@ -39,6 +40,7 @@ pub fn rules_are_their_texts()
 {
     one_expression();
     trees_tell_expressions();
+    trees_tell_patterns();
 }
 
 /// The lines that comments mark in a Java file are those that `pj_suppress` has of its tokens.

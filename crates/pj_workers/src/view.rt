@@ -2,8 +2,7 @@
 
 use pj_attrs::Facts;
 use pj_base::Text;
-use pj_rule_expressions::RuleExpressions;
-use pj_rule_sets::Rule;
+use pj_rule_sets::{Rule, RuleExpressions};
 use pj_suppress::Lines;
 use pj_tree::SyntaxTree;
 use std::alloc::Global;

@@ -2,7 +2,7 @@
 use crate::fixtures::{expect, put, put_both, put_number};
 use crate::rulesets::rule_of;
 use pj_base::{NoMemory, Text};
-use pj_rule_expressions::{ExpressionFault, RuleExpressions, UsableRule, expressions_of};
+use pj_rule_sets::{ExpressionFault, RuleExpressions, UsableRule, expressions_of};
 use pj_rule_texts::{RuleTexts, WrittenRule, defined};
 use pj_xparse::{Parser, XSyntax};
 use std::alloc::Global;

@@ -1,9 +1,8 @@
 //! Lists of rules, each rule once.
 use crate::fixtures::{expect, put, put_both, put_number};
 use pj_base::{ListOf, Names, NoMemory, Text};
-use pj_rule_expressions::UsableRule;
-use pj_rule_parts::{Entry, NameSet, Origin, RuleTable, Unusable, named, put_without};
 use pj_rule_rows::{ConfigError, RuleRow};
+use pj_rule_sets::{Entry, NameSet, Origin, RuleTable, Unusable, UsableRule, named, put_without};
 use pj_rule_texts::{Properties, RuleTexts};
 use pj_xparse::Parser;
 use std::alloc::Global;

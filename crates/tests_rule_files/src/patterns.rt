@@ -1,7 +1,7 @@
 //! Patterns that match a whole text.
 use crate::fixtures::expect;
 use pj_base::NoMemory;
-use pj_rule_expressions::whole;
+use pj_rule_sets::whole;
 use pj_xpatterns::{CompiledPattern, PatternFault};
 use std::alloc::Global;
 use std::test::Fail;

@@ -4,10 +4,10 @@ use Rattle.pj_rules.specs.Load.{IsEffective, effective}
 use Rattle.pj_rules.specs.Outcome.{IsRefused}
 use Rattle.pj_rules.specs.States.{top_rules}
 use Rattle.pj_rules.specs.declared.top.Top.{Top}
-use Rattle.pj_rule_parts.proofs.Definitions.{handed_on}
+use Rattle.pj_rules.proofs.Definitions.{handed_on}
 use Rattle.pj_rules.proofs.Loads.{counts_below, counts_many, many_steady, no_rules, refused_below, refused_many}
-use Rattle.pj_rule_parts.proofs.Told.{all_told}
-use Rattle.pj_rule_parts.proofs.Refusing.{stays_steady}
+use Rattle.pj_rules.proofs.Told.{all_told}
+use Rattle.pj_rules.proofs.Refusing.{stays_steady}
 use Rattle.pj_rules.proofs.loading.load.Goals as goal
 
 pub returns-in_err-tops-clause-counts_faults : goal.returns-in_err-tops-clause-counts_faults

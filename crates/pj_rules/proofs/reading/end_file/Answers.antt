@@ -1,10 +1,10 @@
 use Rattle.std.proofs.Common.{List, ℕ, [], ◌∷◌, ◌++◌, subst}
 use Rattle.pj_outside.specs.Files.{Files}
-use Rattle.pj_rule_parts.specs.Refusals.{IfOwn}
+use Rattle.pj_rules.specs.Refusals.{IfOwn}
 use Rattle.pj_rules.specs.States.{IsDone, IsFaultOfTop}
-use Rattle.pj_rule_parts.specs.declared.fault.RuleFault.{RuleFault}
+use Rattle.pj_rules.specs.declared.fault.RuleFault.{RuleFault}
 use Rattle.pj_rules.specs.declared.open_file.Waiting.{Waiting}
-use Rattle.pj_rule_parts.proofs.Refusing.{leaves, own_weaker}
+use Rattle.pj_rules.proofs.Refusing.{leaves, own_weaker}
 use Rattle.pj_rules.proofs.Turns.{ended}
 use Rattle.pj_rules.proofs.reading.end_file.Goals as goal
 

@@ -1,12 +1,12 @@
 use Rattle.std.proofs.Common.{List, [], ◌∷◌, ◌++◌, ℕ, refl, subst}
 use Rattle.pj_outside.specs.Files.{Files}
-use Rattle.pj_rule_parts.specs.Lists.{Taken}
-use Rattle.pj_rule_parts.specs.Referring.{AddsTaken, IsTakenFault}
-use Rattle.pj_rule_parts.specs.Refusals.{IfOwn}
+use Rattle.pj_rule_sets.specs.Lists.{Taken}
+use Rattle.pj_rules.specs.Referring.{AddsTaken, IsTakenFault}
+use Rattle.pj_rules.specs.Refusals.{IfOwn}
 use Rattle.pj_rules.specs.States.{IsDone, IsFaultOfTop}
-use Rattle.pj_rule_parts.specs.declared.fault.RuleFault.{RuleFault}
-use Rattle.pj_rule_parts.specs.declared.fault.RuleRefused.TheVariants.{Memory}
-use Rattle.pj_rule_parts.proofs.Refusing.{leaves, own_weaker}
+use Rattle.pj_rules.specs.declared.fault.RuleFault.{RuleFault}
+use Rattle.pj_rules.specs.declared.fault.RuleRefused.TheVariants.{Memory}
+use Rattle.pj_rules.proofs.Refusing.{leaves, own_weaker}
 use Rattle.pj_rules.proofs.Turns.{goes_back, stops_back}
 use Rattle.pj_rules.proofs.reading.go_back.Goals as goal
 

@@ -1,8 +1,8 @@
 use Rattle.std.proofs.Common.{None, Some, sym, subst}
-use Rattle.pj_rule_parts.specs.Refusals.{IfFault}
+use Rattle.pj_rules.specs.Refusals.{IfFault}
 use Rattle.pj_rules.specs.States.{IsFaultOf, IsFaultOfTop, IsTaking, Opens, TakesOrOpens}
 use Rattle.pj_rules.specs.declared.open_file.OpenFile.{OpenFile}
-use Rattle.pj_rule_parts.proofs.Refusing.{fault_weaker, leaves}
+use Rattle.pj_rules.proofs.Refusing.{fault_weaker, leaves}
 use Rattle.pj_rules.proofs.Turns.{goes_on, stops}
 use Rattle.pj_rules.proofs.reading.go_on.Goals as goal
 

@@ -1,5 +1,5 @@
 use Rattle.std.proofs.Common.{◌≡◌, false, [], ◌∷◌, ◌++◌, refl, subst}
-use Rattle.pj_rule_parts.specs.Lists.{is_among}
+use Rattle.pj_rule_sets.specs.Lists.{is_among}
 use Rattle.pj_rule_texts.specs.Values.{Text}
 use Rattle.pj_rules.proofs.Turns.{opened}
 use Rattle.pj_rules.proofs.reading.open_file.Goals as goal

@@ -1,8 +1,8 @@
 use Rattle.std.proofs.Common.{◌∙◌}
-use Rattle.pj_rule_parts.specs.Refusals.{IfFault}
+use Rattle.pj_rules.specs.Refusals.{IfFault}
 use Rattle.pj_rules.specs.States.{GoesOn, IsFaultOfTop}
 use Rattle.pj_rules.specs.declared.reading.Next.TheVariants.{Goes, Ends}
-use Rattle.pj_rule_parts.proofs.Refusing.{leaves}
+use Rattle.pj_rules.proofs.Refusing.{leaves}
 use Rattle.pj_rules.proofs.reading.read_to_end.Goals as goal
 
 pub returns-in_err-next-clause-fault : goal.returns-in_err-next-clause-fault

@@ -1,15 +1,15 @@
 use Rattle.std.proofs.Common.{refl}
 use Rattle.pj_outside.specs.Files.{Files}
 use Rattle.pj_rule_texts.specs.declared.written.Part.TheVariants as part
-use Rattle.pj_rule_parts.specs.Finding.{IsBefore, IsFound, IsFoundFault}
-use Rattle.pj_rule_parts.specs.Known.{AreRead}
-use Rattle.pj_rule_parts.specs.Referring.{IsNoForm, IsNothingFault, Leads}
-use Rattle.pj_rule_parts.specs.Refusals.{IfFault}
+use Rattle.pj_rules.specs.Finding.{IsBefore, IsFound, IsFoundFault}
+use Rattle.pj_rules.specs.Known.{AreRead}
+use Rattle.pj_rules.specs.Referring.{IsNoForm, IsNothingFault, Leads}
+use Rattle.pj_rules.specs.Refusals.{IfFault}
 use Rattle.pj_rules.specs.States.{IsFaultOf}
-use Rattle.pj_rule_parts.specs.declared.fault.RuleFault.{RuleFault}
-use Rattle.pj_rule_parts.specs.declared.looking_up.Found.TheVariants.{Nowhere, Before, New}
+use Rattle.pj_rules.specs.declared.fault.RuleFault.{RuleFault}
+use Rattle.pj_rules.specs.declared.looking_up.Found.TheVariants.{Nowhere, Before, New}
 use Rattle.pj_rules.proofs.PartFacts.{before_fault, found_fault, leads_there, no_form_fault, nothing_fault, opens, takes_nothing, took_rule}
-use Rattle.pj_rule_parts.proofs.Refusing.{fault_weaker, leaves, own_fault, own_steady, stays_steady}
+use Rattle.pj_rules.proofs.Refusing.{fault_weaker, leaves, own_fault, own_steady, stays_steady}
 use Rattle.pj_rules.proofs.reading.refer.Goals as goal
 
 pub returns-in_err-referral-clause-fault : goal.returns-in_err-referral-clause-fault

@@ -3,12 +3,12 @@ use Rattle.pj_outside.specs.Files.{Files}
 use Rattle.pj_rule_sets.specs.declared.path_patterns.PathPatterns.{PathPatterns}
 use Rattle.pj_rule_texts.specs.declared.written.Part.TheVariants as part
 use Rattle.pj_rules.specs.Patterns.{IsPatternFault}
-use Rattle.pj_rule_parts.specs.Refusals.{IfOwn}
+use Rattle.pj_rules.specs.Refusals.{IfOwn}
 use Rattle.pj_rules.specs.States.{IsFaultOf}
-use Rattle.pj_rule_parts.specs.declared.fault.RuleFault.{RuleFault}
-use Rattle.pj_rule_parts.specs.declared.known.Known.{Known}
+use Rattle.pj_rules.specs.declared.fault.RuleFault.{RuleFault}
+use Rattle.pj_rule_sets.specs.declared.known.Known.{Known}
 use Rattle.pj_rules.proofs.PartFacts.{include_fault, takes_include}
-use Rattle.pj_rule_parts.proofs.Refusing.{leaves, own_weaker}
+use Rattle.pj_rules.proofs.Refusing.{leaves, own_weaker}
 use Rattle.pj_rules.proofs.reading.take_include.Goals as goal
 
 pub returns-in_err-file-clause-fault : goal.returns-in_err-file-clause-fault

@@ -1,17 +1,17 @@
 use Rattle.std.proofs.Common.{◌≡◌, List, refl, sym, subst}
 use Rattle.std.proofs.lemmas.Result.{IfErr-weaker, on_ok_weaker}
 use Rattle.pj_outside.specs.Files.{Files}
-use Rattle.pj_rule_parts.specs.Lists.{Taken}
+use Rattle.pj_rule_sets.specs.Lists.{Taken}
 use Rattle.pj_rule_texts.specs.declared.written.Part.TheVariants as part
-use Rattle.pj_rule_parts.specs.Finding.{IsBefore}
-use Rattle.pj_rule_parts.specs.Known.{AreRead}
-use Rattle.pj_rule_parts.specs.Referring.{AddsTaken, IsTakenFault, Leads}
-use Rattle.pj_rule_parts.specs.Refusals.{IfOwn}
+use Rattle.pj_rules.specs.Finding.{IsBefore}
+use Rattle.pj_rules.specs.Known.{AreRead}
+use Rattle.pj_rules.specs.Referring.{AddsTaken, IsTakenFault, Leads}
+use Rattle.pj_rules.specs.Refusals.{IfOwn}
 use Rattle.pj_rules.specs.States.{IsFaultOf}
-use Rattle.pj_rule_parts.specs.declared.fault.RuleFault.{RuleFault}
-use Rattle.pj_rule_parts.specs.declared.fault.RuleWhat.TheVariants.{RefCycle}
+use Rattle.pj_rules.specs.declared.fault.RuleFault.{RuleFault}
+use Rattle.pj_rules.specs.declared.fault.RuleWhat.TheVariants.{RefCycle}
 use Rattle.pj_rules.proofs.PartFacts.{cycle_fault, known_fault, takes_known}
-use Rattle.pj_rule_parts.proofs.Refusing.{own_weaker}
+use Rattle.pj_rules.proofs.Refusing.{own_weaker}
 use Rattle.pj_rules.proofs.reading.take_known.Goals as goal
 
 pub returns-in-None-clause-fault : goal.returns-in-None-clause-fault

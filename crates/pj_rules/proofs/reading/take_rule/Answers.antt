@@ -1,12 +1,12 @@
 use Rattle.std.proofs.Common.{List, ℕ, Bool, refl}
 use Rattle.pj_outside.specs.Files.{Files}
 use Rattle.pj_rule_texts.specs.declared.written.Part.TheVariants as part
-use Rattle.pj_rule_parts.specs.Effective.{PartFault}
-use Rattle.pj_rule_parts.specs.Refusals.{IfFault}
+use Rattle.pj_rules.specs.Effective.{PartFault}
+use Rattle.pj_rules.specs.Refusals.{IfFault}
 use Rattle.pj_rules.specs.States.{IsFaultOf, is_top}
-use Rattle.pj_rule_parts.specs.declared.fault.RuleFault.{RuleFault}
+use Rattle.pj_rules.specs.declared.fault.RuleFault.{RuleFault}
 use Rattle.pj_rules.proofs.PartFacts.{takes_rule}
-use Rattle.pj_rule_parts.proofs.Refusing.{leaves, own_fault, own_steady, stays_steady}
+use Rattle.pj_rules.proofs.Refusing.{leaves, own_fault, own_steady, stays_steady}
 use Rattle.pj_rules.proofs.reading.take_rule.Goals as goal
 
 pub returns-in_err-define-in-None-clause-fault : goal.returns-in_err-define-in-None-clause-fault

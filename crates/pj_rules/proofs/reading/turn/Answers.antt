@@ -1,11 +1,11 @@
 use Rattle.std.proofs.Common.{List, ℕ, refl}
 use Rattle.std.proofs.lemmas.Result.{IfErr-weaker, IfOk-weaker}
 use Rattle.pj_outside.specs.Files.{Files}
-use Rattle.pj_rule_parts.specs.Refusals.{IfFault, IfOwn}
+use Rattle.pj_rules.specs.Refusals.{IfFault, IfOwn}
 use Rattle.pj_rules.specs.States.{GoesOn, IsDone, IsFaultOfTop}
-use Rattle.pj_rule_parts.specs.declared.fault.RuleFault.{RuleFault}
+use Rattle.pj_rules.specs.declared.fault.RuleFault.{RuleFault}
 use Rattle.pj_rules.specs.declared.reading.Next.{Next}
-use Rattle.pj_rule_parts.proofs.Refusing.{own_fault, own_result, own_result_steady}
+use Rattle.pj_rules.proofs.Refusing.{own_fault, own_result, own_result_steady}
 use Rattle.pj_rules.proofs.Turns.{ends_next, takes_next}
 use Rattle.pj_rules.proofs.reading.turn.Goals as goal
 

@@ -4,8 +4,8 @@ use Rattle.pj_rule_files.specs.Files.{is_there}
 use Rattle.pj_rule_texts.specs.References.{is_from_elsewhere}
 use Rattle.pj_rule_texts.specs.Values.{Text}
 use Rattle.pj_rules.specs.Load.{IsTopFault}
-use Rattle.pj_rule_parts.specs.declared.fault.RuleWhat.TheVariants.{MissingRef}
-use Rattle.pj_rule_parts.proofs.Refusing.{own_weaker}
+use Rattle.pj_rules.specs.declared.fault.RuleWhat.TheVariants.{MissingRef}
+use Rattle.pj_rules.proofs.Refusing.{own_weaker}
 use Rattle.pj_rules.proofs.TopFacts.{absent, missing_top, one_absent}
 use Rattle.pj_rules.proofs.top.absent_top.Goals as goal
 

@@ -2,13 +2,13 @@ use Rattle.std.proofs.Common.{◌≡◌, ◌∙◌, true, false, Some, None, [],
 use Rattle.std.proofs.lemmas.Result.{IfErr-weaker, IfOk-weaker}
 use Rattle.pj_outside.specs.Files.{Files}
 use Rattle.pj_rule_files.specs.Files.{GivesRead, is_there}
-use Rattle.pj_rule_parts.specs.Finding.{IsFaultAt}
+use Rattle.pj_rules.specs.Finding.{IsFaultAt}
 use Rattle.pj_rules.specs.Load.{IsTop, IsTopFault}
-use Rattle.pj_rule_parts.specs.Refusals.{IfFault, IfOwn}
+use Rattle.pj_rules.specs.Refusals.{IfFault, IfOwn}
 use Rattle.pj_rules.specs.States.{top_rules}
-use Rattle.pj_rule_parts.specs.declared.fault.RuleFault.{RuleFault}
+use Rattle.pj_rules.specs.declared.fault.RuleFault.{RuleFault}
 use Rattle.pj_rules.specs.declared.top.Top.{Top}
-use Rattle.pj_rule_parts.proofs.Refusing.{fault_weaker, leaves, own_fault, own_result, own_result_steady}
+use Rattle.pj_rules.proofs.Refusing.{fault_weaker, leaves, own_fault, own_result, own_result_steady}
 use Rattle.pj_rules.proofs.top.read_top.Goals as goal
 
 pub returns-in_err-written-clause-fault : goal.returns-in_err-written-clause-fault

@@ -1,13 +1,14 @@
 use Rattle.std.proofs.Common.{◌∙◌, ◌≤◌, List, [], length, map, refl, sym, ap, subst, arith}
 use Rattle.std.proofs.lemmas.List.{take_all}
 use Rattle.pj_rule_texts.specs.Values.{Text}
-use Rattle.pj_rule_parts.specs.Known.{AreRead, Read}
+use Rattle.pj_rules.specs.Known.{AreRead}
+use Rattle.pj_rule_sets.specs.ReadFiles.{Read}
 use Rattle.pj_rules.specs.Load.{AreTops, IsFirstFault, IsTopFault}
-use Rattle.pj_rule_parts.specs.Refusals.{IfFault}
+use Rattle.pj_rules.specs.Refusals.{IfFault}
 use Rattle.pj_rules.specs.States.{top_rules}
-use Rattle.pj_rule_parts.specs.declared.known.Known.{Known}
+use Rattle.pj_rule_sets.specs.declared.known.Known.{Known}
 use Rattle.pj_rules.specs.declared.top.Top.{Top}
-use Rattle.pj_rule_parts.proofs.Refusing.{fault_weaker, leaves}
+use Rattle.pj_rules.proofs.Refusing.{fault_weaker, leaves}
 use Rattle.pj_rules.proofs.TopFacts.{first_fault, next_top}
 use Rattle.pj_rules.proofs.top.read_tops.Goals as goal
 

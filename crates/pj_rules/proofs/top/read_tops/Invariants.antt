@@ -1,6 +1,6 @@
 use Rattle.std.proofs.Common.{◌≡◌, Some, map, take}
 use Rattle.pj_outside.specs.Files.{Files}
-use Rattle.pj_rule_parts.specs.Known.{AreRead}
+use Rattle.pj_rules.specs.Known.{AreRead}
 use Rattle.pj_rules.specs.Load.{AreTops}
 use Rattle.pj_rules.specs.States.{top_rules}
 use Rattle.pj_rules.proofs.top.read_tops.Given as goal

@@ -1,7 +1,7 @@
 use Rattle.pj_rules.specs.Load.{IsTopFault}
-use Rattle.pj_rule_parts.specs.Refusals.{IfFault}
+use Rattle.pj_rules.specs.Refusals.{IfFault}
 use Rattle.pj_rules.specs.States.{IsFaultOfTop}
-use Rattle.pj_rule_parts.proofs.Refusing.{fault_weaker, leaves}
+use Rattle.pj_rules.proofs.Refusing.{fault_weaker, leaves}
 use Rattle.pj_rules.proofs.top.read_written.Goals as goal
 
 pub returns-in_err-file-clause-fault : goal.returns-in_err-file-clause-fault

@@ -1,5 +1,5 @@
 use Rattle.std.proofs.Common.{subst}
-use Rattle.pj_rule_expressions.specs.Expressions.{IsParsed, names_of}
+use Rattle.pj_rule_sets.specs.Expressions.{IsParsed, names_of}
 use Rattle.pj_rule_sets.specs.Rules.{EffectiveRule, texts_of}
 use Rattle.pj_rule_sets.proofs.Told.{kept_there}
 use Rattle.pj_rule_sets.proofs.rule.Rule.query.Goals as goal

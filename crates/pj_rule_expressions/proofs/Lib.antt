@@ -1,4 +1,0 @@
-pub mod Judging
-pub mod Lists
-pub mod OneAnswer
-pub mod Sources

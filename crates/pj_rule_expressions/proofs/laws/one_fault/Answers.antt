@@ -1,5 +1,0 @@
-use Rattle.pj_rule_expressions.proofs.OneAnswer.{one_fault}
-use Rattle.pj_rule_expressions.proofs.laws.one_fault.Goals as goal
-
-pub returns : goal.returns
-returns c = one_fault c.tokens_are_one.ensures.one c.one_answer.ensures.spelled c.one_answer.ensures.one_fault

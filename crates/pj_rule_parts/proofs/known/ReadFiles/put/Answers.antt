@@ -1,6 +1,0 @@
-use Rattle.std.proofs.Common.{ap, ◌∙◌}
-use Rattle.pj_rule_parts.specs.Known.{put_list}
-use Rattle.pj_rule_parts.proofs.known.ReadFiles.put.Goals as goal
-
-pub returns : goal.returns
-returns c = c.in_ok-insert.ensures.entries ∙ ap (λ read. put_list read c.args.path c.args.list) c.self.view_is
