@@ -10,7 +10,7 @@
 set -euo pipefail
 . "$(dirname "$0")/scratch.sh"
 . "$(dirname "$0")/trees.sh"
-scratch_repository axes_bench 'pj_base pj_tree pj_xvalue pj_xaxes' pj_base pj_names pj_tree pj_xvalue pj_xaxes
+scratch_repository axes_bench 'pj_base pj_tree pj_xvalue pj_xaxes' pj_base pj_names pj_tree pj_xoperators pj_xvalue pj_xaxes
 trees_of_chains
 cat > "$bench/src/main.rt" <<'PROGRAM'
 // Rows of time.

@@ -13,7 +13,7 @@
 # row is the search in the empty string, which is little more than the making of a matcher.
 set -euo pipefail
 . "$(dirname "$0")/scratch.sh"
-scratch_repository functions_bench 'anyhow pj_base pj_xvalue pj_xpatterns pj_xfuncs' pj_base pj_names pj_tree pj_xvalue pj_xpatterns pj_xfuncs
+scratch_repository functions_bench 'anyhow pj_base pj_xvalue pj_xpatterns pj_xfuncs' pj_base pj_names pj_tree pj_xoperators pj_xvalue pj_xpatterns pj_xfuncs
 cat > "$bench/src/main.rt" <<'PROGRAM'
 // Rows of time.
 #![tactic(auto)]
