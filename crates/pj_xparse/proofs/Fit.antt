@@ -6,7 +6,6 @@ use Rattle.pj_xvalue.specs.Expressions.{Part, Scope, Written, Other, all_fit, ch
 use Rattle.pj_xvalue.specs.Trees as tree
 use Rattle.pj_xvalue.specs.Trees.{Tree, Construct, node, alone}
 use Rattle.pj_xnames.specs.Mentions.{Mention}
-use Rattle.pj_xnames.specs.Namings.{Operand, mentions_in}
 use Rattle.pj_xnames.specs.Faults.{first_fault_from}
 use Rattle.pj_xshape.specs.Shapes.{written_by, fits_by, part_of_tree, operators_fit, exactly}
 use Rattle.pj_xshape.specs.Nodes.{part_of_node}
@@ -34,19 +33,6 @@ more_fit {t} {written} {ts} {ms} {ns} a b = record {
 -- the last of some expressions
 pub last_fit : {t : Tree} {written : Written} {ms : List Mention} → IsFit t written ms → AreFit (t ∷ []) ms
 last_fit {t} a = record { balanced = a.balanced; fits = λ s e. and_from ((part_of_tree t).fits s) true (a.fits s e) refl }
-
--- no expression, where others are named
-pub no_fit : {ts : List Tree} {ms : List Mention} → AreFit ts ms → AreFit [] ms
-no_fit a = record { balanced = a.balanced; fits = λ s e. refl }
-
--- expressions one by one with what they name
-pub data ArePaired : List Tree → List Operand → Type 0 where
-  none_paired : ArePaired [] []
-  more_paired : {t : Tree} {o : Operand} {ts : List Tree} {os : List Operand} → IsFit t o.written o.mentions → ArePaired ts os → ArePaired (t ∷ ts) (o ∷ os)
-
-pub paired_fit : {ts : List Tree} {os : List Operand} → ArePaired ts os → AreFit ts (mentions_in os)
-paired_fit none_paired = none_fit
-paired_fit (more_paired a b) = more_fit a (paired_fit b)
 
 -- where parts fit, a construct of them does
 pub node_fit : (c : Construct) {ts : List Tree} {ms : List Mention} → ((s : Scope) → all_fit s (map part_of_tree ts) ≡ true → fits_by c (map part_of_tree ts) s ≡ true) → AreFit ts ms → IsFit (node c ts) Other ms

@@ -1,6 +1,6 @@
 -- Which tokens the terminals are read from.
 use Rattle.std.proofs.Common.{◌≡◌, ℕ, Bool, true, false, List, Option, Some, None, refl, sym, subst, arith}
-use Rattle.std.specs.Prelude.{cond, ◌||◌, nat_eq, codes}
+use Rattle.std.specs.Prelude.{cond, ◌||◌, not, nat_eq, nat_le, codes}
 use Rattle.pj_xgrammar.specs.Words.{same, word_of}
 use Rattle.pj_xgrammar.specs.declared.word.Phrase.{Phrase}
 use Rattle.pj_xtokens.specs.Tokens.{Lexed}
@@ -15,9 +15,12 @@ use Rattle.pj_xgrammar.specs.declared.terminal.Behind.TheVariants as b
 use Rattle.pj_xgrammar.specs.declared.terminal.Terminal.TheVariants as terminal
 use Rattle.pj_xgrammar.specs.Terminals.{behind_of, kind_behind, name_behind, first_behind, begins_step, sign_begins_step, kind_terminal, sign_terminal, word_terminal, makes_phrase, terminal_number}
 use Rattle.pj_xparse.specs.Derived.{IsRead}
-use Rattle.pj_xparse.proofs.Typed.{is_name, is_marked}
 
 -- ---- names
+
+-- the number is that of a terminal which is a name: a name without a meaning, which has the number 0, a keyword or a phrase
+abbrev pub is_name : ℕ → Bool
+is_name t = nat_eq t 0 || nat_le 39 t
 
 slash_no_name : (c : Bool) (n : ℕ) → terminal_number (cond c (terminal.Sign s.Slash) terminal.LoneSlash) ≡ n → is_name n ≡ true → ⊥
 slash_no_name true n e h = let z = subst (λ (m : ℕ). is_name m ≡ true) (sym e) h in cc
@@ -40,6 +43,10 @@ pub name_read : (x : Lexed) (rest : List Lexed) (n : ℕ) → IsRead x rest n �
 name_read x rest n e h = kind_of_name x.kind x.text (first_behind b.End rest) n e h
 
 -- ---- operators that begin a step in another place
+
+-- the terminal is a name or a `*`, whose number is 23, where this is asked
+abbrev pub is_marked : Bool → ℕ → Bool
+is_marked m t = not m || is_name t || nat_eq t 23
 
 name_begins : (text : List ℕ) → begins_step (name_behind text) ≡ true
 name_begins text = by (same (codes "as") text) (same (codes "of") text)

@@ -11,11 +11,7 @@ use Rattle.pj_xtokens.specs.declared.token.TokenKind.{TokenKind}
 use Rattle.pj_xtokens.specs.declared.token.TokenKind.TheVariants as kind
 use Rattle.pj_xtokens.specs.Literals.{unquoted, kept, is_left_out, characters_of, string_of, number_from, integer_of}
 use Rattle.pj_xshape.specs.Spelled.{IsText, IsName, IsInteger}
-use Rattle.pj_xparse.specs.WellSpelled.{IsWellSpelled, AreWellSpelled}
-
-pub split : (ts us : List Lexed) → AreWellSpelled (ts ++ us) → AreWellSpelled ts × AreWellSpelled us
-split [] us h = (tt, h)
-split (x ∷ ts) us h = let (left, right) = split ts us h.1 in ((h.0, left), right)
+use Rattle.pj_xparse.specs.WellSpelled.{IsWellSpelled}
 
 text_of : (cs : List ℕ) → all_scalars cs ≡ true → IsText (encode_utf8_all cs)
 text_of cs h =

@@ -41,6 +41,21 @@ pub record Derivation (tokens : List Lexed) (a : Operand) : Type 0 where
   pub means : meaning productions tokens ≡ a.tree
   pub names : mentions productions tokens ≡ a.names
 
+-- what the tokens read from which this value and these names are derived
+pub record Reading (tokens : List Lexed) (v : RuleValue) (w : Naming) : Type 0 where
+  pub said : Operand
+  pub reads : AreRead tokens said
+  pub tree : expression v ≡ said.tree
+  pub names : mentions_of w ≡ said.names
+
+-- where each rule stands at its number
+module _ (rule_at : (rule : Rule) → slice_get rules (rule_number rule) ≡ Some rule) where
+  pub tree_reads : (tokens : List Lexed) {ps : List ℕ} {v : RuleValue} {w : Naming} → Derived All 0 [] 0 tokens ps v w → Reading tokens v w
+  tree_reads tokens {v = v} {w} tree =
+      let m = derived_reads rule_at tree r.Expr refl in
+      let whole : IsOne (tokens ++ []) m.value v w = raw (λ e. e) m.links in
+      record { said = m.value; reads = subst (λ l. Reads All r.Expr 0 l [] m.value) (append-nil tokens) m.reads; tree = tree_is whole; names = names_are whole }
+
 -- that no derivation by rules nests too deep, and nothing is left out of it
 abbrev TreesAreClear : Type 0
 TreesAreClear = (tokens : List Lexed) (ps : List ℕ) (v : RuleValue) (w : Naming) → Derived All 0 [] 0 tokens ps v w → AreClear tokens (length tokens + 1)
@@ -69,13 +84,8 @@ module _ (actions_fit : ActionsFit) (rule_at : (rule : Rule) → slice_get rules
   derivation_reads tokens ps derived clear =
       let (v, rest) = leads_tree tokens ps derived clear in
       let (w, tree) = rest in
-      let m = derived_reads rule_at tree r.Expr refl in
-      let whole : IsOne (tokens ++ []) m.value v w = raw (λ e. e) m.links in (
-        m.value,
-        subst (λ l. Reads All r.Expr 0 l [] m.value) (append-nil tokens) m.reads,
-        tree_meaning actions_fit tokens ps v w tree ∙ tree_is whole,
-        tree_mentions actions_fit tokens ps v w tree ∙ names_are whole,
-      )
+      let m = tree_reads rule_at tokens tree in
+      (m.said, m.reads, tree_meaning actions_fit tokens ps v w tree ∙ m.tree, tree_mentions actions_fit tokens ps v w tree ∙ m.names)
 
   -- where tokens have one leftmost derivation, what they read is one
   pub one_reading : TreesAreClear → ((tokens : List Lexed) (ps qs : List ℕ) → AreDerived tokens ps → AreDerived tokens qs → ps ≡ qs) → (tokens : List Lexed) (a b : Operand) →

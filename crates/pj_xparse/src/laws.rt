@@ -141,7 +141,9 @@ pub fn derived_expressions_fit()
         first_fault variables (mentions_of w) ≡ None → IsTrue ((part_of_tree (expression v)).fits (record { given = variables; bound = [] })) }
     ensures nesting { (tokens : List Lexed) (productions : List ℕ) (v : RuleValue) (w : Naming) → Derived All 0 [] 0 tokens productions v w → nesting_of_tree (expression v) ≤ 200 }
     ensures spelled { (tokens : List Lexed) (productions : List ℕ) (v : RuleValue) (w : Naming) → AreWellSpelled tokens → Derived All 0 [] 0 tokens productions v w → IsSpelled (expression v) }
-{}
+{
+    rules_have_their_numbers();
+}
 
 /// The tokens of every text are well spelled.
 pub fn tokens_are_well_spelled()
@@ -156,6 +158,7 @@ pub fn meanings_are_expressions()
         first_fault variables (mentions productions tokens) ≡ None → tree_of e ≡ meaning productions tokens → IsExpression variables e }
 {
     derivations_are_trees();
+    derived_expressions_fit();
     expressions_have_shapes();
     nesting_is_least();
 }
