@@ -1,42 +1,26 @@
 -- Calls of PMD's functions in a text. As long as there are no types, they have no answer, so that a text that calls one is refused.
 use Rattle.std.specs.Prelude.{◌≡◌, ℕ, Bool, true, false, ◌&&◌, List, [], ◌∷◌, Option, Some, None, if◌then◌else◌}
-use Rattle.std.specs.Str.{encode_utf8_all}
 use denote.Bor.{Bor}
 use Rattle.pj_xvalue.specs.Names.{callee_of}
 use Rattle.pj_xvalue.specs.declared.name.Callee.{Callee}
 use Rattle.pj_xvalue.specs.declared.name.Callee.TheVariants.{Pmd}
+use Rattle.pj_xtokens.specs.First.{begins_with_name, begins_with_parenthesis, first_from, first_text}
 use Rattle.pj_xtokens.specs.Size.{size}
 use Rattle.pj_xtokens.specs.Tokens.{Lexed, Tokens}
 use Rattle.pj_xtokens.specs.declared.token.End.{End}
-use Rattle.pj_xtokens.specs.declared.token.Sign.TheVariants as sign
-use Rattle.pj_xtokens.specs.declared.token.TokenKind.{TokenKind}
-use Rattle.pj_xtokens.specs.declared.token.TokenKind.TheVariants as kind
 
 -- whether it is a function of PMD
 abbrev pub is_of_pmd : Option Callee → Bool
 is_of_pmd (Some (Pmd function)) = true
 is_of_pmd _ = false
 
-abbrev pub is_name : TokenKind → Bool
-is_name kind.Name = true
-is_name _ = false
+-- the first of the tokens is the name of a function of PMD
+abbrev pub names_pmd : List Lexed → Bool
+names_pmd tokens = begins_with_name tokens && is_of_pmd (callee_of (first_text tokens))
 
--- the token is the name of a function of PMD
-abbrev pub names_pmd : Lexed → Bool
-names_pmd token = is_name token.kind && is_of_pmd (callee_of (encode_utf8_all token.text))
-
-abbrev pub is_parenthesis : TokenKind → Bool
-is_parenthesis (kind.Sign sign.LeftParenthesis) = true
-is_parenthesis _ = false
-
--- the first of the tokens is `(`
-abbrev pub begins_with_parenthesis : List Lexed → Bool
-begins_with_parenthesis [] = false
-begins_with_parenthesis (token ∷ behind) = is_parenthesis token.kind
-
--- a name that is called, in bytes, and its offset, in bytes of the text
-abbrev pub call_of : Lexed → List ℕ × ℕ
-call_of token = (encode_utf8_all token.text, token.from)
+-- the name that is called at the first of the tokens, in bytes, and its offset, in bytes of the text
+abbrev pub call_of : List Lexed → List ℕ × ℕ
+call_of tokens = (first_text tokens, first_from tokens)
 
 -- the same, as the code answers it
 abbrev pub called : Bor (List ℕ) × ℕ → List ℕ × ℕ
@@ -47,7 +31,7 @@ called call = (call.0.now, call.1)
 abbrev pub first_call : List Lexed → Option (List ℕ × ℕ)
 first_call [] = None
 first_call (token ∷ behind) =
-    if names_pmd token && begins_with_parenthesis behind then Some (call_of token) else first_call behind
+    if names_pmd (token ∷ behind) && begins_with_parenthesis behind then Some (call_of (token ∷ behind)) else first_call behind
 
 -- what the tokens of the text, in characters, have as their first call of a function of PMD
 pub record HasFirstCall (text : List ℕ) (call : Option (List ℕ × ℕ)) : Type 0 where
