@@ -12,7 +12,7 @@
 set -euo pipefail
 . "$(dirname "$0")/scratch.sh"
 scratch_repository xparse_bench 'pj_base pj_xparse' pj_base pj_ll pj_names pj_tree pj_xoperators pj_xvalue pj_patterns pj_xtokens pj_xgrammar pj_xderive \
-    pj_xmeaning pj_xshape pj_xnames pj_xparse
+    pj_xmeaning pj_xshape pj_xparse
 cat > "$bench/src/main.rt" <<'PROGRAM'
 // Rows of time.
 #![tactic(auto)]

@@ -12,11 +12,7 @@ use Rattle.pj_xtokens.specs.Tokens.{Lexed}
 use Rattle.pj_xtokens.specs.declared.token.TokenKind.{TokenKind}
 use Rattle.pj_xtokens.specs.declared.token.TokenKind.TheVariants as kind
 use Rattle.pj_xgrammar.specs.Terminals.{numbers}
-use Rattle.pj_xgrammar.specs.XPath.{xpath_grammar}
-
--- the greatest nesting that a place may have
-abbrev pub greatest_nesting : ℕ
-greatest_nesting = 200
+use Rattle.pj_xgrammar.specs.XPath.{greatest_nesting, xpath_grammar}
 
 -- the productions derive the tokens
 abbrev pub AreDerived : List Lexed → List ℕ → Type 0

@@ -7,10 +7,10 @@ ghost use Rattle.pj_ll.specs.Outcome as ll;
 ghost use Rattle.pj_ll.specs.declared.parser.End.TheVariants.{LeftOut, Stops, TooDeep};
 ghost use Rattle.pj_xtokens.specs.Size.{size};
 ghost use Rattle.pj_xtokens.specs.Answer.{lexed_of};
-ghost use Rattle.pj_xderive.specs.Expressions.{IsOutcome, IsRun, LeadTo, are_apart, greatest_nesting, is_left_out_kind, is_left_out_token, stands_apart};
+ghost use Rattle.pj_xderive.specs.Expressions.{IsOutcome, IsRun, LeadTo, are_apart, is_left_out_kind, is_left_out_token, stands_apart};
 ghost use Rattle.pj_xderive.specs.Following.{CouldFollow, HasOutcome, IsReadAt, is_past, is_too_deep, terminals_with_last};
 ghost use Rattle.pj_xgrammar.specs.Terminals.{numbers};
-ghost use Rattle.pj_xgrammar.specs.XPath.{xpath_grammar};
+ghost use Rattle.pj_xgrammar.specs.XPath.{greatest_nesting, xpath_grammar};
 
 use crate::parser::Parser;
 use pj_base::NoMemory;

@@ -7,8 +7,8 @@ ghost use Rattle.pj_ll.specs.Outcome as terminals;
 ghost use Rattle.pj_ll.specs.Predictive.{RuleFacts, IsPredictive};
 ghost use Rattle.pj_xtokens.specs.Tokens.{Lexed};
 ghost use Rattle.pj_xgrammar.specs.Terminals.{numbers};
-ghost use Rattle.pj_xgrammar.specs.XPath.{xpath_grammar};
-ghost use Rattle.pj_xderive.specs.Expressions.{AreDerived, IsOutcome, IsRun, greatest_nesting, place_of};
+ghost use Rattle.pj_xgrammar.specs.XPath.{greatest_nesting, xpath_grammar};
+ghost use Rattle.pj_xderive.specs.Expressions.{AreDerived, IsOutcome, IsRun, place_of};
 
 use pj_ll::{one_end, tested_tables_are_predictive};
 

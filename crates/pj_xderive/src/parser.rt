@@ -2,8 +2,7 @@
 
 ghost use Rattle.std.specs.Prelude.{◌<◌, ◌^◌, IfOk, length};
 ghost use Rattle.pj_ll.specs.Outcome as ll;
-ghost use Rattle.pj_xderive.specs.Expressions.{greatest_nesting};
-ghost use Rattle.pj_xgrammar.specs.XPath.{xpath_grammar};
+ghost use Rattle.pj_xgrammar.specs.XPath.{greatest_nesting, xpath_grammar};
 
 use crate::grammar::pieces;
 use pj_base::NoMemory;

@@ -1,4 +1,3 @@
-pub mod Fitting
 pub mod Numbers
 pub mod SameTables
 pub mod Tables

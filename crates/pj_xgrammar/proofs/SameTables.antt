@@ -1,7 +1,8 @@
 -- The tables of the code are those of the grammar and of the actions.
 use Rattle.std.proofs.Common.{◌≡◌, map, refl}
 use Rattle.pj_xgrammar.specs.XPath.{xpath, rules, xpath_grammar}
-use Rattle.pj_xgrammar.specs.declared.productions.TheConstants.{ACTIONS, FORMS}
+use Rattle.pj_xgrammar.specs.declared.actions.TheConstants.{ACTIONS}
+use Rattle.pj_xgrammar.specs.declared.productions.TheConstants.{FORMS}
 use Rattle.pj_xgrammar.specs.Actions.{actions_of, actions}
 use Rattle.pj_xgrammar.specs.Forms.{form_slots}
 use Rattle.pj_xgrammar.specs.Slots.{slots}

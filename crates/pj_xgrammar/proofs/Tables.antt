@@ -5,9 +5,8 @@ use Rattle.std.specs.Option.{option_map}
 use Rattle.std.proofs.lemmas.Option.{slice_get-map}
 use Rattle.pj_ll.specs.Grammar.{Line}
 use Rattle.pj_xgrammar.specs.XPath.{xpath_grammar}
-use Rattle.pj_xgrammar.specs.Actions.{actions}
+use Rattle.pj_xgrammar.specs.Actions.{action_in, action_of, actions}
 use Rattle.pj_xgrammar.specs.Forms.{form_slots}
-use Rattle.pj_xgrammar.specs.Beginnings.{action_in, action_of}
 use Rattle.pj_xgrammar.specs.Slots.{slots, slots_in, production_slots}
 use Rattle.pj_xgrammar.specs.declared.action.Action.{Action}
 use Rattle.pj_xgrammar.specs.declared.form.Slot.{Slot}

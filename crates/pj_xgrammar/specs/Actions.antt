@@ -1,6 +1,6 @@
 -- What the productions make: for each rule of the grammar an action for each of its productions, in their order. What the actions
--- mean is in `Values`. The comments are the sections of XPath 2.0, A.1, as in the grammar.
-use Rattle.std.specs.Prelude.{List, [], ◌∷◌, ◌++◌}
+-- make is in `Values` of pj_xmeaning. The comments are the sections of XPath 2.0, A.1, as in the grammar.
+use Rattle.std.specs.Prelude.{ℕ, List, [], ◌∷◌, ◌++◌, Option, Some, None, slice_get}
 use Rattle.pj_xoperators.specs.declared.operator.Compare.TheVariants as compare
 use Rattle.pj_xoperators.specs.declared.operator.Additive.TheVariants as sum
 use Rattle.pj_xoperators.specs.declared.operator.Multiplicative.TheVariants as product
@@ -22,26 +22,29 @@ use Rattle.pj_xgrammar.specs.declared.action.Operation.TheVariants as operation
 use Rattle.pj_xgrammar.specs.declared.action.Binder.TheVariants as binder
 use Rattle.pj_xgrammar.specs.declared.action.Step.TheVariants as step
 
--- no value: the end of a list, and what is left out
-abbrev pub nothing : Action
-nothing = Leaf leaf.Nothing
+-- what is left out, of which nothing is made
+abbrev pub left_out : Action
+left_out = Leaf leaf.LeftOut
 
 -- the token's characters
 abbrev pub word : Action
 word = Leaf leaf.Word
 
--- the value of the one rule
+-- the expression of the one rule
 abbrev pub same : Action
-same = Change change.Same
+same = Single single.Same
 
--- an expression before others
+-- an expression before others, and their end
 abbrev pub further : Action
 further = Rest rest.Further
+
+abbrev pub no_more : Action
+no_more = Leaf leaf.NoOperands
 
 unfoldable pub actions_of : Rule → List Action
 -- 2
 actions_of r.Expr = Operation (operation.Chain chain.Comma) ∷ []
-actions_of r.ExprTail = further ∷ nothing ∷ []
+actions_of r.ExprTail = further ∷ no_more ∷ []
 -- 3 to 7; XPath 3.1, 3.10
 actions_of r.ExprSingle =
     Binder binder.For
@@ -53,10 +56,10 @@ actions_of r.ExprSingle =
     ∷ []
 -- 5, 6
 actions_of r.InBindings = Binding ∷ []
-actions_of r.InBindingsTail = same ∷ nothing ∷ []
+actions_of r.InBindingsTail = Change change.Bindings ∷ Leaf leaf.NoBindings ∷ []
 -- XPath 3.1, 3.10
 actions_of r.LetBindings = Binding ∷ []
-actions_of r.LetBindingsTail = same ∷ nothing ∷ []
+actions_of r.LetBindingsTail = Change change.Bindings ∷ Leaf leaf.NoBindings ∷ []
 actions_of r.InClause = same ∷ []
 actions_of r.AssignClause = same ∷ []
 actions_of r.ReturnClause = same ∷ []
@@ -66,10 +69,10 @@ actions_of r.ThenClause = same ∷ []
 actions_of r.ElseClause = same ∷ []
 -- 8
 actions_of r.OrExpr = Operation (operation.Chain chain.Or) ∷ []
-actions_of r.OrTail = further ∷ nothing ∷ []
+actions_of r.OrTail = further ∷ no_more ∷ []
 -- 9
 actions_of r.AndExpr = Operation (operation.Chain chain.And) ∷ []
-actions_of r.AndTail = further ∷ nothing ∷ []
+actions_of r.AndTail = further ∷ no_more ∷ []
 -- 10, 22
 actions_of r.ComparisonExpr = Operation operation.Comparison ∷ []
 actions_of r.ComparisonTail =
@@ -79,20 +82,20 @@ actions_of r.ComparisonTail =
     ∷ Change (change.Compared compare.LessOrEqual)
     ∷ Change (change.Compared compare.Greater)
     ∷ Change (change.Compared compare.GreaterOrEqual)
-    ∷ nothing
+    ∷ Leaf leaf.NoComparison
     ∷ []
 -- XPath 3.1, 3.6
 actions_of r.StringConcatExpr = Operation (operation.Chain chain.Concatenation) ∷ []
-actions_of r.StringConcatTail = further ∷ nothing ∷ []
+actions_of r.StringConcatTail = further ∷ no_more ∷ []
 -- 11
 actions_of r.RangeExpr = Operation operation.Range ∷ []
-actions_of r.RangeTail = same ∷ nothing ∷ []
+actions_of r.RangeTail = Change change.UpTo ∷ Leaf leaf.NoRange ∷ []
 -- 12
 actions_of r.AdditiveExpr = Operation operation.Sum ∷ []
 actions_of r.AdditiveTail =
     Rest (rest.FurtherSum sum.Plus)
     ∷ Rest (rest.FurtherSum sum.Minus)
-    ∷ nothing
+    ∷ Leaf leaf.NoSums
     ∷ []
 -- 13
 actions_of r.MultiplicativeExpr = Operation operation.Product ∷ []
@@ -100,17 +103,17 @@ actions_of r.MultiplicativeTail =
     Rest (rest.FurtherProduct product.Times)
     ∷ Rest (rest.FurtherProduct product.IntegerDivide)
     ∷ Rest (rest.FurtherProduct product.Modulo)
-    ∷ nothing
+    ∷ Leaf leaf.NoProducts
     ∷ []
 -- 14
 actions_of r.UnionExpr = Operation (operation.Chain chain.Union) ∷ []
-actions_of r.UnionTail = further ∷ further ∷ nothing ∷ []
+actions_of r.UnionTail = further ∷ further ∷ no_more ∷ []
 -- 15
 actions_of r.IntersectExceptExpr = Operation operation.Sets ∷ []
 actions_of r.IntersectExceptTail =
     Rest (rest.FurtherSet set.Intersect)
     ∷ Rest (rest.FurtherSet set.Except)
-    ∷ nothing
+    ∷ Leaf leaf.NoSets
     ∷ []
 -- 20
 actions_of r.UnaryExpr =
@@ -120,12 +123,12 @@ actions_of r.UnaryExpr =
     ∷ []
 -- XPath 3.1, 3.15
 actions_of r.SimpleMapExpr = Operation (operation.Chain chain.SimpleMap) ∷ []
-actions_of r.SimpleMapTail = further ∷ nothing ∷ []
+actions_of r.SimpleMapTail = further ∷ no_more ∷ []
 -- behind an operand nothing stands that is left out
 actions_of r.Operand = Operation operation.Operand ∷ []
 actions_of r.LeftOutOperator =
-    nothing ∷ nothing ∷ nothing ∷ nothing ∷ nothing ∷ nothing ∷ nothing ∷ nothing ∷ nothing ∷ nothing
-    ∷ nothing ∷ nothing ∷ nothing ∷ nothing ∷ nothing ∷ nothing ∷ nothing ∷ nothing ∷ nothing
+    left_out ∷ left_out ∷ left_out ∷ left_out ∷ left_out ∷ left_out ∷ left_out ∷ left_out ∷ left_out ∷ left_out
+    ∷ left_out ∷ left_out ∷ left_out ∷ left_out ∷ left_out ∷ left_out ∷ left_out ∷ left_out ∷ left_out
     ∷ []
 -- 25
 actions_of r.PathExpr =
@@ -139,9 +142,9 @@ actions_of r.RelativePathExpr = further ∷ []
 actions_of r.RelativePathTail =
     further
     ∷ Rest rest.FurtherDescendants
-    ∷ nothing
+    ∷ no_more
     ∷ []
--- 27 to 34, 38, 47; nothing is made of what is left out
+-- 27 to 34, 38, 47
 actions_of r.StepExpr =
     Single single.ContextItem
     ∷ Step step.Primary
@@ -152,16 +155,16 @@ actions_of r.StepExpr =
     ∷ Step (step.Kind kind.Node)
     ∷ Step (step.Kind kind.Element)
     ∷ Step step.Name
-    ∷ nothing ∷ nothing ∷ nothing ∷ nothing ∷ nothing ∷ nothing ∷ nothing
+    ∷ left_out ∷ left_out ∷ left_out ∷ left_out ∷ left_out ∷ left_out ∷ left_out
     ∷ []
 actions_of r.AxisTail =
     Rest rest.AxisTest
     ∷ Rest rest.Called
-    ∷ same
+    ∷ Change change.Predicates
     ∷ []
 actions_of r.NameTail =
     Rest rest.Called
-    ∷ same
+    ∷ Change change.Predicates
     ∷ []
 -- 35 to 37, 54
 actions_of r.NodeTest =
@@ -173,26 +176,26 @@ actions_of r.NodeTest =
     ∷ []
 actions_of r.KindTail =
     Leaf leaf.Parentheses
-    ∷ nothing
+    ∷ Leaf leaf.NoParentheses
     ∷ []
 -- 39, 40
-actions_of r.PredicateList = further ∷ nothing ∷ []
+actions_of r.PredicateList = further ∷ no_more ∷ []
 -- 41 to 46
 actions_of r.PrimaryExpr =
     Leaf leaf.Integer
     ∷ Leaf leaf.String
     ∷ Single single.Variable
-    ∷ same
+    ∷ Single single.Parenthesized
     ∷ []
 actions_of r.Parenthesized =
     same
     ∷ Leaf leaf.EmptySequence
     ∷ []
 -- 48
-actions_of r.Arguments = further ∷ nothing ∷ []
-actions_of r.ArgumentsTail = further ∷ nothing ∷ []
+actions_of r.Arguments = Rest rest.FirstArgument ∷ Leaf leaf.NoArguments ∷ []
+actions_of r.ArgumentsTail = Rest rest.FurtherArgument ∷ Leaf leaf.NoArguments ∷ []
 -- 45
-actions_of r.VarName = same ∷ word ∷ word ∷ word ∷ []
+actions_of r.VarName = Change change.Word ∷ word ∷ word ∷ word ∷ []
 -- A.2
 actions_of r.PlainName =
     word ∷ word ∷ word ∷ word ∷ word ∷ word ∷ word ∷ word ∷ word ∷ word ∷ word
@@ -206,3 +209,11 @@ actions_by (rule ∷ more) = actions_of rule ++ actions_by more
 -- the actions of the productions, by their numbers
 unfoldable pub actions : List Action
 actions = actions_by rules
+
+abbrev pub action_in : Option Action → Action
+action_in None = left_out
+action_in (Some action) = action
+
+-- that of a production, by its number
+unfoldable pub action_of : ℕ → Action
+action_of production = action_in (slice_get actions production)

@@ -1,12 +1,10 @@
--- Where the productions of a leftmost derivation begin, with which token, and what they make.
-use Rattle.std.specs.Prelude.{ℕ, List, [], ◌∷◌, ◌++◌, Option, Some, None, slice_get}
+-- Where the productions of a leftmost derivation begin, and with which token.
+use Rattle.std.specs.Prelude.{ℕ, List, [], ◌∷◌, ◌++◌}
 use Rattle.pj_xtokens.specs.First.{behind_first}
 use Rattle.pj_xtokens.specs.Tokens.{Lexed}
-use Rattle.pj_xgrammar.specs.Actions.{actions, nothing}
 use Rattle.pj_xgrammar.specs.Slots.{production_slots}
 use Rattle.pj_xgrammar.specs.declared.form.Slot.{Slot}
 use Rattle.pj_xgrammar.specs.declared.form.Slot.TheVariants as slot
-use Rattle.pj_xgrammar.specs.declared.action.Action.{Action}
 
 -- what is still to come: tokens and rules of productions, and the tokens of the text
 pub record Ahead : Type 0 where
@@ -30,10 +28,3 @@ beginnings [] slots tokens = []
 beginnings (production ∷ more) slots tokens =
     record { production = production; tokens = (to_rule slots tokens).tokens }
     ∷ beginnings more (production_slots production ++ (to_rule slots tokens).slots) (to_rule slots tokens).tokens
-
-abbrev pub action_in : Option Action → Action
-action_in None = nothing
-action_in (Some action) = action
-
-unfoldable pub action_of : ℕ → Action
-action_of production = action_in (slice_get actions production)

@@ -4,7 +4,7 @@
 -- standard repeats operands with operators between them, a rule `..Tail` has an operator, the next operand and the rest; and
 -- where two productions of the standard begin with one token, as a call and a node test do, a rule has what stands behind it.
 -- The notation is that of `Notation`.
-use Rattle.std.specs.Prelude.{List, [], ◌∷◌, ◌++◌, map}
+use Rattle.std.specs.Prelude.{ℕ, List, [], ◌∷◌, ◌++◌, map}
 use Rattle.pj_ll.specs.declared.grammar.Symbol.{Symbol}
 use Rattle.pj_ll.specs.Grammar.{Grammar, Line}
 use Rattle.pj_xgrammar.specs.declared.rule.Rule.{Rule}
@@ -282,3 +282,7 @@ lines_of (rule ∷ more) = map (line rule) (xpath rule) ++ lines_of more
 -- the productions, by their numbers from 0: those of the first rule, then those of the second, and so on
 unfoldable pub xpath_grammar : Grammar
 xpath_grammar = lines_of rules
+
+-- the greatest nesting that a place may have
+abbrev pub greatest_nesting : ℕ
+greatest_nesting = 200

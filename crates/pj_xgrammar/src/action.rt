@@ -3,16 +3,16 @@
 use pj_xoperators::{Additive, Compare, Multiplicative, Quantifier, SetOperator, Sign};
 
 /// What a production makes. A rule's value is made by its production from the values of the rules in it, of which an action has
-/// as many as is said here, and from the token with which it begins.
+/// as many as is said here, and from the tokens from the one on at which it begins.
 #[derive(Clone, Copy)]
 pub enum Action {
     /// No value.
     Leaf(Leaf),
-    /// One value.
+    /// One value, of which no expression is made.
     Change(Change),
     /// One value, of which an expression is made.
     Single(Single),
-    /// Two values.
+    /// Two values, of which no expression is made.
     Rest(Rest),
     /// Two values: an operand, and what stands behind it.
     Operation(Operation),
@@ -26,11 +26,31 @@ pub enum Action {
     Binding,
 }
 
-/// A value of a token.
+/// A value of a token, or of no token.
 #[derive(Clone, Copy)]
 pub enum Leaf {
-    /// No value: that of a list's end, and of what is left out.
-    Nothing,
+    /// The end of expressions in a row.
+    NoOperands,
+    /// The end of variables.
+    NoBindings,
+    /// Nothing that an operand is compared with.
+    NoComparison,
+    /// Nothing up to which an operand ranges.
+    NoRange,
+    /// The end of a sum.
+    NoSums,
+    /// The end of a product.
+    NoProducts,
+    /// The end of `intersect` and `except`.
+    NoSets,
+    /// The end of arguments.
+    NoArguments,
+    /// No parentheses of a kind test.
+    NoParentheses,
+    /// The parentheses of a kind test.
+    Parentheses,
+    /// Nothing that is left out, or what is left out, of which nothing is made.
+    LeftOut,
     /// The token's characters.
     Word,
     /// The integer that the digits write (XPath 2.0, 3.1.1).
@@ -41,8 +61,6 @@ pub enum Leaf {
     EmptySequence,
     /// `/` alone (XPath 2.0, 3.2).
     Root,
-    /// The parentheses of a kind test.
-    Parentheses,
     /// The test for the name that the token is (XPath 2.0, 3.2.1.2).
     NameTest,
     /// The test `*` (XPath 2.0, 3.2.1.2).
@@ -58,22 +76,32 @@ pub enum Kind {
     Element,
 }
 
-/// A value of one other.
+/// A value of one other, which is no expression.
 #[derive(Clone, Copy)]
 pub enum Change {
-    /// The value itself.
-    Same,
+    /// The variables themselves.
+    Bindings,
+    /// The name itself.
+    Word,
     /// The second operand of a comparison behind its operator (XPath 2.0, 3.5.2).
     Compared(Compare),
+    /// The operand up to which another one ranges (XPath 2.0, 3.3.1).
+    UpTo,
     /// The test for a name.
     NameTest,
     /// The test for a kind, or for the name that the token is.
     KindTest(Kind),
+    /// The predicates behind a name.
+    Predicates,
 }
 
 /// An expression of one value.
 #[derive(Clone, Copy)]
 pub enum Single {
+    /// The expression itself.
+    Same,
+    /// The expression in parentheses.
+    Parenthesized,
     /// The operand of a sign (XPath 2.0, 3.4).
     Signed(Sign),
     /// The steps of a path behind `/` (XPath 2.0, 3.2).
@@ -94,7 +122,7 @@ pub enum Single {
     Variable,
 }
 
-/// A value of two others that is no expression yet.
+/// A value of two others that is no expression.
 #[derive(Clone, Copy)]
 pub enum Rest {
     /// An expression before others.
@@ -107,6 +135,10 @@ pub enum Rest {
     FurtherProduct(Multiplicative),
     /// An operand of `intersect` or `except` behind it, before others.
     FurtherSet(SetOperator),
+    /// The first argument of a call, before others.
+    FirstArgument,
+    /// A further argument behind its `,`, before others.
+    FurtherArgument,
     /// A test of the axis before it, with its predicates.
     AxisTest,
     /// Arguments in parentheses, with the predicates behind them.

@@ -3,7 +3,6 @@
 ghost use Rattle.std.specs.Prelude.{◌≡◌, ◌<◌, Some, length, slice_get};
 ghost use Rattle.pj_xgrammar.specs.declared.rule.Rule.{Rule};
 ghost use Rattle.pj_xgrammar.specs.declared.terminal.Terminal.{Terminal};
-ghost use Rattle.pj_xgrammar.specs.Fitting.{ActionsFit};
 ghost use Rattle.pj_xgrammar.specs.Notation.{rule_number};
 ghost use Rattle.pj_xgrammar.specs.Terminals.{terminal_number};
 ghost use Rattle.pj_xgrammar.specs.XPath.{rules, xpath_grammar};
@@ -18,10 +17,4 @@ pub fn rules_have_their_numbers()
 pub fn terminals_have_their_numbers()
     ensures one { (a b : Terminal) → terminal_number a ≡ terminal_number b → a ≡ b }
     ensures most { (a : Terminal) → terminal_number a < 75 }
-{}
-
-/// Each production has an action, which takes as many values as there are rules in the production: so the values of a
-/// derivation neither run short nor are left over.
-pub fn actions_fit_the_grammar()
-    ensures { ActionsFit }
 {}

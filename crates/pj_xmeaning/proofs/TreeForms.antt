@@ -16,21 +16,21 @@ use Rattle.pj_xvalue.specs.declared.expr.Expr.TheVariants as expr
 use Rattle.pj_xvalue.specs.declared.expr.Expr.TheViews.{roll-Expr}
 use Rattle.pj_xvalue.specs.declared.expr.Expr.TheFolds.{fold-roll-Expr}
 use Rattle.pj_xvalue.specs.Trees.{Tree, Comma, For, Let, Quantified, If, Or, And, Comparison, Concatenation, Range, Additive', Multiplicative', Union, IntersectExcept, Unary, SimpleMap, Path, Root, Step, AttributeStep, Filter, Integer, String, Variable, ContextItem, Call, PmdCall, node, alone, binder, operated, tree_step, tree_of}
-use Rattle.pj_xmeaning.specs.Parts.{operand_of}
+use Rattle.pj_xmeaning.specs.Seen.{behind_of}
 
 pub tree_of_comma : (parts : Vec Expr Global) → tree_of (expr.Comma parts) ≡ node Comma (map tree_of parts.items)
 unfolding tree_of roll-Expr denote.Hole.Carrier.roll
 tree_of_comma parts = fold-roll-Expr Tree tree_step (Expr-F.Comma parts)
 
-pub tree_of_for : (variables : Vec (List ℕ × Expr) Global) (body : Box Expr Global) → tree_of (expr.For variables body) ≡ binder For (map operand_of variables.items) (tree_of body.value)
+pub tree_of_for : (variables : Vec (List ℕ × Expr) Global) (body : Box Expr Global) → tree_of (expr.For variables body) ≡ binder For (map behind_of variables.items) (tree_of body.value)
 unfolding tree_of roll-Expr denote.Hole.Carrier.roll
 tree_of_for variables body = fold-roll-Expr Tree tree_step (Expr-F.For variables body)
 
-pub tree_of_let : (variables : Vec (List ℕ × Expr) Global) (body : Box Expr Global) → tree_of (expr.Let variables body) ≡ binder Let (map operand_of variables.items) (tree_of body.value)
+pub tree_of_let : (variables : Vec (List ℕ × Expr) Global) (body : Box Expr Global) → tree_of (expr.Let variables body) ≡ binder Let (map behind_of variables.items) (tree_of body.value)
 unfolding tree_of roll-Expr denote.Hole.Carrier.roll
 tree_of_let variables body = fold-roll-Expr Tree tree_step (Expr-F.Let variables body)
 
-pub tree_of_quantified : (quantifier : Quantifier) (variables : Vec (List ℕ × Expr) Global) (body : Box Expr Global) → tree_of (expr.Quantified quantifier variables body) ≡ binder (Quantified quantifier) (map operand_of variables.items) (tree_of body.value)
+pub tree_of_quantified : (quantifier : Quantifier) (variables : Vec (List ℕ × Expr) Global) (body : Box Expr Global) → tree_of (expr.Quantified quantifier variables body) ≡ binder (Quantified quantifier) (map behind_of variables.items) (tree_of body.value)
 unfolding tree_of roll-Expr denote.Hole.Carrier.roll
 tree_of_quantified quantifier variables body = fold-roll-Expr Tree tree_step (Expr-F.Quantified quantifier variables body)
 
@@ -58,11 +58,11 @@ pub tree_of_range : (from to : Box Expr Global) → tree_of (expr.Range from to)
 unfolding tree_of roll-Expr denote.Hole.Carrier.roll
 tree_of_range from to = fold-roll-Expr Tree tree_step (Expr-F.Range from to)
 
-pub tree_of_additive : (first : Box Expr Global) (rest : Vec (Additive × Expr) Global) → tree_of (expr.Additive first rest) ≡ operated Additive' (tree_of first.value) (map operand_of rest.items)
+pub tree_of_additive : (first : Box Expr Global) (rest : Vec (Additive × Expr) Global) → tree_of (expr.Additive first rest) ≡ operated Additive' (tree_of first.value) (map behind_of rest.items)
 unfolding tree_of roll-Expr denote.Hole.Carrier.roll
 tree_of_additive first rest = fold-roll-Expr Tree tree_step (Expr-F.Additive first rest)
 
-pub tree_of_multiplicative : (first : Box Expr Global) (rest : Vec (Multiplicative × Expr) Global) → tree_of (expr.Multiplicative first rest) ≡ operated Multiplicative' (tree_of first.value) (map operand_of rest.items)
+pub tree_of_multiplicative : (first : Box Expr Global) (rest : Vec (Multiplicative × Expr) Global) → tree_of (expr.Multiplicative first rest) ≡ operated Multiplicative' (tree_of first.value) (map behind_of rest.items)
 unfolding tree_of roll-Expr denote.Hole.Carrier.roll
 tree_of_multiplicative first rest = fold-roll-Expr Tree tree_step (Expr-F.Multiplicative first rest)
 
@@ -70,7 +70,7 @@ pub tree_of_union : (parts : Vec Expr Global) → tree_of (expr.Union parts) ≡
 unfolding tree_of roll-Expr denote.Hole.Carrier.roll
 tree_of_union parts = fold-roll-Expr Tree tree_step (Expr-F.Union parts)
 
-pub tree_of_intersect_except : (first : Box Expr Global) (rest : Vec (SetOperator × Expr) Global) → tree_of (expr.IntersectExcept first rest) ≡ operated IntersectExcept (tree_of first.value) (map operand_of rest.items)
+pub tree_of_intersect_except : (first : Box Expr Global) (rest : Vec (SetOperator × Expr) Global) → tree_of (expr.IntersectExcept first rest) ≡ operated IntersectExcept (tree_of first.value) (map behind_of rest.items)
 unfolding tree_of roll-Expr denote.Hole.Carrier.roll
 tree_of_intersect_except first rest = fold-roll-Expr Tree tree_step (Expr-F.IntersectExcept first rest)
 

@@ -1,6 +1,12 @@
 -- definitions
+pub mod Mentions
 pub mod Steps
--- what the code makes of the productions of a derivation
-pub mod Meaning
+pub mod Operands
+pub mod Reach
+pub mod Reads
+pub mod SoFar
+-- what the code answers
+pub mod Seen
+-- for private clauses
 pub mod Parts
 pub mod Values

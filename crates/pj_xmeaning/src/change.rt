@@ -1,52 +1,162 @@
 //! Values of one other.
 
-ghost use Rattle.std.specs.Prelude.{◌≡◌, IfOk};
-ghost use Rattle.pj_xvalue.specs.Trees.{tree_of};
-ghost use Rattle.pj_xmeaning.specs.Parts.{value_of};
-ghost use Rattle.pj_xmeaning.specs.Values.{change_value, single_value};
+ghost use Rattle.std.specs.Prelude.{◌≡◌, ◌∷◌, [], map, IfOk};
+ghost use Rattle.std.specs.Option.{option_map};
+ghost use Rattle.pj_xtokens.specs.Answer.{lexed_of};
+ghost use Rattle.pj_xmeaning.specs.Mentions.{Variable};
+ghost use Rattle.pj_xmeaning.specs.Operands.{other, signed, variable, cut_variable};
+ghost use Rattle.pj_xmeaning.specs.Seen.{seen_mentions, seen_reading, seen_part};
+ghost use Rattle.pj_xmeaning.specs.Values.{up_to, variable_named, change_value, single_value};
 
+use crate::named::{Named, Spelling};
+use crate::operand::Reading;
 use crate::part::Part;
-use crate::step::{axis_step, child_step, descendants, filtered, kind_test, relative, rooted};
-use pj_base::NoMemory;
+use crate::step::{along, child_step, descendants, filtered, kind_test, named, path, rooted};
+use pj_base::{NoMemory, Text};
 use pj_xgrammar::{Change, Single};
-use pj_xvalue::{Axis, Expr, NodeTest};
+use pj_xtokens::{Token, begins_with_name, behind_first, first_from, first_text};
+use pj_xvalue::{Axis, Expr, NodeTest, Sign};
 use std::alloc::Global;
 
-/// What a production makes of the value of its rule and the token with these characters.
-pub fn change(alloc: Global, change: Change, text: &str, part: Part) -> Result<Part, NoMemory>
-    ensures { IfOk result (λ made. value_of made ≡ change_value change text.now (value_of part)) }
+/// The operand up to which another one ranges, unless it is cut off.
+fn up_to<'t>(alloc: Global, part: Part<'t>) -> Option<Reading<'t>>
+    ensures { option_map seen_reading result ≡ up_to (seen_part part.entry) }
+{
+    match part {
+        Part::Missing => None,
+        operand => Some(operand.into_reading(alloc)),
+    }
+}
+
+/// What a production makes of the value of its rule, where it begins with the first of the tokens.
+pub fn change<'t>(
+    alloc: Global,
+    change: Change,
+    tokens: &[Token<'t>],
+    part: Part<'t>,
+) -> Result<Part<'t>, NoMemory>
+    ensures { IfOk result (λ made. seen_part made ≡ change_value change (map lexed_of tokens.now) (seen_part part.entry)) }
 {
     Ok(match change {
-        Change::Same => part,
-        Change::Compared(compare) => Part::Compared(compare, part.into_expr(alloc)),
-        Change::NameTest => Part::Test(NodeTest::Name(part.into_word(alloc))),
-        Change::KindTest(kind) => Part::Test(kind_test(alloc, kind, text, part)?),
+        Change::Bindings => Part::Bound(part.into_bound(alloc)),
+        Change::Word => Part::Word(part.into_word()),
+        Change::Compared(compare) => Part::Compared(Some((compare, part.into_reading(alloc)))),
+        Change::UpTo => Part::UpTo(up_to(alloc, part)),
+        Change::NameTest => {
+            let name = Text::from_str(alloc, part.into_word())?;
+            Part::Test(NodeTest::Name(name))
+        }
+        Change::KindTest(kind) => {
+            let there = part.into_parentheses();
+            Part::Test(kind_test(alloc, kind, first_text(tokens), there)?)
+        }
+        Change::Predicates => Part::Predicates(part.into_readings(alloc)),
     })
 }
 
-/// The expression that a production makes of the value of its rule and the token with these characters.
-#[tactic(auto, using(crate::proofs::TreeForms::tree_of_unary, crate::proofs::TreeForms::tree_of_step, crate::proofs::TreeForms::tree_of_variable, crate::proofs::TreeForms::tree_of_context_item))]
-pub fn single(alloc: Global, single: Single, text: &str, part: Part) -> Result<Expr, NoMemory>
-    ensures { IfOk result (λ made. tree_of made ≡ single_value single text.now (value_of part)) }
+/// The operand behind the sign (XPath 2.0, 3.4).
+#[tactic(auto, using(crate::proofs::TreeForms::tree_of_unary))]
+fn signed<'t>(alloc: Global, sign: Sign, operand: Reading<'t>) -> Result<Reading<'t>, NoMemory>
+    ensures { IfOk result (λ made. seen_reading made ≡ signed sign (seen_reading operand.entry)) }
+{
+    let Reading { expr, names, .. } = operand;
+    let expr = Expr::Unary(sign, Box::new(alloc, expr)?);
+    Ok(Reading::other(expr, names))
+}
+
+/// The expression in parentheses, which is no literal and no variable alone.
+fn parenthesized<'t>(inner: Reading<'t>) -> Reading<'t>
+    ensures { seen_reading result ≡ other (seen_reading inner.entry).tree (seen_reading inner.entry).names }
+{
+    let Reading { expr, names, .. } = inner;
+    Reading::other(expr, names)
+}
+
+/// The mention of the variable, alone.
+#[tactic(auto, using(crate::proofs::Lists::pushed))]
+fn mentioned<'t>(alloc: Global, name: &'t str, from: u32) -> Result<Vec<Named<'t>>, NoMemory>
+    ensures { IfOk result (λ made. seen_mentions made.items ≡ Variable name.now from ∷ []) }
+{
+    let mut names = Vec::new(alloc);
+    names.push(Named::Variable(name, from))?;
+    Ok(names)
+}
+
+/// A variable that is cut off behind its `$`, which is the first token; a name behind that is its name.
+#[tactic(auto, using(crate::proofs::TreeForms::tree_of_variable))]
+fn cut_variable<'t>(alloc: Global, tokens: &[Token<'t>]) -> Result<Reading<'t>, NoMemory>
+    ensures { IfOk result (λ made. seen_reading made ≡ cut_variable (map lexed_of tokens.now)) }
+{
+    let expr = Expr::Variable(Text::from_str(alloc, "")?);
+    let behind = behind_first(tokens);
+    if !begins_with_name(behind) {
+        return Ok(Reading::other(expr, Vec::new(alloc)));
+    }
+    let name = first_text(behind);
+    Ok(Reading {
+        expr,
+        written: Spelling::Name(name),
+        names: mentioned(alloc, name, first_from(tokens))?,
+    })
+}
+
+/// The variable of the name, whose `$` is the first token (XPath 2.0, 3.1.2).
+#[tactic(auto, using(crate::proofs::TreeForms::tree_of_variable))]
+fn variable<'t>(alloc: Global, tokens: &[Token<'t>], name: &'t str) -> Result<Reading<'t>, NoMemory>
+    ensures { IfOk result (λ made. seen_reading made ≡ variable (map lexed_of tokens.now) name.now) }
+{
+    let expr = Expr::Variable(Text::from_str(alloc, name)?);
+    Ok(Reading {
+        expr,
+        written: Spelling::Name(name),
+        names: mentioned(alloc, name, first_from(tokens))?,
+    })
+}
+
+/// The variable whose `$` is the first token; where its name is cut off, what can be said of it.
+fn variable_named<'t>(
+    alloc: Global,
+    tokens: &[Token<'t>],
+    part: Part<'t>,
+) -> Result<Reading<'t>, NoMemory>
+    ensures { IfOk result (λ made. seen_reading made ≡ variable_named (map lexed_of tokens.now) (seen_part part.entry)) }
+{
+    match part {
+        Part::Missing => cut_variable(alloc, tokens),
+        name => variable(alloc, tokens, name.into_word()),
+    }
+}
+
+/// The expression that a production makes of the value of its rule, where it begins with the first of the tokens.
+#[tactic(auto, using(crate::proofs::TreeForms::tree_of_context_item))]
+pub fn single<'t>(
+    alloc: Global,
+    single: Single,
+    tokens: &[Token<'t>],
+    part: Part<'t>,
+) -> Result<Reading<'t>, NoMemory>
+    ensures { IfOk result (λ made. seen_reading made ≡ single_value single (map lexed_of tokens.now) (seen_part part.entry)) }
 {
     match single {
-        Single::Signed(sign) => {
-            let operand = Box::new(alloc, part.into_expr(alloc))?;
-            Ok(Expr::Unary(sign, operand))
-        }
-        Single::RootedPath => rooted(part.into_exprs(alloc)),
+        Single::Same => Ok(part.into_reading(alloc)),
+        Single::Parenthesized => Ok(parenthesized(part.into_reading(alloc))),
+        Single::Signed(sign) => signed(alloc, sign, part.into_reading(alloc)),
+        Single::RootedPath => rooted(alloc, part.into_readings(alloc)),
         Single::RootedDescendants => {
-            let steps = part.into_exprs(alloc).put(descendants(alloc))?;
-            rooted(steps)
+            let steps = part.into_readings(alloc).put(descendants(alloc))?;
+            rooted(alloc, steps)
         }
-        Single::RelativePath => Ok(relative(part.into_exprs(alloc))),
-        Single::ContextItem => filtered(alloc, Expr::ContextItem, part.into_exprs(alloc)),
+        Single::RelativePath => path(alloc, part.into_readings(alloc)),
+        Single::ContextItem => {
+            let item = Reading::other(Expr::ContextItem, Vec::new(alloc));
+            filtered(alloc, item, part.into_readings(alloc))
+        }
         Single::ParentStep => {
-            let predicates = part.into_exprs(alloc).into_vec();
-            Ok(Expr::Step(Axis::Parent, NodeTest::AnyNode, predicates))
+            let predicates = part.into_readings(alloc);
+            along(alloc, Axis::Parent, NodeTest::AnyNode, predicates)
         }
-        Single::AnyNameStep => Ok(child_step(NodeTest::AnyName, part.into_exprs(alloc))),
-        Single::AxisStep => axis_step(alloc, text, part),
-        Single::Variable => Ok(Expr::Variable(part.into_word(alloc))),
+        Single::AnyNameStep => child_step(alloc, NodeTest::AnyName, part.into_readings(alloc)),
+        Single::AxisStep => named(alloc, tokens, first_text(tokens), part),
+        Single::Variable => variable_named(alloc, tokens, part),
     }
 }

@@ -1,45 +1,148 @@
 //! Variables and choices.
 
-ghost use Rattle.std.specs.Prelude.{◌≡◌, IfOk};
-ghost use Rattle.pj_xvalue.specs.Trees.{tree_of};
-ghost use Rattle.pj_xmeaning.specs.Parts.{value_of};
-ghost use Rattle.pj_xmeaning.specs.Values.{binder_value, binding_value, choice_value};
+ghost use Rattle.std.specs.Prelude.{◌≡◌, ◌++◌, [], ◌∷◌, map, IfOk};
+ghost use Rattle.pj_xvalue.specs.Trees.{If, binder, node, tree_of};
+ghost use Rattle.pj_xmeaning.specs.Mentions as mention;
+ghost use Rattle.pj_xmeaning.specs.Mentions.{scoped};
+ghost use Rattle.pj_xmeaning.specs.Operands.{bindings_of, bound, chosen, scopes_of};
+ghost use Rattle.pj_xmeaning.specs.Parts as parts;
+ghost use Rattle.pj_xmeaning.specs.Parts.{bindings, operand, word};
+ghost use Rattle.pj_xmeaning.specs.Seen.{seen_bound, seen_mentions, seen_part, seen_reading};
+ghost use Rattle.pj_xmeaning.specs.Values.{binder_of};
 
+use crate::front::Front;
+use crate::named::Named;
+use crate::operand::{Bound, Reading};
 use crate::part::Part;
-use pj_base::NoMemory;
+use crate::row::before;
+use pj_base::{NoMemory, Text};
 use pj_xgrammar::Binder;
 use pj_xvalue::Expr;
 use std::alloc::Global;
 
-/// The expression of variables and what follows them.
-#[tactic(auto, using(crate::proofs::TreeForms::tree_of_for, crate::proofs::TreeForms::tree_of_let, crate::proofs::TreeForms::tree_of_quantified))]
-pub fn bound(alloc: Global, binder: Binder, bindings: Part, body: Part) -> Result<Expr, NoMemory>
-    ensures { IfOk result (λ made. tree_of made ≡ binder_value binder (value_of bindings) (value_of body)) }
+/// The name and the expression of a variable that is bound, and what the expression names, with the variable behind it, before others.
+#[tactic(auto, using(crate::proofs::Lists::pushed))]
+fn opened<'t>(
+    alloc: Global,
+    variable: Bound<'t>,
+    mut behind: Vec<Named<'t>>,
+) -> Result<(Text, Expr, Vec<Named<'t>>), NoMemory>
+    ensures { IfOk result (λ made. (made.0 ≡ (seen_bound variable.entry).name)
+        × (tree_of made.1 ≡ (seen_bound variable.entry).bound.tree)
+        × (seen_mentions made.2.items ≡ (seen_bound variable.entry).bound.names ++ (mention.Binds (seen_bound variable.entry).name ∷ seen_mentions behind.entry.items))) }
 {
-    let bindings = bindings.into_bound(alloc).into_vec();
-    let body = Box::new(alloc, body.into_expr(alloc))?;
-    Ok(match binder {
-        Binder::For => Expr::For(bindings, body),
-        Binder::Let => Expr::Let(bindings, body),
-        Binder::Quantified(quantifier) => Expr::Quantified(quantifier, bindings, body),
+    let Bound { name, value } = variable;
+    let Reading { expr, names, .. } = value;
+    behind.push(Named::Binds(name))?;
+    let all = before(names, behind)?;
+    Ok((Text::from_str(alloc, name)?, expr, all))
+}
+
+/// What follows variables, and the end of their scopes behind it.
+#[tactic(auto, using(crate::proofs::Lists::pushed))]
+fn closed<'t>(alloc: Global, count: usize, body: Vec<Named<'t>>) -> Result<Vec<Named<'t>>, NoMemory>
+    ensures { IfOk result (λ all. seen_mentions all.items ≡ seen_mentions body.entry.items ++ (mention.Ends count ∷ [])) }
+{
+    let mut end = Vec::new(alloc);
+    end.push(Named::Ends(count))?;
+    before(body, end)
+}
+
+/// The names of variables with their expressions, and what these name before what follows them: each variable is seen by the expressions
+/// behind its own, and by the body.
+fn scoped<'t>(
+    alloc: Global,
+    variables: Front<Bound<'t>>,
+    body: Vec<Named<'t>>,
+) -> Result<(Vec<(Text, Expr)>, Vec<Named<'t>>), NoMemory>
+    ensures { IfOk result (λ made. (map (λ variable. (variable.0, tree_of variable.1)) made.0.items ≡ bindings_of (map seen_bound variables.entry))
+        × (seen_mentions made.1.items ≡ scoped (scopes_of (map seen_bound variables.entry)) 0 (seen_mentions body.entry.items))) }
+{
+    let mut left = variables.into_vec();
+    let mut pairs = Vec::new(alloc);
+    let mut all = closed(alloc, left.len(), body)?;
+    'variables: while let Some(variable) = left.pop() {
+        let (name, expr, names) = opened(alloc, variable, all)?;
+        pairs.push((name, expr))?;
+        all = names;
+    }
+    pairs.reverse();
+    Ok((pairs, all))
+}
+
+/// The expression of variables, each with its own, and what follows them.
+#[tactic(auto, using(crate::proofs::TreeForms::tree_of_for, crate::proofs::TreeForms::tree_of_let, crate::proofs::TreeForms::tree_of_quantified))]
+fn bound_of(
+    alloc: Global,
+    word: Binder,
+    variables: Vec<(Text, Expr)>,
+    body: Expr,
+) -> Result<Expr, NoMemory>
+    ensures { IfOk result (λ made. tree_of made ≡ binder (binder_of word) (map (λ variable. (variable.0, tree_of variable.1)) variables.items) (tree_of body)) }
+{
+    let body = Box::new(alloc, body)?;
+    Ok(match word {
+        Binder::For => Expr::For(variables, body),
+        Binder::Let => Expr::Let(variables, body),
+        Binder::Quantified(quantifier) => Expr::Quantified(quantifier, variables, body),
     })
 }
 
-/// A variable with its expression, before others.
-pub fn binding(alloc: Global, name: Part, value: Part, others: Part) -> Result<Part, NoMemory>
-    ensures { IfOk result (λ made. value_of made ≡ binding_value (value_of name) (value_of value) (value_of others)) }
+/// Variables and what follows them.
+pub fn bound<'t>(
+    alloc: Global,
+    word: Binder,
+    variables: Part<'t>,
+    body: Part<'t>,
+) -> Result<Reading<'t>, NoMemory>
+    ensures { IfOk result (λ made. seen_reading made ≡ bound (binder_of word) (bindings (seen_part variables.entry)) (operand (seen_part body.entry))) }
 {
-    let variable = (name.into_word(alloc), value.into_expr(alloc));
+    let Reading { expr, names, .. } = body.into_reading(alloc);
+    let (pairs, all) = scoped(alloc, variables.into_bound(alloc), names)?;
+    Ok(Reading::other(bound_of(alloc, word, pairs, expr)?, all))
+}
+
+/// A variable with its expression, before others.
+pub fn binding<'t>(
+    alloc: Global,
+    name: Part<'t>,
+    value: Part<'t>,
+    others: Part<'t>,
+) -> Result<Part<'t>, NoMemory>
+    ensures { IfOk result (λ made. seen_part made
+        ≡ parts.Bound (record { name = word (seen_part name.entry); bound = operand (seen_part value.entry) } ∷ bindings (seen_part others.entry))) }
+{
+    let variable = Bound {
+        name: name.into_word(),
+        value: value.into_reading(alloc),
+    };
     Ok(Part::Bound(others.into_bound(alloc).put(variable)?))
 }
 
-/// The choice between two expressions.
+/// The choice between two expressions (XPath 2.0, 3.8).
 #[tactic(auto, using(crate::proofs::TreeForms::tree_of_if))]
-pub fn choice(alloc: Global, test: Part, chosen: Part, other: Part) -> Result<Expr, NoMemory>
-    ensures { IfOk result (λ made. tree_of made ≡ choice_value (value_of test) (value_of chosen) (value_of other)) }
+fn choice_of(alloc: Global, test: Expr, yes: Expr, no: Expr) -> Result<Expr, NoMemory>
+    ensures { IfOk result (λ made. tree_of made ≡ node If (tree_of test ∷ tree_of yes ∷ tree_of no ∷ [])) }
 {
-    let test = Box::new(alloc, test.into_expr(alloc))?;
-    let chosen = Box::new(alloc, chosen.into_expr(alloc))?;
-    let other = Box::new(alloc, other.into_expr(alloc))?;
-    Ok(Expr::If(test, chosen, other))
+    let test = Box::new(alloc, test)?;
+    let yes = Box::new(alloc, yes)?;
+    let no = Box::new(alloc, no)?;
+    Ok(Expr::If(test, yes, no))
+}
+
+/// The choice between two expressions, with what it names.
+pub fn choice<'t>(
+    alloc: Global,
+    test: Part<'t>,
+    yes: Part<'t>,
+    no: Part<'t>,
+) -> Result<Reading<'t>, NoMemory>
+    ensures { IfOk result (λ made. seen_reading made ≡ chosen (operand (seen_part test.entry)) (operand (seen_part yes.entry)) (operand (seen_part no.entry))) }
+{
+    let test = test.into_reading(alloc);
+    let yes = yes.into_reading(alloc);
+    let no = no.into_reading(alloc);
+    let expr = choice_of(alloc, test.expr, yes.expr, no.expr)?;
+    let names = before(test.names, before(yes.names, no.names)?)?;
+    Ok(Reading::other(expr, names))
 }

@@ -1,6 +1,6 @@
 //! Lists that grow at their front.
 
-ghost use Rattle.std.specs.Prelude.{◌≡◌, ◌≢◌, ◌==◌, [], ◌∷◌, length, IfOk, MatchResult};
+ghost use Rattle.std.specs.Prelude.{◌≡◌, ◌≢◌, ◌==◌, [], ◌∷◌, length, reverse, IfOk, MatchResult};
 
 use pj_base::NoMemory;
 use std::alloc::Global;
@@ -53,6 +53,13 @@ impl<T> Front<T> {
         ensures { result.items ≡ self }
     {
         self.reversed.reverse();
+        self.reversed
+    }
+
+    /// The members from the last one on.
+    pub fn into_reversed(self) -> Vec<T>
+        ensures { reverse result.items ≡ self }
+    {
         self.reversed
     }
 

@@ -1,93 +1,43 @@
 //! Operands with what stands behind them.
 
 ghost use Rattle.std.specs.Prelude.{◌≡◌, map, IfOk};
+ghost use Rattle.std.specs.Option.{option_map};
 ghost use Rattle.pj_xvalue.specs.Trees.{Additive', Multiplicative', IntersectExcept, node, tree_of};
-ghost use Rattle.pj_xmeaning.specs.Parts.{value_of, operand_of};
-ghost use Rattle.pj_xmeaning.specs.Values.{mixed, comparison, range, chain_construct, chained, operation_value};
+ghost use Rattle.pj_xmeaning.specs.Operands.{operations, names_behind, chain, mixed, compared, ranging};
+ghost use Rattle.pj_xmeaning.specs.Seen.{behind_of, seen_behind, seen_mentions, seen_reading, seen_part};
+ghost use Rattle.pj_xmeaning.specs.Values.{construct_of, operation_value};
 
 use crate::front::Front;
+use crate::named::Named;
+use crate::operand::Reading;
 use crate::part::Part;
+use crate::row::{apart, before};
 use pj_base::NoMemory;
 use pj_xgrammar::{Chain, Operation};
-use pj_xvalue::{Additive, Expr, Multiplicative, SetOperator};
+use pj_xvalue::{Additive, Compare, Expr, Multiplicative, SetOperator};
 use std::alloc::Global;
 
-/// The operand itself where nothing stands behind it, else a sum.
-#[tactic(auto, using(crate::proofs::Chains::mixed_alone, crate::proofs::Chains::mixed_all, crate::proofs::TreeForms::tree_of_additive))]
-fn sum(alloc: Global, first: Expr, rest: Front<(Additive, Expr)>) -> Result<Expr, NoMemory>
-    ensures { IfOk result (λ made. tree_of made ≡ mixed Additive' (tree_of first) (map operand_of rest)) }
-{
-    if rest.is_empty() {
-        return Ok(first);
-    }
-    Ok(Expr::Additive(Box::new(alloc, first)?, rest.into_vec()))
-}
-
-/// The operand itself where nothing stands behind it, else a product.
-#[tactic(auto, using(crate::proofs::Chains::mixed_alone, crate::proofs::Chains::mixed_all, crate::proofs::TreeForms::tree_of_multiplicative))]
-fn product(
+/// The expressions of operands, each behind its operator, and what they name, from the last on.
+fn operations<'t, Operator: Drop>(
     alloc: Global,
-    first: Expr,
-    rest: Front<(Multiplicative, Expr)>,
-) -> Result<Expr, NoMemory>
-    ensures { IfOk result (λ made. tree_of made ≡ mixed Multiplicative' (tree_of first) (map operand_of rest)) }
+    operands: Front<(Operator, Reading<'t>)>,
+) -> Result<(Front<(Operator, Expr)>, Vec<Named<'t>>), NoMemory>
+    ensures exprs { IfOk result (λ made. map behind_of made.0 ≡ operations (map seen_behind operands.entry)) }
+    ensures names { IfOk result (λ made. seen_mentions made.1.items ≡ names_behind (map seen_behind operands.entry)) }
 {
-    if rest.is_empty() {
-        return Ok(first);
+    let mut exprs = Front::new(alloc);
+    let mut all = Vec::new(alloc);
+    'operands: for (operator, reading) in operands.into_reversed() {
+        let Reading { expr, names, .. } = reading;
+        exprs = exprs.put((operator, expr))?;
+        all = before(names, all)?;
     }
-    Ok(Expr::Multiplicative(Box::new(alloc, first)?, rest.into_vec()))
-}
-
-/// The operand itself where nothing stands behind it, else an intersection or a difference.
-#[tactic(auto, using(crate::proofs::Chains::mixed_alone, crate::proofs::Chains::mixed_all, crate::proofs::TreeForms::tree_of_intersect_except))]
-fn sets(alloc: Global, first: Expr, rest: Front<(SetOperator, Expr)>) -> Result<Expr, NoMemory>
-    ensures { IfOk result (λ made. tree_of made ≡ mixed IntersectExcept (tree_of first) (map operand_of rest)) }
-{
-    if rest.is_empty() {
-        return Ok(first);
-    }
-    Ok(Expr::IntersectExcept(Box::new(alloc, first)?, rest.into_vec()))
-}
-
-/// The operand itself where nothing stands behind it, else a comparison.
-#[tactic(auto, using(crate::proofs::TreeForms::tree_of_comparison, crate::proofs::Holding::no_comparison))]
-fn comparison(alloc: Global, first: Expr, behind: Part) -> Result<Expr, NoMemory>
-    ensures { IfOk result (λ made. tree_of made ≡ comparison (tree_of first) (value_of behind)) }
-{
-    match behind {
-        Part::Compared(compare, second) => {
-            let left = Box::new(alloc, first)?;
-            let right = Box::new(alloc, second)?;
-            Ok(Expr::Comparison(compare, left, right))
-        }
-        other => {
-            other.let_go();
-            Ok(first)
-        }
-    }
-}
-
-/// The operand itself where nothing stands behind it, else a range.
-#[tactic(auto, using(crate::proofs::TreeForms::tree_of_range, crate::proofs::Holding::no_range))]
-fn range(alloc: Global, first: Expr, behind: Part) -> Result<Expr, NoMemory>
-    ensures { IfOk result (λ made. tree_of made ≡ range (tree_of first) (value_of behind)) }
-{
-    match behind {
-        Part::One(second) => {
-            let from = Box::new(alloc, first)?;
-            let to = Box::new(alloc, second)?;
-            Ok(Expr::Range(from, to))
-        }
-        other => {
-            other.let_go();
-            Ok(first)
-        }
-    }
+    Ok((exprs, all))
 }
 
 /// The chain of these operands.
 fn chained(operator: Chain, operands: Vec<Expr>) -> Expr
-    ensures { tree_of result ≡ node (chain_construct operator) (map tree_of operands.items) }
+    ensures { tree_of result ≡ node (construct_of operator) (map tree_of operands.items) }
 {
     match operator {
         Chain::Comma => Expr::Comma(operands),
@@ -100,30 +50,130 @@ fn chained(operator: Chain, operands: Vec<Expr>) -> Expr
 }
 
 /// The operand itself where nothing stands behind it, else a chain.
-#[tactic(auto, using(crate::proofs::Chains::chained_alone, crate::proofs::Chains::chained_all))]
-fn chain(operator: Chain, first: Expr, rest: Front<Expr>) -> Result<Expr, NoMemory>
-    ensures { IfOk result (λ made. tree_of made ≡ chained (chain_construct operator) (tree_of first) (map tree_of rest)) }
+#[tactic(auto, using(crate::proofs::Chains::chain_alone, crate::proofs::Chains::chain_all))]
+fn chain<'t>(
+    alloc: Global,
+    operator: Chain,
+    first: Reading<'t>,
+    rest: Front<Reading<'t>>,
+) -> Result<Reading<'t>, NoMemory>
+    ensures { IfOk result (λ made. seen_reading made ≡ chain (construct_of operator) (seen_reading first.entry) (map seen_reading rest.entry)) }
 {
     if rest.is_empty() {
         return Ok(first);
     }
-    Ok(chained(operator, rest.put(first)?.into_vec()))
+    let (operands, names) = apart(alloc, rest.put(first)?)?;
+    Ok(Reading::other(chained(operator, operands), names))
+}
+
+/// The operand itself where nothing stands behind it, else a comparison.
+#[tactic(auto, using(crate::proofs::TreeForms::tree_of_comparison))]
+fn comparison<'t>(
+    alloc: Global,
+    first: Reading<'t>,
+    behind: Option<(Compare, Reading<'t>)>,
+) -> Result<Reading<'t>, NoMemory>
+    ensures { IfOk result (λ made. seen_reading made ≡ compared (seen_reading first.entry) (option_map seen_behind behind.entry)) }
+{
+    match behind {
+        Some((compare, second)) => {
+            let left = Box::new(alloc, first.expr)?;
+            let right = Box::new(alloc, second.expr)?;
+            let names = before(first.names, second.names)?;
+            Ok(Reading::other(Expr::Comparison(compare, left, right), names))
+        }
+        None => Ok(first),
+    }
+}
+
+/// The operand itself where nothing stands behind it, else a range.
+#[tactic(auto, using(crate::proofs::TreeForms::tree_of_range))]
+fn range<'t>(
+    alloc: Global,
+    first: Reading<'t>,
+    behind: Option<Reading<'t>>,
+) -> Result<Reading<'t>, NoMemory>
+    ensures { IfOk result (λ made. seen_reading made ≡ ranging (seen_reading first.entry) (option_map seen_reading behind.entry)) }
+{
+    match behind {
+        Some(last) => {
+            let from = Box::new(alloc, first.expr)?;
+            let to = Box::new(alloc, last.expr)?;
+            let names = before(first.names, last.names)?;
+            Ok(Reading::other(Expr::Range(from, to), names))
+        }
+        None => Ok(first),
+    }
+}
+
+/// The operand itself where nothing stands behind it, else a sum.
+#[tactic(auto, using(crate::proofs::Chains::mixed_alone, crate::proofs::Chains::mixed_all, crate::proofs::TreeForms::tree_of_additive))]
+fn sum<'t>(
+    alloc: Global,
+    first: Reading<'t>,
+    rest: Front<(Additive, Reading<'t>)>,
+) -> Result<Reading<'t>, NoMemory>
+    ensures { IfOk result (λ made. seen_reading made ≡ mixed Additive' (seen_reading first.entry) (map seen_behind rest.entry)) }
+{
+    if rest.is_empty() {
+        return Ok(first);
+    }
+    let (operands, behind) = operations(alloc, rest)?;
+    let left = Box::new(alloc, first.expr)?;
+    let names = before(first.names, behind)?;
+    Ok(Reading::other(Expr::Additive(left, operands.into_vec()), names))
+}
+
+/// The operand itself where nothing stands behind it, else a product.
+#[tactic(auto, using(crate::proofs::Chains::mixed_alone, crate::proofs::Chains::mixed_all, crate::proofs::TreeForms::tree_of_multiplicative))]
+fn product<'t>(
+    alloc: Global,
+    first: Reading<'t>,
+    rest: Front<(Multiplicative, Reading<'t>)>,
+) -> Result<Reading<'t>, NoMemory>
+    ensures { IfOk result (λ made. seen_reading made ≡ mixed Multiplicative' (seen_reading first.entry) (map seen_behind rest.entry)) }
+{
+    if rest.is_empty() {
+        return Ok(first);
+    }
+    let (operands, behind) = operations(alloc, rest)?;
+    let left = Box::new(alloc, first.expr)?;
+    let names = before(first.names, behind)?;
+    Ok(Reading::other(Expr::Multiplicative(left, operands.into_vec()), names))
+}
+
+/// The operand itself where nothing stands behind it, else an intersection or a difference.
+#[tactic(auto, using(crate::proofs::Chains::mixed_alone, crate::proofs::Chains::mixed_all, crate::proofs::TreeForms::tree_of_intersect_except))]
+fn sets<'t>(
+    alloc: Global,
+    first: Reading<'t>,
+    rest: Front<(SetOperator, Reading<'t>)>,
+) -> Result<Reading<'t>, NoMemory>
+    ensures { IfOk result (λ made. seen_reading made ≡ mixed IntersectExcept (seen_reading first.entry) (map seen_behind rest.entry)) }
+{
+    if rest.is_empty() {
+        return Ok(first);
+    }
+    let (operands, behind) = operations(alloc, rest)?;
+    let left = Box::new(alloc, first.expr)?;
+    let names = before(first.names, behind)?;
+    Ok(Reading::other(Expr::IntersectExcept(left, operands.into_vec()), names))
 }
 
 /// The expression of an operand and what stands behind it.
-pub fn operation(
+pub fn operation<'t>(
     alloc: Global,
     operation: Operation,
-    first: Part,
-    behind: Part,
-) -> Result<Expr, NoMemory>
-    ensures { IfOk result (λ made. tree_of made ≡ operation_value operation (value_of first) (value_of behind)) }
+    first: Part<'t>,
+    behind: Part<'t>,
+) -> Result<Reading<'t>, NoMemory>
+    ensures { IfOk result (λ made. seen_reading made ≡ operation_value operation (seen_part first.entry) (seen_part behind.entry)) }
 {
-    let operand = first.into_expr(alloc);
+    let operand = first.into_reading(alloc);
     match operation {
-        Operation::Chain(operator) => chain(operator, operand, behind.into_exprs(alloc)),
-        Operation::Comparison => comparison(alloc, operand, behind),
-        Operation::Range => range(alloc, operand, behind),
+        Operation::Chain(operator) => chain(alloc, operator, operand, behind.into_readings(alloc)),
+        Operation::Comparison => comparison(alloc, operand, behind.into_compared()),
+        Operation::Range => range(alloc, operand, behind.into_range()),
         Operation::Sum => sum(alloc, operand, behind.into_sums(alloc)),
         Operation::Product => product(alloc, operand, behind.into_products(alloc)),
         Operation::Sets => sets(alloc, operand, behind.into_sets(alloc)),

@@ -1,68 +1,77 @@
 //! The values of rules.
 
 ghost use Rattle.std.specs.Prelude.{◌≡◌, map};
-ghost use Rattle.pj_xvalue.specs.Trees.{tree_of};
-ghost use Rattle.pj_xmeaning.specs.Parts.{value_of, operand_of, expression, expressions, sums, products, sets, bindings, word, test};
+ghost use Rattle.std.specs.Option.{option_map};
+ghost use Rattle.pj_xmeaning.specs.Parts.{operand, operands, bindings, comparison, range, sums, products, sets, arguments, test, parentheses, word};
+ghost use Rattle.pj_xmeaning.specs.Seen.{seen_reading, seen_behind, seen_bound, seen_arguments, seen_part};
 
 use crate::front::Front;
-use pj_base::Text;
-use pj_xvalue::{Additive, Compare, Expr, Multiplicative, NodeTest, SetOperator};
+use crate::operand::{Bound, Given, Reading};
+use pj_xvalue::{Additive, Compare, Multiplicative, NodeTest, SetOperator};
 use std::alloc::Global;
 
-/// The value of a rule: what the text is made into that it spells.
+/// The value of a rule: what its tokens say.
 #[derive(Drop)]
-pub enum Part {
-    /// No value.
+pub enum Part<'t> {
+    /// None: the tokens are cut off before the rule.
+    Missing,
+    /// None: what could be left out is not there.
     Nothing,
     /// An expression.
-    One(Expr),
-    /// Expressions in a row: operands, steps, predicates or arguments.
-    Many(Front<Expr>),
-    /// Operands of a sum, each with the operator before it.
-    Sums(Front<(Additive, Expr)>),
-    /// Operands of a product, each with the operator before it.
-    Products(Front<(Multiplicative, Expr)>),
-    /// Operands of `intersect` and `except`, each with the operator before it.
-    Sets(Front<(SetOperator, Expr)>),
-    /// The second operand of a comparison with the operator before it.
-    Compared(Compare, Expr),
+    One(Reading<'t>),
+    /// Expressions in a row: operands, steps or predicates.
+    Many(Front<Reading<'t>>),
     /// Variables with their expressions.
-    Bound(Front<(Text, Expr)>),
-    /// A name.
-    Word(Text),
+    Bound(Front<Bound<'t>>),
+    /// The second operand of a comparison with the operator before it, if there is one.
+    Compared(Option<(Compare, Reading<'t>)>),
+    /// The operand up to which another one ranges, if there is one.
+    UpTo(Option<Reading<'t>>),
+    /// Operands of a sum, each with the operator before it.
+    Sums(Front<(Additive, Reading<'t>)>),
+    /// Operands of a product, each with the operator before it.
+    Products(Front<(Multiplicative, Reading<'t>)>),
+    /// Operands of `intersect` and `except`, each with the operator before it.
+    Sets(Front<(SetOperator, Reading<'t>)>),
+    /// Arguments of a call.
+    Given(Given<'t>),
     /// A node test.
     Test(NodeTest),
-    /// The parentheses of a kind test.
-    Parentheses,
+    /// Whether parentheses of a kind test are there.
+    Parentheses(bool),
+    /// A name.
+    Word(&'t str),
     /// A test of the axis before it, with predicates.
-    AxisTest(NodeTest, Front<Expr>),
+    AxisTest(NodeTest, Front<Reading<'t>>),
     /// The arguments of a call, with the predicates behind them.
-    Called(Front<Expr>, Front<Expr>),
+    Called(Given<'t>, Front<Reading<'t>>),
+    /// Predicates behind a name.
+    Predicates(Front<Reading<'t>>),
 }
 
-impl Part {
+impl<'t> Part<'t> {
     /// Frees what it holds.
     pub fn let_go(self) {}
 
-    /// The expression; where it is none, the empty sequence.
-    pub fn into_expr(self, alloc: Global) -> Expr
-        ensures { tree_of result ≡ expression (value_of self) }
+    /// The expression; where it is none, nothing.
+    pub fn into_reading(self, alloc: Global) -> Reading<'t>
+        ensures { seen_reading result ≡ operand (seen_part self.entry) }
     {
         match self {
-            Part::One(expr) => expr,
+            Part::One(reading) => reading,
             other => {
                 other.let_go();
-                Expr::Comma(Vec::new(alloc))
+                Reading::nothing(alloc)
             }
         }
     }
 
     /// The expressions; where it has none, no expressions.
-    pub fn into_exprs(self, alloc: Global) -> Front<Expr>
-        ensures { map tree_of result ≡ expressions (value_of self) }
+    pub fn into_readings(self, alloc: Global) -> Front<Reading<'t>>
+        ensures { map seen_reading result ≡ operands (seen_part self.entry) }
     {
         match self {
-            Part::Many(exprs) => exprs,
+            Part::Many(readings) => readings,
             other => {
                 other.let_go();
                 Front::new(alloc)
@@ -70,9 +79,48 @@ impl Part {
         }
     }
 
+    /// The variables with their expressions; where it has none, no variables.
+    pub fn into_bound(self, alloc: Global) -> Front<Bound<'t>>
+        ensures { map seen_bound result ≡ bindings (seen_part self.entry) }
+    {
+        match self {
+            Part::Bound(bindings) => bindings,
+            other => {
+                other.let_go();
+                Front::new(alloc)
+            }
+        }
+    }
+
+    /// The second operand of a comparison with the operator before it, if there is one.
+    pub fn into_compared(self) -> Option<(Compare, Reading<'t>)>
+        ensures { option_map seen_behind result ≡ comparison (seen_part self.entry) }
+    {
+        match self {
+            Part::Compared(second) => second,
+            other => {
+                other.let_go();
+                None
+            }
+        }
+    }
+
+    /// The operand up to which another one ranges, if there is one.
+    pub fn into_range(self) -> Option<Reading<'t>>
+        ensures { option_map seen_reading result ≡ range (seen_part self.entry) }
+    {
+        match self {
+            Part::UpTo(last) => last,
+            other => {
+                other.let_go();
+                None
+            }
+        }
+    }
+
     /// The operands of a sum; where it has none, no operands.
-    pub fn into_sums(self, alloc: Global) -> Front<(Additive, Expr)>
-        ensures { map operand_of result ≡ sums (value_of self) }
+    pub fn into_sums(self, alloc: Global) -> Front<(Additive, Reading<'t>)>
+        ensures { map seen_behind result ≡ sums (seen_part self.entry) }
     {
         match self {
             Part::Sums(operands) => operands,
@@ -84,8 +132,8 @@ impl Part {
     }
 
     /// The operands of a product; where it has none, no operands.
-    pub fn into_products(self, alloc: Global) -> Front<(Multiplicative, Expr)>
-        ensures { map operand_of result ≡ products (value_of self) }
+    pub fn into_products(self, alloc: Global) -> Front<(Multiplicative, Reading<'t>)>
+        ensures { map seen_behind result ≡ products (seen_part self.entry) }
     {
         match self {
             Part::Products(operands) => operands,
@@ -97,8 +145,8 @@ impl Part {
     }
 
     /// The operands of `intersect` and `except`; where it has none, no operands.
-    pub fn into_sets(self, alloc: Global) -> Front<(SetOperator, Expr)>
-        ensures { map operand_of result ≡ sets (value_of self) }
+    pub fn into_sets(self, alloc: Global) -> Front<(SetOperator, Reading<'t>)>
+        ensures { map seen_behind result ≡ sets (seen_part self.entry) }
     {
         match self {
             Part::Sets(operands) => operands,
@@ -109,41 +157,57 @@ impl Part {
         }
     }
 
-    /// The variables with their expressions; where it has none, no variables.
-    pub fn into_bound(self, alloc: Global) -> Front<(Text, Expr)>
-        ensures { map operand_of result ≡ bindings (value_of self) }
+    /// The arguments of a call; where it has none, no arguments, which are cut off.
+    pub fn into_given(self, alloc: Global) -> Given<'t>
+        ensures { seen_arguments result ≡ arguments (seen_part self.entry) }
     {
         match self {
-            Part::Bound(bindings) => bindings,
+            Part::Given(given) => given,
             other => {
                 other.let_go();
-                Front::new(alloc)
-            }
-        }
-    }
-
-    /// The name; where it is none, the empty one.
-    pub fn into_word(self, alloc: Global) -> Text
-        ensures { result ≡ word (value_of self) }
-    {
-        match self {
-            Part::Word(name) => name,
-            other => {
-                other.let_go();
-                Text::new(alloc)
+                Given {
+                    list: Front::new(alloc),
+                    closed: false,
+                }
             }
         }
     }
 
     /// The node test; where it is none, `*`.
     pub fn into_test(self) -> NodeTest
-        ensures { result ≡ test (value_of self) }
+        ensures { result ≡ test (seen_part self.entry) }
     {
         match self {
             Part::Test(test) => test,
             other => {
                 other.let_go();
                 NodeTest::AnyName
+            }
+        }
+    }
+
+    /// Whether parentheses of a kind test are there.
+    pub fn into_parentheses(self) -> bool
+        ensures { result ≡ parentheses (seen_part self.entry) }
+    {
+        match self {
+            Part::Parentheses(there) => there,
+            other => {
+                other.let_go();
+                false
+            }
+        }
+    }
+
+    /// The name; where it is none, no characters.
+    pub fn into_word(self) -> &'t str
+        ensures { result.now ≡ word (seen_part self.entry) }
+    {
+        match self {
+            Part::Word(name) => name,
+            other => {
+                other.let_go();
+                ""
             }
         }
     }

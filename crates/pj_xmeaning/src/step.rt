@@ -1,159 +1,198 @@
-//! Steps: tests, calls, filters and paths.
+//! Steps: tests, filters and paths.
 
-ghost use Rattle.std.specs.Prelude.{◌≡◌, map, Some, IfOk};
+ghost use Rattle.std.specs.Prelude.{◌≡◌, [], map, IfOk};
 ghost use Rattle.pj_xvalue.specs.Trees.{tree_of};
-ghost use Rattle.pj_xvalue.specs.Names.{callee_of, axis_of};
-ghost use Rattle.pj_xmeaning.specs.Parts.{value_of};
-ghost use Rattle.pj_xmeaning.specs.Values.{kind_test, named, axis_step, rooted, relative, step_value};
-ghost use Rattle.pj_xmeaning.specs.Steps.{called, filtered, child_step, along, descendants};
+ghost use Rattle.pj_xtokens.specs.Answer.{lexed_of};
+ghost use Rattle.pj_xmeaning.specs.Operands.{other, descendants, rooted, path, step, child_step, attribute_step, axis_step, filtered, kind_test, named};
+ghost use Rattle.pj_xmeaning.specs.Parts.{tail};
+ghost use Rattle.pj_xmeaning.specs.Seen.{seen_part, seen_reading};
+ghost use Rattle.pj_xmeaning.specs.Values.{kind_of, step_value};
 
+use crate::call::call;
 use crate::front::Front;
+use crate::operand::Reading;
 use crate::part::Part;
+use crate::row::{apart, before};
 use pj_base::{NoMemory, Text};
 use pj_xgrammar::{Kind, Step};
-use pj_xvalue::{Axis, Callee, Expr, NodeTest, axis_named, function_named};
+use pj_xtokens::{Token, first_from, first_text};
+use pj_xvalue::{Axis, Expr, NodeTest, axis_named};
 use std::alloc::Global;
 
-/// The test of `node` or `element` before parentheses, else that for the name (XPath 2.0, 2.5.4 and 3.2.1.2).
-#[tactic(auto, using(crate::proofs::Holding::no_parentheses))]
-pub fn kind_test(alloc: Global, kind: Kind, name: &str, behind: Part) -> Result<NodeTest, NoMemory>
-    ensures { IfOk result (λ made. made ≡ kind_test kind name.now (value_of behind)) }
+/// An expression that names nothing.
+pub fn bare<'t>(alloc: Global, expr: Expr) -> Reading<'t>
+    ensures { seen_reading result ≡ other (tree_of expr) [] }
 {
-    match behind {
-        Part::Parentheses => Ok(match kind {
-            Kind::Node => NodeTest::AnyNode,
-            Kind::Element => NodeTest::AnyElement,
-        }),
-        other => {
-            other.let_go();
-            Ok(NodeTest::Name(Text::from_str(alloc, name)?))
-        }
-    }
-}
-
-/// The call of the function.
-#[tactic(auto, using(crate::proofs::TreeForms::tree_of_call, crate::proofs::TreeForms::tree_of_pmd_call))]
-fn call_of(callee: Callee, arguments: Front<Expr>) -> Expr
-    ensures { tree_of result ≡ called (Some callee) (map tree_of arguments) }
-{
-    match callee {
-        Callee::XPath(function) => Expr::Call(function, arguments.into_vec()),
-        Callee::Pmd(function) => Expr::PmdCall(function, arguments.into_vec()),
-    }
-}
-
-/// The call of the function with the name; where there is none, the empty sequence (XPath 2.0, 3.1.5).
-pub fn called(alloc: Global, name: &str, arguments: Front<Expr>) -> Expr
-    ensures { tree_of result ≡ called (callee_of name.now) (map tree_of arguments) }
-{
-    match function_named(name) {
-        Some(callee) => call_of(callee, arguments),
-        None => Expr::Comma(Vec::new(alloc)),
-    }
-}
-
-/// The expression with its predicates, if there are any (XPath 2.0, 3.3.2).
-#[tactic(auto, using(crate::proofs::TreeForms::tree_of_filter, crate::proofs::Chains::filtered_alone, crate::proofs::Chains::filtered_all))]
-pub fn filtered(alloc: Global, primary: Expr, predicates: Front<Expr>) -> Result<Expr, NoMemory>
-    ensures { IfOk result (λ made. tree_of made ≡ filtered (tree_of primary) (map tree_of predicates)) }
-{
-    if predicates.is_empty() {
-        return Ok(primary);
-    }
-    Ok(Expr::Filter(Box::new(alloc, primary)?, predicates.into_vec()))
-}
-
-/// A step to children (XPath 2.0, 3.2.4).
-#[tactic(auto, using(crate::proofs::TreeForms::tree_of_step))]
-pub fn child_step(test: NodeTest, predicates: Front<Expr>) -> Expr
-    ensures { tree_of result ≡ child_step test (map tree_of predicates) }
-{
-    Expr::Step(Axis::Child, test, predicates.into_vec())
-}
-
-/// A name with what stands behind it: a call with its arguments, or a step with its predicates.
-pub fn named(alloc: Global, name: Text, behind: Part) -> Result<Expr, NoMemory>
-    ensures { IfOk result (λ made. tree_of made ≡ named name (value_of behind)) }
-{
-    match behind {
-        Part::Called(arguments, predicates) => {
-            filtered(alloc, called(alloc, name.as_str(), arguments), predicates)
-        }
-        other => {
-            let test = NodeTest::Name(name);
-            Ok(child_step(test, other.into_exprs(alloc)))
-        }
-    }
-}
-
-/// A step of the axis with the name (XPath 2.0, 3.2.1.1).
-fn along(name: &str, test: NodeTest, predicates: Vec<Expr>) -> Expr
-    ensures { tree_of result ≡ along (axis_of name.now) test (map tree_of predicates.items) }
-{
-    match axis_named(name) {
-        Some(axis) => Expr::Step(axis, test, predicates),
-        None => Expr::AttributeStep(test, predicates),
-    }
-}
-
-/// The name of an axis with what stands behind it: a step of the axis where that is a test, else as with other names.
-pub fn axis_step(alloc: Global, name: &str, behind: Part) -> Result<Expr, NoMemory>
-    ensures { IfOk result (λ made. tree_of made ≡ axis_step name.now (value_of behind)) }
-{
-    match behind {
-        Part::AxisTest(test, predicates) => Ok(along(name, test, predicates.into_vec())),
-        other => named(alloc, Text::from_str(alloc, name)?, other),
-    }
+    Reading::other(expr, Vec::new(alloc))
 }
 
 /// The step to all nodes beneath, with the node itself, for which `//` stands (XPath 2.0, 3.2.4).
 #[tactic(auto, using(crate::proofs::TreeForms::tree_of_step))]
-pub fn descendants(alloc: Global) -> Expr
-    ensures { tree_of result ≡ descendants }
+pub fn descendants<'t>(alloc: Global) -> Reading<'t>
+    ensures { seen_reading result ≡ descendants }
 {
-    Expr::Step(Axis::DescendantOrSelf, NodeTest::AnyNode, Vec::new(alloc))
+    let test = NodeTest::AnyNode;
+    bare(
+        alloc,
+        Expr::Step(Axis::DescendantOrSelf, test, Vec::new(alloc)),
+    )
 }
 
-/// The path of the steps behind `/`.
-#[tactic(auto, using(crate::proofs::TreeForms::tree_of_path, crate::proofs::TreeForms::tree_of_root))]
-pub fn rooted(steps: Front<Expr>) -> Result<Expr, NoMemory>
-    ensures { IfOk result (λ made. tree_of made ≡ rooted (map tree_of steps)) }
+/// The path of the steps behind `/` (XPath 2.0, 3.2).
+pub fn rooted<'t>(alloc: Global, steps: Front<Reading<'t>>) -> Result<Reading<'t>, NoMemory>
+    ensures { IfOk result (λ made. seen_reading made ≡ rooted (map seen_reading steps.entry)) }
 {
-    Ok(Expr::Path(steps.put(Expr::Root)?.into_vec()))
+    let all = steps.put(bare(alloc, Expr::Root))?;
+    let (steps, names) = apart(alloc, all)?;
+    Ok(Reading::other(Expr::Path(steps), names))
 }
 
-/// The path of the steps, or the only one.
-#[tactic(auto, using(crate::proofs::TreeForms::tree_of_path, crate::proofs::Chains::relative_path))]
-pub fn relative(steps: Front<Expr>) -> Expr
-    ensures { tree_of result ≡ relative (map tree_of steps) }
+/// The path of the steps, or the only one (XPath 2.0, 3.2).
+pub fn path<'t>(alloc: Global, steps: Front<Reading<'t>>) -> Result<Reading<'t>, NoMemory>
+    ensures { IfOk result (λ made. seen_reading made ≡ path (map seen_reading steps.entry)) }
 {
     match steps.into_only() {
-        Ok(step) => step,
-        Err(steps) => Expr::Path(steps.into_vec()),
+        Ok(step) => Ok(step),
+        Err(steps) => {
+            let (steps, names) = apart(alloc, steps)?;
+            Ok(Reading::other(Expr::Path(steps), names))
+        }
     }
 }
 
-/// The expression that a step or a primary expression makes with what stands behind it. The token has these characters.
-#[tactic(auto, using(crate::proofs::TreeForms::tree_of_attribute_step))]
-pub fn step(
+/// A step of the axis with its predicates (XPath 2.0, 3.2.1).
+pub fn along<'t>(
+    alloc: Global,
+    axis: Axis,
+    test: NodeTest,
+    predicates: Front<Reading<'t>>,
+) -> Result<Reading<'t>, NoMemory>
+    ensures { IfOk result (λ made. seen_reading made ≡ step axis test (map seen_reading predicates.entry)) }
+{
+    let (predicates, names) = apart(alloc, predicates)?;
+    Ok(Reading::other(Expr::Step(axis, test, predicates), names))
+}
+
+/// A step to children (XPath 2.0, 3.2.4).
+pub fn child_step<'t>(
+    alloc: Global,
+    test: NodeTest,
+    predicates: Front<Reading<'t>>,
+) -> Result<Reading<'t>, NoMemory>
+    ensures { IfOk result (λ made. seen_reading made ≡ child_step test (map seen_reading predicates.entry)) }
+{
+    along(alloc, Axis::Child, test, predicates)
+}
+
+/// A step to attributes (XPath 2.0, 3.2.4).
+pub fn attribute_step<'t>(
+    alloc: Global,
+    test: NodeTest,
+    predicates: Front<Reading<'t>>,
+) -> Result<Reading<'t>, NoMemory>
+    ensures { IfOk result (λ made. seen_reading made ≡ attribute_step test (map seen_reading predicates.entry)) }
+{
+    let (predicates, names) = apart(alloc, predicates)?;
+    Ok(Reading::other(Expr::AttributeStep(test, predicates), names))
+}
+
+/// A step of the axis with the name; that which is none of nodes is `attribute` (XPath 2.0, 3.2.1.1).
+fn axis_step<'t>(
+    alloc: Global,
+    name: &str,
+    test: NodeTest,
+    predicates: Front<Reading<'t>>,
+) -> Result<Reading<'t>, NoMemory>
+    ensures { IfOk result (λ made. seen_reading made ≡ axis_step name.now test (map seen_reading predicates.entry)) }
+{
+    match axis_named(name) {
+        Some(axis) => along(alloc, axis, test, predicates),
+        None => attribute_step(alloc, test, predicates),
+    }
+}
+
+/// The primary expression with its predicates, if there are any (XPath 2.0, 3.3.2).
+pub fn filtered<'t>(
+    alloc: Global,
+    primary: Reading<'t>,
+    predicates: Front<Reading<'t>>,
+) -> Result<Reading<'t>, NoMemory>
+    ensures { IfOk result (λ made. seen_reading made ≡ filtered (seen_reading primary.entry) (map seen_reading predicates.entry)) }
+{
+    if predicates.is_empty() {
+        return Ok(primary);
+    }
+    let (predicates, behind) = apart(alloc, predicates)?;
+    let Reading { expr, names, .. } = primary;
+    let filter = Expr::Filter(Box::new(alloc, expr)?, predicates);
+    Ok(Reading::other(filter, before(names, behind)?))
+}
+
+/// The test of `node` or `element` before parentheses, else that for the name (XPath 2.0, 2.5.4 and 3.2.1.2).
+pub fn kind_test(
+    alloc: Global,
+    kind: Kind,
+    name: &str,
+    parentheses: bool,
+) -> Result<NodeTest, NoMemory>
+    ensures { IfOk result (λ made. made ≡ kind_test (kind_of kind) name.now parentheses) }
+{
+    if !parentheses {
+        return Ok(NodeTest::Name(Text::from_str(alloc, name)?));
+    }
+    Ok(match kind {
+        Kind::Node => NodeTest::AnyNode,
+        Kind::Element => NodeTest::AnyElement,
+    })
+}
+
+/// A step whose first token is a name, with what stands behind it: a call with its arguments, a step of the axis with its test, or a step
+/// to children.
+pub fn named<'t>(
+    alloc: Global,
+    tokens: &[Token<'t>],
+    name: &'t str,
+    behind: Part<'t>,
+) -> Result<Reading<'t>, NoMemory>
+    ensures { IfOk result (λ made. seen_reading made ≡ named (map lexed_of tokens.now) name.now (tail (seen_part behind.entry))) }
+{
+    match behind {
+        Part::AxisTest(test, predicates) => axis_step(alloc, name, test, predicates),
+        Part::Called(arguments, predicates) => {
+            call(alloc, name, first_from(tokens), arguments, predicates)
+        }
+        Part::Predicates(predicates) => {
+            let test = NodeTest::Name(Text::from_str(alloc, name)?);
+            child_step(alloc, test, predicates)
+        }
+        other => {
+            other.let_go();
+            let test = NodeTest::Name(Text::from_str(alloc, name)?);
+            child_step(alloc, test, Front::new(alloc))
+        }
+    }
+}
+
+/// What a step or a primary expression says, by what it begins with and what stands behind that. The token that it begins with is the first.
+pub fn step<'t>(
     alloc: Global,
     step: Step,
-    text: &str,
-    first: Part,
-    behind: Part,
-) -> Result<Expr, NoMemory>
-    ensures { IfOk result (λ made. tree_of made ≡ step_value step text.now (value_of first) (value_of behind)) }
+    tokens: &[Token<'t>],
+    first: Part<'t>,
+    behind: Part<'t>,
+) -> Result<Reading<'t>, NoMemory>
+    ensures { IfOk result (λ made. seen_reading made ≡ step_value step (map lexed_of tokens.now) (seen_part first.entry) (seen_part behind.entry)) }
 {
     match step {
-        Step::Primary => filtered(alloc, first.into_expr(alloc), behind.into_exprs(alloc)),
-        Step::Attribute => {
-            let predicates = behind.into_exprs(alloc).into_vec();
-            Ok(Expr::AttributeStep(first.into_test(), predicates))
+        Step::Primary => {
+            let primary = first.into_reading(alloc);
+            filtered(alloc, primary, behind.into_readings(alloc))
         }
+        Step::Attribute => attribute_step(alloc, first.into_test(), behind.into_readings(alloc)),
         Step::Kind(kind) => {
-            let test = kind_test(alloc, kind, text, first)?;
-            Ok(child_step(test, behind.into_exprs(alloc)))
+            let test = kind_test(alloc, kind, first_text(tokens), first.into_parentheses())?;
+            child_step(alloc, test, behind.into_readings(alloc))
         }
-        Step::Name => named(alloc, first.into_word(alloc), behind),
+        Step::Name => named(alloc, tokens, first.into_word(), behind),
     }
 }

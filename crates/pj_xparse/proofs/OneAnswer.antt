@@ -5,89 +5,58 @@ use Rattle.pj_ll.specs.declared.parser.End.TheVariants as outcome
 use Rattle.pj_xtokens.specs.Size.{size}
 use Rattle.pj_xtokens.specs.Tokens.{Lexed, Tokens}
 use Rattle.pj_xtokens.specs.declared.token.End as token
-use Rattle.pj_xderive.specs.Expressions.{AreDerived, AreClear, IsOutcome, IsRun}
-use Rattle.pj_xgrammar.specs.declared.terminal.Behind.TheVariants as b
-use Rattle.pj_xmeaning.specs.Meaning.{meaning}
 use Rattle.pj_xvalue.specs.Trees.{Tree}
-use Rattle.pj_xnames.specs.Faults.{first_fault}
-use Rattle.pj_xnames.specs.Meaning.{mentions}
+use Rattle.pj_xderive.specs.Expressions.{AreDerived, AreClear, IsOutcome}
+use Rattle.pj_xmeaning.specs.Operands.{Operand}
+use Rattle.pj_xmeaning.specs.Reads.{AreRead}
+use Rattle.pj_xmeaning.specs.SoFar.{SaySoFar}
+use Rattle.pj_xparse.specs.NameFaults.{first_fault}
 use Rattle.pj_xparse.specs.Spells.{Spells}
-use Rattle.pj_xparse.proofs.Derivations.{ReadingsAreDerived, derivation_of}
-use Rattle.pj_xparse.proofs.FaultRuns.{run_of}
-use Rattle.pj_xparse.proofs.Running.{SayingsAreRuns, length_numbers}
 use Rattle.pj_xparse.specs.Faults.{IsFault, named_first, syntax_fault}
 use Rattle.pj_xparse.specs.declared.fault.XSyntax.{XSyntax}
+use Rattle.pj_xparse.proofs.Runs.{whole_run}
 
--- the tokens of a text and where they end are one
-abbrev TokensAreOne : Type 0
-TokensAreOne = (text : List ℕ) (xs ys : List Lexed) (e f : token.End) → Tokens (size text) text xs e → Tokens (size text) text ys f → (xs ≡ ys) × (e ≡ f)
+-- where the tokens of a text and their end are one
+module _ (one_tokens : (text : List ℕ) (xs ys : List Lexed) (e f : token.End) → Tokens (size text) text xs e → Tokens (size text) text ys f → (xs ≡ ys) × (e ≡ f)) where
+  -- and are read as one thing
+  pub one_expression : ((tokens : List Lexed) (a b : Operand) → AreRead tokens a → AreRead tokens b → a ≡ b)
+      → (variables : List (List ℕ)) (text : List ℕ) (a b : Tree) → Spells variables text a → Spells variables text b → a ≡ b
+  one_expression one_reading variables text a b s t =
+      let tokens : s.tokens ≡ t.tokens = (one_tokens text s.tokens t.tokens _ _ s.read t.read).0 in
+      let said : s.said ≡ t.said = one_reading t.tokens s.said t.said (subst (λ ts. AreRead ts s.said) tokens s.says) t.says in
+      s.means ∙ ap (λ (o : Operand). o.tree) said ∙ sym t.means
 
--- where readings are derived, and tokens are one and have one leftmost derivation
-module _ (derives : ReadingsAreDerived) (one_tokens : TokensAreOne)
-    (one_derivation : (tokens : List Lexed) (ps qs : List ℕ) → AreDerived tokens ps → AreDerived tokens qs → ps ≡ qs) where
-  pub one_expression : (variables : List (List ℕ)) (text : List ℕ) (a b : Tree) → Spells variables text a → Spells variables text b → a ≡ b
-  one_expression variables text a b s t =
-      let x = derivation_of derives s in
-      let y = derivation_of derives t in
-      let tokens = (one_tokens text x.tokens y.tokens _ _ x.read y.read).0 in
-      let productions : x.productions ≡ y.productions =
-      one_derivation y.tokens x.productions y.productions (subst (λ ts. AreDerived ts x.productions) tokens x.derived) y.derived in
-      x.means ∙ ap (λ ps. meaning ps x.tokens) productions ∙ ap (λ ts. meaning y.productions ts) tokens ∙ sym y.means
+  -- where they have one outcome, and say one thing as far as their terminals go
+  module _ (one_outcome : (tokens : List Lexed) (a b : End) → IsOutcome tokens a → IsOutcome tokens b → a ≡ b)
+      (one_saying : (tokens : List Lexed) (a b : Operand) → SaySoFar tokens a → SaySoFar tokens b → a ≡ b) where
+    -- what is read is derived
+    pub not_both : ((tokens : List Lexed) (a : Operand) → AreRead tokens a → (productions : List ℕ) × AreDerived tokens productions × AreClear tokens (length tokens + 1))
+        → (variables : List (List ℕ)) (text : List ℕ) (tree : Tree) (fault : XSyntax) → Spells variables text tree → IsFault variables text fault → ⊥
+    not_both derives variables text tree fault s f =
+        let same = one_tokens text f.tokens s.tokens _ _ f.read s.read in
+        let (productions, derived, clear) = derives s.tokens s.said s.says in
+        let outcomes : f.outcome ≡ outcome.Whole =
+        one_outcome s.tokens f.outcome outcome.Whole (subst (λ ts. IsOutcome ts f.outcome) same.0 f.is_outcome)
+        (record { expression = (productions, derived); clear = clear }) in
+        let said : f.said ≡ s.said =
+        one_saying s.tokens f.said s.said (subst (λ ts. SaySoFar ts f.said) same.0 f.say)
+        (record { run = outcome.Whole; ends = whole_run s.tokens productions derived clear; reads = s.says }) in
+        let named : first_fault variables f.said.names ≡ None = ap (λ (o : Operand). first_fault variables o.names) said ∙ s.named in
+        let syntax : syntax_fault f.tokens f.end f.outcome ≡ None =
+        ap (λ o. syntax_fault f.tokens f.end o) outcomes ∙ ap (λ e. syntax_fault f.tokens e outcome.Whole) same.1 in
+        let none : Some fault ≡ None = f.is ∙ ap (λ n. named_first n (syntax_fault f.tokens f.end f.outcome)) named ∙ syntax in
+        absurd (cc)
 
--- the tokens of an expression have the outcome of one, and the productions that derive them are those of their run
-module _ (tokens : List Lexed) (productions : List ℕ) (derived : AreDerived tokens productions) (clear : AreClear tokens (length tokens + 1)) where
-  pub whole_outcome : IsOutcome tokens outcome.Whole
-  whole_outcome = record { expression = (productions, derived); clear = clear }
-
-  pub whole_run : IsRun tokens productions
-  whole_run = record {
-    end = outcome.Whole;
-    ends = record {
-      sentence = (productions, derived);
-      clear = subst (λ n. AreClear tokens (n + 1)) (sym (length_numbers b.End tokens)) clear;
-    };
-    leads = derived;
-  }
-
--- where tokens are one and have one outcome, and one list of productions derives them as far as their terminals go
-module _ (one_tokens : TokensAreOne) (one_outcome : (tokens : List Lexed) (a b : End) → IsOutcome tokens a → IsOutcome tokens b → a ≡ b)
-    (one_run : (tokens : List Lexed) (ps qs : List ℕ) → IsRun tokens ps → IsRun tokens qs → ps ≡ qs) (are_runs : SayingsAreRuns) where
-  pub not_both : ReadingsAreDerived → (variables : List (List ℕ)) (text : List ℕ) (tree : Tree) (fault : XSyntax) → Spells variables text tree → IsFault variables text fault → ⊥
-  not_both derives variables text tree fault s f =
-      let x = derivation_of derives s in
-      let y = run_of are_runs f in
-      let same = one_tokens text y.tokens x.tokens _ _ y.read x.read in
-      let is_outcome : y.outcome ≡ outcome.Whole =
-      one_outcome x.tokens y.outcome outcome.Whole (subst (λ ts. IsOutcome ts y.outcome) same.0 y.is_outcome)
-      (whole_outcome x.tokens x.productions x.derived x.clear) in
-      let productions : y.productions ≡ x.productions =
-      one_run x.tokens y.productions x.productions (subst (λ ts. IsRun ts y.productions) same.0 y.run)
-      (whole_run x.tokens x.productions x.derived x.clear) in
-      let named : first_fault variables (mentions y.productions y.tokens) ≡ None =
-      ap (λ ps. first_fault variables (mentions ps y.tokens)) productions
-      ∙ ap (λ ts. first_fault variables (mentions x.productions ts)) same.0 ∙ x.named in
-      let syntax : syntax_fault y.tokens y.end y.outcome ≡ None =
-      ap (λ o. syntax_fault y.tokens y.end o) is_outcome ∙ ap (λ e. syntax_fault y.tokens e outcome.Whole) same.1 in
-      let none : Some fault ≡ None =
-      y.is ∙ ap (λ f. named_first f (syntax_fault y.tokens y.end y.outcome)) named ∙ syntax in
-      absurd (cc)
-
-  pub one_fault : (variables : List (List ℕ)) (text : List ℕ) (f g : XSyntax) → IsFault variables text f → IsFault variables text g → f ≡ g
-  one_fault variables text f g first second =
-      let x = run_of are_runs first in
-      let y = run_of are_runs second in
-      let same = one_tokens text x.tokens y.tokens _ _ x.read y.read in
-      let outcomes : x.outcome ≡ y.outcome =
-      one_outcome y.tokens x.outcome y.outcome (subst (λ ts. IsOutcome ts x.outcome) same.0 x.is_outcome) y.is_outcome in
-      let productions : x.productions ≡ y.productions =
-      one_run y.tokens x.productions y.productions (subst (λ ts. IsRun ts x.productions) same.0 x.run) y.run in
-      let named : first_fault variables (mentions x.productions x.tokens) ≡ first_fault variables (mentions y.productions y.tokens) =
-      ap (λ ps. first_fault variables (mentions ps x.tokens)) productions
-      ∙ ap (λ ts. first_fault variables (mentions y.productions ts)) same.0 in
-      let syntax : syntax_fault x.tokens x.end x.outcome ≡ syntax_fault y.tokens y.end y.outcome =
-      ap (λ o. syntax_fault x.tokens x.end o) outcomes ∙ ap (λ e. syntax_fault x.tokens e y.outcome) same.1
-      ∙ ap (λ ts. syntax_fault ts y.end y.outcome) same.0 in
-      let one : Some f ≡ Some g =
-      x.is ∙ ap (λ n. named_first n (syntax_fault x.tokens x.end x.outcome)) named
-      ∙ ap (λ s. named_first (first_fault variables (mentions y.productions y.tokens)) s) syntax ∙ sym y.is in
-      cc
+    pub one_fault : (variables : List (List ℕ)) (text : List ℕ) (f g : XSyntax) → IsFault variables text f → IsFault variables text g → f ≡ g
+    one_fault variables text f g x y =
+        let same = one_tokens text x.tokens y.tokens _ _ x.read y.read in
+        let outcomes : x.outcome ≡ y.outcome =
+        one_outcome y.tokens x.outcome y.outcome (subst (λ ts. IsOutcome ts x.outcome) same.0 x.is_outcome) y.is_outcome in
+        let said : x.said ≡ y.said = one_saying y.tokens x.said y.said (subst (λ ts. SaySoFar ts x.said) same.0 x.say) y.say in
+        let syntax : syntax_fault x.tokens x.end x.outcome ≡ syntax_fault y.tokens y.end y.outcome =
+        ap (λ o. syntax_fault x.tokens x.end o) outcomes ∙ ap (λ e. syntax_fault x.tokens e y.outcome) same.1
+        ∙ ap (λ ts. syntax_fault ts y.end y.outcome) same.0 in
+        let one : Some f ≡ Some g =
+        x.is ∙ ap (λ (o : Operand). named_first (first_fault variables o.names) (syntax_fault x.tokens x.end x.outcome)) said
+        ∙ ap (λ s. named_first (first_fault variables y.said.names) s) syntax ∙ sym y.is in
+        cc

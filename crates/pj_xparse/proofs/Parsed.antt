@@ -1,8 +1,10 @@
 -- What is known of a text whose tokens were read and derived.
-use Rattle.std.proofs.Common.{◌≡◌, ℕ, ◌<◌, ◌≤◌, List, length, map, None, sym, ap, ◌∙◌, subst, refl}
+use Rattle.std.proofs.Common.{◌≡◌, ℕ, ◌<◌, ◌≤◌, List, length, map, None, sym, ap, subst, refl}
 use Rattle.std.specs.Str.{chars, IsUtf8}
 use Rattle.pj_ll.specs.declared.parser.End.{End}
 use Rattle.pj_ll.specs.declared.parser.End.TheVariants as outcome
+use Rattle.pj_ll.specs.Outcome as terminals
+use Rattle.pj_ll.specs.Outcome.{IsEnd}
 use Rattle.pj_xtokens.specs.Answer.{lexed_of}
 use Rattle.pj_xtokens.specs.Gaps.{Past}
 use Rattle.pj_xtokens.specs.Rules as lexical
@@ -13,14 +15,17 @@ use Rattle.pj_xtokens.specs.declared.token.Token.{Token}
 use Rattle.pj_xtokens.specs.declared.token.TokenKind.{TokenKind}
 use Rattle.pj_xtokens.specs.declared.token.End as token
 use Rattle.pj_xtokens.specs.declared.token.End.TheVariants as ends
-use Rattle.pj_xparse.proofs.Sizes.{size_chars}
-use Rattle.pj_xderive.specs.Expressions.{IsOutcome, LeadTo}
-use Rattle.pj_xmeaning.specs.Meaning.{meaning}
-use Rattle.pj_xnames.specs.Faults.{first_fault}
-use Rattle.pj_xnames.specs.Meaning.{mentions}
-use Rattle.pj_xparse.specs.Spells.{Spells}
-use Rattle.pj_xparse.proofs.Derivations.{DerivedAreReadings, IsDerived, spelled_by}
+use Rattle.pj_xgrammar.specs.Terminals.{numbers}
+use Rattle.pj_xgrammar.specs.XPath.{greatest_nesting, xpath_grammar}
+use Rattle.pj_xderive.specs.Expressions.{AreDerived, IsOutcome, IsRun, LeadTo}
+use Rattle.pj_xmeaning.specs.Operands.{Operand}
+use Rattle.pj_xmeaning.specs.Reads.{AreRead}
+use Rattle.pj_xmeaning.specs.SoFar.{SaySoFar, SayUpTo}
 use Rattle.pj_xparse.specs.Faults.{syntax_fault}
+use Rattle.pj_xparse.specs.NameFaults.{first_fault}
+use Rattle.pj_xparse.specs.Spells.{Spells}
+use Rattle.pj_xparse.proofs.Runs.{whole_run}
+use Rattle.pj_xparse.proofs.Sizes.{size_chars}
 use Rattle.pj_xparse.proofs.TokenFacts.{token_count, text_end}
 
 -- there are no more tokens than bytes, where what stands behind a gap is an end of the text, and each token has a character
@@ -35,32 +40,33 @@ read_slice text slice all end utf8 same read =
     subst (λ n. Tokens n (chars text) (map lexed_of slice) end) (size_chars text utf8)
     (subst (λ ts. Tokens (length text) (chars text) (map lexed_of ts) end) (sym same) read)
 
-module _ (variables : List (List ℕ)) (text : List ℕ) (tokens : List Lexed) (productions : List ℕ) (named : first_fault variables (mentions productions tokens) ≡ None) where
-  -- the tokens of an expression, behind which the text ends
-  whole_derived : (end : token.End) → Tokens (size text) text tokens end → (n : ℕ) → end ≡ ends.Text n → IsOutcome tokens outcome.Whole
-      → LeadTo tokens productions outcome.Whole → IsDerived variables text (meaning productions tokens)
-  whole_derived end read n e is derived =
-      let at : end ≡ ends.Text (size text) = e ∙ ap ends.Text (text_end _ _ tokens end read n e) in
-      record {
-        tokens = tokens;
-        productions = productions;
-        read = subst (Tokens (size text) text tokens) at read;
-        derived = derived;
-        clear = is.clear;
-        named = named;
-        means = refl;
-      }
+-- where the tokens of a text have no fault, and all of them are read, the text spells what they say
+pub spelled : (variables : List (List ℕ)) (text : List ℕ) (tokens : List Lexed) (said : Operand) (end : token.End) (o : End) → Tokens (size text) text tokens end
+    → syntax_fault tokens end o ≡ None → AreRead tokens said → first_fault variables said.names ≡ None → Spells variables text said.tree
+spelled variables text tokens said (ends.Text n) outcome.Whole read none says named = record {
+  tokens = tokens;
+  said = said;
+  read = subst (Tokens (size text) text tokens) (ap ends.Text (text_end _ _ tokens (ends.Text n) read n refl)) read;
+  says = says;
+  named = named;
+  means = refl;
+}
+spelled variables text tokens said (ends.Fault n) outcome.Whole read none says named = absurd (cc)
+spelled variables text tokens said end (outcome.Stops i) read none says named = absurd (cc)
+spelled variables text tokens said end (outcome.LeftOut i) read none says named = absurd (cc)
+spelled variables text tokens said end (outcome.TooDeep i) read none says named = absurd (cc)
 
-  -- a text without a fault is derived with what its tokens mean
-  pub derived_meaning : (end : token.End) (o : End) → Tokens (size text) text tokens end → IsOutcome tokens o → LeadTo tokens productions o
-      → syntax_fault tokens end o ≡ None → IsDerived variables text (meaning productions tokens)
-  derived_meaning (ends.Text n) outcome.Whole read is leads none = whole_derived (ends.Text n) read n refl is leads
-  derived_meaning (ends.Fault n) outcome.Whole read is leads none = absurd (cc)
-  derived_meaning end (outcome.Stops i) read is leads none = absurd (cc)
-  derived_meaning end (outcome.LeftOut i) read is leads none = absurd (cc)
-  derived_meaning end (outcome.TooDeep i) read is leads none = absurd (cc)
+-- Where tokens say something as far as each run of theirs goes to which productions lead:
+module _ {tokens : List Lexed} {productions all : List ℕ} {said : Operand} (same : productions ≡ all)
+    (say : (run : End) → IsEnd xpath_grammar (numbers tokens) greatest_nesting run → terminals.LeadTo xpath_grammar (numbers tokens) productions run → SayUpTo run tokens said) where
+  -- they say it so far, where the productions are those of their run
+  pub say_so_far : IsRun tokens all → SaySoFar tokens said
+  say_so_far run =
+      record { run = run.end; ends = run.ends; reads = say run.end run.ends (subst (λ ps. terminals.LeadTo xpath_grammar (numbers tokens) ps run.end) (sym same) run.leads) }
 
-  -- and spells it
-  pub spells_meaning : DerivedAreReadings → (end : token.End) (o : End) → Tokens (size text) text tokens end → IsOutcome tokens o → LeadTo tokens productions o
-      → syntax_fault tokens end o ≡ None → Spells variables text (meaning productions tokens)
-  spells_meaning reads end o read is leads none = spelled_by reads (derived_meaning end o read is leads none)
+  -- and where they have no fault, all of them are read as it
+  pub all_read : (end : token.End) (o : End) → IsOutcome tokens o → LeadTo tokens all o → syntax_fault tokens end o ≡ None → AreRead tokens said
+  all_read end outcome.Whole is leads none = say outcome.Whole (whole_run tokens all leads is.clear) (subst (AreDerived tokens) (sym same) leads)
+  all_read end (outcome.Stops i) is leads none = absurd (cc)
+  all_read end (outcome.LeftOut i) is leads none = absurd (cc)
+  all_read end (outcome.TooDeep i) is leads none = absurd (cc)

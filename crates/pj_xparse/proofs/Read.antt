@@ -13,8 +13,11 @@ use Rattle.pj_xgrammar.specs.declared.word.Word.TheVariants as w
 use Rattle.pj_xgrammar.specs.declared.terminal.Behind.{Behind}
 use Rattle.pj_xgrammar.specs.declared.terminal.Behind.TheVariants as b
 use Rattle.pj_xgrammar.specs.declared.terminal.Terminal.TheVariants as terminal
-use Rattle.pj_xgrammar.specs.Terminals.{behind_of, kind_behind, name_behind, first_behind, begins_step, sign_begins_step, kind_terminal, sign_terminal, word_terminal, makes_phrase, terminal_number}
-use Rattle.pj_xparse.specs.Derived.{IsRead}
+use Rattle.pj_xgrammar.specs.Terminals.{behind_of, kind_behind, name_behind, first_behind, begins_step, sign_begins_step, kind_terminal, sign_terminal, word_terminal, makes_phrase, terminal_of, terminal_number}
+
+-- the token has this terminal's number, where these tokens stand behind it
+abbrev pub IsRead : Lexed → List Lexed → ℕ → Type 0
+IsRead x behind t = terminal_number (terminal_of x (first_behind b.End behind)) ≡ t
 
 -- ---- names
 

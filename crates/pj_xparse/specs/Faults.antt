@@ -1,21 +1,17 @@
 -- The first fault of a text that spells no expression.
-use Rattle.std.specs.Prelude.{◌≡◌, ℕ, ◌+◌, List, [], drop, Option, Some, None, slice_get}
+use Rattle.std.specs.Prelude.{◌≡◌, ℕ, ◌+◌, List, Option, Some, None, slice_get}
 use Rattle.pj_ll.specs.declared.parser.End.{End}
 use Rattle.pj_ll.specs.declared.parser.End.TheVariants as outcome
-use Rattle.pj_ll.specs.Outcome.{IsEnd}
 use Rattle.pj_xtokens.specs.Size.{size}
 use Rattle.pj_xtokens.specs.Tokens.{Lexed, Tokens}
 use Rattle.pj_xtokens.specs.declared.token.End as token
 use Rattle.pj_xtokens.specs.declared.token.End.TheVariants as ends
-use Rattle.pj_xgrammar.specs.declared.rule.Rule.TheVariants as r
-use Rattle.pj_xderive.specs.Expressions.{IsOutcome, greatest_nesting}
-use Rattle.pj_xgrammar.specs.Terminals.{numbers}
-use Rattle.pj_xgrammar.specs.XPath.{xpath_grammar}
-use Rattle.pj_xnames.specs.Faults as named
-use Rattle.pj_xnames.specs.Faults.{Fault, first_fault}
-use Rattle.pj_xparse.specs.Operands.{Operand}
-use Rattle.pj_xparse.specs.Reach.{Reach, All, UpTo}
-use Rattle.pj_xparse.specs.Reads.{Reads}
+use Rattle.pj_xgrammar.specs.XPath.{greatest_nesting}
+use Rattle.pj_xderive.specs.Expressions.{IsOutcome}
+use Rattle.pj_xmeaning.specs.Operands.{Operand}
+use Rattle.pj_xmeaning.specs.SoFar.{SaySoFar}
+use Rattle.pj_xparse.specs.NameFaults as named
+use Rattle.pj_xparse.specs.NameFaults.{Fault, first_fault}
 use Rattle.pj_xparse.specs.declared.fault.XSyntax.{XSyntax}
 use Rattle.pj_xparse.specs.declared.fault.XSyntax.TheVariants.{Token, Expected, UnknownFunction, UnknownVariable, Outside, Deep}
 
@@ -51,27 +47,6 @@ syntax_fault ts end (outcome.TooDeep place) = Some (Deep (greatest_nesting + 1))
 abbrev pub named_first : Option Fault → Option XSyntax → Option XSyntax
 named_first (Some fault) later = Some (named_fault fault)
 named_first None later = later
-
--- ---- what the tokens say before their fault
-
--- the tokens that are left where a run over the terminals ends
-abbrev pub left_by : End → List Lexed → List Lexed
-left_by outcome.Whole tokens = []
-left_by (outcome.Stops place) tokens = drop place tokens
-left_by (outcome.LeftOut place) tokens = drop place tokens
-left_by (outcome.TooDeep place) tokens = drop place tokens
-
--- how far the tokens are read where a run ends so
-abbrev pub reach_of : End → List Lexed → Reach
-reach_of outcome.Whole tokens = All
-reach_of end tokens = UpTo (left_by end tokens)
-
--- The tokens say this as far as a run over their terminals goes: all of them, or, as the beginning of an expression, those before the first
--- terminal that cannot follow, is left out, or stands where too much is open.
-pub record SaySoFar (tokens : List Lexed) (said : Operand) : Type 0 where
-  pub run : End
-  pub ends : IsEnd xpath_grammar (numbers tokens) greatest_nesting run
-  pub reads : Reads (reach_of run tokens) r.Expr 0 tokens (left_by run tokens) said
 
 -- The first fault of the text, in characters, where the rule set gives these variables. What is named is what the tokens name before
 -- the place of their fault. The run may end one token before it (`$for $x`, `$y/`), which is then a word or a `/` that names no more than a

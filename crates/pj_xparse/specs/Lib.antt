@@ -1,9 +1,9 @@
 -- definitions
+pub mod NameFaults
 pub mod Spells
-pub mod Reads
-pub mod Reach
-pub mod Operands
 pub mod Faults
 -- laws
-pub mod Derived
 pub mod WellSpelled
+-- for private clauses
+pub mod Bound
+pub mod Seen

@@ -4,9 +4,9 @@ use Rattle.pj_xtokens.specs.Size.{size}
 use Rattle.pj_xtokens.specs.Tokens.{Lexed, Tokens}
 use Rattle.pj_xtokens.specs.declared.token.End.TheVariants as ends
 use Rattle.pj_xvalue.specs.Trees.{Tree}
-use Rattle.pj_xnames.specs.Faults.{first_fault}
-use Rattle.pj_xparse.specs.Operands.{Operand}
-use Rattle.pj_xparse.specs.Reads.{AreRead}
+use Rattle.pj_xparse.specs.NameFaults.{first_fault}
+use Rattle.pj_xmeaning.specs.Operands.{Operand}
+use Rattle.pj_xmeaning.specs.Reads.{AreRead}
 
 -- The text, in characters, spells the expression, where the rule set gives these variables: its tokens, up to its end, are read as the
 -- expression by the rules of the grammar, and nest no deeper than may be; every function and variable that they name is there, and each

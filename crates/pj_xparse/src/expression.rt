@@ -4,19 +4,18 @@ ghost use Rattle.std.specs.Prelude.{◌≡◌, ◌≢◌, IfOk, IfErr};
 ghost use Rattle.std.specs.Str.{chars};
 ghost use Rattle.pj_xvalue.specs.Expressions.{IsExpression};
 ghost use Rattle.pj_xvalue.specs.Trees.{tree_of};
-ghost use Rattle.pj_xnames.specs.Seen.{fault_of};
+ghost use Rattle.pj_xparse.specs.Seen.{fault_of};
 ghost use Rattle.pj_xparse.specs.Faults.{IsFault, named_fault};
 ghost use Rattle.pj_xparse.specs.Spells.{Spells};
 ghost use Rattle.pj_xparse.specs.declared.fault.XSyntax.TheVariants.{Memory};
 
 use crate::fault::XSyntax;
-use crate::laws::{derivations_are_readings, meanings_are_expressions, runs_say};
+use crate::laws::readings_are_expressions;
+use crate::named::{NameFault, first_fault};
 use crate::syntax::syntax_fault;
 use pj_base::{Names, NoMemory, Text};
 use pj_xderive::{Parser, derivation};
-use pj_xgrammar::beginnings;
-use pj_xmeaning::meaning;
-use pj_xnames::{NameFault, first_fault};
+use pj_xmeaning::reading;
 use pj_xtokens::{gaps_stand_in_front, tokens, tokens_are_not_empty};
 use pj_xvalue::Expr;
 use std::alloc::Global;
@@ -62,21 +61,16 @@ pub fn parse_with(
     let tokens = found.list.as_slice();
     gaps_stand_in_front();
     tokens_are_not_empty();
-    runs_say();
     let run = derivation(alloc, parser, tokens)?;
-    let productions = run.productions.as_slice();
-    let begun = beginnings(alloc, productions, tokens)?;
-    let steps = begun.as_slice();
-    if let Some(fault) = first_fault(alloc, steps, variables)? {
+    let read = reading(alloc, run.productions.as_slice(), tokens)?;
+    if let Some(fault) = first_fault(alloc, read.names, variables)? {
         return Err(named_fault(alloc, fault)?);
     }
     if let Some(fault) = syntax_fault(tokens, found.end, run.end) {
         return Err(fault);
     }
-    derivations_are_readings();
-    meanings_are_expressions();
-    let expr = meaning(alloc, steps)?;
-    Ok(expr)
+    readings_are_expressions();
+    Ok(read.expr)
 }
 
 /// The expression that the text spells, where the rule set gives these variables, or the text's first fault, as `parse_with` says it.

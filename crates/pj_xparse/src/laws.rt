@@ -1,34 +1,29 @@
-//! Laws of what texts spell and of their faults, of what tokens read, and of what derived expressions look like. The functions do
-//! nothing, and their contracts are the laws. A text is a list of characters.
+//! Laws of what texts spell and of their faults, of what tokens read, and of what the expressions look like that they read. The
+//! functions do nothing, and their contracts are the laws. A text is a list of characters.
 
 ghost use Rattle.std.specs.Prelude.{IsTrue, List, None, [], length, ℕ, ◌+◌, ◌≡◌, ◌≤◌, ◌⊎◌};
 ghost use Rattle.std.specs.Str.{all_scalars};
 ghost use Rattle.pj_xtokens.specs.Tokens.{Lexed, Tokens};
 ghost use Rattle.pj_xtokens.specs.declared.token.End.{End};
 ghost use Rattle.pj_xvalue.specs.Expressions.{IsExpression};
+ghost use Rattle.pj_xvalue.specs.Trees.{Tree, tree_of};
 ghost use Rattle.pj_xvalue.specs.declared.expr.Expr.{Expr};
 ghost use Rattle.pj_xderive.specs.Expressions.{AreClear, AreDerived, IsRun};
-ghost use Rattle.pj_xmeaning.specs.Meaning.{meaning};
-ghost use Rattle.pj_xmeaning.specs.Parts.{RuleValue, expression};
-ghost use Rattle.pj_xvalue.specs.Trees.{Tree, tree_of};
-ghost use Rattle.pj_xnames.specs.Faults.{first_fault};
-ghost use Rattle.pj_xnames.specs.Meaning.{mentions};
-ghost use Rattle.pj_xnames.specs.Namings.{Naming, mentions_of};
+ghost use Rattle.pj_xmeaning.specs.Operands.{Operand};
+ghost use Rattle.pj_xmeaning.specs.Reads.{AreRead};
+ghost use Rattle.pj_xmeaning.specs.SoFar.{SaySoFar};
 ghost use Rattle.pj_xshape.specs.Nesting.{nesting_of_tree};
 ghost use Rattle.pj_xshape.specs.Shapes.{part_of_tree};
 ghost use Rattle.pj_xshape.specs.Spelled.{IsSpelled};
-ghost use Rattle.pj_xparse.specs.Derived.{Derived};
-ghost use Rattle.pj_xparse.specs.Faults.{IsFault, SaySoFar};
-ghost use Rattle.pj_xparse.specs.Operands.{Operand};
-ghost use Rattle.pj_xparse.specs.Reach.{All};
-ghost use Rattle.pj_xparse.specs.Reads.{AreRead};
+ghost use Rattle.pj_xparse.specs.Faults.{IsFault};
+ghost use Rattle.pj_xparse.specs.NameFaults.{first_fault};
 ghost use Rattle.pj_xparse.specs.Spells.{Spells};
 ghost use Rattle.pj_xparse.specs.WellSpelled.{AreWellSpelled};
 ghost use Rattle.pj_xparse.specs.declared.fault.XSyntax.{XSyntax};
 
-use pj_ll::{derived_is_not_left_out, one_end};
-use pj_xderive::{grammar_is_predictive, one_derivation, one_outcome, one_run};
-use pj_xgrammar::{actions_fit_the_grammar, rules_have_their_numbers};
+use pj_ll::one_end;
+use pj_xderive::{grammar_is_predictive, one_outcome};
+use pj_xmeaning::readings_are_whole;
 use pj_xshape::{expressions_have_shapes, nesting_is_least};
 use pj_xtokens::{each_text_has_tokens, gaps_stand_in_front, tokens_are_one};
 
@@ -36,8 +31,7 @@ use pj_xtokens::{each_text_has_tokens, gaps_stand_in_front, tokens_are_one};
 pub fn one_expression()
     ensures { (variables : List (List ℕ)) (text : List ℕ) (a b : Tree) → Spells variables text a → Spells variables text b → a ≡ b }
 {
-    one_derivation();
-    readings_are_derivations();
+    one_reading();
     tokens_are_one();
 }
 
@@ -59,91 +53,67 @@ pub fn one_answer()
     ensures one_fault { (variables : List (List ℕ)) (text : List ℕ) (a b : XSyntax) → IsFault variables text a → IsFault variables text b → a ≡ b }
 {
     one_outcome();
-    one_run();
+    one_saying();
     readings_are_derivations();
-    sayings_are_runs();
     tokens_are_one();
 }
 
-/// What the tokens of a text read, rule by rule, is what their leftmost derivation means and names; it nests no deeper than it may.
+/// What the tokens of a text read, rule by rule, has a leftmost derivation, which nests no deeper than it may.
 pub fn readings_are_derivations()
-    ensures { (tokens : List Lexed) (a : Operand) → AreRead tokens a →
-        (productions : List ℕ) × AreDerived tokens productions × AreClear tokens (length tokens + 1) × (meaning productions tokens ≡ a.tree) × (mentions productions tokens ≡ a.names) }
+    ensures { (tokens : List Lexed) (a : Operand) → AreRead tokens a → (productions : List ℕ) × AreDerived tokens productions × AreClear tokens (length tokens + 1) }
 {
-    actions_fit_the_grammar();
-    rules_have_their_numbers();
-    trees_are_derivations();
-}
-
-/// What a leftmost derivation of tokens that nests no deeper than it may means and names is what they read.
-pub fn derivations_are_readings()
-    ensures { (tokens : List Lexed) (productions : List ℕ) → AreDerived tokens productions → AreClear tokens (length tokens + 1) →
-        (a : Operand) × AreRead tokens a × (meaning productions tokens ≡ a.tree) × (mentions productions tokens ≡ a.names) }
-{
-    actions_fit_the_grammar();
-    rules_have_their_numbers();
-}
-
-/// What tokens say as far as their terminals go, all of them or those before the first one that cannot follow, is left out or stands where too
-/// much is open, is what the productions name that derive them so far.
-pub fn runs_say()
-    ensures { (tokens : List Lexed) (productions : List ℕ) → IsRun tokens productions → (a : Operand) × SaySoFar tokens a × (mentions productions tokens ≡ a.names) }
-{
-    actions_fit_the_grammar();
-    rules_have_their_numbers();
-}
-
-/// What productions name that derive tokens as far as their terminals go is what the tokens say so far.
-pub fn sayings_are_runs()
-    ensures { (tokens : List Lexed) (a : Operand) → SaySoFar tokens a → (productions : List ℕ) × IsRun tokens productions × (mentions productions tokens ≡ a.names) }
-{
-    actions_fit_the_grammar();
-    rules_have_their_numbers();
-    trees_are_derivations();
-}
-
-/// Tokens read one expression at most, and name one list of things.
-pub fn one_reading()
-    ensures tree { (tokens : List Lexed) (a b : Operand) → AreRead tokens a → AreRead tokens b → a.tree ≡ b.tree }
-    ensures names { (tokens : List Lexed) (a b : Operand) → AreRead tokens a → AreRead tokens b → a.names ≡ b.names }
-{
-    actions_fit_the_grammar();
-    one_derivation();
-    rules_have_their_numbers();
-    trees_are_derivations();
-}
-
-/// A leftmost derivation of a text that nests no deeper than it may is one by rules, with the same meaning and the same names.
-pub fn derivations_are_trees()
-    ensures { (tokens : List Lexed) (productions : List ℕ) → AreDerived tokens productions → AreClear tokens (length tokens + 1) →
-        (v : RuleValue) × ((w : Naming) × Derived All 0 [] 0 tokens productions v w × (meaning productions tokens ≡ expression v) × (mentions productions tokens ≡ mentions_of w)) }
-{
-    actions_fit_the_grammar();
-}
-
-/// What the start derives, rule by rule, has a leftmost derivation, which nests no deeper than it may, and has the same meaning and the same
-/// names.
-pub fn trees_are_derivations()
-    ensures derived { (tokens : List Lexed) (productions : List ℕ) (v : RuleValue) (w : Naming) → Derived All 0 [] 0 tokens productions v w → AreDerived tokens productions }
-    ensures clear { (tokens : List Lexed) (productions : List ℕ) (v : RuleValue) (w : Naming) → Derived All 0 [] 0 tokens productions v w → AreClear tokens (length tokens + 1) }
-    ensures meaning { (tokens : List Lexed) (productions : List ℕ) (v : RuleValue) (w : Naming) → Derived All 0 [] 0 tokens productions v w → meaning productions tokens ≡ expression v }
-    ensures mentions { (tokens : List Lexed) (productions : List ℕ) (v : RuleValue) (w : Naming) → Derived All 0 [] 0 tokens productions v w → mentions productions tokens ≡ mentions_of w }
-{
-    actions_fit_the_grammar();
-    derived_is_not_left_out();
     grammar_is_predictive();
-    pj_ll::one_derivation();
+    readings_are_whole();
 }
 
-/// The expression of a text whose names have no fault is one that may be evaluated where the rule set gives these variables.
-pub fn derived_expressions_fit()
-    ensures fits { (tokens : List Lexed) (productions : List ℕ) (v : RuleValue) (w : Naming) (variables : List (List ℕ)) → Derived All 0 [] 0 tokens productions v w →
-        first_fault variables (mentions_of w) ≡ None → IsTrue ((part_of_tree (expression v)).fits (record { given = variables; bound = [] })) }
-    ensures nesting { (tokens : List Lexed) (productions : List ℕ) (v : RuleValue) (w : Naming) → Derived All 0 [] 0 tokens productions v w → nesting_of_tree (expression v) ≤ 200 }
-    ensures spelled { (tokens : List Lexed) (productions : List ℕ) (v : RuleValue) (w : Naming) → AreWellSpelled tokens → Derived All 0 [] 0 tokens productions v w → IsSpelled (expression v) }
+/// Tokens that have a leftmost derivation that nests no deeper than it may are read as something.
+pub fn derivations_are_readings()
+    ensures { (tokens : List Lexed) (productions : List ℕ) → AreDerived tokens productions → AreClear tokens (length tokens + 1) → (a : Operand) × AreRead tokens a }
 {
-    rules_have_their_numbers();
+    pj_xmeaning::runs_say();
 }
+
+/// Where productions derive tokens as far as their terminals go, all of them or those before the first one that cannot follow, is left out or
+/// stands where too much is open, the tokens say something so far.
+pub fn runs_say()
+    ensures { (tokens : List Lexed) (productions : List ℕ) → IsRun tokens productions → (a : Operand) × SaySoFar tokens a }
+{
+    pj_xmeaning::runs_say();
+}
+
+/// What tokens say as far as their terminals go is derived by productions so far.
+pub fn sayings_are_runs()
+    ensures { (tokens : List Lexed) (a : Operand) → SaySoFar tokens a → (productions : List ℕ) × IsRun tokens productions }
+{
+    pj_xmeaning::sayings_are_runs();
+}
+
+/// Tokens are read as one thing at most.
+pub fn one_reading()
+    ensures { (tokens : List Lexed) (a b : Operand) → AreRead tokens a → AreRead tokens b → a ≡ b }
+{
+    grammar_is_predictive();
+    pj_xmeaning::one_saying();
+    readings_are_whole();
+}
+
+/// As far as their terminals go tokens say one thing at most.
+pub fn one_saying()
+    ensures { (tokens : List Lexed) (a b : Operand) → SaySoFar tokens a → SaySoFar tokens b → a ≡ b }
+{
+    grammar_is_predictive();
+    one_end();
+    pj_xmeaning::one_saying();
+}
+
+/// An expression that is read, whose names have no fault, may be evaluated where the rule set gives these variables; each one nests no deeper
+/// than may be, and where its tokens are well spelled, so are its names and literals.
+pub fn read_expressions_fit()
+    ensures fits { (tokens : List Lexed) (a : Operand) (variables : List (List ℕ)) → AreRead tokens a → first_fault variables a.names ≡ None →
+        IsTrue ((part_of_tree a.tree).fits (record { given = variables; bound = [] })) }
+    ensures nesting { (tokens : List Lexed) (a : Operand) → AreRead tokens a → nesting_of_tree a.tree ≤ 200 }
+    ensures spelled { (tokens : List Lexed) (a : Operand) → AreWellSpelled tokens → AreRead tokens a → IsSpelled a.tree }
+{}
 
 /// The tokens of every text are well spelled.
 pub fn tokens_are_well_spelled()
@@ -152,13 +122,12 @@ pub fn tokens_are_well_spelled()
     gaps_stand_in_front();
 }
 
-/// What the tokens of a text mean, where they nest no deeper than they may and no name has a fault, is an expression.
-pub fn meanings_are_expressions()
-    ensures { (variables : List (List ℕ)) (tokens : List Lexed) (productions : List ℕ) (e : Expr) → AreDerived tokens productions → AreClear tokens (length tokens + 1) →
-        first_fault variables (mentions productions tokens) ≡ None → tree_of e ≡ meaning productions tokens → IsExpression variables e }
+/// What is read of tokens, where no name has a fault, is an expression.
+pub fn readings_are_expressions()
+    ensures { (variables : List (List ℕ)) (tokens : List Lexed) (a : Operand) (e : Expr) → AreRead tokens a → first_fault variables a.names ≡ None →
+        tree_of e ≡ a.tree → IsExpression variables e }
 {
-    derivations_are_trees();
-    derived_expressions_fit();
     expressions_have_shapes();
     nesting_is_least();
+    read_expressions_fit();
 }

@@ -1,24 +1,26 @@
 //! XPath: the expression that a text spells, or its first fault.
 //!
 //! `specs/Spells.antt` says which expression a text spells, and `specs/Faults.antt` what the first fault is of a text that spells
-//! none. `specs/Reads.antt` says rule by rule what tokens say. `parse_with` gives the one or the other; it calls the tokens, the
-//! derivation, the names and the meaning, and recurses nowhere.
-//! `parse` gives it of one text, and makes the parser for it.
+//! none; both go by what its tokens say rule by rule (`specs/Reads.antt` of `pj_xmeaning`), and of what these name
+//! `specs/NameFaults.antt` says what the first fault is. `parse_with` gives the one or the other; it calls the tokens, the
+//! derivation, its reading and the judging of names, and recurses nowhere. `parse` gives it of one text, and makes the parser for it.
 //!
-//! Laws tie what tokens say to leftmost derivations, by derivations rule by rule (`specs/Derived.antt`). Laws about expressions are
-//! proved by these.
+//! Laws tie what tokens say to leftmost derivations. Laws about expressions are proved of what tokens say.
 #![tactic(auto)]
 
+mod bound;
 mod expression;
 mod fault;
 mod laws;
+mod named;
 mod syntax;
+mod written;
 
 pub use expression::{parse, parse_with};
 pub use fault::XSyntax;
 pub use laws::{
-    derivations_are_readings, derivations_are_trees, derived_expressions_fit,
-    meanings_are_expressions, one_answer, one_expression, one_reading, readings_are_derivations,
-    runs_say, sayings_are_runs, some_answer, tokens_are_well_spelled, trees_are_derivations,
+    derivations_are_readings, one_answer, one_expression, one_reading, one_saying,
+    read_expressions_fit, readings_are_derivations, readings_are_expressions, runs_say,
+    sayings_are_runs, some_answer, tokens_are_well_spelled,
 };
 pub use pj_xderive::Parser;

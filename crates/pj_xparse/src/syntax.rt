@@ -1,7 +1,6 @@
 //! The fault of a text's tokens, and of what stands behind them.
 
 ghost use Rattle.std.specs.Prelude.{◌≡◌, map, slice_get};
-ghost use Rattle.std.specs.Option.{option_map};
 ghost use Rattle.pj_xtokens.specs.Answer.{lexed_of};
 ghost use Rattle.pj_xparse.specs.Faults.{fault_at, fault_of_end, fault_behind, syntax_fault};
 ghost use Rattle.pj_xparse.specs.declared.fault.XSyntax.TheVariants.{Expected, Outside};

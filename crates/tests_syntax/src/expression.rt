@@ -6,7 +6,7 @@ use crate::fault_rows::{
 };
 use crate::fixtures::{Table, expect};
 use crate::name_fault_rows::{
-    ARGUMENTS, BEGINNINGS, FUNCTIONS_1, FUNCTIONS_2, VARIABLES_1, VARIABLES_2,
+    ARGUMENTS, BEGINNINGS, FUNCTIONS_1, FUNCTIONS_2, VARIABLES_1, VARIABLES_2, WORDS,
 };
 use pj_base::{Names, NoMemory, Text};
 use pj_xparse::{XSyntax, parse};
@@ -172,11 +172,12 @@ fn faults(rt: HostRuntime) -> Result<(), Fail> {
 
 #[test]
 fn faults_of_names(rt: HostRuntime) -> Result<(), Fail> {
-    let tables: [Table; 6] = [
+    let tables: [Table; 7] = [
         &FUNCTIONS_1,
         &FUNCTIONS_2,
         &VARIABLES_1,
         &VARIABLES_2,
+        &WORDS,
         &ARGUMENTS,
         &BEGINNINGS,
     ];
@@ -184,14 +185,25 @@ fn faults_of_names(rt: HostRuntime) -> Result<(), Fail> {
 }
 
 /// Names in expressions, variables that are bound around their place, and arguments that are written as the functions want them.
-static TAKEN: [&str; 12] = [
+static TAKEN: [&str; 23] = [
+    "a",
     "$p",
+    "count(a)",
+    "fn:count(a)",
+    "pmd-java:typeIs('a')",
     "for $x in a, $y in $x return ($x, $y, $p)",
+    "for $x in a, $y in $x return $y + $x",
+    "for $x in a return ((for $x in $x return 1), $x)",
     "let $x := 1 return let $x := $x return $x",
     "some $x in a satisfies every $y in $x satisfies $x = $y",
     "matches('a', 'b')",
+    "matches('a', 1)",
+    "matches('a', $p)",
     "matches('a', $p, 'ims')",
+    "matches('a', 'b', '')",
+    "matches('a', 'b', 'imsi')",
     "tokenize($p, 1, '')",
+    "replace('a', 'b', 'c')",
     "replace('a', 'b', 'c''d', 'ii')",
     "let $x := 1 return matches($x, $p)",
     "concat('a', 'b', 'c', 'd')",

@@ -20,8 +20,6 @@ mod meaning_rows;
 #[cfg(test)]
 mod name_fault_rows;
 #[cfg(test)]
-mod names;
-#[cfg(test)]
 mod nesting;
 #[cfg(test)]
 mod printed;

@@ -9,8 +9,7 @@ use crate::printed::is_printed;
 use pj_base::NoMemory;
 use pj_ll::End;
 use pj_xderive::{Parser, derivation};
-use pj_xgrammar::beginnings;
-use pj_xmeaning::meaning;
+use pj_xmeaning::reading;
 use pj_xtokens::{Token, tokens};
 use std::alloc::Global;
 use std::test::Fail;
@@ -22,9 +21,8 @@ fn is_meaning(
     tokens: &[Token<'_>],
     wanted: &str,
 ) -> Result<bool, NoMemory> {
-    let steps = beginnings(alloc, productions, tokens)?;
-    let expr = meaning(alloc, steps.as_slice())?;
-    is_printed(alloc, &expr, wanted)
+    let read = reading(alloc, productions, tokens)?;
+    is_printed(alloc, &read.expr, wanted)
 }
 
 /// Whether the tokens have a derivation, and spell this.

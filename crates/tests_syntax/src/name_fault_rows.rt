@@ -1,7 +1,7 @@
 //! Texts that name what there is not, with their first fault.
 
 /// Functions that there are not, by their names and by the number of their arguments.
-pub static FUNCTIONS_1: [(&str, &str); 28] = [
+pub static FUNCTIONS_1: [(&str, &str); 29] = [
     ("f()", "Unknown f 0"),
     ("fn:f(1)", "Unknown fn:f 0"),
     ("pmd:f()", "Unknown pmd:f 0"),
@@ -12,6 +12,7 @@ pub static FUNCTIONS_1: [(&str, &str); 28] = [
     ("map(1)", "Unknown map 0"),
     ("array(1)", "Unknown array 0"),
     ("self()", "Unknown self 0"),
+    ("child(1)", "Unknown child 0"),
     ("or(1)", "Unknown or 0"),
     ("count()", "Unknown count 0"),
     ("count(a, b)", "Unknown count 0"),
@@ -34,8 +35,9 @@ pub static FUNCTIONS_1: [(&str, &str); 28] = [
 
 /// Functions at places inside, and before other faults. With how many arguments a call calls is known where it ends; that no function
 /// has its name at all is known before.
-pub static FUNCTIONS_2: [(&str, &str); 25] = [
+pub static FUNCTIONS_2: [(&str, &str); 27] = [
     ("a/f()", "Unknown f 2"),
+    ("$p/f($p)", "Unknown f 3"),
     ("1 + f(1)", "Unknown f 4"),
     ("count(f())", "Unknown f 6"),
     ("a[f()]", "Unknown f 2"),
@@ -47,6 +49,7 @@ pub static FUNCTIONS_2: [(&str, &str); 25] = [
     ("f($y)", "Unknown f 0"),
     ("f() + $y", "Unknown f 0"),
     ("f(1) +", "Unknown f 0"),
+    ("count(1, 2 +", "Expected(12)"),
     ("f(1) 2", "Unknown f 0"),
     ("f() &", "Unknown f 0"),
     ("f() eq 1", "Unknown f 0"),
@@ -63,7 +66,7 @@ pub static FUNCTIONS_2: [(&str, &str); 25] = [
 ];
 
 /// Variables that nothing binds, that are bound too late, or in another branch.
-pub static VARIABLES_1: [(&str, &str); 24] = [
+pub static VARIABLES_1: [(&str, &str); 25] = [
     ("$y", "No y"),
     ("a[$y]", "No y"),
     ("$y + f()", "No y"),
@@ -82,6 +85,7 @@ pub static VARIABLES_1: [(&str, &str); 24] = [
     ("(for $x in a return 1) + $x", "No x"),
     ("(some $x in a satisfies 1), $x", "No x"),
     ("for $x in a return $x, $x", "No x"),
+    ("for $x in a return (for $x in $x return 1), $x", "No x"),
     ("$x, (let $x := 1 return $x)", "No x"),
     ("a[let $x := 1 return $x]/$x", "No x"),
     ("if (let $x := 1 return $x) then $x else 1", "No x"),
@@ -97,7 +101,7 @@ pub static VARIABLES_1: [(&str, &str); 24] = [
 ];
 
 /// Variables before other faults, and behind them.
-pub static VARIABLES_2: [(&str, &str); 18] = [
+pub static VARIABLES_2: [(&str, &str); 14] = [
     ("$y +", "No y"),
     ("$y &", "No y"),
     ("$y eq 1", "No y"),
@@ -105,10 +109,6 @@ pub static VARIABLES_2: [(&str, &str); 18] = [
     ("count($y", "No y"),
     ("($y", "No y"),
     ("f($y", "Unknown f 0"),
-    ("$for $x", "No for"),
-    ("$if (1)", "No if"),
-    ("$instance of T", "No instance"),
-    ("for $for $x", "Expected(9)"),
     ("$y = 1 = 2", "No y"),
     ("for $x in $y", "No y"),
     ("for $x in a, $y in $z", "No z"),
@@ -118,8 +118,22 @@ pub static VARIABLES_2: [(&str, &str); 18] = [
     ("a eq $y", "Outside(2)"),
 ];
 
+/// A word that is read as the beginning of another construct is the name of a variable behind a `$`.
+pub static WORDS: [(&str, &str); 10] = [
+    ("$for", "No for"),
+    ("$for $x", "No for"),
+    ("$if (1)", "No if"),
+    ("$map {", "No map"),
+    ("$instance of T", "No instance"),
+    ("$treat as T", "No treat"),
+    ("'\u{e9}' = $for $x", "No for"),
+    ("for $for $x", "Expected(9)"),
+    ("$p $x", "Expected(3)"),
+    ("$ 1", "Expected(2)"),
+];
+
 /// Patterns, flags and replacements that are not written as the functions want them. An argument is judged once a `,` or the `)` stands behind it.
-pub static ARGUMENTS: [(&str, &str); 36] = [
+pub static ARGUMENTS: [(&str, &str); 38] = [
     ("matches('a', a)", "Expected(13)"),
     ("matches('a', .)", "Expected(13)"),
     ("matches('a', ('b'))", "Expected(13)"),
@@ -149,7 +163,9 @@ pub static ARGUMENTS: [(&str, &str); 36] = [
     ("matches('a', a, $y)", "Expected(13)"),
     ("matches('a', a) &", "Expected(13)"),
     ("matches('a', b, 'c'", "Expected(13)"),
+    ("matches('a', b", "Expected(14)"),
     ("matches('a', b,", "Expected(13)"),
+    ("matches('a', b, 1.5)", "Expected(13)"),
     ("matches('a', b 1.5)", "Outside(15)"),
     ("matches('a', b, &", "Expected(13)"),
     ("matches($y, b, 1.5)", "No y"),

@@ -1,6 +1,6 @@
 use Rattle.std.proofs.Common.{◌≡◌}
 use Rattle.pj_ll.specs.Leads.{Derives}
-use Rattle.pj_xderive.specs.Predictive.{of_xpath}
+use Rattle.pj_xgrammar.specs.Predictive.{of_xpath}
 use Rattle.pj_xgrammar.specs.Terminals.{numbers}
 use Rattle.pj_xderive.proofs.laws.one_derivation.Goals as goal
 

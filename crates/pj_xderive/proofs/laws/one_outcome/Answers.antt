@@ -1,6 +1,6 @@
 use Rattle.pj_ll.specs.Outcome.{IsEnd}
 use Rattle.pj_ll.specs.declared.parser.End.{End}
-use Rattle.pj_xderive.specs.Predictive.{of_xpath}
+use Rattle.pj_xgrammar.specs.Predictive.{of_xpath}
 use Rattle.pj_xderive.proofs.OneOutcome as lemma
 use Rattle.pj_xderive.proofs.laws.one_outcome.Goals as goal
 

@@ -1,6 +1,6 @@
 use Rattle.std.proofs.Common.{◌≡◌}
 use Rattle.pj_ll.specs.Leads.{Behind, Derives}
-use Rattle.pj_xderive.specs.Predictive.{of_xpath}
+use Rattle.pj_xgrammar.specs.Predictive.{of_xpath}
 use Rattle.pj_xgrammar.specs.XPath.{xpath_grammar}
 use Rattle.pj_xderive.proofs.OneRun as lemma
 use Rattle.pj_xderive.proofs.laws.one_run.Goals as goal

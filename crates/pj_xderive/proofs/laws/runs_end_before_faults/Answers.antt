@@ -1,6 +1,6 @@
 use Rattle.pj_ll.specs.Outcome.{IsEnd}
 use Rattle.pj_ll.specs.declared.parser.End.{End}
-use Rattle.pj_xderive.specs.Predictive.{of_xpath}
+use Rattle.pj_xgrammar.specs.Predictive.{of_xpath}
 use Rattle.pj_xderive.proofs.RunsFirst.{run_first}
 use Rattle.pj_xderive.proofs.laws.runs_end_before_faults.Goals as goal
 

@@ -1,11 +1,11 @@
-use Rattle.std.proofs.Common.{◌∙◌, ap, map}
-use Rattle.pj_xvalue.specs.Trees.{tree_of}
-use Rattle.pj_xmeaning.specs.Steps.{along}
-use Rattle.pj_xmeaning.proofs.TreeForms.{tree_of_step, tree_of_attribute_step}
+use Rattle.std.proofs.Common.{◌∙◌, ap}
+use Rattle.pj_xvalue.specs.Trees.{Step, node}
+use Rattle.pj_xmeaning.proofs.StepForms.{other_alike}
+use Rattle.pj_xmeaning.proofs.TreeForms.{tree_of_step}
 use Rattle.pj_xmeaning.proofs.step.along.Goals as goal
 
-pub returns-in-Some : goal.returns-in-Some
-returns-in-Some c = tree_of_step c.in-Some.axis c.args.test c.args.predicates ∙ ap (λ o. along o c.args.test (map tree_of c.args.predicates.items)) c.in-Some.ensures
-
-pub returns-in-None : goal.returns-in-None
-returns-in-None c = tree_of_attribute_step c.args.test c.args.predicates ∙ ap (λ o. along o c.args.test (map tree_of c.args.predicates.items)) c.in-None.ensures
+pub returns : goal.returns
+returns c =
+    let predicates = c.in_ok-predicates.predicates in
+    let trees = tree_of_step c.args.axis c.args.test predicates ∙ ap (node (Step c.args.axis c.args.test)) c.in_ok-predicates.ensures.exprs in
+    c.other.ensures ∙ other_alike _ _ _ _ trees c.in_ok-predicates.ensures.names

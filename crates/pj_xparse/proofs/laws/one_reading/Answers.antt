@@ -1,10 +1,7 @@
-use Rattle.pj_xparse.proofs.Whole.{one_reading}
+use Rattle.pj_ll.specs.declared.parser.End.TheVariants.{Whole}
 use Rattle.pj_xparse.proofs.laws.one_reading.Goals as goal
 
-pub returns-clause-tree : goal.returns-clause-tree
-returns-clause-tree c = λ tokens a b h k.
-    (one_reading c.actions_fit_the_grammar.ensures c.rules_have_their_numbers.ensures.rules c.trees_are_derivations.ensures.clear c.one_derivation.ensures tokens a b h k).0
-
-pub returns-clause-names : goal.returns-clause-names
-returns-clause-names c = λ tokens a b h k.
-    (one_reading c.actions_fit_the_grammar.ensures c.rules_have_their_numbers.ensures.rules c.trees_are_derivations.ensures.clear c.one_derivation.ensures tokens a b h k).1
+pub returns : goal.returns
+returns c = λ tokens a b first second.
+    let predictive = c.grammar_is_predictive.ensures in
+    c.one_saying.ensures Whole tokens a b predictive (c.readings_are_whole.ensures tokens a predictive first) first second

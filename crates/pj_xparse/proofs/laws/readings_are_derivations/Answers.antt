@@ -1,7 +1,5 @@
-use Rattle.pj_xparse.proofs.Whole.{read_derives}
+use Rattle.pj_xparse.proofs.Runs.{whole_derivation}
 use Rattle.pj_xparse.proofs.laws.readings_are_derivations.Goals as goal
 
 pub returns : goal.returns
-returns c = λ tokens a h.
-    let d = read_derives c.actions_fit_the_grammar.ensures c.rules_have_their_numbers.ensures.rules c.trees_are_derivations.ensures.clear tokens a h in
-    (d.productions, d.derived, d.clear, d.means, d.names)
+returns c = λ tokens a read. whole_derivation tokens (c.readings_are_whole.ensures tokens a c.grammar_is_predictive.ensures read)

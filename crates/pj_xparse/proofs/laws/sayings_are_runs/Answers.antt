@@ -1,5 +1,6 @@
-use Rattle.pj_xparse.proofs.Running.{sayings_are_runs}
 use Rattle.pj_xparse.proofs.laws.sayings_are_runs.Goals as goal
 
 pub returns : goal.returns
-returns c = sayings_are_runs c.actions_fit_the_grammar.ensures c.rules_have_their_numbers.ensures.rules c.trees_are_derivations.ensures.clear
+returns c = λ tokens a say.
+    let (productions, leads) = c.sayings_are_runs.ensures say.run tokens a say.ends say.reads in
+    (productions, record { end = say.run; ends = say.ends; leads = leads })

@@ -1,8 +1,0 @@
-use Rattle.std.proofs.Common.{◌∙◌, ap}
-use Rattle.std.specs.Prelude.{nat_lt}
-use Rattle.pj_xnames.specs.Bound.{names_in}
-use Rattle.pj_xnames.proofs.Counts.{found}
-use Rattle.pj_xnames.proofs.bound.BoundNames.contains.Goals as goal
-
-pub returns : goal.returns
-returns c = ap (nat_lt 0) (c.count.ensures ∙ c.requires c.args.name.now) ∙ found c.args.name.now (names_in c.args.self.now.names.items)

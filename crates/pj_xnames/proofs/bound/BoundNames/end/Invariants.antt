@@ -1,6 +1,0 @@
-use Rattle.std.proofs.Common.{◌≡◌, drop}
-use Rattle.pj_xnames.specs.Bound.{names_of, IsCounted}
-use Rattle.pj_xnames.proofs.bound.BoundNames.end.Given as goal
-
-abbrev pub invariant-ended : goal.invariant-ended
-invariant-ended l = record { names : names_of l.self ≡ drop l._ended (names_of l.initial.self); counts : IsCounted l.self }
