@@ -6,10 +6,6 @@ use Rattle.pj_xtokens.specs.Tokens.{Lexed, lexed}
 use Rattle.pj_xsyntax_laws.specs.Spaced.{Word, spaced, placed, AreSpelled, written, doubled}
 use Rattle.pj_xsyntax_laws.proofs.Placing.{size-word}
 
-pub spaced-append : (vs ws : List Word) → spaced (vs ++ ws) ≡ spaced vs ++ spaced ws
-spaced-append [] ws = refl
-spaced-append (v ∷ vs) ws = ap (λ (x : List ℕ). v.text ++ 32 ∷ x) (spaced-append vs ws) ∙ sym (append_assoc v.text (32 ∷ spaced vs) (spaced ws))
-
 pub AreSpelled-append : (vs ws : List Word) → AreSpelled vs → AreSpelled ws → AreSpelled (vs ++ ws)
 AreSpelled-append [] ws f g = g
 AreSpelled-append (v ∷ vs) ws f g = (f.0, AreSpelled-append vs ws f.1 g)

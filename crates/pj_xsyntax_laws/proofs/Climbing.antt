@@ -1,81 +1,44 @@
 -- What is read as an operand of a level is read as one of each lower level.
-use Rattle.std.proofs.Common.{◌≡◌, ℕ, zero, suc, ◌+◌, List, [], ◌∷◌, ◌++◌, Bool, refl, sym, subst, arith}
-use Rattle.std.proofs.lemmas.List.{append-nil}
-use Rattle.pj_ll.specs.declared.grammar.Symbol.TheVariants.{Rule}
+use Rattle.std.proofs.Common.{◌≡◌, ℕ, zero, suc, ◌+◌, ◌-◌, ◌≤◌, List, [], ◌∷◌, ◌++◌, Bool, None, subst, arith}
+use Rattle.pj_xtokens.specs.Tokens.{Lexed}
 use Rattle.pj_xsyntax_laws.specs.Spaced.{Word, placed}
 use Rattle.pj_xvalue.specs.Expressions.{Scope, Written}
 use Rattle.pj_xvalue.specs.Trees.{Tree}
-use Rattle.pj_xmeaning.specs.Parts.{Nothing, One}
-use Rattle.pj_xmeaning.specs.Values.{operation_value}
-use Rattle.pj_xgrammar.specs.declared.action.Action.TheVariants as action
-use Rattle.pj_xgrammar.specs.declared.action.Leaf.TheVariants as leaf
-use Rattle.pj_xgrammar.specs.declared.action.Change.TheVariants as change
-use Rattle.pj_xgrammar.specs.declared.action.Operation.{Operation}
-use Rattle.pj_xnames.specs.Namings as naming
-use Rattle.pj_xtokens.specs.First.{first_from}
-use Rattle.pj_xsyntax_laws.proofs.Productions as p
-use Rattle.pj_xsyntax_laws.proofs.Productions.{Production}
-use Rattle.pj_xsyntax_laws.proofs.Deriving.{Ruled, ruled, f-none, f-rule}
-use Rattle.pj_xsyntax_laws.proofs.Mentions.{clean-nil, clean-append}
-use Rattle.pj_xsyntax_laws.proofs.Readings.{operand_at, ReadsAt, rule_of}
+use Rattle.pj_xmeaning.specs.Operands.{Operand}
+use Rattle.pj_xmeaning.specs.Reads as x
+use Rattle.pj_xsyntax_laws.proofs.Readings.{ReadsAt, at, operand_of}
+use Rattle.pj_xsyntax_laws.proofs.WholeReadings.{reading}
 
-module _ {flag : Bool} {ws : List Word} {bound : ℕ} {scope : Scope} {written : Written} {t : Tree} where
-  -- a rule of operands with operators between them, where there are none
-  ladder : {p q head sub tail : ℕ} {operation : Operation} → Production p head (Rule sub ∷ Rule tail ∷ []) (action.Operation operation) → Production q tail [] (action.Leaf leaf.Nothing)
-      → operation_value operation (One t) Nothing ≡ t → ReadsAt flag sub ws bound scope written t → ReadsAt flag head ws bound scope written t
-  ladder {head = head} head_line end_line same r = record {
-    reads = λ around from behind h f.
-        let sub = r.reads (around + 0) from behind (omega (arith, h)) f in
-        let operand = operand_at (first_from (placed from ws ++ behind)) sub.operand.written sub.operand.mentions in
-        record {
-          operand = operand;
-          derived = subst (λ (x : Tree). Ruled around behind head from ws (One x) (naming.One operand)) same
-              (ruled head_line (f-rule sub.derived (f-rule (ruled end_line f-none) f-none refl) (sym (append-nil ws))));
-          names = record { written_is = sub.names.written_is; clean = sub.names.clean };
-        };
-  }
+-- the next lower level: a rule that another one spells, or one of operands with operators between them, of which there are none
+step : (level depth : ℕ) (xs ys : List Lexed) (a : Operand) → at (suc level) depth xs ys a → at level depth xs ys a
+step zero depth xs ys a r = reading (x.expr {more = []} r (reading x.expr_end))
+step (suc zero) depth xs ys a r = reading (x.single_or r)
+step (suc (suc zero)) depth xs ys a r = reading (x.or_expr {more = []} r (reading x.or_end))
+step (suc (suc (suc zero))) depth xs ys a r = reading (x.and_expr {more = []} r (reading x.and_end))
+step (suc (suc (suc (suc zero)))) depth xs ys a r = reading (x.comparison_expr {second = None} r (reading x.not_compared))
+step (suc (suc (suc (suc (suc zero))))) depth xs ys a r = reading (x.concatenation_expr {more = []} r (reading x.concatenation_end))
+step (suc (suc (suc (suc (suc (suc zero)))))) depth xs ys a r = reading (x.range_expr {last = None} r (reading x.no_range))
+step (suc (suc (suc (suc (suc (suc (suc zero))))))) depth xs ys a r = reading (x.additive_expr {more = []} r (reading x.additive_end))
+step (suc (suc (suc (suc (suc (suc (suc (suc zero)))))))) depth xs ys a r = reading (x.multiplicative_expr {more = []} r (reading x.multiplicative_end))
+step (suc (suc (suc (suc (suc (suc (suc (suc (suc zero))))))))) depth xs ys a r = reading (x.union_expr {more = []} r (reading x.union_end))
+step (suc (suc (suc (suc (suc (suc (suc (suc (suc (suc zero)))))))))) depth xs ys a r = reading (x.set_expr {more = []} r (reading x.set_end))
+step (suc (suc (suc (suc (suc (suc (suc (suc (suc (suc (suc zero))))))))))) depth xs ys a r = reading (x.no_sign r)
+step (suc (suc (suc (suc (suc (suc (suc (suc (suc (suc (suc (suc zero)))))))))))) depth xs ys a r = reading (x.map_expr {more = []} r (reading x.map_end))
+step (suc (suc (suc (suc (suc (suc (suc (suc (suc (suc (suc (suc (suc zero))))))))))))) depth xs ys a r = reading (x.operand r (reading x.no_left_out))
+step (suc (suc (suc (suc (suc (suc (suc (suc (suc (suc (suc (suc (suc (suc zero)))))))))))))) depth xs ys a r = reading (x.relative {steps = a ∷ []} (reading (x.path_steps r (reading x.steps_end))))
+step (suc (suc (suc (suc (suc (suc (suc (suc (suc (suc (suc (suc (suc (suc (suc more))))))))))))))) depth xs ys a r = r
 
-  -- a rule that another one spells
-  only : {p head sub : ℕ} → Production p head (Rule sub ∷ []) (action.Change change.Same) → ReadsAt flag sub ws bound scope written t → ReadsAt flag head ws bound scope written t
-  only head_line r = record {
-    reads = λ around from behind h f.
-        let sub = r.reads (around + 0) from behind (omega (arith, h)) f in
-        record { operand = sub.operand; derived = ruled head_line (f-rule sub.derived f-none (sym (append-nil ws))); names = sub.names };
-  }
+-- each lower level
+climb : (up level depth : ℕ) (xs ys : List Lexed) (a : Operand) → at (up + level) depth xs ys a → at level depth xs ys a
+climb zero level depth xs ys a r = subst (λ n. at n depth xs ys a) (let e : zero + level ≡ level = omega arith in e) r
+climb (suc up) level depth xs ys a r =
+    climb up level depth xs ys a (step (up + level) depth xs ys a (subst (λ n. at n depth xs ys a) (let e : suc up + level ≡ suc (up + level) = omega arith in e) r))
 
-  -- one step is a path
-  one_step : ReadsAt flag 40 ws bound scope written t → ReadsAt flag 37 ws bound scope written t
-  one_step r = record {
-    reads = λ around from behind h f.
-        let sub = r.reads (around + 0 + 0) from behind (omega (arith, h)) f in
-        let steps = ruled p.steps_head (f-rule sub.derived (f-rule (ruled p.steps_end f-none) f-none refl) (sym (append-nil ws))) in
-        record {
-          operand = operand_at (first_from (placed from ws ++ behind)) sub.operand.written (sub.operand.mentions ++ []);
-          derived = ruled p.relative_path (f-rule steps f-none (sym (append-nil ws)));
-          names = record { written_is = sub.names.written_is; clean = clean-append scope sub.operand.mentions [] sub.names.clean (clean-nil scope) };
-        };
-  }
-
-  -- the next lower level
-  step : (level : ℕ) → ReadsAt flag (rule_of (suc level)) ws bound scope written t → ReadsAt flag (rule_of level) ws bound scope written t
-  step zero r = ladder p.expr p.expr_end refl r
-  step (suc zero) r = only p.or_single r
-  step (suc (suc zero)) r = ladder p.or_head p.or_head_end refl r
-  step (suc (suc (suc zero))) r = ladder p.and_head p.and_head_end refl r
-  step (suc (suc (suc (suc zero)))) r = ladder p.comparison_head p.comparison_head_end refl r
-  step (suc (suc (suc (suc (suc zero))))) r = ladder p.concatenation_head p.concatenation_head_end refl r
-  step (suc (suc (suc (suc (suc (suc zero)))))) r = ladder p.range_head p.range_head_end refl r
-  step (suc (suc (suc (suc (suc (suc (suc zero))))))) r = ladder p.sum_head p.sum_head_end refl r
-  step (suc (suc (suc (suc (suc (suc (suc (suc zero)))))))) r = ladder p.product_head p.product_head_end refl r
-  step (suc (suc (suc (suc (suc (suc (suc (suc (suc zero))))))))) r = ladder p.union_head p.union_head_end refl r
-  step (suc (suc (suc (suc (suc (suc (suc (suc (suc (suc zero)))))))))) r = ladder p.sets_head p.sets_head_end refl r
-  step (suc (suc (suc (suc (suc (suc (suc (suc (suc (suc (suc zero))))))))))) r = only p.map_unary r
-  step (suc (suc (suc (suc (suc (suc (suc (suc (suc (suc (suc (suc zero)))))))))))) r = ladder p.map_head p.map_head_end refl r
-  step (suc (suc (suc (suc (suc (suc (suc (suc (suc (suc (suc (suc (suc zero))))))))))))) r = ladder p.operand_head p.operand_end refl r
-  step (suc (suc (suc (suc (suc (suc (suc (suc (suc (suc (suc (suc (suc (suc zero)))))))))))))) r = one_step r
-  step (suc (suc (suc (suc (suc (suc (suc (suc (suc (suc (suc (suc (suc (suc (suc more))))))))))))))) r = r
-
-  -- each lower level
-  pub climb : (up level : ℕ) → ReadsAt flag (rule_of (up + level)) ws bound scope written t → ReadsAt flag (rule_of level) ws bound scope written t
-  climb zero level r = subst (λ n. ReadsAt flag (rule_of n) ws bound scope written t) (let e : zero + level ≡ level = omega arith in e) r
-  climb (suc up) level r = climb up level (step (up + level) (subst (λ n. ReadsAt flag (rule_of n) ws bound scope written t) (let e : suc up + level ≡ suc (up + level) = omega arith in e) r))
+-- from a level to a lower one
+pub descend : {flag : Bool} {ws : List Word} {bound : ℕ} {scope : Scope} {written : Written} {t : Tree} (high low : ℕ) → low ≤ high → ReadsAt flag high ws bound scope written t → ReadsAt flag low ws bound scope written t
+descend {flag} {ws} {bound} {scope} {written} {t} high low h r = record {
+  reads = λ depth from ys few quiet.
+      let same : high ≡ (high - low) + low = omega (arith, h) in
+      let it = (subst (λ n. ReadsAt flag n ws bound scope written t) same r).reads depth from ys few quiet in
+      record { names = it.names; reads = climb (high - low) low depth (placed from ws ++ ys) ys (operand_of t written it.names) it.reads; clean = it.clean };
+}

@@ -7,7 +7,7 @@ use Rattle.pj_xvalue.specs.Trees.{Trees, Construct, Node}
 use Rattle.pj_xshape.specs.Shapes.{level_by, written_by, part_of_tree}
 use Rattle.pj_xshape.specs.Nesting.{nested_of, nested_each, nested_by}
 use Rattle.pj_xsyntax_laws.specs.Printed.{printed_of, printed_each, words_by}
-use Rattle.pj_xsyntax_laws.proofs.Readings.{ReadsAt, Reads, rule_of}
+use Rattle.pj_xsyntax_laws.proofs.Readings.{ReadsAt, Reads}
 
 both : (level : ℕ) → nat_le 15 level ≡ false → nat_le 16 level ≡ true → ⊥
 both level e h = let a = leb-false 15 level e in let b = leb-true 16 level h in omega (arith, a, b)
@@ -16,7 +16,7 @@ clash : (level : ℕ) → nat_le 15 level ≡ false → nat_le 15 level ≡ true
 clash level e h = let a = leb-false 15 level e in let b = leb-true 15 level h in omega (arith, a, b)
 
 pub low_reads : (scope : Scope) (c : Construct) (ts : Trees) → nat_le 15 (level_by c (length (printed_each ts))) ≡ false
-    → ((flag : Bool) → ReadsAt flag (rule_of (level_by c (length (printed_each ts)))) (words_by c (printed_each ts) flag) (nested_by c (nested_each ts) flag) scope (written_by c) (Node c ts))
+    → ((flag : Bool) → ReadsAt flag (level_by c (length (printed_each ts))) (words_by c (printed_each ts) flag) (nested_by c (nested_each ts) flag) scope (written_by c) (Node c ts))
     → Reads scope (Node c ts)
 unfolding printed_of nested_of part_of_tree
 low_reads scope c ts low r = record {

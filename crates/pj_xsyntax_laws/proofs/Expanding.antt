@@ -20,18 +20,17 @@ use Rattle.pj_xgrammar.specs.declared.rule.Rule.{Rule}
 use Rattle.pj_xgrammar.specs.declared.rule.Rule.TheVariants as r
 use Rattle.pj_xgrammar.specs.declared.terminal.Behind.TheVariants as b
 use Rattle.pj_xgrammar.specs.declared.terminal.Terminal.TheVariants as terminal
-use Rattle.pj_xderive.specs.Expressions.{greatest_nesting}
 use Rattle.pj_xgrammar.specs.Notation.{t}
 use Rattle.pj_xgrammar.specs.Terminals.{first_behind, begins_step, terminal_number}
-use Rattle.pj_xgrammar.specs.XPath.{xpath}
+use Rattle.pj_xgrammar.specs.XPath.{greatest_nesting, xpath}
 use Rattle.pj_xtokens.specs.First.{first_text}
 use Rattle.pj_xvalue.specs.Names.{axis_of}
 use Rattle.pj_xvalue.specs.Trees as tree
 use Rattle.pj_xvalue.specs.Trees.{Tree, alone}
-use Rattle.pj_xnames.specs.Faults.{first_fault}
-use Rattle.pj_xparse.specs.Operands.{Operand, Value, Test, other, rooted, descendants, step, attribute_step, kind_test}
-use Rattle.pj_xparse.specs.Reach.{All}
-use Rattle.pj_xparse.specs.Reads.{Takes, token, cut, IsAmong, Reads, Produces, AreRead, by, expr, expr_more, expr_end, for_expr, let_expr, some_expr, every_expr, if_expr, single_or, in_binding, in_more, in_end, let_binding, let_more, let_end, in_clause, assign_clause, return_clause, satisfies_clause, test_clause, then_clause, else_clause, or_expr, or_more, or_end, and_expr, and_more, and_end, comparison_expr, equal, not_equal, less, less_or_equal, greater, greater_or_equal, not_compared, concatenation_expr, concatenation_more, concatenation_end, range_expr, up_to, up_to_cut, no_range, additive_expr, plus, minus, additive_end, multiplicative_expr, times, integer_divide, modulo, multiplicative_end, union_expr, union_more, bar_more, union_end, set_expr, intersect, except, set_end, negative, positive, no_sign, map_expr, map_more, map_end, operand, no_left_out, root, from_root, from_descendants, relative, path_steps, next_step, next_descendants, steps_end, context_item, primary, parent, attribute, axis_name, any_name, node_name, element_name, plain_step, axis_test, axis_call, axis_predicates, name_call, name_predicates, name_test, axis_name_test, any_name_test, node_test, element_test, kind_parentheses, no_parentheses, predicate, no_predicate, integer_expr, string_expr, variable_expr, variable_cut, parenthesized, inside, empty, some_arguments, no_arguments, more_arguments, arguments_end, variable_name, axis_variable, node_variable, element_variable, plain_name}
+use Rattle.pj_xparse.specs.NameFaults.{first_fault}
+use Rattle.pj_xmeaning.specs.Operands.{Operand, Value, Test, other, rooted, descendants, step, attribute_step, kind_test}
+use Rattle.pj_xmeaning.specs.Reach.{All}
+use Rattle.pj_xmeaning.specs.Reads.{Takes, token, cut, IsAmong, Reads, Produces, AreRead, by, expr, expr_more, expr_end, for_expr, let_expr, some_expr, every_expr, if_expr, single_or, in_binding, in_more, in_end, let_binding, let_more, let_end, in_clause, assign_clause, return_clause, satisfies_clause, test_clause, then_clause, else_clause, or_expr, or_more, or_end, and_expr, and_more, and_end, comparison_expr, equal, not_equal, less, less_or_equal, greater, greater_or_equal, not_compared, concatenation_expr, concatenation_more, concatenation_end, range_expr, up_to, up_to_cut, no_range, additive_expr, plus, minus, additive_end, multiplicative_expr, times, integer_divide, modulo, multiplicative_end, union_expr, union_more, bar_more, union_end, set_expr, intersect, except, set_end, negative, positive, no_sign, map_expr, map_more, map_end, operand, no_left_out, root, from_root, from_descendants, relative, path_steps, next_step, next_descendants, steps_end, context_item, primary, parent, attribute, axis_name, any_name, node_name, element_name, plain_step, axis_test, axis_call, axis_predicates, name_call, name_predicates, name_test, axis_name_test, any_name_test, node_test, element_test, kind_parentheses, no_parentheses, predicate, no_predicate, integer_expr, string_expr, variable_expr, variable_cut, parenthesized, inside, empty, some_arguments, no_arguments, more_arguments, arguments_end, variable_name, axis_variable, node_variable, element_variable, plain_name}
 use Rattle.pj_xparse.specs.Spells.{Spells}
 use Rattle.pj_xsyntax_laws.specs.Abbreviations.{sign, word, WrittenOut, done}
 use Rattle.pj_xsyntax_laws.proofs.Looks.{HasRoom, flat, one_more, deeper, on, stays, Slashes, slashes_kept, as_steps, on_slashes, At, at_kept, as_axis, on_at, Dots, dots_kept, as_parent, on_dots, Bar, bar_kept, as_union, on_bar, on_string, LooksEnd, at_end, before_parenthesis, begins, takes_begin, AreEach, among_is}

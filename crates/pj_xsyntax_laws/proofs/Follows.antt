@@ -1,7 +1,7 @@
 -- What may stand behind an expression, so that its last word is read as it stands alone.
 use Rattle.std.proofs.Common.{◌≡◌, Bool, true, false, not, ◌&&◌, ◌||◌, refl}
 use Rattle.std.specs.Prelude.{IsTrue}
-use Rattle.std.proofs.lemmas.Bool.{and_parts, and_from, false≢true}
+use Rattle.std.proofs.lemmas.Bool.{and_parts, false≢true}
 use Rattle.pj_xgrammar.specs.declared.terminal.Behind.{Behind}
 use Rattle.pj_xgrammar.specs.declared.word.Phrase.{Phrase}
 use Rattle.pj_xgrammar.specs.declared.word.Phrase.TheVariants as p
@@ -24,10 +24,6 @@ not-false false h = refl
 
 pub follows-step : (behind : Behind) → IsTrue (follows false behind) → begins_step behind ≡ false
 follows-step behind h = not-false (begins_step behind) (and_parts (no_phrase behind) (not (begins_step behind)) h).1
-
--- what makes no phrase may stand before words and `*`
-pub follows-true : (behind : Behind) → IsTrue (no_phrase behind) → IsTrue (follows true behind)
-follows-true behind h = and_from (no_phrase behind) true h refl
 
 five : (a b c d e : Bool) → IsTrue (not a && (not b && (not c && (not d && not e)))) → (a ≡ false) × (b ≡ false) × (c ≡ false) × (d ≡ false) × (e ≡ false)
 five true b c d e h = absurd (false≢true h)

@@ -23,10 +23,6 @@ pub nested-level : (t : Tree) → (printed_of t).level ≡ (nested_of t).level
 unfolding printed_of nested_of
 nested-level (Node c ts) = ap (level_by c) (printed-length ts)
 
-pub part-level : (t : Tree) → (printed_of t).level ≡ (part_of_tree t).level
-unfolding printed_of part_of_tree
-part-level (Node c ts) = ap (level_by c) (parts-length ts)
-
 low_other : (c : Construct) (n : ℕ) → nat_lt (level_by c n) 16 ≡ true → written_by c ≡ Other
 low_other (tree.String text) n h = absurd (false≢true h)
 low_other (tree.Integer value) n h = absurd (false≢true h)

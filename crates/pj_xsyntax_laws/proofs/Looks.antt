@@ -10,7 +10,7 @@ use Rattle.pj_xtokens.specs.declared.token.Sign.{Sign}
 use Rattle.pj_xtokens.specs.declared.token.Sign.TheVariants as s
 use Rattle.pj_xtokens.specs.declared.token.TokenKind.{TokenKind}
 use Rattle.pj_xtokens.specs.declared.token.TokenKind.TheVariants as kind
-use Rattle.pj_xderive.specs.Expressions.{greatest_nesting}
+use Rattle.pj_xgrammar.specs.XPath.{greatest_nesting}
 use Rattle.pj_xgrammar.specs.Notation.{t, string, number_of}
 use Rattle.pj_xgrammar.specs.Words.{word_of, same}
 use Rattle.pj_xgrammar.specs.declared.word.Phrase.{Phrase}
@@ -23,8 +23,8 @@ use Rattle.pj_xgrammar.specs.declared.terminal.Terminal.TheVariants as terminal
 use Rattle.pj_xgrammar.specs.Terminals.{first_behind, kind_behind, begins_step, is_dollar, is_parenthesis, is_brace, is_as, is_of, makes_phrase, word_terminal, sign_terminal, kind_terminal, terminal_of, terminal_number}
 use Rattle.pj_xtokens.specs.First.{first_text}
 use Rattle.pj_xtokens.specs.Literals.{string_of}
-use Rattle.pj_xparse.specs.Reach.{All}
-use Rattle.pj_xparse.specs.Reads.{Takes, token, cut, IsAmong, here, further}
+use Rattle.pj_xmeaning.specs.Reach.{All}
+use Rattle.pj_xmeaning.specs.Reads.{Takes, token, cut, IsAmong, here, further}
 use Rattle.pj_xsyntax_laws.specs.Abbreviations.{sign, word, WrittenOut, done, kept, descendants, attribute, parent, union, literal}
 
 -- ---- how deep it is

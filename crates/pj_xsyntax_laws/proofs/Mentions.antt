@@ -2,10 +2,10 @@
 use Rattle.std.proofs.Common.{◌≡◌, ◌∙◌, ℕ, List, [], ◌∷◌, ◌++◌, drop, ◌+◌, refl, ap, append_assoc, add-one}
 use Rattle.std.specs.Prelude.{IsTrue}
 use Rattle.pj_xvalue.specs.Expressions.{Scope, Written, with_variable}
-use Rattle.pj_xnames.specs.Faults.{Variable, Function, Form, is_bound, is_function, fits_role, unless, earlier, first_fault_from}
-use Rattle.pj_xnames.specs.Mentions as mention
-use Rattle.pj_xnames.specs.Mentions.{Mention, scoped}
-use Rattle.pj_xnames.specs.declared.role.Role.{Role}
+use Rattle.pj_xparse.specs.NameFaults.{Variable, Function, Form, is_bound, is_function, fits_role, unless, earlier, first_fault_from}
+use Rattle.pj_xmeaning.specs.Mentions as mention
+use Rattle.pj_xmeaning.specs.Mentions.{Mention, scoped}
+use Rattle.pj_xmeaning.specs.declared.role.Role.{Role}
 
 -- none of it has a fault, and the variables behind it are those before it
 abbrev pub Clean : Scope → List Mention → Type 0

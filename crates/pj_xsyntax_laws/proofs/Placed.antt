@@ -1,146 +1,228 @@
--- Where the text of a rule stands, and what it names there. Bounds are twice an offset.
-use Rattle.std.proofs.Common.{◌≡◌, ℕ, ◌+◌, ◌*◌, ◌<◌, ◌≤◌, Bool, true, false, List, [], ◌∷◌, arith}
-use Rattle.std.specs.Prelude.{⊤}
-use Rattle.pj_xnames.specs.Mentions.{Mention}
-use Rattle.pj_xnames.specs.declared.part.Extent.{Extent}
-use Rattle.pj_xnames.specs.declared.part.Extent.TheVariants.{Whole, Open}
-use Rattle.pj_xnames.specs.Namings.{Operand, Naming, Missing, Nothing, Word, One, Many, Called, Bound, mentions_in, mentions_of}
+-- What tokens name stands in its order where they stand. Bounds are twice an offset.
+use Rattle.std.proofs.Common.{◌≡◌, ℕ, ◌+◌, ◌*◌, ◌≤◌, Bool, true, false, List, [], ◌∷◌, ◌++◌, length, Option, Some, None, refl, subst, append-nil, arith}
+use Rattle.std.specs.Prelude.{if◌then◌else◌}
+use Rattle.pj_ll.specs.declared.grammar.Symbol.{Symbol}
+use Rattle.pj_xoperators.specs.declared.operator.Compare.{Compare}
+use Rattle.pj_xtokens.specs.Tokens.{Lexed}
+use Rattle.pj_xtokens.specs.First.{behind_first, first_text, first_from, begins_with_name}
+use Rattle.pj_xvalue.specs.Expressions.{Written}
+use Rattle.pj_xvalue.specs.declared.name.Callee.{Callee}
+use Rattle.pj_xvalue.specs.Names.{callee_of}
+use Rattle.pj_xvalue.specs.Trees.{Construct}
+use Rattle.pj_xmeaning.specs.declared.role.Role.{Role}
+use Rattle.pj_xmeaning.specs.Mentions.{Mention, Variable, Call, Argument, Binds, Ends, roles_named}
+use Rattle.pj_xmeaning.specs.Operands.{Operand, Arguments, Open, Behind, Test, Called, Predicates, names_of, names_behind, chain, mixed, compared, ranging, variable, cut_variable, path, filtered, arguments_in, is_closed, judged, in_roles, told, named}
+use Rattle.pj_xmeaning.specs.Reach.{Reach, IsBefore, IsCut}
+use Rattle.pj_xmeaning.specs.Reads.{Takes, token, cut}
 use Rattle.pj_xsyntax_laws.proofs.Ordered.{InOrder, none_in_order, widened, joined}
+use Rattle.pj_xsyntax_laws.proofs.TokenOffsets.{at, AreAscending}
 
--- What is known of the text of a rule.
+-- The tokens xs are read up to ys, and this is what they name: it stands in its order, from the lower bound on and before ys.
+pub record Stands (end low : ℕ) (xs ys : List Lexed) (ms : List Mention) : Type 0 where
+  pub others : AreAscending end ys
+  pub within : at end xs ≤ at end ys
+  pub names : InOrder low (at end ys) ms
+
+-- there is a first token
+pub record Begun (end : ℕ) (xs ys : List Lexed) : Type 0 where
+  pub here : 2 * first_from xs ≡ at end xs
+  pub gap : at end xs + 2 ≤ at end ys
+
+-- What is known of the tokens that are read.
 pub data Grade : Type 0 where
-  -- it may be empty
+  -- they may be none
   Loose : Grade
-  -- it has a token
+  -- there is one, but where they are cut off before
   Solid : Grade
-  -- it has a token, and the expression that it makes begins with it
-  Exact : Grade
 
-abbrev pub is_solid : Grade → Bool
-is_solid Loose = false
-is_solid Solid = true
-is_solid Exact = true
+-- what tokens name whose offsets ascend, behind the place where they begin
+pub record Row (end : ℕ) (reach : Reach) (grade : Grade) (xs ys : List Lexed) (ms : List Mention) : Type 0 where
+  pub read : AreAscending end xs → Stands end (at end xs + 1) xs ys ms
+  pub begun : AreAscending end xs → grade ≡ Solid → IsBefore reach xs → Begun end xs ys
 
-abbrev pub is_exact : Grade → Bool
-is_exact Loose = false
-is_exact Solid = false
-is_exact Exact = true
+-- what they name, which may stand at that place, too, as an argument does
+pub record Early (end : ℕ) (xs ys : List Lexed) (ms : List Mention) : Type 0 where
+  pub read : AreAscending end xs → Stands end (at end xs) xs ys ms
 
--- the operand begins at its offset, before all that it names
-pub record Exactly (low high : ℕ) (operand : Operand) : Type 0 where
-  pub within : low ≤ 2 * operand.from
-  pub before : 2 * operand.from < high
-  pub names : InOrder (2 * operand.from + 1) high operand.mentions
+-- what is named behind an operator, if something stands there
+abbrev pub names_compared : Option (Compare × Operand) → List Mention
+names_compared None = []
+names_compared (Some next) = next.1.names
 
-pub record IsOne (grade : Grade) (low high : ℕ) (operand : Operand) : Type 0 where
-  pub names : InOrder (low + 1) high operand.mentions
-  pub exact : is_exact grade ≡ true → Exactly low high operand
+abbrev pub names_last : Option Operand → List Mention
+names_last None = []
+names_last (Some last) = last.names
 
--- An operand of a list, before others. The last one of an open list may be missing.
-abbrev pub Listed : Extent → List Operand → ℕ → ℕ → Operand → Type 0
-Listed Whole others low high operand = Exactly low high operand
-Listed Open [] low high operand = InOrder (low + 1) high operand.mentions
-Listed Open (o ∷ os) low high operand = Exactly low high operand
+-- what is named behind a name: where a call stands there, by what its function wants of the arguments
+abbrev pub BehindName : ℕ → Reach → List Lexed → List Lexed → Behind → Type 0
+BehindName end reach xs ys (Test test predicates) = Row end reach Loose xs ys (names_of predicates)
+BehindName end reach xs ys (Called arguments predicates) = (roles : List Role) → Early end xs ys (in_roles roles arguments ++ names_of predicates)
+BehindName end reach xs ys (Predicates predicates) = Row end reach Loose xs ys (names_of predicates)
 
--- the operands of a list stand behind each other
-abbrev pub Operands : Extent → ℕ → ℕ → List Operand → Type 0
-Operands extent low high [] = ⊤
-Operands extent low high (o ∷ os) = (middle : ℕ) × Listed extent os low middle o × (low ≤ middle) × (middle ≤ high) × Operands extent middle high os
+-- ---- what is named at the first token
 
--- arguments in parentheses, and predicates behind them
-pub record IsCalled (extent : Extent) (low high : ℕ) (arguments : List Operand) (predicates : List Mention) : Type 0 where
-  pub end : ℕ
-  pub inside : Operands extent (low + 2) end arguments
-  pub opened : low + 2 ≤ end
-  pub within : end ≤ high
-  pub behind : InOrder (end + 1) high predicates
+variable_first : (name : List ℕ) (from : ℕ) → InOrder (2 * from + 1) (2 * from + 2) (Variable name from ∷ [])
+variable_first name from = record { ordered = (omega arith, omega arith, omega arith, tt) }
 
--- what the expressions of variables name stands behind each other
-abbrev pub Variables : ℕ → ℕ → List (List ℕ × List Mention) → Type 0
-Variables low high [] = ⊤
-Variables low high (v ∷ vs) = (middle : ℕ) × InOrder (low + 1) middle v.1 × (low ≤ middle) × (middle ≤ high) × Variables middle high vs
+-- the name of a call stands before its arguments
+call_first : (closed : Bool) (found : Option Callee) (name : List ℕ) (count from : ℕ) → InOrder (2 * from + 1) (2 * from + 2) (told closed found (Call name count from))
+call_first true found name count from = record { ordered = (omega arith, omega arith, omega arith, tt) }
+call_first false None name count from = record { ordered = (omega arith, omega arith, omega arith, tt) }
+call_first false (Some callee) name count from = none_in_order (2 * from + 1) (2 * from + 2)
 
--- what a rule of the grade names stands between the bounds, in its order
-abbrev pub Placed : Grade → ℕ → ℕ → Naming → Type 0
-Placed grade low high Missing = ⊤
-Placed grade low high Nothing = ⊤
-Placed grade low high (Word name) = ⊤
-Placed grade low high (One operand) = IsOne grade low high operand
-Placed grade low high (Many operands extent) = Operands extent low high operands
-Placed grade low high (Called arguments extent predicates) = IsCalled extent low high arguments predicates
-Placed grade low high (Bound variables) = Variables low high variables
+-- an argument stands before what it names
+argument_first : (role : Role) (written : Written) (from : ℕ) (more : Arguments) → InOrder (2 * from) (2 * from + 1) (judged more (Argument role written from))
+argument_first role written from Open = none_in_order (2 * from) (2 * from + 1)
+argument_first role written from _ = record { ordered = (omega arith, omega arith, omega arith, tt) }
 
--- ---- bounds further apart
+-- ---- rows
 
-pub wider_exactly : {low high : ℕ} {o : Operand} (low' high' : ℕ) → low' ≤ low → high ≤ high' → Exactly low high o → Exactly low' high' o
-wider_exactly {o = o} low' high' a b e =
-    let w = e.within in
-    let l = e.before in
-    record { within = omega arith; before = omega arith; names = widened (2 * o.from + 1) high' (omega arith) b e.names }
+module _ {end : ℕ} where
+  pub none_early : {xs : List Lexed} → Early end xs xs []
+  none_early {xs} = record { read = λ h. record { others = h; within = omega arith; names = none_in_order (at end xs) (at end xs) } }
 
-wider_listed : (extent : Extent) (others : List Operand) (low high low' high' : ℕ) (o : Operand) → low' ≤ low → high ≤ high' → Listed extent others low high o → Listed extent others low' high' o
-wider_listed Whole others low high low' high' o a b e = wider_exactly low' high' a b e
-wider_listed Open [] low high low' high' o a b e = widened (low' + 1) high' (omega arith) b e
-wider_listed Open (next ∷ others) low high low' high' o a b e = wider_exactly low' high' a b e
+  pub following : {xs ys zs : List Lexed} {ms ns : List Mention} → Early end xs ys ms → Early end ys zs ns → Early end xs zs (ms ++ ns)
+  following p q = record {
+    read = λ h.
+        let a = p.read h in
+        let b = q.read a.others in
+        let v = a.within in
+        let w = b.within in
+        record { others = b.others; within = omega arith; names = joined v (omega arith) w a.names b.names };
+  }
 
-pub wider_operands : (extent : Extent) (low high low' high' : ℕ) (os : List Operand) → low' ≤ low → high ≤ high' → Operands extent low high os → Operands extent low' high' os
-wider_operands extent low high low' high' [] a b p = tt
-wider_operands extent low high low' high' (o ∷ os) a b (middle, e, c, d, p) =
-    (middle, wider_listed extent os low middle low' middle o a (omega arith) e, omega arith, omega arith, wider_operands extent middle high middle high' os (omega arith) b p)
+module _ {end : ℕ} {reach : Reach} where
+  pub loose : {grade : Grade} {xs ys : List Lexed} {ms : List Mention} → Row end reach grade xs ys ms → Row end reach Loose xs ys ms
+  loose p = record { read = p.read; begun = λ h is before. absurd (let z = is in cc) }
 
-pub wider_variables : (low high low' high' : ℕ) (vs : List (List ℕ × List Mention)) → low' ≤ low → high ≤ high' → Variables low high vs → Variables low' high' vs
-wider_variables low high low' high' [] a b p = tt
-wider_variables low high low' high' (v ∷ vs) a b (middle, o, c, d, p) =
-    (middle, widened (low' + 1) middle (omega arith) (omega arith) o, omega arith, omega arith, wider_variables middle high middle high' vs (omega arith) b p)
+  pub early : {grade : Grade} {xs ys : List Lexed} {ms : List Mention} → Row end reach grade xs ys ms → Early end xs ys ms
+  early p = record { read = λ h. let a = p.read h in record { others = a.others; within = a.within; names = widened _ _ (omega arith) (omega arith) a.names } }
 
--- a rule of another grade that has the same text and more
-pub wider : (g h : Grade) (low high low' high' : ℕ) (w : Naming) → low' ≤ low → high ≤ high' → (is_exact h ≡ true → is_exact g ≡ true) → Placed g low high w → Placed h low' high' w
-wider g h low high low' high' Missing a b e p = tt
-wider g h low high low' high' Nothing a b e p = tt
-wider g h low high low' high' (Word name) a b e p = tt
-wider g h low high low' high' (One o) a b e p =
-    record { names = widened (low' + 1) high' (omega arith) b p.names; exact = λ is. wider_exactly low' high' a b (p.exact (e is)) }
-wider g h low high low' high' (Many os extent) a b e p = wider_operands extent low high low' high' os a b p
-wider g h low high low' high' (Called arguments extent predicates) a b e p =
-    let opened = p.opened in
-    let within = p.within in
-    record {
-      end = p.end;
-      inside = wider_operands extent (low + 2) p.end (low' + 2) p.end arguments (omega arith) (omega arith) p.inside;
-      opened = omega arith;
-      within = omega arith;
-      behind = widened (p.end + 1) high' (omega arith) b p.behind;
-    }
-wider g h low high low' high' (Bound vs) a b e p = wider_variables low high low' high' vs a b p
+  pub none : {xs : List Lexed} → Row end reach Loose xs xs []
+  none {xs} = record { read = λ h. record { others = h; within = omega arith; names = none_in_order (at end xs + 1) (at end xs) }; begun = λ h is before. absurd (let z = is in cc) }
 
--- ---- what is named
+  pub none_left : {grade : Grade} {xs : List Lexed} → IsCut reach xs → Row end reach grade xs xs []
+  none_left c = record { read = none.read; begun = λ h is before. absurd (before c) }
 
-exactly_names : (low high : ℕ) (o : Operand) → Exactly low high o → InOrder (low + 1) high o.mentions
-exactly_names low high o e = let w = e.within in widened (low + 1) high (omega arith) (omega arith) e.names
+  pub takes : {d : ℕ} {s : Symbol} {xs ys : List Lexed} → Takes reach d s xs ys → Row end reach Solid xs ys []
+  takes (token {x = x} {xs = xs} e within) = record {
+    read = λ h. let gap = h.0 in record { others = h.1; within = omega arith; names = none_in_order (2 * x.from + 1) (at end xs) };
+    begun = λ h is before. record { here = refl; gap = h.0 };
+  }
+  takes (cut c) = none_left c
 
-pub listed_names : (extent : Extent) (others : List Operand) (low high : ℕ) (o : Operand) → Listed extent others low high o → InOrder (low + 1) high o.mentions
-listed_names Whole others low high o e = exactly_names low high o e
-listed_names Open [] low high o e = e
-listed_names Open (next ∷ others) low high o e = exactly_names low high o e
+  pub both : {grade other : Grade} {xs ys zs : List Lexed} {ms ns : List Mention} → Row end reach grade xs ys ms → Row end reach other ys zs ns → Row end reach grade xs zs (ms ++ ns)
+  both p q = record {
+    read = λ h.
+        let a = p.read h in
+        let b = q.read a.others in
+        let v = a.within in
+        let w = b.within in
+        record { others = b.others; within = omega arith; names = joined (omega arith) (omega arith) w a.names b.names };
+    begun = λ h is before.
+        let a = p.begun h is before in
+        let gap = a.gap in
+        let w = (q.read (p.read h).others).within in
+        record { here = a.here; gap = omega arith };
+  }
 
--- one that begins at its offset stands in any list
-pub listed : (extent : Extent) (others : List Operand) (low high : ℕ) (o : Operand) → Exactly low high o → Listed extent others low high o
-listed Whole others low high o e = e
-listed Open [] low high o e = exactly_names low high o e
-listed Open (next ∷ others) low high o e = e
+  pub behind : {d : ℕ} {s : Symbol} {grade : Grade} {xs ys zs : List Lexed} {ms : List Mention} → Takes reach d s xs ys → Row end reach grade ys zs ms → Row end reach Solid xs zs ms
+  behind k p = both (takes k) p
 
-pub operands_name : (extent : Extent) (low high : ℕ) (os : List Operand) → Operands extent low high os → InOrder (low + 1) high (mentions_in os)
-operands_name extent low high [] p = none_in_order (low + 1) high
-operands_name extent low high (o ∷ os) (middle, e, c, d, p) =
-    joined (omega arith) (omega arith) d (listed_names extent os low middle o e) (operands_name extent middle high os p)
+  -- nothing is named behind it
+  pub alone : {grade other : Grade} {xs ys zs : List Lexed} {ms : List Mention} → Row end reach grade xs ys ms → Row end reach other ys zs [] → Row end reach grade xs zs ms
+  alone {grade} {xs = xs} {zs = zs} {ms = ms} p q = subst (Row end reach grade xs zs) (append-nil ms) (both p q)
 
-pub names : (g : Grade) (low high : ℕ) (w : Naming) → Placed g low high w → InOrder (low + 1) high (mentions_of w)
-names g low high Missing p = none_in_order (low + 1) high
-names g low high Nothing p = none_in_order (low + 1) high
-names g low high (Word name) p = none_in_order (low + 1) high
-names g low high (One o) p = p.names
-names g low high (Many os extent) p = operands_name extent low high os p
-names g low high (Called arguments extent predicates) p =
-    let opened = p.opened in
-    joined (omega arith) (omega arith) p.within (widened (low + 1) p.end (omega arith) (omega arith) (operands_name extent (low + 2) p.end arguments p.inside)) p.behind
-names g low high (Bound vs) p = none_in_order (low + 1) high
+  -- a name at the first token, before others
+  headed : {xs ys zs : List Lexed} {ms ns : List Mention} → IsBefore reach xs → InOrder (2 * first_from xs + 1) (2 * first_from xs + 2) ms → Row end reach Solid xs ys [] → Early end ys zs ns →
+      Row end reach Solid xs zs (ms ++ ns)
+  headed before first p q = record {
+    read = λ h.
+        let a = q.read (p.read h).others in
+        let b = p.begun h refl before in
+        let here = b.here in
+        let gap = b.gap in
+        let w = a.within in
+        record { others = a.others; within = omega arith; names = widened _ _ (omega arith) (omega arith) (joined (omega arith) (omega arith) (omega arith) first a.names) };
+    begun = λ h is still.
+        let b = p.begun h is still in
+        let gap = b.gap in
+        let w = (q.read (p.read h).others).within in
+        record { here = b.here; gap = omega arith };
+  }
+
+  -- ---- operands
+
+  pub chained : {grade other : Grade} {xs ys zs : List Lexed} (construct : Construct) (first : Operand) (more : List Operand) → Row end reach grade xs ys first.names → Row end reach other ys zs (names_of more) →
+      Row end reach grade xs zs (chain construct first more).names
+  chained construct first [] p q = alone p q
+  chained construct first (second ∷ more) p q = both p q
+
+  pub mixing : {Operator : Type 0} {grade other : Grade} {xs ys zs : List Lexed} (construct : List Operator → Construct) (first : Operand) (more : List (Operator × Operand)) → Row end reach grade xs ys first.names →
+      Row end reach other ys zs (names_behind more) → Row end reach grade xs zs (mixed construct first more).names
+  mixing construct first [] p q = alone p q
+  mixing construct first (second ∷ more) p q = both p q
+
+  pub comparing : {grade other : Grade} {xs ys zs : List Lexed} (first : Operand) (second : Option (Compare × Operand)) → Row end reach grade xs ys first.names → Row end reach other ys zs (names_compared second) →
+      Row end reach grade xs zs (compared first second).names
+  comparing first None p q = alone p q
+  comparing first (Some next) p q = both p q
+
+  pub in_range : {grade other : Grade} {xs ys zs : List Lexed} (first : Operand) (last : Option Operand) → Row end reach grade xs ys first.names → Row end reach other ys zs (names_last last) →
+      Row end reach grade xs zs (ranging first last).names
+  in_range first None p q = alone p q
+  in_range first (Some last) p q = both p q
+
+  pub a_path : {grade : Grade} {xs ys : List Lexed} (steps : List Operand) → Row end reach grade xs ys (names_of steps) → Row end reach grade xs ys (path steps).names
+  a_path [] p = p
+  a_path {grade} {xs} {ys} (only ∷ []) p = subst (Row end reach grade xs ys) (append-nil only.names) p
+  a_path (first ∷ second ∷ more) p = p
+
+  pub with_predicates : {grade other : Grade} {xs ys zs : List Lexed} (a : Operand) (predicates : List Operand) → Row end reach grade xs ys a.names → Row end reach other ys zs (names_of predicates) →
+      Row end reach grade xs zs (filtered a predicates).names
+  with_predicates a [] p q = alone p q
+  with_predicates a (first ∷ more) p q = both p q
+
+  -- ---- variables
+
+  pub a_variable : {xs ys : List Lexed} (name : List ℕ) → IsBefore reach xs → Row end reach Solid xs ys [] → Row end reach Solid xs ys (variable xs name).names
+  a_variable {xs} name before p = headed before (variable_first name (first_from xs)) p none_early
+
+  either : {xs ys : List Lexed} (b : Bool) (one other : Operand) → Row end reach Solid xs ys one.names → Row end reach Solid xs ys other.names → Row end reach Solid xs ys (if b then one else other).names
+  either true one other p q = p
+  either false one other p q = q
+
+  pub a_cut_variable : {xs ys : List Lexed} → IsBefore reach xs → Row end reach Solid xs ys [] → Row end reach Solid xs ys (cut_variable xs).names
+  a_cut_variable {xs} before p = either (begins_with_name (behind_first xs)) _ _ (a_variable (first_text (behind_first xs)) before p) p
+
+  -- what binds a variable, and the end of its scope, have no offset
+  pub binds : {grade : Grade} {xs ys : List Lexed} {ms : List Mention} (name : List ℕ) → Row end reach grade xs ys ms → Row end reach grade xs ys (Binds name ∷ ms)
+  binds name p = record { read = λ h. let a = p.read h in record { others = a.others; within = a.within; names = record { ordered = a.names.ordered } }; begun = p.begun }
+
+  ended : {xs : List Lexed} (count : ℕ) → Row end reach Loose xs xs (Ends count ∷ [])
+  ended count = record { read = λ h. record { others = h; within = omega arith; names = record { ordered = tt } }; begun = none.begun }
+
+  pub ends : {grade : Grade} {xs ys : List Lexed} {ms : List Mention} (count : ℕ) → Row end reach grade xs ys ms → Row end reach grade xs ys (ms ++ Ends count ∷ [])
+  ends count p = both p (ended count)
+
+  -- ---- calls
+
+  pub an_argument : {xs ys zs : List Lexed} {ns : List Mention} (role : Role) (a : Operand) (more : Arguments) → IsBefore reach xs → Row end reach Solid xs ys a.names → Early end ys zs ns →
+      Early end xs zs (judged more (Argument role a.written (first_from xs)) ++ (a.names ++ ns))
+  an_argument {xs} role a more before p q = record {
+    read = λ h.
+        let b = p.read h in
+        let c = q.read b.others in
+        let d = p.begun h refl before in
+        let here = d.here in
+        let gap = d.gap in
+        let w = c.within in
+        let names = joined (omega arith) (omega arith) w b.names c.names in
+        record { others = c.others; within = omega arith; names = widened _ _ (omega arith) (omega arith) (joined (omega arith) (omega arith) (omega arith) (argument_first role a.written (first_from xs) more) names) };
+  }
+
+  pub a_name : {xs ys zs : List Lexed} (name : List ℕ) (tail : Behind) → IsBefore reach xs → Row end reach Solid xs ys [] → BehindName end reach ys zs tail → Row end reach Solid xs zs (named xs name tail).names
+  a_name name (Test test predicates) before p q = both p q
+  a_name {xs} name (Called arguments predicates) before p q =
+      headed before (call_first (is_closed arguments) (callee_of name) name (length (arguments_in arguments)) (first_from xs)) p (q (roles_named name))
+  a_name name (Predicates predicates) before p q = both p q

@@ -1,5 +1,5 @@
 -- The arguments of functions are written as their roles want it.
-use Rattle.std.proofs.Common.{◌≡◌, ◌∙◌, ℕ, suc, List, [], ◌∷◌, ◌++◌, Bool, true, false, length, refl, sym, subst, arith}
+use Rattle.std.proofs.Common.{◌≡◌, ◌∙◌, ℕ, suc, List, [], ◌∷◌, ◌++◌, Bool, true, false, length, refl, sym, ap, subst, arith}
 use Rattle.std.specs.Prelude.{◌&&◌, ◌||◌, ◌==◌, IsTrue}
 use Rattle.std.proofs.lemmas.Bool.{false≢true, and_parts, and_from, eqb-true}
 use Rattle.pj_xvalue.specs.declared.function.Function.{Function}
@@ -7,14 +7,14 @@ use Rattle.pj_xvalue.specs.declared.function.Function.TheVariants as f
 use Rattle.pj_xvalue.specs.Functions.{takes}
 use Rattle.pj_xvalue.specs.Expressions.{Scope, Written, arguments_fit}
 use Rattle.pj_xvalue.specs.Trees.{Tree}
-use Rattle.pj_xnames.specs.Faults.{fits_role}
-use Rattle.pj_xnames.specs.Mentions.{roles_of}
-use Rattle.pj_xnames.specs.Namings.{Operand, in_roles}
-use Rattle.pj_xnames.specs.declared.role.Role.{Role}
-use Rattle.pj_xnames.specs.declared.role.Role.TheVariants as role
+use Rattle.pj_xparse.specs.NameFaults.{fits_role}
+use Rattle.pj_xmeaning.specs.Mentions.{Mention, Argument, roles_of}
+use Rattle.pj_xmeaning.specs.declared.role.Role.{Role}
+use Rattle.pj_xmeaning.specs.declared.role.Role.TheVariants as role
+use Rattle.pj_xmeaning.specs.Operands.{Arguments, Closed, Next, arguments_in, is_closed, judged, in_roles, trees_of}
 use Rattle.pj_xshape.specs.Shapes.{part_of_tree}
 use Rattle.pj_xsyntax_laws.proofs.Mentions.{Clean, clean-nil, clean-append, clean-argument}
-use Rattle.pj_xsyntax_laws.proofs.Readings.{AllNames, no_names, more_names}
+use Rattle.pj_xsyntax_laws.proofs.Readings.{operand_of}
 
 -- each argument with a role is written as the role wants it
 abbrev pub roles_fit : List Role → Scope → List Written → Bool
@@ -27,14 +27,36 @@ abbrev pub written_all : List Tree → List Written
 written_all [] = []
 written_all (t ∷ ts) = (part_of_tree t).written ∷ written_all ts
 
-pub clean-roles : {scope : Scope} {ts : List Tree} {os : List Operand} (roles : List Role) → AllNames scope ts os → IsTrue (roles_fit roles scope (written_all ts)) → Clean scope (in_roles roles os)
-clean-roles {scope} [] no_names h = clean-nil scope
-clean-roles {scope} (r ∷ rs) no_names h = clean-nil scope
-clean-roles {scope} [] (more_names {o = o} {os = os} n ns) h = clean-append scope o.mentions (in_roles [] os) n.clean (clean-roles [] ns refl)
-clean-roles {scope} (r ∷ rs) (more_names {t = t} {ts = ts} {o = o} {os = os} n ns) h =
+-- arguments of these trees behind which the `)` stands, and what they name is there
+pub data ArgumentNames (scope : Scope) : List Tree → Arguments → Type 0 where
+  no_arguments : ArgumentNames scope [] Closed
+  more_arguments : {t : Tree} {ts : List Tree} {from : ℕ} {names : List Mention} {others : Arguments} → Clean scope names → ArgumentNames scope ts others
+      → ArgumentNames scope (t ∷ ts) (Next from (operand_of t (part_of_tree t).written names) others)
+
+pub arguments-trees : {scope : Scope} {ts : List Tree} {arguments : Arguments} → ArgumentNames scope ts arguments → trees_of (arguments_in arguments) ≡ ts
+arguments-trees no_arguments = refl
+arguments-trees (more_arguments {t = t} n ns) = ap (λ l. t ∷ l) (arguments-trees ns)
+
+pub arguments-closed : {scope : Scope} {ts : List Tree} {arguments : Arguments} → ArgumentNames scope ts arguments → is_closed arguments ≡ true
+arguments-closed no_arguments = refl
+arguments-closed (more_arguments n ns) = arguments-closed ns
+
+pub arguments-length : {scope : Scope} {ts : List Tree} {arguments : Arguments} → ArgumentNames scope ts arguments → length (arguments_in arguments) ≡ length (written_all ts)
+arguments-length no_arguments = refl
+arguments-length (more_arguments n ns) = ap suc (arguments-length ns)
+
+judged-closed : {scope : Scope} {ts : List Tree} {others : Arguments} (mention : Mention) → ArgumentNames scope ts others → mention ∷ [] ≡ judged others mention
+judged-closed mention no_arguments = refl
+judged-closed mention (more_arguments n ns) = refl
+
+pub clean-roles : {scope : Scope} (roles : List Role) {ts : List Tree} {arguments : Arguments} → ArgumentNames scope ts arguments → IsTrue (roles_fit roles scope (written_all ts)) → Clean scope (in_roles roles arguments)
+clean-roles {scope} [] no_arguments h = clean-nil scope
+clean-roles {scope} (r ∷ rs) no_arguments h = clean-nil scope
+clean-roles {scope} [] (more_arguments {names = names} {others = others} n ns) h = clean-append scope names (in_roles [] others) n (clean-roles [] ns refl)
+clean-roles {scope} (r ∷ rs) (more_arguments {t = t} {ts = ts} {from = from} {names = names} {others = others} n ns) h =
     let parts = and_parts (fits_role r scope (part_of_tree t).written) (roles_fit rs scope (written_all ts)) h in
-    clean-argument scope r o.written o.from (o.mentions ++ in_roles rs os) (subst (λ w. IsTrue (fits_role r scope w)) (sym n.written_is) parts.0)
-    (clean-append scope o.mentions (in_roles rs os) n.clean (clean-roles rs ns parts.1))
+    subst (λ (ms : List Mention). Clean scope (ms ++ (names ++ in_roles rs others))) (judged-closed (Argument r (part_of_tree t).written from) ns)
+    (clean-argument scope r (part_of_tree t).written from (names ++ in_roles rs others) parts.0 (clean-append scope names (in_roles rs others) n (clean-roles rs ns parts.1)))
 
 or_parts : (a c : Bool) → (a || c) ≡ true → (P : Type 0) → (a ≡ true → P) → (c ≡ true → P) → P
 or_parts true c h P f g = f refl

@@ -1,68 +1,84 @@
--- Rows of expressions: steps, and arguments.
-use Rattle.std.proofs.Common.{ℕ, ◌+◌, ◌≤◌, List, [], ◌∷◌, ◌++◌, Bool, false, map, refl, sym, subst, arith}
-use Rattle.std.specs.Prelude.{⊤, IsTrue}
-use Rattle.std.proofs.lemmas.List.{append-nil}
-use Rattle.pj_ll.specs.declared.grammar.Symbol.TheVariants.{Terminal, Rule}
-use Rattle.pj_xtokens.specs.Tokens.{Lexed, lexed}
+-- The arguments of a call.
+use Rattle.std.proofs.Common.{ℕ, ◌+◌, ◌≤◌, List, ◌∷◌, ◌++◌, false, map, refl, arith}
+use Rattle.std.specs.Prelude.{IsTrue}
+use Rattle.pj_xtokens.specs.First.{first_from}
+use Rattle.pj_xtokens.specs.Tokens.{Lexed}
+use Rattle.pj_xgrammar.specs.declared.rule.Rule.TheVariants as r
 use Rattle.pj_xgrammar.specs.declared.terminal.Behind.TheVariants as b
-use Rattle.pj_xgrammar.specs.Terminals.{first_behind, behind_of}
-use Rattle.pj_xsyntax_laws.specs.Spaced.{Word, placed}
+use Rattle.pj_xgrammar.specs.Terminals.{first_behind}
+use Rattle.pj_xsyntax_laws.specs.Spaced.{placed}
 use Rattle.pj_xvalue.specs.Expressions.{Scope}
 use Rattle.pj_xvalue.specs.Trees.{Tree, Trees, More}
-use Rattle.pj_xmeaning.specs.Parts.{Many}
-use Rattle.pj_xgrammar.specs.declared.action.Action.TheVariants as action
-use Rattle.pj_xgrammar.specs.declared.action.Leaf.TheVariants as leaf
-use Rattle.pj_xgrammar.specs.declared.action.Rest.TheVariants as rest
-use Rattle.pj_xparse.specs.Derived.{IsRead}
+use Rattle.pj_xmeaning.specs.Operands.{Operand, Arguments, Closed, Next}
+use Rattle.pj_xmeaning.specs.Reach.{All}
+use Rattle.pj_xmeaning.specs.Reads as relation
+use Rattle.pj_xmeaning.specs.Reads.{token, some_arguments, more_arguments, arguments_end}
 use Rattle.pj_xshape.specs.Nesting.{operand_before, nested_of, nested_each, chain_before}
-use Rattle.pj_xsyntax_laws.specs.Printed.{operand, chain, joined, printed_of, printed_each, comma}
-use Rattle.pj_xsyntax_laws.proofs.Productions as p
-use Rattle.pj_xsyntax_laws.proofs.Productions.{Production}
-use Rattle.pj_xsyntax_laws.proofs.Deriving.{Ruled, ruled, f-none, f-rule, next}
+use Rattle.pj_xshape.specs.Shapes.{part_of_tree}
+use Rattle.pj_xsyntax_laws.specs.Printed.{Printed, operand, chain, joined, printed_of, printed_each, comma}
 use Rattle.pj_xsyntax_laws.proofs.Follows.{follows}
-use Rattle.pj_xsyntax_laws.proofs.Readings.{Reads, EachReads, no_parts, more_parts, Listing, no_names, more_names, many, whole, rule_of, list_of}
 use Rattle.pj_xsyntax_laws.proofs.Operands.{operand_reads}
-use Rattle.pj_xsyntax_laws.proofs.Heads.{joined_tail, further-whole, units, units-paired, units-words, paired-seconds}
-use Rattle.pj_xsyntax_laws.proofs.Tails.{pairs, max-left, max-right, tail_reads}
+use Rattle.pj_xsyntax_laws.proofs.Readings.{Reads, EachReads, no_parts, more_parts, list_of, operand_of, next, past, together}
+use Rattle.pj_xsyntax_laws.proofs.Roles.{ArgumentNames}
+use Rattle.pj_xsyntax_laws.proofs.Roles as each
+use Rattle.pj_xsyntax_laws.proofs.Tails.{max-left, max-right}
+use Rattle.pj_xsyntax_laws.proofs.WholeReadings.{reading}
 
-module _ {scope : Scope} (mark : Bool) {least tail head n p q terminal : ℕ} (operator : Word)
-    (line : Production n head (Rule (rule_of least) ∷ Rule tail ∷ []) (action.Rest rest.Further))
-    (more : Production p tail (Terminal terminal ∷ Rule (rule_of least) ∷ Rule tail ∷ []) (action.Rest rest.Further)) (end : Production q tail [] (action.Leaf leaf.Nothing))
-    (read : (t : Tree) (r : Reads scope t) (flag : Bool) (from behind_it : ℕ) (others : List Word) (behind : List Lexed) → IsRead (lexed operator.kind operator.text from) (placed behind_it (operand flag least (printed_of t) ++ others) ++ behind) terminal)
-    (allowed : (from : ℕ) → IsTrue (follows mark (behind_of (lexed operator.kind operator.text from)))) (low : least ≤ 15) where
-  pub row_reads : (t : Tree) (ts : Trees) → Reads scope t → EachReads scope ts → (flag : Bool) (around from : ℕ) (behind : List Lexed)
-      → around + chain_before flag mark least (nested_each (More t ts)) ≤ 200 → IsTrue (follows flag (first_behind b.End behind))
-      → Listing around behind head from (joined flag mark least operator (printed_each (More t ts))) scope (Many (t ∷ list_of ts)) (t ∷ list_of ts)
-  unfolding printed_of nested_of
-  row_reads t _ r no_parts flag around from behind h f =
-      let ws = operand flag least (printed_of t) in
-      let first = (operand_reads scope t r flag least low).reads (around + 0) from behind (omega (arith, h)) f in
-      record {
-        operands = first.operand ∷ [];
-        derived = ruled line (f-rule first.derived (f-rule (ruled end f-none) f-none refl) (sym (append-nil ws)));
-        names = more_names first.names no_names;
-      }
-  row_reads t _ r (more_parts {t = t2} {ts = ts} r2 rs) flag around from behind h f =
-      let ws = operand mark least (printed_of t) in
-      let T = joined_tail mark operator more end read allowed low in
-      let us = operator ∷ chain flag mark least (map T.word (units ts)) (printed_each (More t2 ts)) in
-      let a = operand_before mark least (nested_of t) in
-      let c = chain_before flag mark least (nested_each (More t2 ts)) in
-      let first = (operand_reads scope t r mark least low).reads (around + 0) from (placed (next from ws) us ++ behind) (let i = max-left around a c 200 h in omega (arith, i)) (allowed (next from ws)) in
-      let others = tail_reads T tt (units ts) t2 ts r2 rs (units-paired ts) flag (around + 0) (next from ws) behind (let i = max-right around a c 200 h in omega (arith, i)) f in
-      let derived = ruled line (f-rule first.derived (f-rule others.derived f-none (sym (append-nil us))) refl) in
-      let named = subst (λ w. Ruled around behind head from (ws ++ us) (Many (t ∷ t2 ∷ map (λ (x : ⊤ × Tree). x.1) (pairs (units ts) ts))) w) (further-whole first.operand others.operands) derived in
-      let valued = subst (λ l. Ruled around behind head from (ws ++ us) (Many (t ∷ t2 ∷ l)) (whole (first.operand ∷ others.operands))) (paired-seconds (units-paired ts)) named in
-      record {
-        operands = first.operand ∷ others.operands;
-        derived = subst (λ ops. Ruled around behind head from (ws ++ operator ∷ chain flag mark least ops (printed_each (More t2 ts))) (Many (t ∷ t2 ∷ list_of ts)) (whole (first.operand ∷ others.operands))) (units-words operator ts) valued;
-        names = more_names first.names others.names;
-      }
+-- from tokens up to those behind stand these expressions as arguments
+pub record Called (depth : ℕ) (xs ys : List Lexed) (scope : Scope) (ts : List Tree) : Type 0 where
+  pub arguments : Arguments
+  pub reads : relation.Reads All r.Arguments depth xs ys arguments
+  pub names : ArgumentNames scope ts arguments
+
+-- an argument, and those behind it
+record Row (depth : ℕ) (xs zs : List Lexed) (scope : Scope) (ts : List Tree) : Type 0 where
+  ys : List Lexed
+  first : Operand
+  more : Arguments
+  first_reads : relation.Reads All r.ExprSingle depth xs ys first
+  more_reads : relation.Reads All r.ArgumentsTail depth ys zs more
+  names : ArgumentNames scope ts (Next (first_from xs) first more)
+
+row_reads : {scope : Scope} (t : Tree) (ts : Trees) → Reads scope t → EachReads scope ts → (depth from : ℕ) (ys : List Lexed) → depth + chain_before false false 1 (nested_each (More t ts)) ≤ 200
+    → IsTrue (follows false (first_behind b.End ys)) → Row depth (placed from (joined false false 1 comma (printed_each (More t ts))) ++ ys) ys scope (t ∷ list_of ts)
+unfolding printed_of nested_of
+row_reads {scope} t _ it no_parts depth from ys h quiet =
+    let first = (operand_reads scope t it false 1 (omega arith)).reads depth from ys h quiet in
+    record {
+      ys = ys;
+      first = operand_of t (part_of_tree t).written first.names;
+      more = Closed;
+      first_reads = first.reads;
+      more_reads = reading arguments_end;
+      names = each.more_arguments first.clean each.no_arguments;
+    }
+row_reads {scope} t _ it (more_parts {t = u} {ts = us} it' its) depth from ys h quiet =
+    let ws = operand false 1 (printed_of t) in
+    let others = chain false false 1 (map (λ (part : Printed). comma) (printed_each us)) (printed_each (More u us)) in
+    let a = operand_before false 1 (nested_of t) in
+    let c = chain_before false false 1 (nested_each (More u us)) in
+    let behind = placed (next from ws) (comma ∷ others) ++ ys in
+    let first = (operand_reads scope t it false 1 (omega arith)).reads depth from behind (max-left depth a c 200 h) refl in
+    let rest = row_reads u us it' its depth (past (next from ws) comma) ys (max-right depth a c 200 h) quiet in
+    let few : depth ≤ 200 = omega (arith, h) in
+    together (λ xs. Row depth xs ys scope (t ∷ u ∷ list_of us)) from ws (comma ∷ others) ys (record {
+      ys = behind;
+      first = operand_of t (part_of_tree t).written first.names;
+      more = Next (first_from (placed (past (next from ws) comma) others ++ ys)) rest.first rest.more;
+      first_reads = first.reads;
+      more_reads = reading (more_arguments (token refl few) rest.first_reads rest.more_reads);
+      names = each.more_arguments first.clean rest.names;
+    })
 
 -- the arguments of a call, of which there may be none
-pub arguments_read : {scope : Scope} (ts : Trees) → EachReads scope ts → (around from : ℕ) (behind : List Lexed) → around + chain_before false false 1 (nested_each ts) ≤ 200
-    → IsTrue (follows false (first_behind b.End behind)) → Listing around behind 48 from (joined false false 1 comma (printed_each ts)) scope (many (list_of ts)) (list_of ts)
+pub arguments_read : {scope : Scope} (ts : Trees) → EachReads scope ts → (depth from : ℕ) (ys : List Lexed) → depth + chain_before false false 1 (nested_each ts) ≤ 200
+    → IsTrue (follows false (first_behind b.End ys)) → Called depth (placed from (joined false false 1 comma (printed_each ts)) ++ ys) ys scope (list_of ts)
 unfolding printed_of nested_of
-arguments_read _ no_parts around from behind h f = record { operands = []; derived = ruled p.arguments_none f-none; names = no_names }
-arguments_read _ (more_parts {t = t} {ts = ts} r rs) around from behind h f =
-    row_reads false comma p.arguments_some p.arguments_more p.arguments_end (λ t r flag from behind_it others behind. refl) (λ from. refl) (omega arith) t ts r rs false around from behind h f
+arguments_read _ no_parts depth from ys h quiet = record { arguments = Closed; reads = reading relation.no_arguments; names = each.no_arguments }
+arguments_read _ (more_parts {t = t} {ts = ts} it its) depth from ys h quiet =
+    let row = row_reads t ts it its depth from ys h quiet in
+    record {
+      arguments = Next (first_from (placed from (joined false false 1 comma (printed_each (More t ts))) ++ ys)) row.first row.more;
+      reads = reading (some_arguments row.first_reads row.more_reads);
+      names = row.names;
+    }

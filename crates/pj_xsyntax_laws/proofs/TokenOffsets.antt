@@ -1,5 +1,6 @@
 -- The offsets of the tokens of a text ascend.
 use Rattle.std.proofs.Common.{◌≡◌, ℕ, zero, suc, ◌+◌, ◌*◌, ◌<◌, ◌≤◌, List, [], ◌∷◌, ◌++◌, length, drop, refl, ap, ◌∙◌, arith}
+use Rattle.std.specs.Prelude.{⊤}
 use Rattle.std.proofs.lemmas.Str.{length-le-encodes}
 use Rattle.pj_xtokens.specs.Gaps.{Past}
 use Rattle.pj_xtokens.specs.Rules.{Spells}
@@ -10,7 +11,16 @@ use Rattle.pj_xtokens.specs.declared.token.TokenKind.{TokenKind}
 use Rattle.pj_xtokens.specs.declared.token.End.{End}
 use Rattle.pj_xsyntax_laws.proofs.Sizes.{size-append}
 use Rattle.pj_xsyntax_laws.specs.Order.{offset_of_end, offset_at}
-use Rattle.pj_xsyntax_laws.proofs.Running.{at, AreAscending}
+
+-- twice the offset of the first token, or of the end
+abbrev pub at : ℕ → List Lexed → ℕ
+at end [] = 2 * end
+at end (x ∷ xs) = 2 * x.from
+
+-- each token begins before the next one, and before the end
+abbrev pub AreAscending : ℕ → List Lexed → Type 0
+AreAscending end [] = ⊤
+AreAscending end (x ∷ xs) = (2 * x.from + 2 ≤ at end xs) × AreAscending end xs
 
 -- what stands behind a gap is an end of the text
 abbrev pub GapsStandInFront : Type 0
@@ -77,9 +87,3 @@ places_ascend end ts zero k a le = first_below end ts k a
 places_ascend end ts (suc j) zero a le = absurd (omega arith)
 places_ascend end [] (suc j) (suc k) a le = omega arith
 places_ascend end (x ∷ ts) (suc j) (suc k) (lt, a) le = places_ascend end ts j k a (omega arith)
-
-pub below_end : (end : ℕ) (ts : List Lexed) (k : ℕ) → AreAscending end ts → at end (drop k ts) ≤ 2 * end
-below_end end [] zero a = omega arith
-below_end end (x ∷ ts) zero (lt, a) = let le = below_end end ts zero a in omega arith
-below_end end [] (suc k) a = omega arith
-below_end end (x ∷ ts) (suc k) (lt, a) = below_end end ts k a

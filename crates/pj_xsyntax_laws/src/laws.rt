@@ -14,10 +14,9 @@ ghost use Rattle.pj_xtokens.specs.declared.token.TokenKind.TheVariants as kinds;
 ghost use Rattle.pj_xsyntax_laws.specs.Spaced.{AreSpelled, Word, literal, placed, spaced};
 ghost use Rattle.pj_ll.specs.declared.parser.End as outcome;
 ghost use Rattle.pj_xtokens.specs.declared.token.End.{End};
-ghost use Rattle.pj_xderive.specs.Expressions.{IsOutcome, IsRun, place_of};
-ghost use Rattle.pj_xnames.specs.Faults.{Fault, first_fault};
-ghost use Rattle.pj_xnames.specs.Meaning.{mentions};
-ghost use Rattle.pj_xnames.specs.Mentions.{Mention};
+ghost use Rattle.pj_xderive.specs.Expressions.{IsOutcome, place_of};
+ghost use Rattle.pj_xparse.specs.NameFaults.{Fault, first_fault};
+ghost use Rattle.pj_xmeaning.specs.Mentions.{Mention};
 ghost use Rattle.pj_xsyntax_laws.specs.Every.{HasFault, given, position_of};
 ghost use Rattle.pj_xsyntax_laws.specs.Order.{AreBelow, Ascend, IsBefore, offset_at, positions};
 ghost use Rattle.std.specs.Str.{all_scalars};
@@ -28,10 +27,10 @@ ghost use Rattle.pj_xgrammar.specs.declared.rule.Rule.TheVariants as r;
 ghost use Rattle.pj_xvalue.specs.Names.{callee_of};
 ghost use Rattle.pj_xvalue.specs.Trees.{Tree};
 ghost use Rattle.pj_xvalue.specs.declared.name.Callee.TheVariants as callee;
-ghost use Rattle.pj_xparse.specs.Faults.{SaySoFar};
-ghost use Rattle.pj_xparse.specs.Operands.{Operand, child_step, other};
-ghost use Rattle.pj_xparse.specs.Reach as reach;
-ghost use Rattle.pj_xparse.specs.Reads.{Reads, Takes};
+ghost use Rattle.pj_xmeaning.specs.SoFar.{SaySoFar};
+ghost use Rattle.pj_xmeaning.specs.Operands.{Operand, child_step, other};
+ghost use Rattle.pj_xmeaning.specs.Reach as reach;
+ghost use Rattle.pj_xmeaning.specs.Reads.{Reads, Takes};
 ghost use Rattle.pj_xparse.specs.Spells.{Spells};
 ghost use Rattle.pj_xshape.specs.Nesting.{nesting_of_tree};
 ghost use Rattle.pj_xshape.specs.Shapes.{part_of_tree};
@@ -41,10 +40,7 @@ ghost use Rattle.pj_xsyntax_laws.specs.Gapped.{ArePieces, IsGap, Piece, gapped, 
 ghost use Rattle.pj_xsyntax_laws.specs.Printed.{function_name, printed};
 
 use pj_xderive::runs_end_before_faults;
-use pj_xparse::{
-    derivations_are_readings, derivations_are_trees, derived_expressions_fit,
-    readings_are_derivations, sayings_are_runs, tokens_are_well_spelled, trees_are_derivations,
-};
+use pj_xparse::{read_expressions_fit, tokens_are_well_spelled};
 use pj_xtokens::{
     gaps_stand_in_front, scanner_follows_the_rules, tokens_are_not_empty, tokens_are_one,
 };
@@ -72,35 +68,26 @@ pub fn strings_alone_have_spaces()
     ensures { (kind : TokenKind) (text : List ℕ) → lexical.Spells kind text → kind ≢ kinds.String → All (λ c. c ≢ 32) text }
 {}
 
-/// What the tokens of a text name stands in strictly ascending order: by offset, and at one offset an argument before what it names. That is so of the
-/// names by which a fault of the text is told, too: those that the tokens say as far as their terminals go.
+/// What the tokens of a text name, as far as their terminals go, stands in strictly ascending order: by offset, and at one offset an argument before what
+/// it names. By these names a fault of the text is told.
 pub fn mentions_ascend()
-    ensures runs { (total : ℕ) (text : List ℕ) (tokens : List Lexed) (end : End) (productions : List ℕ) → Tokens total text tokens end → IsRun tokens productions →
-        Ascend (positions (mentions productions tokens)) }
-    ensures said { (total : ℕ) (text : List ℕ) (tokens : List Lexed) (end : End) (a : Operand) → Tokens total text tokens end → SaySoFar tokens a → Ascend (positions a.names) }
+    ensures { (total : ℕ) (text : List ℕ) (tokens : List Lexed) (end : End) (a : Operand) → Tokens total text tokens end → SaySoFar tokens a → Ascend (positions a.names) }
 {
     gaps_stand_in_front();
-    sayings_are_runs();
     tokens_are_not_empty();
 }
 
 /// What the tokens of a text name stands before the place where the tokens have their fault, and where they have none before the end. So do the
-/// faults of it, and both are so of the names by which a fault of the text is told.
+/// faults of it.
 pub fn names_come_first()
-    ensures names { (total : ℕ) (text : List ℕ) (tokens : List Lexed) (end : End) (productions : List ℕ) (fault : outcome.End) → Tokens total text tokens end →
-        IsRun tokens productions → IsOutcome tokens fault → AreBelow (offset_at tokens end (place_of tokens fault)) (positions (mentions productions tokens)) }
-    ensures faults { (total : ℕ) (text : List ℕ) (tokens : List Lexed) (end : End) (productions : List ℕ) (fault : outcome.End) (variables : List (List ℕ)) (named : Fault) →
-        Tokens total text tokens end → IsRun tokens productions → IsOutcome tokens fault → HasFault (given variables) (mentions productions tokens) named →
-        (position_of named).from < offset_at tokens end (place_of tokens fault) }
-    ensures said_names { (total : ℕ) (text : List ℕ) (tokens : List Lexed) (end : End) (a : Operand) (fault : outcome.End) → Tokens total text tokens end →
+    ensures names { (total : ℕ) (text : List ℕ) (tokens : List Lexed) (end : End) (a : Operand) (fault : outcome.End) → Tokens total text tokens end →
         SaySoFar tokens a → IsOutcome tokens fault → AreBelow (offset_at tokens end (place_of tokens fault)) (positions a.names) }
-    ensures said_faults { (total : ℕ) (text : List ℕ) (tokens : List Lexed) (end : End) (a : Operand) (fault : outcome.End) (variables : List (List ℕ)) (named : Fault) →
+    ensures faults { (total : ℕ) (text : List ℕ) (tokens : List Lexed) (end : End) (a : Operand) (fault : outcome.End) (variables : List (List ℕ)) (named : Fault) →
         Tokens total text tokens end → SaySoFar tokens a → IsOutcome tokens fault → HasFault (given variables) a.names named →
         (position_of named).from < offset_at tokens end (place_of tokens fault) }
 {
     gaps_stand_in_front();
     runs_end_before_faults();
-    sayings_are_runs();
     tokens_are_not_empty();
 }
 
@@ -108,15 +95,11 @@ pub fn names_come_first()
 pub fn first_fault_is_first()
     ensures is_fault { (variables : List (List ℕ)) (mentions : List Mention) (fault : Fault) → first_fault variables mentions ≡ Some fault → HasFault (given variables) mentions fault }
     ensures none { (variables : List (List ℕ)) (mentions : List Mention) (fault : Fault) → first_fault variables mentions ≡ None → ¬ HasFault (given variables) mentions fault }
-    ensures first { (total : ℕ) (text : List ℕ) (tokens : List Lexed) (end : End) (productions : List ℕ) (variables : List (List ℕ)) (fault other : Fault) →
-        Tokens total text tokens end → IsRun tokens productions → first_fault variables (mentions productions tokens) ≡ Some fault →
-        HasFault (given variables) (mentions productions tokens) other → (other ≡ fault) ⊎ IsBefore (position_of fault) (position_of other) }
-    ensures said_first { (total : ℕ) (text : List ℕ) (tokens : List Lexed) (end : End) (a : Operand) (variables : List (List ℕ)) (fault other : Fault) →
+    ensures first { (total : ℕ) (text : List ℕ) (tokens : List Lexed) (end : End) (a : Operand) (variables : List (List ℕ)) (fault other : Fault) →
         Tokens total text tokens end → SaySoFar tokens a → first_fault variables a.names ≡ Some fault → HasFault (given variables) a.names other →
         (other ≡ fault) ⊎ IsBefore (position_of fault) (position_of other) }
 {
     gaps_stand_in_front();
-    sayings_are_runs();
     tokens_are_not_empty();
 }
 
@@ -125,9 +108,7 @@ pub fn first_fault_is_first()
 pub fn printed_expressions_are_read()
     ensures { (variables : List (List ℕ)) (t : Tree) → IsTrue ((part_of_tree t).fits (record { given = variables; bound = [] })) → nesting_of_tree t ≤ 200 → IsSpelled t → Spells variables (printed t) t }
 {
-    derivations_are_readings();
     scanner_follows_the_rules();
-    trees_are_derivations();
 }
 
 /// What any text spells is read again from its printed form: the text of Unicode scalar values, which the characters of every text
@@ -135,13 +116,9 @@ pub fn printed_expressions_are_read()
 pub fn spelled_expressions_are_printed()
     ensures { (variables : List (List ℕ)) (text : List ℕ) (t : Tree) → IsTrue (all_scalars text) → Spells variables text t → Spells variables (printed t) t }
 {
-    derivations_are_readings();
-    derivations_are_trees();
-    derived_expressions_fit();
-    readings_are_derivations();
+    read_expressions_fit();
     scanner_follows_the_rules();
     tokens_are_well_spelled();
-    trees_are_derivations();
 }
 
 /// Abbreviations stand for their longer forms: a text that spells an expression spells the same one where `@` and `|` are written out and literals of one

@@ -1,9 +1,6 @@
-use Rattle.pj_xnames.specs.Meaning.{mentions}
 use Rattle.pj_xsyntax_laws.specs.Every.{given}
-use Rattle.pj_xsyntax_laws.specs.Order.{Ascend, positions}
 use Rattle.pj_xsyntax_laws.proofs.Firsts.{has_first, has_none, first_before}
 use Rattle.pj_xsyntax_laws.proofs.NamedFirst.{names_ascend}
-use Rattle.pj_xsyntax_laws.proofs.Sayings.{of_sayings}
 use Rattle.pj_xsyntax_laws.proofs.laws.first_fault_is_first.Goals as goal
 
 pub returns-clause-is_fault : goal.returns-clause-is_fault
@@ -13,10 +10,5 @@ pub returns-clause-none : goal.returns-clause-none
 returns-clause-none c = λ variables. has_none (given variables)
 
 pub returns-clause-first : goal.returns-clause-first
-returns-clause-first c = λ total text tokens end productions variables fault other read run.
-    first_before (given variables) (mentions productions tokens) fault other (names_ascend c.gaps_stand_in_front.ensures c.tokens_are_not_empty.ensures total text tokens end productions read run)
-
-pub returns-clause-said_first : goal.returns-clause-said_first
-returns-clause-said_first c = λ total text tokens end a variables fault other read say.
-    first_before (given variables) a.names fault other
-    (of_sayings c.sayings_are_runs.ensures (λ ms. Ascend (positions ms)) tokens a say (λ productions run. names_ascend c.gaps_stand_in_front.ensures c.tokens_are_not_empty.ensures total text tokens end productions read run))
+returns-clause-first c = λ total text tokens end a variables fault other read say.
+    first_before (given variables) a.names fault other (names_ascend c.gaps_stand_in_front.ensures c.tokens_are_not_empty.ensures total text tokens end a read say)

@@ -1,4 +1,4 @@
-use Rattle.pj_xparse.specs.Reads.{parenthesized, inside}
+use Rattle.pj_xmeaning.specs.Reads.{parenthesized, inside}
 use Rattle.pj_xsyntax_laws.proofs.Expanding.{enclosed_spells}
 use Rattle.pj_xsyntax_laws.proofs.WholeReadings.{reading}
 use Rattle.pj_xsyntax_laws.proofs.laws.parentheses_leave_no_trace.Goals as goal
