@@ -1,6 +1,9 @@
 -- What the values of the code say.
 use Rattle.std.specs.Prelude.{ℕ, Bool, true, false, List, [], ◌∷◌, map, reverse}
 use Rattle.std.specs.Option.{option_map}
+use Rattle.std.specs.declared.alloc.Global.{Global}
+use Rattle.std.proofs.Common.{Box}
+use Rattle.pj_xoperators.specs.declared.operator.Compare.{Compare}
 use Rattle.pj_xvalue.specs.declared.expr.Expr.{Expr}
 use Rattle.pj_xvalue.specs.Trees.{Tree, tree_of}
 use Rattle.pj_xvalue.specs.Expressions.{Written, Literal, Number, Name, Other}
@@ -65,15 +68,22 @@ seen_given closed (argument ∷ more) = Next argument.0 (seen_reading argument.1
 abbrev pub seen_arguments : Given → Arguments
 seen_arguments given = seen_given given.closed given.list
 
+-- the second operand of a comparison with its operator, and the operand up to which another one ranges
+abbrev pub seen_second : Compare × Box Reading Global → Compare × Operand
+seen_second next = (next.0, seen_reading next.1.value)
+
+abbrev pub seen_last : Box Reading Global → Operand
+seen_last a = seen_reading a.value
+
 -- what a rule's tokens say
 abbrev pub seen_part : Part → RuleValue
 seen_part part.Missing = Missing
 seen_part part.Nothing = Nothing
-seen_part (part.One a) = One (seen_reading a)
+seen_part (part.One a) = One (seen_reading a.value)
 seen_part (part.Many list) = Many (map seen_reading list)
 seen_part (part.Bound list) = parts.Bound (map seen_bound list)
-seen_part (part.Compared second) = Compared (option_map seen_behind second)
-seen_part (part.UpTo last) = UpTo (option_map seen_reading last)
+seen_part (part.Compared second) = Compared (option_map seen_second second)
+seen_part (part.UpTo last) = UpTo (option_map seen_last last)
 seen_part (part.Sums list) = Sums (map seen_behind list)
 seen_part (part.Products list) = Products (map seen_behind list)
 seen_part (part.Sets list) = Sets (map seen_behind list)

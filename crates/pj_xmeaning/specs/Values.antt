@@ -1,7 +1,7 @@
 -- What the code makes of the productions of a derivation, by which it finds what tokens say. A production's action makes the value of its rule
 -- from the values of the rules in it, in their order, and from the tokens from the one on at which it begins (a grammar with synthesized
 -- attributes: Aho, Lam, Sethi, Ullman, section 5.2.3).
-use Rattle.std.specs.Prelude.{ℕ, true, false, List, [], ◌∷◌, Option, Some, None}
+use Rattle.std.specs.Prelude.{ℕ, Bool, true, false, List, [], ◌∷◌, Option, Some, None}
 use Rattle.pj_xvalue.specs.declared.axis.Axis.TheVariants as axis
 use Rattle.pj_xvalue.specs.declared.expr.NodeTest.{NodeTest}
 use Rattle.pj_xvalue.specs.declared.expr.NodeTest.TheVariants.{Name, AnyName, AnyNode, AnyElement}
@@ -125,6 +125,21 @@ operation_value operation.Sum first behind = mixed tree.Additive' (operand first
 operation_value operation.Product first behind = mixed tree.Multiplicative' (operand first) (products behind)
 operation_value operation.Sets first behind = mixed tree.IntersectExcept (operand first) (sets behind)
 operation_value operation.Operand first behind = operand first
+
+-- nothing stands behind an operand
+abbrev pub is_end : RuleValue → Bool
+is_end (Many []) = true
+is_end (Compared None) = true
+is_end (UpTo None) = true
+is_end (Sums []) = true
+is_end (Products []) = true
+is_end (Sets []) = true
+is_end Nothing = true
+is_end _ = false
+
+abbrev pub is_one : RuleValue → Bool
+is_one (One a) = true
+is_one _ = false
 
 abbrev pub binder_of : Binder → List (List ℕ) → Construct
 binder_of binding.For = tree.For

@@ -1,10 +1,10 @@
 //! Values of one other.
 
-ghost use Rattle.std.specs.Prelude.{◌≡◌, ◌∷◌, [], map, IfOk};
-ghost use Rattle.std.specs.Option.{option_map};
+ghost use Rattle.std.specs.Prelude.{◌≡◌, ◌∷◌, [], map, IfOk, Some};
 ghost use Rattle.pj_xtokens.specs.Answer.{lexed_of};
 ghost use Rattle.pj_xmeaning.specs.Mentions.{Variable};
 ghost use Rattle.pj_xmeaning.specs.Operands.{other, signed, variable, cut_variable};
+ghost use Rattle.pj_xmeaning.specs.Parts.{Compared, One, UpTo, operand};
 ghost use Rattle.pj_xmeaning.specs.Seen.{seen_mentions, seen_reading, seen_part};
 ghost use Rattle.pj_xmeaning.specs.Values.{up_to, variable_named, change_value, single_value};
 
@@ -15,16 +15,27 @@ use crate::step::{along, child_step, descendants, filtered, kind_test, named, pa
 use pj_base::{NoMemory, Text};
 use pj_xgrammar::{Change, Single};
 use pj_xtokens::{Token, begins_with_name, behind_first, first_from, first_text};
-use pj_xvalue::{Axis, Expr, NodeTest, Sign};
+use pj_xvalue::{Axis, Compare, Expr, NodeTest, Sign};
 use std::alloc::Global;
 
+/// The second operand of a comparison behind its operator.
+fn compared<'t>(alloc: Global, compare: Compare, part: Part<'t>) -> Result<Part<'t>, NoMemory>
+    ensures { IfOk result (λ made. seen_part made ≡ Compared (Some (compare, operand (seen_part part.entry)))) }
+{
+    let second = Box::new(alloc, part.into_reading(alloc))?;
+    Ok(Part::Compared(Some((compare, second))))
+}
+
 /// The operand up to which another one ranges, unless it is cut off.
-fn up_to<'t>(alloc: Global, part: Part<'t>) -> Option<Reading<'t>>
-    ensures { option_map seen_reading result ≡ up_to (seen_part part.entry) }
+fn up_to<'t>(alloc: Global, part: Part<'t>) -> Result<Part<'t>, NoMemory>
+    ensures { IfOk result (λ made. seen_part made ≡ UpTo (up_to (seen_part part.entry))) }
 {
     match part {
-        Part::Missing => None,
-        operand => Some(operand.into_reading(alloc)),
+        Part::Missing => Ok(Part::UpTo(None)),
+        operand => {
+            let last = Box::new(alloc, operand.into_reading(alloc))?;
+            Ok(Part::UpTo(Some(last)))
+        }
     }
 }
 
@@ -40,8 +51,8 @@ pub fn change<'t>(
     Ok(match change {
         Change::Bindings => Part::Bound(part.into_bound(alloc)),
         Change::Word => Part::Word(part.into_word()),
-        Change::Compared(compare) => Part::Compared(Some((compare, part.into_reading(alloc)))),
-        Change::UpTo => Part::UpTo(up_to(alloc, part)),
+        Change::Compared(compare) => compared(alloc, compare, part)?,
+        Change::UpTo => up_to(alloc, part)?,
         Change::NameTest => {
             let name = Text::from_str(alloc, part.into_word())?;
             Part::Test(NodeTest::Name(name))
@@ -158,5 +169,30 @@ pub fn single<'t>(
         Single::AnyNameStep => child_step(alloc, NodeTest::AnyName, part.into_readings(alloc)),
         Single::AxisStep => named(alloc, tokens, first_text(tokens), part),
         Single::Variable => variable_named(alloc, tokens, part),
+    }
+}
+
+/// The expression of the one rule, which is left as it is.
+fn same<'t>(alloc: Global, part: Part<'t>) -> Result<Part<'t>, NoMemory>
+    ensures { IfOk result (λ made. seen_part made ≡ One (operand (seen_part part.entry))) }
+{
+    match part {
+        Part::One(reading) => Ok(Part::One(reading)),
+        other => Part::of_reading(alloc, other.into_reading(alloc)),
+    }
+}
+
+/// The value of the expression that a production makes of the value of its rule, where it begins with the first of the tokens.
+pub fn expression<'t>(
+    alloc: Global,
+    action: Single,
+    tokens: &[Token<'t>],
+    part: Part<'t>,
+) -> Result<Part<'t>, NoMemory>
+    ensures { IfOk result (λ made. seen_part made ≡ One (single_value action (map lexed_of tokens.now) (seen_part part.entry))) }
+{
+    match action {
+        Single::Same => same(alloc, part),
+        _ => Part::of_reading(alloc, single(alloc, action, tokens, part)?),
     }
 }

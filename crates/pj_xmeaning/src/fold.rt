@@ -11,7 +11,7 @@ ghost use Rattle.pj_xmeaning.specs.Seen.{seen_part, seen_parts, seen_reading};
 ghost use Rattle.pj_xmeaning.specs.SoFar.{SayUpTo};
 ghost use Rattle.pj_xmeaning.specs.Values.{made, left, acted, said_by};
 
-use crate::change::{change, single};
+use crate::change::{change, expression};
 use crate::clause::{binding, bound, choice};
 use crate::laws::made_is_said;
 use crate::leaf::leaf;
@@ -39,23 +39,23 @@ fn made<'t>(
     match action {
         Action::Leaf(action) => leaf(alloc, action, tokens),
         Action::Change(action) => change(alloc, action, tokens, take(parts)),
-        Action::Single(action) => Ok(Part::One(single(alloc, action, tokens, take(parts))?)),
+        Action::Single(action) => expression(alloc, action, tokens, take(parts)),
         Action::Rest(action) => rest(alloc, action, tokens, take(parts), take(parts)),
         Action::Operation(action) => {
             let (first, behind) = (take(parts), take(parts));
-            Ok(Part::One(operation(alloc, action, first, behind)?))
+            operation(alloc, action, first, behind)
         }
         Action::Binder(action) => {
             let (variables, body) = (take(parts), take(parts));
-            Ok(Part::One(bound(alloc, action, variables, body)?))
+            Part::of_reading(alloc, bound(alloc, action, variables, body)?)
         }
         Action::Step(action) => {
             let (first, behind) = (take(parts), take(parts));
-            Ok(Part::One(step(alloc, action, tokens, first, behind)?))
+            Part::of_reading(alloc, step(alloc, action, tokens, first, behind)?)
         }
         Action::If => {
             let (test, yes, no) = (take(parts), take(parts), take(parts));
-            Ok(Part::One(choice(alloc, test, yes, no)?))
+            Part::of_reading(alloc, choice(alloc, test, yes, no)?)
         }
         Action::Binding => {
             let (name, value, others) = (take(parts), take(parts), take(parts));

@@ -4,7 +4,8 @@ ghost use Rattle.std.specs.Prelude.{◌≡◌, map, IfOk};
 ghost use Rattle.std.specs.Option.{option_map};
 ghost use Rattle.pj_xvalue.specs.Trees.{Additive', Multiplicative', IntersectExcept, node, tree_of};
 ghost use Rattle.pj_xmeaning.specs.Operands.{operations, names_behind, chain, mixed, compared, ranging};
-ghost use Rattle.pj_xmeaning.specs.Seen.{behind_of, seen_behind, seen_mentions, seen_reading, seen_part};
+ghost use Rattle.pj_xmeaning.specs.Seen.{behind_of, seen_behind, seen_last, seen_mentions, seen_part, seen_reading, seen_second};
+ghost use Rattle.pj_xmeaning.specs.Parts.{One};
 ghost use Rattle.pj_xmeaning.specs.Values.{construct_of, operation_value};
 
 use crate::front::Front;
@@ -71,12 +72,13 @@ fn chain<'t>(
 fn comparison<'t>(
     alloc: Global,
     first: Reading<'t>,
-    behind: Option<(Compare, Reading<'t>)>,
+    behind: Option<(Compare, Box<Reading<'t>>)>,
 ) -> Result<Reading<'t>, NoMemory>
-    ensures { IfOk result (λ made. seen_reading made ≡ compared (seen_reading first.entry) (option_map seen_behind behind.entry)) }
+    ensures { IfOk result (λ made. seen_reading made ≡ compared (seen_reading first.entry) (option_map seen_second behind.entry)) }
 {
     match behind {
         Some((compare, second)) => {
+            let second = Box::into_inner(second);
             let left = Box::new(alloc, first.expr)?;
             let right = Box::new(alloc, second.expr)?;
             let names = before(first.names, second.names)?;
@@ -91,12 +93,13 @@ fn comparison<'t>(
 fn range<'t>(
     alloc: Global,
     first: Reading<'t>,
-    behind: Option<Reading<'t>>,
+    behind: Option<Box<Reading<'t>>>,
 ) -> Result<Reading<'t>, NoMemory>
-    ensures { IfOk result (λ made. seen_reading made ≡ ranging (seen_reading first.entry) (option_map seen_reading behind.entry)) }
+    ensures { IfOk result (λ made. seen_reading made ≡ ranging (seen_reading first.entry) (option_map seen_last behind.entry)) }
 {
     match behind {
         Some(last) => {
+            let last = Box::into_inner(last);
             let from = Box::new(alloc, first.expr)?;
             let to = Box::new(alloc, last.expr)?;
             let names = before(first.names, last.names)?;
@@ -161,7 +164,7 @@ fn sets<'t>(
 }
 
 /// The expression of an operand and what stands behind it.
-pub fn operation<'t>(
+fn operated<'t>(
     alloc: Global,
     operation: Operation,
     first: Part<'t>,
@@ -182,4 +185,22 @@ pub fn operation<'t>(
             Ok(operand)
         }
     }
+}
+
+/// The value of an operand and what stands behind it. An operand behind which nothing stands is left as it is, since each one comes through all
+/// levels of operators.
+#[tactic(auto, using(crate::proofs::Chains::left_alone))]
+pub fn operation<'t>(
+    alloc: Global,
+    operation: Operation,
+    first: Part<'t>,
+    behind: Part<'t>,
+) -> Result<Part<'t>, NoMemory>
+    ensures { IfOk result (λ made. seen_part made ≡ One (operation_value operation (seen_part first.entry) (seen_part behind.entry))) }
+{
+    if first.is_one() && behind.is_end() {
+        behind.let_go();
+        return Ok(first);
+    }
+    Part::of_reading(alloc, operated(alloc, operation, first, behind)?)
 }

@@ -1,12 +1,15 @@
 //! The values of rules.
 
-ghost use Rattle.std.specs.Prelude.{◌≡◌, map};
+ghost use Rattle.std.specs.Prelude.{◌≡◌, map, IfOk};
 ghost use Rattle.std.specs.Option.{option_map};
 ghost use Rattle.pj_xmeaning.specs.Parts.{operand, operands, bindings, comparison, range, sums, products, sets, arguments, test, parentheses, word};
-ghost use Rattle.pj_xmeaning.specs.Seen.{seen_reading, seen_behind, seen_bound, seen_arguments, seen_part};
+ghost use Rattle.pj_xmeaning.specs.Seen.{seen_reading, seen_behind, seen_second, seen_last, seen_bound, seen_arguments, seen_part};
+ghost use Rattle.pj_xmeaning.specs.Parts.{One};
+ghost use Rattle.pj_xmeaning.specs.Values.{is_end, is_one};
 
 use crate::front::Front;
 use crate::operand::{Bound, Given, Reading};
+use pj_base::NoMemory;
 use pj_xvalue::{Additive, Compare, Multiplicative, NodeTest, SetOperator};
 use std::alloc::Global;
 
@@ -18,15 +21,15 @@ pub enum Part<'t> {
     /// None: what could be left out is not there.
     Nothing,
     /// An expression.
-    One(Reading<'t>),
+    One(Box<Reading<'t>>),
     /// Expressions in a row: operands, steps or predicates.
     Many(Front<Reading<'t>>),
     /// Variables with their expressions.
     Bound(Front<Bound<'t>>),
     /// The second operand of a comparison with the operator before it, if there is one.
-    Compared(Option<(Compare, Reading<'t>)>),
+    Compared(Option<(Compare, Box<Reading<'t>>)>),
     /// The operand up to which another one ranges, if there is one.
-    UpTo(Option<Reading<'t>>),
+    UpTo(Option<Box<Reading<'t>>>),
     /// Operands of a sum, each with the operator before it.
     Sums(Front<(Additive, Reading<'t>)>),
     /// Operands of a product, each with the operator before it.
@@ -50,6 +53,39 @@ pub enum Part<'t> {
 }
 
 impl<'t> Part<'t> {
+    /// The value of an expression.
+    pub fn of_reading(alloc: Global, reading: Reading<'t>) -> Result<Part<'t>, NoMemory>
+        ensures { IfOk result (λ made. seen_part made ≡ One (seen_reading reading.entry)) }
+    {
+        Ok(Part::One(Box::new(alloc, reading)?))
+    }
+
+    /// Whether it is an expression.
+    pub fn is_one(&self) -> bool
+        ensures { result ≡ is_one (seen_part self.now) }
+    {
+        match self {
+            Part::One(_) => true,
+            _ => false,
+        }
+    }
+
+    /// Whether it says that nothing stands behind an operand.
+    pub fn is_end(&self) -> bool
+        ensures { result ≡ is_end (seen_part self.now) }
+    {
+        match self {
+            Part::Many(list) => list.is_empty(),
+            Part::Compared(second) => second.is_none(),
+            Part::UpTo(last) => last.is_none(),
+            Part::Sums(list) => list.is_empty(),
+            Part::Products(list) => list.is_empty(),
+            Part::Sets(list) => list.is_empty(),
+            Part::Nothing => true,
+            _ => false,
+        }
+    }
+
     /// Frees what it holds.
     pub fn let_go(self) {}
 
@@ -58,7 +94,7 @@ impl<'t> Part<'t> {
         ensures { seen_reading result ≡ operand (seen_part self.entry) }
     {
         match self {
-            Part::One(reading) => reading,
+            Part::One(reading) => Box::into_inner(reading),
             other => {
                 other.let_go();
                 Reading::nothing(alloc)
@@ -93,8 +129,8 @@ impl<'t> Part<'t> {
     }
 
     /// The second operand of a comparison with the operator before it, if there is one.
-    pub fn into_compared(self) -> Option<(Compare, Reading<'t>)>
-        ensures { option_map seen_behind result ≡ comparison (seen_part self.entry) }
+    pub fn into_compared(self) -> Option<(Compare, Box<Reading<'t>>)>
+        ensures { option_map seen_second result ≡ comparison (seen_part self.entry) }
     {
         match self {
             Part::Compared(second) => second,
@@ -106,8 +142,8 @@ impl<'t> Part<'t> {
     }
 
     /// The operand up to which another one ranges, if there is one.
-    pub fn into_range(self) -> Option<Reading<'t>>
-        ensures { option_map seen_reading result ≡ range (seen_part self.entry) }
+    pub fn into_range(self) -> Option<Box<Reading<'t>>>
+        ensures { option_map seen_last result ≡ range (seen_part self.entry) }
     {
         match self {
             Part::UpTo(last) => last,
