@@ -1,7 +1,7 @@
 use Rattle.std.proofs.Common.{map, Some, sym, ap, ◌∙◌}
 use Rattle.std.specs.Option.{option_map}
 use Rattle.pj_rule_sets.specs.Calls.{called}
-use Rattle.pj_xparse.proofs.Parsed.{read_slice}
+use Rattle.pj_rule_sets.proofs.Slices.{read_slice}
 use Rattle.pj_xtokens.specs.Answer.{lexed_of}
 use Rattle.pj_rule_sets.proofs.calls.judge_calls.Goals as goal
 
