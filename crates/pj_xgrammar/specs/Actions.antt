@@ -1,5 +1,5 @@
--- What the productions make: for each rule of the grammar an action for each of its productions, in their order. What the actions
--- make is in `Values` of pj_xmeaning. The comments are the sections of XPath 2.0, A.1, as in the grammar.
+-- What the productions make, by name: for each rule of the grammar an action for each of its productions, in their order. What the actions
+-- make of the values of rules is not said here. The comments are the sections of XPath 2.0, A.1, as in the grammar.
 use Rattle.std.specs.Prelude.{ℕ, List, [], ◌∷◌, ◌++◌, Option, Some, None, slice_get}
 use Rattle.pj_xoperators.specs.declared.operator.Compare.TheVariants as compare
 use Rattle.pj_xoperators.specs.declared.operator.Additive.TheVariants as sum

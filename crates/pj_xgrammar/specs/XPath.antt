@@ -1,6 +1,6 @@
 -- The grammar of expressions: the productions of each rule. Rule `Expr` is a whole expression.
 --
--- It is XPath 2.0, A.1, in its order, with `let`, `||` and `!` of XPath 3.1, in a form that needs one token of lookahead: where the
+-- It is XPath 2.0, A.1, in its order but for the names of variables, which stand at the end, with `let`, `||` and `!` of XPath 3.1, in a form that needs one token of lookahead: where the
 -- standard repeats operands with operators between them, a rule `..Tail` has an operator, the next operand and the rest; and
 -- where two productions of the standard begin with one token, as a call and a node test do, a rule has what stands behind it.
 -- The notation is that of `Notation`.

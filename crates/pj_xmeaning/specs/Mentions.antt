@@ -31,7 +31,7 @@ pub data Mention : Type 0 where
   -- a variable; the offset is that of its `$`
   Variable : List ℕ → ℕ → Mention
   -- A call of a function with so many arguments; the offset is that of its name. Where its `)` is not there, and no function has the name, the
-  -- number is that of the arguments that are begun, and decides nothing.
+  -- number is that of the arguments up to where the tokens are cut off, with the one that could begin there, and decides nothing.
   Call : List ℕ → ℕ → ℕ → Mention
   -- an argument of this role, as it is written; the offset is that of its first token
   Argument : Role → Written → ℕ → Mention

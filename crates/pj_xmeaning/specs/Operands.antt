@@ -57,6 +57,7 @@ chain construct first (second ∷ more) = other (node construct (first.tree ∷ 
 abbrev pub operations : {Operator : Type 0} → List (Operator × Operand) → List (Operator × Tree)
 operations operands = map (λ next. (next.0, next.1.tree)) operands
 
+-- what the operands behind operators name
 abbrev pub names_behind : {Operator : Type 0} → List (Operator × Operand) → List Mention
 names_behind [] = []
 names_behind (next ∷ more) = next.1.names ++ names_behind more
@@ -100,6 +101,7 @@ scopes_of bindings = map (λ binding. (binding.name, binding.bound.names)) bindi
 abbrev pub bound : (List (List ℕ) → Construct) → List Binding → Operand → Operand
 bound construct bindings body = other (binder construct (bindings_of bindings) body.tree) (scoped (scopes_of bindings) 0 body.names)
 
+-- `if`, with its test and the two expressions between which it chooses
 abbrev pub chosen : Operand → Operand → Operand → Operand
 chosen test yes_part no_part =
     other (node tree.If (test.tree ∷ yes_part.tree ∷ no_part.tree ∷ [])) (test.names ++ yes_part.names ++ no_part.names)
@@ -135,7 +137,7 @@ rooted steps = other (node tree.Path (alone tree.Root ∷ trees_of steps)) (name
 abbrev pub descendants : Operand
 descendants = other forms.descendants []
 
--- one step alone is no path
+-- One step alone is no path. The grammar has no path without steps; the first row serves beginnings of expressions alone.
 abbrev pub path : List Operand → Operand
 path [] = other (node tree.Path []) []
 path (only ∷ []) = only

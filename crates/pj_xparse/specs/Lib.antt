@@ -2,7 +2,7 @@
 pub mod NameFaults
 pub mod Spells
 pub mod Faults
--- laws
+-- for laws
 pub mod WellSpelled
 -- for private clauses
 pub mod Bound

@@ -8,7 +8,7 @@ use pj_base::NoMemory;
 use std::alloc::Global;
 use std::collections::BTreeMap;
 
-/// The names of bound variables, which are looked up by how often each is bound: so many variables cost no more than their names.
+/// The names of bound variables, which are looked up by how often each is bound: so many variables do not stand in each other's way.
 #[derive(Drop)]
 pub struct BoundNames<'t> {
     /// The names, of which the one that was bound last stands last.

@@ -9,6 +9,6 @@ pub mod Rules
 pub mod Signs
 pub mod Size
 pub mod Tokens
--- what the scanner computes: for private clauses, and for the law that it follows the rules
+-- what the scanner computes: for private clauses, and for the laws that it follows the rules and that gaps stand in front
 pub mod Scanning
 pub mod States

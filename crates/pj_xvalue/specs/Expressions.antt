@@ -1,5 +1,5 @@
 -- Which values of `Expr` are expressions. What the parser reads of a text is one. That each of them is what some text spells is said
--- nowhere: the printer says under which further conditions its text is read as the value again.
+-- nowhere: its printed form is, under further conditions that are said with that form.
 use Rattle.std.specs.Prelude.{ℕ, ◌+◌, ◌≤◌, ℤ, pos, negsuc, Bool, true, false, not, ◌&&◌, ◌||◌, List, [], ◌∷◌, length, map, Option, Some, None, IsTrue, if◌then◌else◌, nat_le, nat_lt, nat_eq, max, codes}
 use Rattle.std.specs.List.{list_all, list_any}
 use Rattle.pj_xvalue.specs.declared.function.Function.{Function}
@@ -227,8 +227,8 @@ part_step layer = record { written = written_as layer; level = level_of layer; n
 unfoldable pub part_of : Expr → Part
 part_of = fold-Expr Part part_step
 
--- That the value is an expression, where the rule set gives these variables: some text spells it, whose nesting is at
--- most 200.
+-- That the value is an expression, where the rule set gives these variables: it may stand where these are there, and its nesting is at
+-- most 200. Under which further conditions some text spells it is said with its printed form.
 pub record IsExpression (variables : List (List ℕ)) (e : Expr) : Type 0 where
   pub fits : IsTrue ((part_of e).fits (record { given = variables; bound = [] }))
   pub shallow : (part_of e).nesting ≤ 200
