@@ -29,7 +29,7 @@ step (suc (suc (suc (suc (suc (suc (suc (suc (suc (suc (suc (suc (suc (suc zero)
 step (suc (suc (suc (suc (suc (suc (suc (suc (suc (suc (suc (suc (suc (suc (suc more))))))))))))))) depth xs ys a r = r
 
 -- each lower level
-climb : (up level depth : ℕ) (xs ys : List Lexed) (a : Operand) → at (up + level) depth xs ys a → at level depth xs ys a
+pub climb : (up level depth : ℕ) (xs ys : List Lexed) (a : Operand) → at (up + level) depth xs ys a → at level depth xs ys a
 climb zero level depth xs ys a r = subst (λ n. at n depth xs ys a) (let e : zero + level ≡ level = omega arith in e) r
 climb (suc up) level depth xs ys a r =
     climb up level depth xs ys a (step (up + level) depth xs ys a (subst (λ n. at n depth xs ys a) (let e : suc up + level ≡ suc (up + level) = omega arith in e) r))

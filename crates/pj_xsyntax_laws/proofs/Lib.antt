@@ -17,6 +17,7 @@ pub mod Mentions
 pub mod Follows
 pub mod Readings
 pub mod Climbing
+pub mod Superfluous
 pub mod Levels
 pub mod Enclosing
 pub mod Operands
@@ -41,8 +42,10 @@ pub mod Trees
 pub mod PrintedWords
 pub mod Reread
 pub mod Placeless
+pub mod FunctionNames
 pub mod WholeReadings
 pub mod Looks
+pub mod NoParenthesis
 pub mod Expanding
 pub mod Prefixes
 pub mod Gapping

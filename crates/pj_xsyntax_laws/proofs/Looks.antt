@@ -1,5 +1,5 @@
 -- Tokens where abbreviations are written out: what they are for the token before them, and as which terminals they are taken.
-use Rattle.std.proofs.Common.{◌≡◌, ℕ, suc, ◌≤◌, Bool, true, false, cond, ◌||◌, List, [], ◌∷◌, Option, Some, None, refl, sym, ◌∙◌, ap, subst, codes, eq-eqb, arith}
+use Rattle.std.proofs.Common.{◌≡◌, ℕ, suc, ◌≤◌, Bool, true, false, cond, ◌||◌, ◌&&◌, List, [], ◌∷◌, Option, Some, None, refl, sym, ◌∙◌, ap, subst, codes, eq-eqb, arith}
 use Rattle.std.specs.Prelude.{not, nat_eq, nat_lt}
 use Rattle.std.proofs.lemmas.Bool.{false≢true}
 use Rattle.pj_ll.specs.declared.grammar.Symbol.{Symbol}
@@ -11,7 +11,7 @@ use Rattle.pj_xtokens.specs.declared.token.Sign.TheVariants as s
 use Rattle.pj_xtokens.specs.declared.token.TokenKind.{TokenKind}
 use Rattle.pj_xtokens.specs.declared.token.TokenKind.TheVariants as kind
 use Rattle.pj_xgrammar.specs.XPath.{greatest_nesting}
-use Rattle.pj_xgrammar.specs.Notation.{t, string, number_of}
+use Rattle.pj_xgrammar.specs.Notation.{t, name, string, number_of}
 use Rattle.pj_xgrammar.specs.Words.{word_of, same}
 use Rattle.pj_xgrammar.specs.declared.word.Phrase.{Phrase}
 use Rattle.pj_xgrammar.specs.declared.word.Phrase.TheVariants as p
@@ -21,11 +21,13 @@ use Rattle.pj_xgrammar.specs.declared.terminal.Behind.{Behind}
 use Rattle.pj_xgrammar.specs.declared.terminal.Behind.TheVariants as b
 use Rattle.pj_xgrammar.specs.declared.terminal.Terminal.TheVariants as terminal
 use Rattle.pj_xgrammar.specs.Terminals.{first_behind, kind_behind, begins_step, is_dollar, is_parenthesis, is_brace, is_as, is_of, makes_phrase, word_terminal, sign_terminal, kind_terminal, terminal_of, terminal_number}
-use Rattle.pj_xtokens.specs.First.{first_text}
+use Rattle.pj_xtokens.specs.First.{first_text, begins_with_parenthesis}
 use Rattle.pj_xtokens.specs.Literals.{string_of}
+use Rattle.pj_xvalue.specs.Names.{callee_of}
 use Rattle.pj_xmeaning.specs.Reach.{All}
 use Rattle.pj_xmeaning.specs.Reads.{Takes, token, cut, IsAmong, here, further}
-use Rattle.pj_xsyntax_laws.specs.Abbreviations.{sign, word, WrittenOut, done, kept, descendants, attribute, parent, union, literal}
+use Rattle.pj_xsyntax_laws.specs.Abbreviations.{sign, word, WrittenOut, done, kept, descendants, attribute, parent, union, literal, function}
+use Rattle.pj_xsyntax_laws.proofs.FunctionNames.{name_of_function, behind_functions}
 
 -- ---- how deep it is
 
@@ -81,6 +83,7 @@ phrase_same q (attribute from a c more) phrase = both_quiet phrase (b.Sign s.At)
 phrase_same q (parent room from a c d e f more) phrase = both_quiet phrase (b.Sign s.DotDot) b.Name (refl, refl, refl, refl, refl) (refl, refl, refl, refl, refl)
 phrase_same q (union from a more) phrase = both_quiet phrase (b.Sign s.Bar) b.Name (refl, refl, refl, refl, refl) (refl, refl, refl, refl, refl)
 phrase_same q (literal from a e more) phrase = refl
+phrase_same q (function {v = v} {w = w} {callee = called} from a e f g more) phrase = ap (makes_phrase phrase) (behind_functions v called e ∙ sym (behind_functions w called f))
 
 pub at_end : LooksEnd []
 at_end = λ phrase. refl
@@ -133,10 +136,14 @@ among_is is x (xs ∷ lines) h (further more) = among_is is x lines h.1 more
 
 -- ---- a token that is no abbreviation
 
--- the terminal of this number is that of no token that can be written out
-abbrev pub stays : ℕ → Bool
-stays n =
+-- the terminal of this number is that of a name, or of no token that can be written out
+abbrev pub stays_or_name : ℕ → Bool
+stays_or_name n =
     not (nat_eq n (number_of (codes "//")) || (nat_eq n (number_of (codes "@")) || (nat_eq n (number_of (codes "..")) || (nat_eq n (number_of (codes "|")) || nat_eq n 4))))
+
+-- it is that of no token that can be written out; a name can, where it calls a function
+abbrev pub stays : ℕ → Bool
+stays n = not (nat_eq n 0) && stays_or_name n
 
 -- the terminal is taken of the written out tokens, too
 pub record On (nests : Bool) (end : List Lexed) (depth : ℕ) (x : Symbol) (xs ys out : List Lexed) : Type 0 where
@@ -165,6 +172,7 @@ on q (token {number = n} e few) p h (attribute from a c more) = absurd (no_stay 
 on q (token {number = n} e few) p h (parent room from a c d f g more) = absurd (no_stay (number_of (codes "..")) n e h refl)
 on q (token {number = n} e few) p h (union from a more) = absurd (no_stay (number_of (codes "|")) n e h refl)
 on q (token {number = n} e few) p h (literal from a l more) = absurd (no_stay 4 n e h refl)
+on q (token {xs = xs} {number = n} e few) p h (function {v = v} {callee = called} from a l f g more) = absurd (no_stay 0 n (sym (name_of_function v called (first_behind b.End xs) l) ∙ e) h refl)
 on q (cut c) p h w = absurd c
 
 -- ---- tokens that may be
@@ -192,6 +200,7 @@ on_slashes q (token e few) p (attribute from a c more) = wrong (number_of (codes
 on_slashes q (token e few) p (parent room from a c d f g more) = wrong (number_of (codes "..")) (number_of (codes "//")) e refl
 on_slashes q (token e few) p (union from a more) = wrong (number_of (codes "|")) (number_of (codes "//")) e refl
 on_slashes q (token e few) p (literal from a l more) = wrong 4 (number_of (codes "//")) e refl
+on_slashes q (token {xs = xs} e few) p (function {v = v} {callee = called} from a l f g more) = wrong 0 (number_of (codes "//")) (sym (name_of_function v called (first_behind b.End xs) l) ∙ e) refl
 on_slashes q (cut c) p w = absurd c
 
 -- `@`
@@ -211,6 +220,7 @@ on_at q (token e few) p (descendants room from a c d f g i j more) = wrong (numb
 on_at q (token e few) p (parent room from a c d f g more) = wrong (number_of (codes "..")) (number_of (codes "@")) e refl
 on_at q (token e few) p (union from a more) = wrong (number_of (codes "|")) (number_of (codes "@")) e refl
 on_at q (token e few) p (literal from a l more) = wrong 4 (number_of (codes "@")) e refl
+on_at q (token {xs = xs} e few) p (function {v = v} {callee = called} from a l f g more) = wrong 0 (number_of (codes "@")) (sym (name_of_function v called (first_behind b.End xs) l) ∙ e) refl
 on_at q (cut c) p w = absurd c
 
 -- `..`
@@ -231,6 +241,7 @@ on_dots q (token e few) p (descendants room from a c d f g i j more) = wrong (nu
 on_dots q (token e few) p (attribute from a c more) = wrong (number_of (codes "@")) (number_of (codes "..")) e refl
 on_dots q (token e few) p (union from a more) = wrong (number_of (codes "|")) (number_of (codes "..")) e refl
 on_dots q (token e few) p (literal from a l more) = wrong 4 (number_of (codes "..")) e refl
+on_dots q (token {xs = xs} e few) p (function {v = v} {callee = called} from a l f g more) = wrong 0 (number_of (codes "..")) (sym (name_of_function v called (first_behind b.End xs) l) ∙ e) refl
 on_dots q (cut c) p w = absurd c
 
 -- `|`
@@ -250,6 +261,7 @@ on_bar q (token e few) p (descendants room from a c d f g i j more) = wrong (num
 on_bar q (token e few) p (attribute from a c more) = wrong (number_of (codes "@")) (number_of (codes "|")) e refl
 on_bar q (token e few) p (parent room from a c d f g more) = wrong (number_of (codes "..")) (number_of (codes "|")) e refl
 on_bar q (token e few) p (literal from a l more) = wrong 4 (number_of (codes "|")) e refl
+on_bar q (token {xs = xs} e few) p (function {v = v} {callee = called} from a l f g more) = wrong 0 (number_of (codes "|")) (sym (name_of_function v called (first_behind b.End xs) l) ∙ e) refl
 on_bar q (cut c) p w = absurd c
 
 -- a string's literal
@@ -266,7 +278,28 @@ on_string q (token e few) p (descendants room from a c d f g i j more) = wrong (
 on_string q (token e few) p (attribute from a c more) = wrong (number_of (codes "@")) 4 e refl
 on_string q (token e few) p (parent room from a c d f g more) = wrong (number_of (codes "..")) 4 e refl
 on_string q (token e few) p (union from a more) = wrong (number_of (codes "|")) 4 e refl
+on_string q (token {xs = xs} e few) p (function {v = v} {callee = called} from a l f g more) = wrong 0 4 (sym (name_of_function v called (first_behind b.End xs) l) ∙ e) refl
 on_string q (cut c) p w = absurd c
+
+-- a name, which is as it was or calls the same function
+pub data OnName (nests : Bool) (end : List Lexed) (depth : ℕ) (x : Symbol) (xs ys out : List Lexed) : Type 0 where
+  name_kept : On nests end depth x xs ys out → OnName nests end depth x xs ys out
+  as_function : {rest : List Lexed} → Takes All depth name out rest → WrittenOut nests end ys rest → callee_of (first_text xs) ≡ callee_of (first_text out) → begins_with_parenthesis ys ≡ true →
+      OnName nests end depth x xs ys out
+
+no_name : (m n : ℕ) → m ≡ n → stays_or_name n ≡ true → stays_or_name m ≡ false → ⊥
+no_name m n e h g = false≢true (sym g ∙ subst (λ k. stays_or_name k ≡ true) (sym e) h)
+
+pub on_name : {nests : Bool} {end : List Lexed} → LooksEnd end → {deep depth : ℕ} {x : Symbol} {xs ys out : List Lexed} → Takes All deep x xs ys → HasRoom nests deep depth → symbol_is stays_or_name x ≡ true → WrittenOut nests end xs out → OnName nests end depth x xs ys out
+on_name q (token {x = x} e few) p h (kept from slash more) = name_kept (still q x from slash more e (fewer p few))
+on_name q (token e few) p h (function {v = v} {w = w} {callee = called} {ys = rest} from a l f g more) =
+    as_function (token (name_of_function w called (first_behind b.End rest) f) (fewer p few)) more (l ∙ sym f) g
+on_name q (token {number = n} e few) p h (descendants room from a c d f g i j more) = absurd (no_name (number_of (codes "//")) n e h refl)
+on_name q (token {number = n} e few) p h (attribute from a c more) = absurd (no_name (number_of (codes "@")) n e h refl)
+on_name q (token {number = n} e few) p h (parent room from a c d f g more) = absurd (no_name (number_of (codes "..")) n e h refl)
+on_name q (token {number = n} e few) p h (union from a more) = absurd (no_name (number_of (codes "|")) n e h refl)
+on_name q (token {number = n} e few) p h (literal from a l more) = absurd (no_name 4 n e h refl)
+on_name q (cut c) p h w = absurd c
 
 -- ---- the token with which a step begins
 

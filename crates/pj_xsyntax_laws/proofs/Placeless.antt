@@ -1,7 +1,9 @@
--- What is read without the offsets of what it names: what is made of things that agree so agrees.
+-- What is read without the offsets of what it names, and with one name for each function: what is made of things that agree so agrees.
 use Rattle.std.proofs.Common.{◌≡◌, ℕ, suc, ◌+◌, Bool, true, false, List, [], ◌∷◌, ◌++◌, map, length, Option, Some, None, refl, sym, ◌∙◌, ap}
 use Rattle.std.proofs.lemmas.Bool.{false≢true}
 use Rattle.std.proofs.lemmas.List.{map-append}
+use Rattle.std.specs.Str.{encode_utf8_all}
+use lib.Utf8.{encode}
 use Rattle.pj_xvalue.specs.declared.axis.Axis.{Axis}
 use Rattle.pj_xoperators.specs.declared.operator.Compare.{Compare}
 use Rattle.pj_xvalue.specs.declared.expr.NodeTest.{NodeTest}
@@ -16,21 +18,36 @@ use Rattle.pj_xtokens.specs.Literals.{integer_of, string_of}
 use Rattle.pj_xtokens.specs.First.{first_text, first_from}
 use Rattle.pj_xvalue.specs.Names.{callee_of, axis_of}
 use Rattle.pj_xvalue.specs.declared.name.Callee.{Callee}
+use Rattle.pj_xvalue.specs.declared.name.Callee.TheVariants as callee
 use Rattle.pj_xvalue.specs.Trees as tree
 use Rattle.pj_xvalue.specs.Trees.{Tree, Construct, node, alone, binder, operated}
 use Rattle.pj_xmeaning.specs.Steps as forms
 use Rattle.pj_xmeaning.specs.Mentions as mention
-use Rattle.pj_xmeaning.specs.Mentions.{Mention, roles_named, scoped}
+use Rattle.pj_xmeaning.specs.Mentions.{Mention, roles_in, roles_named, scoped}
 use Rattle.pj_xparse.specs.NameFaults as fault
-use Rattle.pj_xparse.specs.NameFaults.{Fault, first_fault_from, first_fault, fault_in, scope_behind, unless, earlier, is_bound, is_function, fits_role}
+use Rattle.pj_xparse.specs.NameFaults.{Fault, first_fault_from, first_fault, fault_in, scope_behind, unless, earlier, is_bound, is_function, callee_takes, fits_role}
 use Rattle.pj_xmeaning.specs.declared.role.Role.{Role}
 use Rattle.pj_xmeaning.specs.Operands.{Operand, Binding, Arguments, Closed, Open, Next, Behind, Test, Called, Predicates, Value, other, trees_of, names_of, names_behind, operations, bindings_of, scopes_of, arguments_in, is_closed, judged, in_roles, told, chain, mixed, compared, ranging, signed, bound, chosen, variable, integer_literal, string_literal, rooted, path, step, child_step, attribute_step, axis_step, filtered, kind_test, call, named}
+use Rattle.pj_xsyntax_laws.specs.Printed.{function_name, pmd_function_name}
+use Rattle.pj_xsyntax_laws.proofs.Tables.{function-meaning, pmd-meaning}
 
 -- ---- without offsets
 
+-- the name by which a function is called, whatever name the text has for it; none, where there is no function
+abbrev name_called : Option Callee → List ℕ
+name_called None = []
+name_called (Some (callee.XPath f)) = encode_utf8_all (function_name f)
+name_called (Some (callee.Pmd f)) = encode_utf8_all (pmd_function_name f)
+
+calls : (called : Option Callee) → callee_of (name_called called) ≡ called
+unfolding callee_of encode
+calls None = refl
+calls (Some (callee.XPath f)) = function-meaning f
+calls (Some (callee.Pmd f)) = pmd-meaning f
+
 abbrev pub unplaced : Mention → Mention
 unplaced (mention.Variable name from) = mention.Variable name 0
-unplaced (mention.Call name count from) = mention.Call name count 0
+unplaced (mention.Call name count from) = mention.Call (name_called (callee_of name)) count 0
 unplaced (mention.Argument role w from) = mention.Argument role w 0
 unplaced (mention.Binds name) = mention.Binds name
 unplaced (mention.Ends count) = mention.Ends count
@@ -222,17 +239,19 @@ told_unplaced false None m = refl
 told_unplaced false (Some callee) m = refl
 
 told_bare : (name : List ℕ) (from : ℕ) (gs : Arguments) → map unplaced (told (is_closed gs) (callee_of name) (mention.Call name (length (arguments_in gs)) from)) ≡
-    told (is_closed (bare_arguments gs)) (callee_of name) (mention.Call name (length (arguments_in (bare_arguments gs))) 0)
+    told (is_closed (bare_arguments gs)) (callee_of name) (mention.Call (name_called (callee_of name)) (length (arguments_in (bare_arguments gs))) 0)
 told_bare name from gs =
     told_unplaced (is_closed gs) (callee_of name) (mention.Call name (length (arguments_in gs)) from)
-    ∙ ap (λ (closed : Bool). told closed (callee_of name) (mention.Call name (length (arguments_in gs)) 0)) (sym (closed_bare gs))
-    ∙ ap (λ (n : ℕ). told (is_closed (bare_arguments gs)) (callee_of name) (mention.Call name n 0)) (sym (count_bare gs))
+    ∙ ap (λ (closed : Bool). told closed (callee_of name) (mention.Call (name_called (callee_of name)) (length (arguments_in gs)) 0)) (sym (closed_bare gs))
+    ∙ ap (λ (n : ℕ). told (is_closed (bare_arguments gs)) (callee_of name) (mention.Call (name_called (callee_of name)) n 0)) (sym (count_bare gs))
 
--- a call without the offset of its name
-abbrev call_bare : List ℕ → Arguments → List Operand → Operand
-call_bare name gs ps = call name 0 (bare_arguments gs) (map bare ps)
+-- a call of a function without the offset of its name
+abbrev call_of : Option Callee → Arguments → List Operand → Operand
+call_of called gs ps =
+    other (forms.filtered (forms.called called (trees_of (arguments_in gs))) (trees_of ps))
+    (told (is_closed gs) called (mention.Call (name_called called) (length (arguments_in gs)) 0) ++ (in_roles (roles_in called) gs ++ names_of ps))
 
-bare_call : (name : List ℕ) (from : ℕ) (gs : Arguments) (ps : List Operand) → bare (call name from gs ps) ≡ call_bare name gs ps
+bare_call : (name : List ℕ) (from : ℕ) (gs : Arguments) (ps : List Operand) → bare (call name from gs ps) ≡ call_of (callee_of name) (bare_arguments gs) (map bare ps)
 bare_call name from gs ps =
     let behind = in_roles (roles_named name) gs ++ names_of ps in
     same
@@ -240,14 +259,14 @@ bare_call name from gs ps =
     ∙ ap (λ (ts : List Tree). forms.filtered (forms.called (callee_of name) (trees_of (arguments_in (bare_arguments gs)))) ts) (sym (trees_bare ps)))
     (map-append unplaced (told (is_closed gs) (callee_of name) (mention.Call name (length (arguments_in gs)) from)) behind
     ∙ ap (λ (ms : List Mention). ms ++ map unplaced behind) (told_bare name from gs)
-    ∙ ap (λ (ms : List Mention). told (is_closed (bare_arguments gs)) (callee_of name) (mention.Call name (length (arguments_in (bare_arguments gs))) 0) ++ ms)
+    ∙ ap (λ (ms : List Mention). told (is_closed (bare_arguments gs)) (callee_of name) (mention.Call (name_called (callee_of name)) (length (arguments_in (bare_arguments gs))) 0) ++ ms)
     (joined (in_roles (roles_named name) gs) (names_of ps) (names_bare ps)
     ∙ ap (λ (ms : List Mention). ms ++ names_of (map bare ps)) (sym (roles_bare (roles_named name) gs))))
 
 -- a step whose first token is a name
 abbrev bare_named : List ℕ → Behind → Operand
 bare_named name (Test test ps) = axis_step name test ps
-bare_named name (Called gs ps) = call name 0 gs ps
+bare_named name (Called gs ps) = call_of (callee_of name) gs ps
 bare_named name (Predicates ps) = child_step (tests.Name name) ps
 
 bare_named_is : (xs : List Lexed) (name : List ℕ) (b : Behind) → bare (named xs name b) ≡ bare_named name (bare_behind b)
@@ -341,6 +360,15 @@ test_agree t u l m e d = ap (λ (z : NodeTest). Test z (map bare l)) e ∙ ap (�
 pub called_agree : (gs hs : Arguments) (l m : List Operand) → bare_arguments gs ≡ bare_arguments hs → map bare l ≡ map bare m → bare_behind (Called gs l) ≡ bare_behind (Called hs m)
 called_agree gs hs l m e d = ap (λ (z : Arguments). Called z (map bare l)) e ∙ ap (λ (z : List Operand). Called (bare_arguments hs) z) d
 
+-- calls of one function by two names
+pub function_agree : (xs ys : List Lexed) (v w : List ℕ) (gs hs : Arguments) (l m : List Operand) → callee_of v ≡ callee_of w → bare_arguments gs ≡ bare_arguments hs → map bare l ≡ map bare m
+    → bare (named xs v (Called gs l)) ≡ bare (named ys w (Called hs m))
+function_agree xs ys v w gs hs l m e d f =
+    bare_named_is xs v (Called gs l)
+    ∙ ap (λ (called : Option Callee). call_of called (bare_arguments gs) (map bare l)) e
+    ∙ ap (λ (z : Behind). bare_named w z) (called_agree gs hs l m d f)
+    ∙ sym (bare_named_is ys w (Called hs m))
+
 pub predicates_agree : (l m : List Operand) → map bare l ≡ map bare m → bare_behind (Predicates l) ≡ bare_behind (Predicates m)
 predicates_agree l m d = ap Predicates d
 
@@ -373,7 +401,10 @@ unless_free false f g = refl
 
 free_in : (scope : Scope) (m : Mention) → is_free (fault_in scope m) ≡ is_free (fault_in scope (unplaced m))
 free_in scope (mention.Variable name from) = unless_free (is_bound name scope) (fault.Variable name from) (fault.Variable name 0)
-free_in scope (mention.Call name count from) = unless_free (is_function name count) (fault.Function name from) (fault.Function name 0)
+free_in scope (mention.Call name count from) =
+    let called = name_called (callee_of name) in
+    unless_free (is_function name count) (fault.Function name from) (fault.Function called 0)
+    ∙ ap (λ (c : Option Callee). is_free (unless (callee_takes c count) (fault.Function called 0))) (sym (calls (callee_of name)))
 free_in scope (mention.Argument role w from) = unless_free (fits_role role scope w) (fault.Form from) (fault.Form 0)
 free_in scope (mention.Binds name) = refl
 free_in scope (mention.Ends count) = refl

@@ -1,5 +1,5 @@
--- Abbreviations, and what they stand for (XPath 2.0, 3.2.4, 3.3.3 and 3.1.1).
-use Rattle.std.specs.Prelude.{◌≡◌, ℕ, Bool, true, List, [], ◌∷◌, codes}
+-- Abbreviations, and what they stand for (XPath 2.0, 3.2.4, 3.3.3 and 3.1.1), and functions with and without a prefix (3.1.5).
+use Rattle.std.specs.Prelude.{◌≡◌, ℕ, Bool, true, List, [], ◌∷◌, Some, codes}
 use Rattle.std.specs.Str.{encode_utf8_all}
 use Prim.Native.String.{String}
 use Rattle.pj_xtokens.specs.Tokens.{Lexed, lexed}
@@ -9,6 +9,9 @@ use Rattle.pj_xtokens.specs.declared.token.TokenKind.TheVariants as kind
 use Rattle.pj_xgrammar.specs.declared.terminal.Behind.TheVariants as b
 use Rattle.pj_xgrammar.specs.Terminals.{first_behind, begins_step}
 use Rattle.pj_xtokens.specs.Literals.{string_of}
+use Rattle.pj_xtokens.specs.First.{begins_with_parenthesis}
+use Rattle.pj_xvalue.specs.declared.name.Callee.{Callee}
+use Rattle.pj_xvalue.specs.Names.{callee_of}
 
 -- the token of a sign, and of a name, at an offset
 abbrev pub sign : Sign → String → ℕ → Lexed
@@ -42,3 +45,6 @@ pub data WrittenOut (nests : Bool) (behind : List Lexed) : List Lexed → List L
   -- two literals of one string, as `'x'` and `"x"`
   literal : {v w : List ℕ} {xs ys : List Lexed} (from a : ℕ) → string_of (encode_utf8_all v) ≡ string_of (encode_utf8_all w) → WrittenOut nests behind xs ys →
       WrittenOut nests behind (lexed kind.String v from ∷ xs) (lexed kind.String w a ∷ ys)
+  -- two names of one function, as `fn:count` and `count`, before its arguments; elsewhere a name is what it is
+  function : {v w : List ℕ} {callee : Callee} {xs ys : List Lexed} (from a : ℕ) → callee_of (encode_utf8_all v) ≡ Some callee → callee_of (encode_utf8_all w) ≡ Some callee →
+      begins_with_parenthesis xs ≡ true → WrittenOut nests behind xs ys → WrittenOut nests behind (lexed kind.Name v from ∷ xs) (lexed kind.Name w a ∷ ys)

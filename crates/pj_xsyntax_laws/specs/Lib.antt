@@ -8,3 +8,5 @@ pub mod Every
 pub mod Printed
 -- what abbreviations stand for
 pub mod Abbreviations
+-- the levels of operators
+pub mod Levels

@@ -1,12 +1,13 @@
 //! Laws of the syntax of XPath. The functions do nothing, and their contracts are the laws.
 
 ghost use Rattle.pj_xtokens.specs.Rules as lexical;
-ghost use Rattle.std.specs.Prelude.{All, Contains, IsTrue, List, None, Some, [], codes, false, suc, true, ℕ, ◌++◌, ◌<◌, ◌∷◌, ◌^◌, ◌≡◌, ◌≢◌, ◌≤◌, ◌⊎◌};
+ghost use Rattle.std.specs.Prelude.{All, Bool, Contains, IsTrue, List, None, Some, [], codes, false, suc, true, ℕ, ◌++◌, ◌<◌, ◌∷◌, ◌^◌, ◌≡◌, ◌≢◌, ◌≤◌, ◌⊎◌};
 ghost use Rattle.std.specs.Fmt.{decimal};
 ghost use Rattle.pj_xtokens.specs.Characters.{is_digit};
 ghost use Rattle.pj_xtokens.specs.Signs.{Entry, signs};
 ghost use Rattle.pj_xtokens.specs.Size.{size};
-ghost use Rattle.pj_xtokens.specs.Tokens.{Lexed, Tokens};
+ghost use Rattle.pj_xtokens.specs.First.{begins_with_parenthesis};
+ghost use Rattle.pj_xtokens.specs.Tokens.{Lexed, Tokens, lexed};
 ghost use Rattle.pj_xtokens.specs.declared.token.End.TheVariants as ends;
 ghost use Rattle.pj_xtokens.specs.declared.token.Sign.TheVariants as s;
 ghost use Rattle.pj_xtokens.specs.declared.token.TokenKind.{TokenKind};
@@ -23,6 +24,7 @@ ghost use Rattle.std.specs.Str.{all_scalars};
 ghost use Rattle.pj_xvalue.specs.declared.expr.NodeTest.{NodeTest};
 ghost use Rattle.pj_xvalue.specs.declared.function.Function.{Function};
 ghost use Rattle.pj_xgrammar.specs.Notation.{t};
+ghost use Rattle.pj_xgrammar.specs.declared.rule.Rule.{Rule};
 ghost use Rattle.pj_xgrammar.specs.declared.rule.Rule.TheVariants as r;
 ghost use Rattle.pj_xvalue.specs.Names.{callee_of};
 ghost use Rattle.pj_xvalue.specs.Trees.{Tree};
@@ -37,6 +39,7 @@ ghost use Rattle.pj_xshape.specs.Shapes.{part_of_tree};
 ghost use Rattle.pj_xshape.specs.Spelled.{IsSpelled};
 ghost use Rattle.pj_xsyntax_laws.specs.Abbreviations.{WrittenOut, along_child, sign};
 ghost use Rattle.pj_xsyntax_laws.specs.Gapped.{ArePieces, IsGap, Piece, gapped, located, words_in};
+ghost use Rattle.pj_xsyntax_laws.specs.Levels.{ReadsAt, is_level};
 ghost use Rattle.pj_xsyntax_laws.specs.Printed.{function_name, printed};
 
 use pj_xderive::runs_end_before_faults;
@@ -121,9 +124,9 @@ pub fn spelled_expressions_are_printed()
     tokens_are_well_spelled();
 }
 
-/// Abbreviations stand for their longer forms: a text that spells an expression spells the same one where `@` and `|` are written out and literals of one
-/// string are put for each other, and `//` and `..` too, where one more thing may be open, since the parentheses of a kind test nest (XPath 2.0, 3.2.4,
-/// 3.3.3 and 3.1.1).
+/// Abbreviations stand for their longer forms: a text that spells an expression spells the same one where `@` and `|` are written out, and literals of one
+/// string and names of one function before its arguments, as `count` and `fn:count`, are put for each other; `//` and `..` are written out too, where one
+/// more thing may be open, since the parentheses of a kind test nest (XPath 2.0, 3.2.4, 3.3.3, 3.1.1 and 3.1.5).
 pub fn abbreviations_stand_for_longer_forms()
     ensures as_deep { (variables : List (List ℕ)) (text other : List ℕ) (tokens others : List Lexed) (tree : Tree) → Tokens (size text) text tokens (ends.Text (size text)) →
         Tokens (size other) other others (ends.Text (size other)) → WrittenOut false [] tokens others → Spells variables text tree → Spells variables other tree }
@@ -156,17 +159,25 @@ pub fn comments_change_nothing()
     tokens_are_one();
 }
 
-/// Each function of XPath is called by its name, with the prefix `fn:` and without it.
+/// Each function of XPath is called by its name, with the prefix `fn:` and without it. So the prefix may be added to the name before the arguments of a
+/// call, and dropped, which leaves the expression as it is (`abbreviations_stand_for_longer_forms`).
 pub fn prefix_of_functions_is_optional()
     ensures with_prefix { (f : Function) → callee_of (codes "fn:" ++ function_name f) ≡ Some (callee.XPath f) }
     ensures without_prefix { (f : Function) → callee_of (function_name f) ≡ Some (callee.XPath f) }
+    ensures prefix_added { (nests : Bool) (behind xs ys : List Lexed) (f : Function) (from to : ℕ) → begins_with_parenthesis xs ≡ true → WrittenOut nests behind xs ys →
+        WrittenOut nests behind (lexed kinds.Name (function_name f) from ∷ xs) (lexed kinds.Name (codes "fn:" ++ function_name f) to ∷ ys) }
+    ensures prefix_dropped { (nests : Bool) (behind xs ys : List Lexed) (f : Function) (from to : ℕ) → begins_with_parenthesis xs ≡ true → WrittenOut nests behind xs ys →
+        WrittenOut nests behind (lexed kinds.Name (codes "fn:" ++ function_name f) from ∷ xs) (lexed kinds.Name (function_name f) to ∷ ys) }
 {}
 
 /// Parentheses leave no trace: an expression in parentheses, where one more thing may be open, is read as the expression, but that it is no literal and
-/// no variable alone; and a text whose tokens say an expression where one more thing may be open spells that in parentheses, too.
+/// no variable alone. What any level of operators reads, that level reads in parentheses too, which are superfluous then, and so does each other level.
+/// And a text whose tokens say an expression where one more thing may be open spells that in parentheses, too.
 pub fn parentheses_leave_no_trace()
     ensures operands { (depth : ℕ) (xs ys zs us : List Lexed) (a : Operand) → Takes reach.All (suc depth) (t "(") xs ys → Reads reach.All r.Expr (suc depth) ys zs a → Takes reach.All depth (t ")") zs us →
         Reads reach.All r.PrimaryExpr depth xs us (other a.tree a.names) }
+    ensures levels { (inner outer : Rule) (depth : ℕ) (xs ys zs us : List Lexed) (a : Operand) → IsTrue (is_level outer) → Takes reach.All (suc depth) (t "(") xs ys → ReadsAt inner (suc depth) ys zs a →
+        Takes reach.All depth (t ")") zs us → ReadsAt outer depth xs us (other a.tree a.names) }
     ensures texts { (variables : List (List ℕ)) (text : List ℕ) (tokens others : List Lexed) (from to : ℕ) (a : Operand) →
         Tokens (size text) text (sign s.LeftParenthesis "(" from ∷ others) (ends.Text (size text)) → WrittenOut false (sign s.RightParenthesis ")" to ∷ []) tokens others →
         Reads reach.All r.Expr 1 tokens [] a → first_fault variables a.names ≡ None → Spells variables text a.tree }

@@ -5,7 +5,8 @@
 //! (`scanner_follows_the_rules` of `pj_xtokens`). Comments and white space between words change nothing (`specs/Gapped.antt`). Of faults: what a text names ascends by its offsets and stands before the place where the
 //! tokens have their fault, so the first fault of what is named is the first by offset (`specs/Order.antt`). Of expressions: how one is
 //! printed, as words with no parentheses but those that the grammar asks for (`specs/Printed.antt`), with the laws that the text spells it,
-//! and that this holds of every expression that any text spells; and what abbreviations stand for (`specs/Abbreviations.antt`).
+//! and that this holds of every expression that any text spells; what abbreviations stand for (`specs/Abbreviations.antt`); and that what one level
+//! of operators reads each reads in parentheses (`specs/Levels.antt`).
 #![tactic(auto)]
 
 mod laws;
