@@ -1,17 +1,17 @@
--- What stands at the front of a text that begins with a token and a space.
+-- What stands at the front of a text that begins with a token, behind which it ends, or white space or a comment stands.
 use Rattle.std.proofs.Common.{◌≡◌, ℕ, true, false, ◌⊎◌, List, [], ◌∷◌, ◌++◌, Some, None, refl, sym, ap, ◌∙◌, subst, arith, ⊎_elim}
 use Rattle.std.specs.Prelude.{IsFalse}
-use Rattle.std.proofs.lemmas.Bool.{cases_Bool, and_parts, eqb-true, false≢true}
+use Rattle.std.proofs.lemmas.Bool.{cases_Bool, and_parts, and_right, eqb-true, false≢true}
 use Rattle.std.proofs.lemmas.Bool.Decides.{nat_tests}
-use Rattle.pj_xtokens.specs.Characters.{is_white, holds}
+use Rattle.pj_xtokens.specs.Characters.{is_white, starts_name, heads, holds}
 use Rattle.pj_xtokens.specs.Gaps.{opens, IsSolid}
 use Rattle.pj_xtokens.specs.Rules.{Spells}
 use Rattle.pj_xtokens.specs.States.{step, first_step, sign_step}
-use Rattle.pj_xtokens.specs.Tokens.{is_joined}
+use Rattle.pj_xtokens.specs.Tokens.{is_number, is_joined}
 use Rattle.pj_xtokens.specs.declared.token.TokenKind.{TokenKind}
-use Rattle.pj_xtokens.specs.declared.token.TokenKind.TheVariants as t
 use Rattle.pj_xtokens.specs.declared.token.Sign.TheVariants.{LeftParenthesis}
 use Rattle.pj_xtokens.specs.declared.state.State.TheVariants as s
+use Rattle.pj_xsyntax_laws.proofs.Stopping.{is_break, breaks}
 use Rattle.pj_xsyntax_laws.proofs.WordKinds.{SpelledAreTold, kind_next, kind_stops}
 
 space_starts_none : step (λ s. holds s 32) s.Start ≡ None
@@ -67,34 +67,34 @@ module _ (told : SpelledAreTold) where
       let none : None ≡ Some k = sym (first ∙ second) ∙ told k (40 ∷ 58 ∷ w) f in
       absurd (cc)
 
-  no_opening : (w rest : List ℕ) (k : TokenKind) → Spells k w → opens (w ++ 32 ∷ rest) ≡ true → ⊥
-  no_opening [] rest k f h = none_empty k f
-  no_opening (c ∷ []) rest k f h = false≢true (and_parts _ _ h).1
-  no_opening (c ∷ d ∷ w) rest k f h =
+  no_opening : (w behind : List ℕ) (k : TokenKind) → breaks behind ≡ true → Spells k w → opens (w ++ behind) ≡ true → ⊥
+  no_opening [] behind k b f h = none_empty k f
+  no_opening (c ∷ []) [] k b f h = false≢true (and_parts _ _ h).1
+  no_opening (c ∷ []) (d ∷ behind) k b f h = let second : d ≡ 58 = eqb-true _ _ (and_parts _ _ h).1 in false≢true (sym (ap is_break second) ∙ b)
+  no_opening (c ∷ d ∷ w) behind k b f h =
       let e = and_parts _ _ h in
       let first : c ≡ 40 = eqb-true _ _ e.0 in
       let second : d ≡ 58 = eqb-true _ _ e.1 in
       no_comment w k (subst (λ x. Spells k (x ∷ 58 ∷ w)) first (subst (λ x. Spells k (c ∷ x ∷ w)) second f))
 
-  -- a token with a space behind it opens no comment
-  pub opens_none : (w rest : List ℕ) (k : TokenKind) → Spells k w → IsFalse (opens (w ++ 32 ∷ rest))
-  opens_none w rest k f = ⊎_elim
-      (λ (h : opens (w ++ 32 ∷ rest) ≡ true). absurd (no_opening w rest k f h))
-      (λ (h : opens (w ++ 32 ∷ rest) ≡ false). h)
-      (cases_Bool (opens (w ++ 32 ∷ rest)))
+  -- no comment begins at a token, also not at the sign ( before one
+  pub opens_none : (w behind : List ℕ) (k : TokenKind) → breaks behind ≡ true → Spells k w → IsFalse (opens (w ++ behind))
+  opens_none w behind k b f = ⊎_elim
+      (λ (h : opens (w ++ behind) ≡ true). absurd (no_opening w behind k b f h))
+      (λ (h : opens (w ++ behind) ≡ false). h)
+      (cases_Bool (opens (w ++ behind)))
 
-  pub solid_front : (w rest : List ℕ) (k : TokenKind) → Spells k w → IsSolid (w ++ 32 ∷ rest)
-  solid_front [] rest k f = absurd (none_empty k f)
-  solid_front (c ∷ w) rest k f = record {
+  pub solid_front : (w behind : List ℕ) (k : TokenKind) → breaks behind ≡ true → Spells k w → IsSolid (w ++ behind)
+  solid_front [] behind k b f = absurd (none_empty k f)
+  solid_front (c ∷ w) behind k b f = record {
     not_white = not_white c w k f;
-    no_comment = λ inside behind e m. false≢true (sym (opens_none (c ∷ w) rest k f) ∙ ap opens e);
+    no_comment = λ inside rest e m. false≢true (sym (opens_none (c ∷ w) behind k b f) ∙ ap opens e);
   }
 
--- no token is joined to a space
-pub not_joined : (k : TokenKind) (rest : List ℕ) → IsFalse (is_joined k (32 ∷ rest))
-not_joined t.Name rest = refl
-not_joined t.Integer rest = refl
-not_joined t.Decimal rest = refl
-not_joined t.Double rest = refl
-not_joined t.String rest = refl
-not_joined (t.Sign s) rest = refl
+no_name : (behind : List ℕ) → breaks behind ≡ true → heads starts_name behind ≡ false
+no_name [] b = refl
+no_name (c ∷ behind) b = grind (arith, nat_tests, b)
+
+-- no number is joined to what stands there
+pub not_joined : (k : TokenKind) (behind : List ℕ) → breaks behind ≡ true → IsFalse (is_joined k behind)
+not_joined k behind b = and_right (is_number k) (heads starts_name behind) (no_name behind b)

@@ -1,7 +1,7 @@
 -- The tokens of words with white space and comments between them, and that these change no expression.
-use Rattle.std.proofs.Common.{◌≡◌, ℕ, ◌+◌, false, List, [], ◌∷◌, ◌++◌, refl, sym, arith}
+use Rattle.std.proofs.Common.{◌≡◌, ℕ, ◌+◌, false, List, [], ◌∷◌, ◌++◌, refl, sym, ap, arith}
 use Rattle.std.proofs.Math.Nat.{zero-add}
-use Rattle.pj_xtokens.specs.Gaps.{Past, here, white}
+use Rattle.pj_xtokens.specs.Gaps.{Past, here}
 use Rattle.pj_xtokens.specs.Size.{size}
 use Rattle.pj_xtokens.specs.Tokens.{Tokens, ended, token}
 use Rattle.pj_xtokens.specs.declared.token.End.TheVariants as ends
@@ -13,10 +13,11 @@ use Rattle.pj_xparse.specs.Spells.{Spells}
 use Rattle.pj_xsyntax_laws.specs.Abbreviations.{WrittenOut, done, kept}
 use Rattle.pj_xsyntax_laws.specs.Gapped.{Piece, words_in, gapped, located, IsGap, ArePieces}
 use Rattle.pj_xsyntax_laws.specs.Spaced.{AreSpelled, placed, spaced}
+use Rattle.pj_xsyntax_laws.proofs.Comments.{gap_before, gap_breaks}
 use Rattle.pj_xsyntax_laws.proofs.Expanding.{TokensAreOne, written_out_spells}
 use Rattle.pj_xsyntax_laws.proofs.Fronts.{opens_none, solid_front, not_joined}
-use Rattle.pj_xsyntax_laws.proofs.Placing.{size-word, tokens_from}
-use Rattle.pj_xsyntax_laws.proofs.Stopping.{longest_before_space}
+use Rattle.pj_xsyntax_laws.proofs.Placing.{tokens_from}
+use Rattle.pj_xsyntax_laws.proofs.Stopping.{longest_before}
 use Rattle.pj_xsyntax_laws.proofs.WordKinds.{SpelledAreTold}
 
 -- ---- tokens
@@ -27,20 +28,22 @@ pieces_from : SpelledAreTold → (total from : ℕ) (ps : List Piece) (text : Li
 pieces_from told total from [] text f p e = ended text p
 pieces_from told total from (w ∷ ws) text f p e =
     let rest = w.gap ++ gapped ws in
-    let n = size-word w.word.text rest in
+    let n = size-append w.word.text rest in
     let m = size-append w.gap (gapped ws) in
-    let behind : from + size w.word.text + 1 + size w.gap + size (gapped ws) ≡ total = omega (arith, e, n, m) in
-    token text (w.word.text ++ 32 ∷ rest) w.word.text (32 ∷ rest) w.word.kind from (located (from + size w.word.text + 1 + size w.gap) ws) (ends.Text total)
-    p (solid_front told w.word.text rest w.word.kind f.0) (opens_none told w.word.text rest w.word.kind f.0) refl (longest_before_space told w.word.text rest w.word.kind f.0) e (not_joined w.word.kind rest)
-    (pieces_from told total (from + size w.word.text + 1 + size w.gap) ws (32 ∷ rest) f.2 (white 32 (32 ∷ rest) rest (gapped ws) refl refl (f.1 (gapped ws))) behind)
+    let behind : from + size w.word.text + size w.gap + size (gapped ws) ≡ total = omega (arith, e, n, m) in
+    let breaks = gap_breaks w.gap (gapped ws) f.1 (λ q. ap gapped (f.2 q)) in
+    token text (w.word.text ++ rest) w.word.text rest w.word.kind from (located (from + size w.word.text + size w.gap) ws) (ends.Text total)
+    p (solid_front told w.word.text rest w.word.kind breaks f.0) (opens_none told w.word.text rest w.word.kind breaks f.0) refl
+    (longest_before told w.word.text rest w.word.kind breaks f.0) e (not_joined w.word.kind rest breaks)
+    (pieces_from told total (from + size w.word.text + size w.gap) ws rest f.3 (gap_before w.gap (gapped ws) f.1) behind)
 
 pub gapped_tokens : SpelledAreTold → (front : List ℕ) (ps : List Piece) → IsGap front → ArePieces ps
     → Tokens (size (front ++ gapped ps)) (front ++ gapped ps) (located (size front) ps) (ends.Text (size (front ++ gapped ps)))
-gapped_tokens told front ps g f = pieces_from told (size (front ++ gapped ps)) (size front) ps (front ++ gapped ps) f (g (gapped ps)) (sym (size-append front (gapped ps)))
+gapped_tokens told front ps g f = pieces_from told (size (front ++ gapped ps)) (size front) ps (front ++ gapped ps) f (gap_before front (gapped ps) g) (sym (size-append front (gapped ps)))
 
 words_spelled : (ps : List Piece) → ArePieces ps → AreSpelled (words_in ps)
 words_spelled [] f = tt
-words_spelled (p ∷ ps) f = (f.0, words_spelled ps f.2)
+words_spelled (p ∷ ps) f = (f.0, words_spelled ps f.3)
 
 spaced_tokens : SpelledAreTold → (ps : List Piece) → ArePieces ps → Tokens (size (spaced (words_in ps))) (spaced (words_in ps)) (placed 0 (words_in ps)) (ends.Text (size (spaced (words_in ps))))
 spaced_tokens told ps f =
@@ -60,14 +63,14 @@ begins_back n m (p ∷ ps) = refl
 closer : (n m : ℕ) (ps : List Piece) → WrittenOut false [] (located n ps) (placed m (words_in ps))
 closer n m [] = done
 closer n m (p ∷ ps) =
-    let n' : ℕ = n + size p.word.text + 1 + size p.gap in
+    let n' : ℕ = n + size p.word.text + size p.gap in
     let m' : ℕ = m + size p.word.text + 1 in
     kept m (λ e. begins_same n' m' ps) (closer n' m' ps)
 
 apart : (n m : ℕ) (ps : List Piece) → WrittenOut false [] (placed m (words_in ps)) (located n ps)
 apart n m [] = done
 apart n m (p ∷ ps) =
-    let n' : ℕ = n + size p.word.text + 1 + size p.gap in
+    let n' : ℕ = n + size p.word.text + size p.gap in
     let m' : ℕ = m + size p.word.text + 1 in
     kept n (λ e. begins_back n' m' ps) (apart n' m' ps)
 

@@ -1,10 +1,11 @@
 -- The characters that no word of a pattern has.
-use Rattle.std.proofs.Common.{◌≡◌, ◌≢◌, ℕ, Bool, true, false, ◌||◌, ◌&&◌, inl, inr, List, [], ◌∷◌, ◌++◌, refl, sym, ap, ◌∙◌}
+use Rattle.std.proofs.Common.{◌≡◌, ◌≢◌, ℕ, Bool, true, false, ◌||◌, ◌&&◌, inl, inr, List, [], ◌∷◌, ◌++◌, refl, sym, ap, ◌∙◌, arith}
 use Rattle.std.specs.Prelude.{not}
 use Rattle.std.specs.List.{All, list_all}
 use Rattle.std.proofs.lemmas.Bool.{false≢true, and_parts}
+use Rattle.std.proofs.lemmas.Bool.Decides.{nat_tests}
 use Rattle.std.proofs.lemmas.List.Elements.{All-nil, All-cons, All-same, All-append}
-use Rattle.pj_xtokens.specs.Characters.{holds}
+use Rattle.pj_xtokens.specs.Characters.{is_white, holds}
 use Rattle.pj_xtokens.specs.Pattern.{Pattern, Nothing, Empty, One, Then, Either, Many, Repeats, none, more, Matches}
 use Rattle.pj_xtokens.specs.Rules.{Rule, rules, FirstOf, Spells}
 use Rattle.pj_xtokens.specs.declared.token.TokenKind.{TokenKind}
@@ -59,22 +60,43 @@ string_is t.Double h = absurd (false≢true h)
 string_is t.String h = refl
 string_is (t.Sign s) h = absurd (false≢true h)
 
--- the rule is one of strings, or none of its words has a space
-abbrev is_tight : Rule → Bool
-is_tight r = is_string r.kind || lacks 32 r.pattern
+-- the rule is one of strings, or none of its words has the character
+abbrev is_tight : ℕ → Rule → Bool
+is_tight c r = is_string r.kind || lacks c r.pattern
 
-tight : list_all is_tight rules ≡ true
+module _ (c : ℕ) where
+  tight_free : (r : Rule) (b : Bool) (w : List ℕ) → is_string r.kind ≡ b → (b || lacks c r.pattern) ≡ true → r.kind ≢ t.String → Matches r.pattern w → All (λ d. d ≢ c) w
+  tight_free r true w e h n m = absurd (n (string_is r.kind e))
+  tight_free r false w e h n m = free c r.pattern h w m
+
+  first_free : (rs : List Rule) → list_all (is_tight c) rs ≡ true → (w : List ℕ) (k : TokenKind) → FirstOf rs w k → k ≢ t.String → All (λ d. d ≢ c) w
+  first_free [] h w k f n = absurd f
+  first_free (r ∷ rs) h w k (inl (m, e)) n = tight_free r (is_string r.kind) w refl (and_parts _ _ h).0 (λ q. n (e ∙ q)) m
+  first_free (r ∷ rs) h w k (inr (x, f)) n = first_free rs (and_parts _ _ h).1 w k f n
+
+no_space : list_all (is_tight 32) rules ≡ true
 unfolding rules
-tight = refl
+no_space = refl
 
-tight_free : (r : Rule) (b : Bool) (w : List ℕ) → is_string r.kind ≡ b → (b || lacks 32 r.pattern) ≡ true → r.kind ≢ t.String → Matches r.pattern w → All (λ d. d ≢ 32) w
-tight_free r true w e h n m = absurd (n (string_is r.kind e))
-tight_free r false w e h n m = free 32 r.pattern h w m
+no_tab : list_all (is_tight 9) rules ≡ true
+unfolding rules
+no_tab = refl
 
-first_free : (rs : List Rule) → list_all is_tight rs ≡ true → (w : List ℕ) (k : TokenKind) → FirstOf rs w k → k ≢ t.String → All (λ d. d ≢ 32) w
-first_free [] h w k f n = absurd f
-first_free (r ∷ rs) h w k (inl (m, e)) n = tight_free r (is_string r.kind) w refl (and_parts _ _ h).0 (λ q. n (e ∙ q)) m
-first_free (r ∷ rs) h w k (inr (x, f)) n = first_free rs (and_parts _ _ h).1 w k f n
+no_line_feed : list_all (is_tight 10) rules ≡ true
+unfolding rules
+no_line_feed = refl
 
-pub no_space : (k : TokenKind) (w : List ℕ) → Spells k w → k ≢ t.String → All (λ d. d ≢ 32) w
-no_space k w f n = first_free rules tight w k f n
+no_return : list_all (is_tight 13) rules ≡ true
+unfolding rules
+no_return = refl
+
+none_white : (c : ℕ) → c ≢ 32 → c ≢ 9 → c ≢ 10 → c ≢ 13 → is_white c ≡ false
+none_white c space tab line_feed return = grind (arith, nat_tests, space, tab, line_feed, return)
+
+pub no_white : (k : TokenKind) (w : List ℕ) → Spells k w → k ≢ t.String → All (λ d. is_white d ≡ false) w
+no_white k w f n =
+    let space = first_free 32 rules no_space w k f n in
+    let tab = first_free 9 rules no_tab w k f n in
+    let line_feed = first_free 10 rules no_line_feed w k f n in
+    let return = first_free 13 rules no_return w k f n in
+    λ i d h. none_white _ (space i d h) (tab i d h) (line_feed i d h) (return i d h)

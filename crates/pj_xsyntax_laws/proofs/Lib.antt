@@ -1,6 +1,7 @@
 pub mod Sizes
 pub mod Stopping
 pub mod Fronts
+pub mod Comments
 pub mod Placing
 pub mod WordKinds
 pub mod SignsAndLiterals

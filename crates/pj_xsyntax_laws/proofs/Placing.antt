@@ -7,7 +7,7 @@ use Rattle.pj_xtokens.specs.Tokens.{Tokens, ended, token}
 use Rattle.pj_xtokens.specs.declared.token.End.TheVariants as ends
 use Rattle.pj_xsyntax_laws.proofs.Sizes.{size-append}
 use Rattle.pj_xsyntax_laws.specs.Spaced.{Word, spaced, placed, AreSpelled}
-use Rattle.pj_xsyntax_laws.proofs.Stopping.{longest_before_space}
+use Rattle.pj_xsyntax_laws.proofs.Stopping.{longest_before}
 use Rattle.pj_xsyntax_laws.proofs.WordKinds.{SpelledAreTold}
 use Rattle.pj_xsyntax_laws.proofs.Fronts.{opens_none, solid_front, not_joined}
 
@@ -27,5 +27,5 @@ tokens_from told total from (w ∷ ws) text f p e =
     let n = size-word w.text rest in
     let behind : from + size w.text + 1 + size rest ≡ total = omega (arith, e, n) in
     token text (w.text ++ 32 ∷ rest) w.text (32 ∷ rest) w.kind from (placed (from + size w.text + 1) ws) (ends.Text total)
-    p (solid_front told w.text rest w.kind f.0) (opens_none told w.text rest w.kind f.0) refl (longest_before_space told w.text rest w.kind f.0) e (not_joined w.kind rest)
+    p (solid_front told w.text (32 ∷ rest) w.kind refl f.0) (opens_none told w.text (32 ∷ rest) w.kind refl f.0) refl (longest_before told w.text (32 ∷ rest) w.kind refl f.0) e (not_joined w.kind (32 ∷ rest) refl)
     (tokens_from told total (from + size w.text + 1) ws (32 ∷ rest) f.1 (white 32 (32 ∷ rest) rest rest refl refl (here rest rest refl)) behind)

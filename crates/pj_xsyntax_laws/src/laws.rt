@@ -3,7 +3,7 @@
 ghost use Rattle.pj_xtokens.specs.Rules as lexical;
 ghost use Rattle.std.specs.Prelude.{All, Bool, Contains, IsTrue, List, None, Some, [], codes, false, suc, true, ℕ, ◌++◌, ◌<◌, ◌∷◌, ◌^◌, ◌≡◌, ◌≢◌, ◌≤◌, ◌⊎◌};
 ghost use Rattle.std.specs.Fmt.{decimal};
-ghost use Rattle.pj_xtokens.specs.Characters.{is_digit};
+ghost use Rattle.pj_xtokens.specs.Characters.{is_digit, is_white};
 ghost use Rattle.pj_xtokens.specs.Signs.{Entry, signs};
 ghost use Rattle.pj_xtokens.specs.Size.{size};
 ghost use Rattle.pj_xtokens.specs.First.{begins_with_parenthesis};
@@ -66,9 +66,9 @@ pub fn signs_and_literals_spell()
     scanner_follows_the_rules();
 }
 
-/// No token but a string has a space (32) in it. So no name has one.
+/// No token but a string has white space in it: a space, a tab, a line feed or a carriage return (XML 1.0, 2.3). So no name has any.
 pub fn strings_alone_have_spaces()
-    ensures { (kind : TokenKind) (text : List ℕ) → lexical.Spells kind text → kind ≢ kinds.String → All (λ c. c ≢ 32) text }
+    ensures { (kind : TokenKind) (text : List ℕ) → lexical.Spells kind text → kind ≢ kinds.String → All (λ c. is_white c ≡ false) text }
 {}
 
 /// What the tokens of a text name, as far as their terminals go, stands in strictly ascending order: by offset, and at one offset an argument before what
@@ -144,9 +144,9 @@ pub fn steps_without_axis_are_children()
         Reads reach.All r.StepExpr depth (along_child from to xs) zs (child_step test predicates) }
 {}
 
-/// Comments change nothing, and neither does white space: of words that each spell a token, with white space and comments before the first one, and
-/// with a space, white space and comments behind each, the tokens are these words, and a text of them spells what it spells with one space behind
-/// each (XPath 2.0, 2.6 and A.2.4.1).
+/// Comments change nothing, and neither does white space: of words that each spell a token, with a gap of white space and comments behind each, which may
+/// be empty behind the last one alone, and a gap before the first one, the tokens are these words, and a text of them spells what it spells with one
+/// space behind each (XPath 2.0, 2.6 and A.2.4.1).
 pub fn comments_change_nothing()
     ensures tokens { (front : List ℕ) (pieces : List Piece) → IsGap front → ArePieces pieces →
         Tokens (size (front ++ gapped pieces)) (front ++ gapped pieces) (located (size front) pieces) (ends.Text (size (front ++ gapped pieces))) }
