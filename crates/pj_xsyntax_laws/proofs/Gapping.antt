@@ -1,23 +1,19 @@
 -- The tokens of words with white space and comments between them, and that these change no expression.
-use Rattle.std.proofs.Common.{◌≡◌, ℕ, ◌+◌, false, List, [], ◌∷◌, ◌++◌, refl, sym, ap, arith}
-use Rattle.std.proofs.Math.Nat.{zero-add}
-use Rattle.pj_xtokens.specs.Gaps.{Past, here}
+use Rattle.std.proofs.Common.{◌≡◌, ℕ, ◌+◌, List, [], ◌∷◌, ◌++◌, refl, sym, ap, subst, arith}
+use Rattle.pj_xtokens.specs.Gaps.{Past}
 use Rattle.pj_xtokens.specs.Size.{size}
 use Rattle.pj_xtokens.specs.Tokens.{Tokens, ended, token}
 use Rattle.pj_xtokens.specs.declared.token.End.TheVariants as ends
 use Rattle.pj_xsyntax_laws.proofs.Sizes.{size-append}
-use Rattle.pj_xgrammar.specs.Terminals.{first_behind, begins_step}
-use Rattle.pj_xgrammar.specs.declared.terminal.Behind.TheVariants as b
 use Rattle.pj_xvalue.specs.Trees.{Tree}
 use Rattle.pj_xparse.specs.Spells.{Spells}
-use Rattle.pj_xsyntax_laws.specs.Abbreviations.{WrittenOut, done, kept}
 use Rattle.pj_xsyntax_laws.specs.Gapped.{Piece, words_in, gapped, located, IsGap, ArePieces}
-use Rattle.pj_xsyntax_laws.specs.Spaced.{AreSpelled, placed, spaced}
+use Rattle.pj_xsyntax_laws.specs.Spaced.{Word, spaced, words_of}
 use Rattle.pj_xsyntax_laws.proofs.Comments.{gap_before, gap_breaks}
-use Rattle.pj_xsyntax_laws.proofs.Expanding.{TokensAreOne, written_out_spells}
+use Rattle.pj_xsyntax_laws.proofs.Expanding.{TokensAreOne}
 use Rattle.pj_xsyntax_laws.proofs.Fronts.{opens_none, solid_front, not_joined}
-use Rattle.pj_xsyntax_laws.proofs.Placing.{tokens_from}
 use Rattle.pj_xsyntax_laws.proofs.Stopping.{longest_before}
+use Rattle.pj_xsyntax_laws.proofs.Texts.{with_spaces, without_spaces}
 use Rattle.pj_xsyntax_laws.proofs.WordKinds.{SpelledAreTold}
 
 -- ---- tokens
@@ -41,48 +37,21 @@ pub gapped_tokens : SpelledAreTold → (front : List ℕ) (ps : List Piece) → 
     → Tokens (size (front ++ gapped ps)) (front ++ gapped ps) (located (size front) ps) (ends.Text (size (front ++ gapped ps)))
 gapped_tokens told front ps g f = pieces_from told (size (front ++ gapped ps)) (size front) ps (front ++ gapped ps) f (gap_before front (gapped ps) g) (sym (size-append front (gapped ps)))
 
-words_spelled : (ps : List Piece) → ArePieces ps → AreSpelled (words_in ps)
-words_spelled [] f = tt
-words_spelled (p ∷ ps) f = (f.0, words_spelled ps f.3)
-
-spaced_tokens : SpelledAreTold → (ps : List Piece) → ArePieces ps → Tokens (size (spaced (words_in ps))) (spaced (words_in ps)) (placed 0 (words_in ps)) (ends.Text (size (spaced (words_in ps))))
-spaced_tokens told ps f =
-    let text = spaced (words_in ps) in
-    tokens_from told (size text) 0 (words_in ps) text (words_spelled ps f) (here text text refl) (zero-add (size text))
-
--- ---- the same tokens but for their offsets
-
-begins_same : (n m : ℕ) (ps : List Piece) → begins_step (first_behind b.End (located n ps)) ≡ begins_step (first_behind b.End (placed m (words_in ps)))
-begins_same n m [] = refl
-begins_same n m (p ∷ ps) = refl
-
-begins_back : (n m : ℕ) (ps : List Piece) → begins_step (first_behind b.End (placed m (words_in ps))) ≡ begins_step (first_behind b.End (located n ps))
-begins_back n m [] = refl
-begins_back n m (p ∷ ps) = refl
-
-closer : (n m : ℕ) (ps : List Piece) → WrittenOut false [] (located n ps) (placed m (words_in ps))
-closer n m [] = done
-closer n m (p ∷ ps) =
-    let n' : ℕ = n + size p.word.text + size p.gap in
-    let m' : ℕ = m + size p.word.text + 1 in
-    kept m (λ e. begins_same n' m' ps) (closer n' m' ps)
-
-apart : (n m : ℕ) (ps : List Piece) → WrittenOut false [] (placed m (words_in ps)) (located n ps)
-apart n m [] = done
-apart n m (p ∷ ps) =
-    let n' : ℕ = n + size p.word.text + size p.gap in
-    let m' : ℕ = m + size p.word.text + 1 in
-    kept n (λ e. begins_back n' m' ps) (apart n' m' ps)
+words_located : (n : ℕ) (ps : List Piece) → words_of (located n ps) ≡ words_in ps
+words_located n [] = refl
+words_located n (p ∷ ps) = ap (λ (ws : List Word). p.word ∷ ws) (words_located (n + size p.word.text + size p.gap) ps)
 
 -- ---- expressions
 
 module _ (told : SpelledAreTold) (one_tokens : TokensAreOne) (variables : List (List ℕ)) (front : List ℕ) (ps : List Piece) (tree : Tree) (g : IsGap front) (f : ArePieces ps) where
+  same_words : words_of (located (size front) ps) ≡ words_in ps
+  same_words = words_located (size front) ps
+
   pub without_gaps : Spells variables (front ++ gapped ps) tree → Spells variables (spaced (words_in ps)) tree
-  without_gaps =
-      written_out_spells one_tokens variables (front ++ gapped ps) (spaced (words_in ps)) (located (size front) ps) (placed 0 (words_in ps)) tree
-      (gapped_tokens told front ps g f) (spaced_tokens told ps f) (closer (size front) 0 ps)
+  without_gaps spells =
+      subst (λ (ws : List Word). Spells variables (spaced ws) tree) same_words (with_spaces told one_tokens variables (front ++ gapped ps) (located (size front) ps) tree (gapped_tokens told front ps g f) spells)
 
   pub with_gaps : Spells variables (spaced (words_in ps)) tree → Spells variables (front ++ gapped ps) tree
-  with_gaps =
-      written_out_spells one_tokens variables (spaced (words_in ps)) (front ++ gapped ps) (placed 0 (words_in ps)) (located (size front) ps) tree
-      (spaced_tokens told ps f) (gapped_tokens told front ps g f) (apart (size front) 0 ps)
+  with_gaps spells =
+      without_spaces told one_tokens variables (front ++ gapped ps) (located (size front) ps) tree (gapped_tokens told front ps g f)
+      (subst (λ (ws : List Word). Spells variables (spaced ws) tree) (sym same_words) spells)

@@ -49,5 +49,6 @@ pub mod Looks
 pub mod NoParenthesis
 pub mod Expanding
 pub mod Prefixes
+pub mod Texts
 pub mod Gapping
 pub mod Axes

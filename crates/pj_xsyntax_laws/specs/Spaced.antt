@@ -1,5 +1,5 @@
 -- Texts of words with a space behind each, and the tokens that they have.
-use Rattle.std.specs.Prelude.{ℕ, ◌+◌, ◌==◌, if◌then◌else◌, List, [], ◌∷◌, ◌++◌}
+use Rattle.std.specs.Prelude.{ℕ, ◌+◌, ◌==◌, if◌then◌else◌, List, [], ◌∷◌, ◌++◌, map}
 use Rattle.pj_xtokens.specs.Rules.{Spells}
 use Rattle.pj_xtokens.specs.Size.{size}
 use Rattle.pj_xtokens.specs.Tokens.{Lexed, lexed}
@@ -13,6 +13,10 @@ pub record Word : Type 0 where
 -- the word of this kind with these characters
 abbrev pub word : TokenKind → List ℕ → Word
 word k w = record { kind = k; text = w }
+
+-- the words that tokens are
+abbrev pub words_of : List Lexed → List Word
+words_of tokens = map (λ l. word l.kind l.text) tokens
 
 -- the text: the characters of each word, and a space (32) behind them
 abbrev pub spaced : List Word → List ℕ

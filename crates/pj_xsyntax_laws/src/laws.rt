@@ -12,7 +12,7 @@ ghost use Rattle.pj_xtokens.specs.declared.token.End.TheVariants as ends;
 ghost use Rattle.pj_xtokens.specs.declared.token.Sign.TheVariants as s;
 ghost use Rattle.pj_xtokens.specs.declared.token.TokenKind.{TokenKind};
 ghost use Rattle.pj_xtokens.specs.declared.token.TokenKind.TheVariants as kinds;
-ghost use Rattle.pj_xsyntax_laws.specs.Spaced.{AreSpelled, Word, literal, placed, spaced};
+ghost use Rattle.pj_xsyntax_laws.specs.Spaced.{AreSpelled, Word, literal, placed, spaced, words_of};
 ghost use Rattle.pj_ll.specs.declared.parser.End as outcome;
 ghost use Rattle.pj_xtokens.specs.declared.token.End.{End};
 ghost use Rattle.pj_xderive.specs.Expressions.{IsOutcome, place_of};
@@ -146,7 +146,7 @@ pub fn steps_without_axis_are_children()
 
 /// Comments change nothing, and neither does white space: of words that each spell a token, with a gap of white space and comments behind each, which may
 /// be empty behind the last one alone, and a gap before the first one, the tokens are these words, and a text of them spells what it spells with one
-/// space behind each (XPath 2.0, 2.6 and A.2.4.1).
+/// space behind each (XPath 2.0, 2.6 and A.2.4.1). So does any text that has tokens up to its end, also where nothing stands between some of them.
 pub fn comments_change_nothing()
     ensures tokens { (front : List ℕ) (pieces : List Piece) → IsGap front → ArePieces pieces →
         Tokens (size (front ++ gapped pieces)) (front ++ gapped pieces) (located (size front) pieces) (ends.Text (size (front ++ gapped pieces))) }
@@ -154,6 +154,10 @@ pub fn comments_change_nothing()
         Spells variables (front ++ gapped pieces) tree → Spells variables (spaced (words_in pieces)) tree }
     ensures with_gaps { (variables : List (List ℕ)) (front : List ℕ) (pieces : List Piece) (tree : Tree) → IsGap front → ArePieces pieces →
         Spells variables (spaced (words_in pieces)) tree → Spells variables (front ++ gapped pieces) tree }
+    ensures with_spaces { (variables : List (List ℕ)) (text : List ℕ) (tokens : List Lexed) (tree : Tree) → Tokens (size text) text tokens (ends.Text (size text)) →
+        Spells variables text tree → Spells variables (spaced (words_of tokens)) tree }
+    ensures without_spaces { (variables : List (List ℕ)) (text : List ℕ) (tokens : List Lexed) (tree : Tree) → Tokens (size text) text tokens (ends.Text (size text)) →
+        Spells variables (spaced (words_of tokens)) tree → Spells variables text tree }
 {
     scanner_follows_the_rules();
     tokens_are_one();
