@@ -98,16 +98,17 @@ fn mentioned<'t>(alloc: Global, name: &'t str, from: u32) -> Result<Vec<Named<'t
 fn cut_variable<'t>(alloc: Global, tokens: &[Token<'t>]) -> Result<Reading<'t>, NoMemory>
     ensures { IfOk result (λ made. seen_reading made ≡ cut_variable (map lexed_of tokens.now)) }
 {
-    let expr = Expr::Variable(Text::from_str(alloc, "")?);
+    let unnamed = Text::from_str(alloc, "")?;
     let behind = behind_first(tokens);
     if !begins_with_name(behind) {
-        return Ok(Reading::other(expr, Vec::new(alloc)));
+        return Ok(Reading::other(Expr::Variable(unnamed), Vec::new(alloc)));
     }
     let name = first_text(behind);
+    let names = mentioned(alloc, name, first_from(tokens))?;
     Ok(Reading {
-        expr,
+        expr: Expr::Variable(unnamed),
         written: Spelling::Name(name),
-        names: mentioned(alloc, name, first_from(tokens))?,
+        names,
     })
 }
 
@@ -116,11 +117,12 @@ fn cut_variable<'t>(alloc: Global, tokens: &[Token<'t>]) -> Result<Reading<'t>, 
 fn variable<'t>(alloc: Global, tokens: &[Token<'t>], name: &'t str) -> Result<Reading<'t>, NoMemory>
     ensures { IfOk result (λ made. seen_reading made ≡ variable (map lexed_of tokens.now) name.now) }
 {
-    let expr = Expr::Variable(Text::from_str(alloc, name)?);
+    let names = mentioned(alloc, name, first_from(tokens))?;
+    let text = Text::from_str(alloc, name)?;
     Ok(Reading {
-        expr,
+        expr: Expr::Variable(text),
         written: Spelling::Name(name),
-        names: mentioned(alloc, name, first_from(tokens))?,
+        names,
     })
 }
 

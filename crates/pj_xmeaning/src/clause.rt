@@ -1,7 +1,7 @@
 //! Variables and choices.
 
 ghost use Rattle.std.specs.Prelude.{◌≡◌, ◌++◌, [], ◌∷◌, map, IfOk};
-ghost use Rattle.pj_xvalue.specs.Trees.{If, binder, node, tree_of};
+ghost use Rattle.pj_xvalue.specs.Trees.{binder, tree_of};
 ghost use Rattle.pj_xmeaning.specs.Mentions as mention;
 ghost use Rattle.pj_xmeaning.specs.Mentions.{scoped};
 ghost use Rattle.pj_xmeaning.specs.Operands.{bindings_of, bound, chosen, scopes_of};
@@ -12,7 +12,7 @@ ghost use Rattle.pj_xmeaning.specs.Values.{binder_of};
 
 use crate::front::Front;
 use crate::named::Named;
-use crate::operand::{Bound, Reading};
+use crate::operand::{Bound, Reading, boxed};
 use crate::part::Part;
 use crate::row::before;
 use pj_base::{NoMemory, Text};
@@ -20,22 +20,20 @@ use pj_xgrammar::Binder;
 use pj_xvalue::Expr;
 use std::alloc::Global;
 
-/// The name and the expression of a variable that is bound, and what the expression names, with the variable behind it, before others.
+/// The name of a variable that is bound, and what its expression names, with the variable behind it, before others.
 #[tactic(auto, using(crate::proofs::Lists::pushed))]
 fn opened<'t>(
     alloc: Global,
-    variable: Bound<'t>,
+    name: &'t str,
+    names: Vec<Named<'t>>,
     mut behind: Vec<Named<'t>>,
-) -> Result<(Text, Expr, Vec<Named<'t>>), NoMemory>
-    ensures { IfOk result (λ made. (made.0 ≡ (seen_bound variable.entry).name)
-        × (tree_of made.1 ≡ (seen_bound variable.entry).bound.tree)
-        × (seen_mentions made.2.items ≡ (seen_bound variable.entry).bound.names ++ (mention.Binds (seen_bound variable.entry).name ∷ seen_mentions behind.entry.items))) }
+) -> Result<(Text, Vec<Named<'t>>), NoMemory>
+    ensures name { IfOk result (λ made. made.0 ≡ name.now) }
+    ensures names { IfOk result (λ made. seen_mentions made.1.items ≡ seen_mentions names.entry.items ++ (mention.Binds name.now ∷ seen_mentions behind.entry.items)) }
 {
-    let Bound { name, value } = variable;
-    let Reading { expr, names, .. } = value;
     behind.push(Named::Binds(name))?;
     let all = before(names, behind)?;
-    Ok((Text::from_str(alloc, name)?, expr, all))
+    Ok((Text::from_str(alloc, name)?, all))
 }
 
 /// What follows variables, and the end of their scopes behind it.
@@ -62,7 +60,9 @@ fn scoped<'t>(
     let mut pairs = Vec::new(alloc);
     let mut all = closed(alloc, left.len(), body)?;
     'variables: while let Some(variable) = left.pop() {
-        let (name, expr, names) = opened(alloc, variable, all)?;
+        let Bound { name, value } = variable;
+        let Reading { expr, names, .. } = value;
+        let (name, names) = opened(alloc, name, names, all)?;
         pairs.push((name, expr))?;
         all = names;
     }
@@ -72,20 +72,14 @@ fn scoped<'t>(
 
 /// The expression of variables, each with its own, and what follows them.
 #[tactic(auto, using(crate::proofs::TreeForms::tree_of_for, crate::proofs::TreeForms::tree_of_let, crate::proofs::TreeForms::tree_of_quantified))]
-fn bound_of(
-    alloc: Global,
-    word: Binder,
-    variables: Vec<(Text, Expr)>,
-    body: Expr,
-) -> Result<Expr, NoMemory>
-    ensures { IfOk result (λ made. tree_of made ≡ binder (binder_of word) (map (λ variable. (variable.0, tree_of variable.1)) variables.items) (tree_of body)) }
+fn bound_of(word: Binder, variables: Vec<(Text, Expr)>, body: Box<Expr>) -> Expr
+    ensures { tree_of result ≡ binder (binder_of word) (map (λ variable. (variable.0, tree_of variable.1)) variables.items) (tree_of body.value) }
 {
-    let body = Box::new(alloc, body)?;
-    Ok(match word {
+    match word {
         Binder::For => Expr::For(variables, body),
         Binder::Let => Expr::Let(variables, body),
         Binder::Quantified(quantifier) => Expr::Quantified(quantifier, variables, body),
-    })
+    }
 }
 
 /// Variables and what follows them.
@@ -97,9 +91,10 @@ pub fn bound<'t>(
 ) -> Result<Reading<'t>, NoMemory>
     ensures { IfOk result (λ made. seen_reading made ≡ bound (binder_of word) (bindings (seen_part variables.entry)) (operand (seen_part body.entry))) }
 {
-    let Reading { expr, names, .. } = body.into_reading(alloc);
-    let (pairs, all) = scoped(alloc, variables.into_bound(alloc), names)?;
-    Ok(Reading::other(bound_of(alloc, word, pairs, expr)?, all))
+    let variables = variables.into_bound(alloc);
+    let (body, names) = boxed(alloc, body.into_reading(alloc))?;
+    let (pairs, all) = scoped(alloc, variables, names)?;
+    Ok(Reading::other(bound_of(word, pairs, body), all))
 }
 
 /// A variable with its expression, before others.
@@ -119,18 +114,7 @@ pub fn binding<'t>(
     Ok(Part::Bound(others.into_bound(alloc).put(variable)?))
 }
 
-/// The choice between two expressions (XPath 2.0, 3.8).
-#[tactic(auto, using(crate::proofs::TreeForms::tree_of_if))]
-fn choice_of(alloc: Global, test: Expr, yes: Expr, no: Expr) -> Result<Expr, NoMemory>
-    ensures { IfOk result (λ made. tree_of made ≡ node If (tree_of test ∷ tree_of yes ∷ tree_of no ∷ [])) }
-{
-    let test = Box::new(alloc, test)?;
-    let yes = Box::new(alloc, yes)?;
-    let no = Box::new(alloc, no)?;
-    Ok(Expr::If(test, yes, no))
-}
-
-/// The choice between two expressions, with what it names.
+/// The choice between two expressions, with what it names (XPath 2.0, 3.8).
 pub fn choice<'t>(
     alloc: Global,
     test: Part<'t>,
@@ -139,10 +123,9 @@ pub fn choice<'t>(
 ) -> Result<Reading<'t>, NoMemory>
     ensures { IfOk result (λ made. seen_reading made ≡ chosen (operand (seen_part test.entry)) (operand (seen_part yes.entry)) (operand (seen_part no.entry))) }
 {
-    let test = test.into_reading(alloc);
-    let yes = yes.into_reading(alloc);
-    let no = no.into_reading(alloc);
-    let expr = choice_of(alloc, test.expr, yes.expr, no.expr)?;
-    let names = before(test.names, before(yes.names, no.names)?)?;
-    Ok(Reading::other(expr, names))
+    let (test, first) = boxed(alloc, test.into_reading(alloc))?;
+    let (yes, second) = boxed(alloc, yes.into_reading(alloc))?;
+    let (no, third) = boxed(alloc, no.into_reading(alloc))?;
+    let names = before(first, before(second, third)?)?;
+    Ok(Reading::other(Expr::If(test, yes, no), names))
 }

@@ -1,12 +1,13 @@
 //! Expressions as they are read, and the variables and arguments around them.
 
-ghost use Rattle.std.specs.Prelude.{◌≡◌};
+ghost use Rattle.std.specs.Prelude.{◌≡◌, IfOk};
 ghost use Rattle.pj_xvalue.specs.Trees.{tree_of};
 ghost use Rattle.pj_xmeaning.specs.Operands.{other, nothing};
 ghost use Rattle.pj_xmeaning.specs.Seen.{seen_reading, seen_mentions};
 
 use crate::front::Front;
 use crate::named::{Named, Spelling};
+use pj_base::NoMemory;
 use pj_xvalue::Expr;
 use std::alloc::Global;
 
@@ -40,6 +41,19 @@ impl<'t> Reading<'t> {
     {
         Reading::other(Expr::Comma(Vec::new(alloc)), Vec::new(alloc))
     }
+}
+
+/// The expression in a box, and what it names, from the last on. A function that may want memory holds expressions in boxes: one by value would have to be let go,
+/// variant by variant, at each place where memory is wanting.
+pub fn boxed<'t>(
+    alloc: Global,
+    reading: Reading<'t>,
+) -> Result<(Box<Expr>, Vec<Named<'t>>), NoMemory>
+    ensures expr { IfOk result (λ made. tree_of made.0.value ≡ (seen_reading reading.entry).tree) }
+    ensures names { IfOk result (λ made. seen_mentions made.1.items ≡ (seen_reading reading.entry).names) }
+{
+    let Reading { expr, names, .. } = reading;
+    Ok((Box::new(alloc, expr)?, names))
 }
 
 /// A variable and the expression to which it is bound.

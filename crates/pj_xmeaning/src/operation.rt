@@ -10,7 +10,7 @@ ghost use Rattle.pj_xmeaning.specs.Values.{construct_of, operation_value};
 
 use crate::front::Front;
 use crate::named::Named;
-use crate::operand::Reading;
+use crate::operand::{Reading, boxed};
 use crate::part::Part;
 use crate::row::{apart, before};
 use pj_base::NoMemory;
@@ -78,11 +78,10 @@ fn comparison<'t>(
 {
     match behind {
         Some((compare, second)) => {
-            let second = Box::into_inner(second);
-            let left = Box::new(alloc, first.expr)?;
-            let right = Box::new(alloc, second.expr)?;
-            let names = before(first.names, second.names)?;
-            Ok(Reading::other(Expr::Comparison(compare, left, right), names))
+            let (left, names) = boxed(alloc, first)?;
+            let (right, behind) = boxed(alloc, Box::into_inner(second))?;
+            let all = before(names, behind)?;
+            Ok(Reading::other(Expr::Comparison(compare, left, right), all))
         }
         None => Ok(first),
     }
@@ -99,11 +98,10 @@ fn range<'t>(
 {
     match behind {
         Some(last) => {
-            let last = Box::into_inner(last);
-            let from = Box::new(alloc, first.expr)?;
-            let to = Box::new(alloc, last.expr)?;
-            let names = before(first.names, last.names)?;
-            Ok(Reading::other(Expr::Range(from, to), names))
+            let (from, names) = boxed(alloc, first)?;
+            let (to, behind) = boxed(alloc, Box::into_inner(last))?;
+            let all = before(names, behind)?;
+            Ok(Reading::other(Expr::Range(from, to), all))
         }
         None => Ok(first),
     }
@@ -121,10 +119,10 @@ fn sum<'t>(
     if rest.is_empty() {
         return Ok(first);
     }
+    let (left, names) = boxed(alloc, first)?;
     let (operands, behind) = operations(alloc, rest)?;
-    let left = Box::new(alloc, first.expr)?;
-    let names = before(first.names, behind)?;
-    Ok(Reading::other(Expr::Additive(left, operands.into_vec()), names))
+    let all = before(names, behind)?;
+    Ok(Reading::other(Expr::Additive(left, operands.into_vec()), all))
 }
 
 /// The operand itself where nothing stands behind it, else a product.
@@ -139,10 +137,10 @@ fn product<'t>(
     if rest.is_empty() {
         return Ok(first);
     }
+    let (left, names) = boxed(alloc, first)?;
     let (operands, behind) = operations(alloc, rest)?;
-    let left = Box::new(alloc, first.expr)?;
-    let names = before(first.names, behind)?;
-    Ok(Reading::other(Expr::Multiplicative(left, operands.into_vec()), names))
+    let all = before(names, behind)?;
+    Ok(Reading::other(Expr::Multiplicative(left, operands.into_vec()), all))
 }
 
 /// The operand itself where nothing stands behind it, else an intersection or a difference.
@@ -157,10 +155,10 @@ fn sets<'t>(
     if rest.is_empty() {
         return Ok(first);
     }
+    let (left, names) = boxed(alloc, first)?;
     let (operands, behind) = operations(alloc, rest)?;
-    let left = Box::new(alloc, first.expr)?;
-    let names = before(first.names, behind)?;
-    Ok(Reading::other(Expr::IntersectExcept(left, operands.into_vec()), names))
+    let all = before(names, behind)?;
+    Ok(Reading::other(Expr::IntersectExcept(left, operands.into_vec()), all))
 }
 
 /// The expression of an operand and what stands behind it.

@@ -10,7 +10,7 @@ ghost use Rattle.pj_xmeaning.specs.Values.{kind_of, step_value};
 
 use crate::call::call;
 use crate::front::Front;
-use crate::operand::Reading;
+use crate::operand::{Reading, boxed};
 use crate::part::Part;
 use crate::row::{apart, before};
 use pj_base::{NoMemory, Text};
@@ -122,10 +122,10 @@ pub fn filtered<'t>(
     if predicates.is_empty() {
         return Ok(primary);
     }
+    let (primary, names) = boxed(alloc, primary)?;
     let (predicates, behind) = apart(alloc, predicates)?;
-    let Reading { expr, names, .. } = primary;
-    let filter = Expr::Filter(Box::new(alloc, expr)?, predicates);
-    Ok(Reading::other(filter, before(names, behind)?))
+    let all = before(names, behind)?;
+    Ok(Reading::other(Expr::Filter(primary, predicates), all))
 }
 
 /// The test of `node` or `element` before parentheses, else that for the name (XPath 2.0, 2.5.4 and 3.2.1.2).

@@ -1,7 +1,7 @@
 use Rattle.std.proofs.Common.{◌≡◌, ◌∙◌, ◌++◌, ◌∷◌, [], List, ℕ, map, length, ap, sym, rules, arith, append_assoc}
 use Rattle.std.specs.Prelude.{reverse}
 use Rattle.std.proofs.lemmas.List.{map-append}
-use Rattle.pj_xvalue.specs.Trees.{Tree, tree_of}
+use Rattle.pj_xvalue.specs.Trees.{tree_of}
 use Rattle.pj_xmeaning.specs.Operands.{scopes_of}
 use Rattle.pj_xmeaning.specs.Seen.{seen_bound, seen_mentions}
 use Rattle.pj_xmeaning.proofs.Lists.{pushed}
@@ -16,12 +16,11 @@ variables-preserved c =
     let behind = seen_mentions c.variables.all.items in
     let done = map behind_of (reverse c.variables.pairs.items) in
     let popped : c.variables.left.items ≡ others ++ last ∷ [] = first_of (search rules, grind arith) in
-    let more : c.push.new.self.items ≡ c.variables.pairs.items ++ (c.in_ok-name.name, c.in_ok-name.expr) ∷ [] = first_of (search rules, grind arith) in
+    let more : c.push.new.self.items ≡ c.variables.pairs.items ++ (c.in_ok-name.name, last.value.expr) ∷ [] = first_of (search rules, grind arith) in
     let front : map behind_of (reverse c.push.new.self.items) ≡ variable_of last ∷ done =
     ap (λ l. map behind_of (reverse l)) more
-    ∙ pushed behind_of c.variables.pairs.items (c.in_ok-name.name, c.in_ok-name.expr)
-    ∙ ap (λ (name : List ℕ). (name, tree_of c.in_ok-name.expr) ∷ done) c.in_ok-name.ensures.0
-    ∙ ap (λ (tree : Tree). (last.name.now, tree) ∷ done) c.in_ok-name.ensures.1 in
+    ∙ pushed behind_of c.variables.pairs.items (c.in_ok-name.name, last.value.expr)
+    ∙ ap (λ (name : List ℕ). (name, tree_of last.value.expr) ∷ done) c.in_ok-name.ensures.name in
     record {
       trees =
           ap (λ l. map variable_of others ++ l) front
@@ -30,7 +29,7 @@ variables-preserved c =
           ∙ ap (λ l. map variable_of l ++ done) (sym popped)
           ∙ c.variables.invariant.trees;
       names =
-          ap (opened (scopes_of (map seen_bound others))) c.in_ok-name.ensures.2
+          ap (opened (scopes_of (map seen_bound others))) c.in_ok-name.ensures.names
           ∙ sym (opened_next others last behind)
           ∙ ap (λ l. opened (scopes_of (map seen_bound l)) behind) (sym popped)
           ∙ c.variables.invariant.names;
