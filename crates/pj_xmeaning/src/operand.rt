@@ -43,8 +43,8 @@ impl<'t> Reading<'t> {
     }
 }
 
-/// The expression in a box, and what it names, from the last on. A function that may want memory holds expressions in boxes: one by value would have to be let go,
-/// variant by variant, at each place where memory is wanting.
+/// The expression in a box, and what it names, from the last on. A function that may want memory holds expressions in boxes: one by value
+/// would have to be let go, variant by variant, wherever memory is wanting.
 pub fn boxed<'t>(
     alloc: Global,
     reading: Reading<'t>,

@@ -29,7 +29,7 @@ module _ (more : List ℕ) where
       other n c (text ++ more) (r ++ more) (behind ++ more) (ap and_more e)
       (begins_still 40 58 c text r more e goes_on ∙ o) (begins_still 58 41 c text r more e goes_on ∙ l) (comment_still n r behind k)
 
-  past_still : (text body : List ℕ) → Past text body → Past (text ++ more) (body ++ more)
+  pub past_still : (text body : List ℕ) → Past text body → Past (text ++ more) (body ++ more)
   past_still text body (here _ _ e) = here (text ++ more) (body ++ more) (ap and_more e)
   past_still text body (white c _ r _ e w p) = white c (text ++ more) (r ++ more) (body ++ more) (ap and_more e) w (past_still r body p)
   past_still text body (comment _ i r _ e k p) = comment (text ++ more) (i ++ more) (r ++ more) (body ++ more) (ap and_more e) (comment_still zero i r k) (past_still r body p)

@@ -48,7 +48,7 @@ parenthesis_stops = refl
 
 -- where the scanner's states tell what each token is
 module _ (told : SpelledAreTold) where
-  none_empty : (k : TokenKind) → Spells k [] → ⊥
+  pub none_empty : (k : TokenKind) → Spells k [] → ⊥
   none_empty k f = let none : None ≡ Some k = told k [] f in absurd (cc)
 
   -- no token begins with a character at which the scanner does not start

@@ -51,4 +51,5 @@ pub mod Expanding
 pub mod Prefixes
 pub mod Texts
 pub mod Gapping
+pub mod Joining
 pub mod Axes

@@ -23,16 +23,16 @@ breaks [] = true
 breaks (c ∷ cs) = is_break c
 
 -- what a function says of each of these
-abbrev at_each : (ℕ → Option State) → List (Option State)
+abbrev pub at_each : (ℕ → Option State) → List (Option State)
 at_each f = f 32 ∷ f 9 ∷ f 10 ∷ f 13 ∷ f 40 ∷ []
 
-abbrev no_state : List (Option State)
+abbrev pub no_state : List (Option State)
 no_state = None ∷ None ∷ None ∷ None ∷ None ∷ []
 
 which_break : (c : ℕ) → is_break c ≡ true → (c ≡ 32) ⊎ ((c ≡ 9) ⊎ ((c ≡ 10) ⊎ ((c ≡ 13) ⊎ (c ≡ 40))))
 which_break c h = grind (arith, nat_tests, h)
 
-none_at : (f : ℕ → Option State) → at_each f ≡ no_state → (c : ℕ) → is_break c ≡ true → f c ≡ None
+pub none_at : (f : ℕ → Option State) → at_each f ≡ no_state → (c : ℕ) → is_break c ≡ true → f c ≡ None
 none_at f e c h =
     let space : f 32 ≡ None = cc in
     let tab : f 9 ≡ None = cc in
@@ -42,7 +42,7 @@ none_at f e c h =
     let at = λ (d : ℕ) (n : f d ≡ None) (q : c ≡ d). ap f q ∙ n in
     ⊎_elim (at 32 space) (⊎_elim (at 9 tab) (⊎_elim (at 10 line_feed) (⊎_elim (at 13 return) (at 40 parenthesis)))) (which_break c h)
 
-sign_stops : (q : Sign) → at_each (λ c. sign_step (λ s. holds s c) q) ≡ no_state
+pub sign_stops : (q : Sign) → at_each (λ c. sign_step (λ s. holds s c) q) ≡ no_state
 unfolding sign_step
 sign_stops sign.LeftParenthesis = refl
 sign_stops sign.RightParenthesis = refl
@@ -113,7 +113,7 @@ module _ (d : ℕ) (h : is_break d ≡ true) where
   token_stops told w v j k f g = word_stops w v j k s.Start (told k w f) (told j (w ++ d ∷ v) g)
 
 -- a prefix of a text that is longer than another one goes on from that with the next character
-longer : (d : ℕ) (w rest v behind : List ℕ) → w ++ d ∷ rest ≡ v ++ behind → (length v ≤ length w) ⊎ ((u : List ℕ) × (v ≡ w ++ d ∷ u))
+pub longer : (d : ℕ) (w rest v behind : List ℕ) → w ++ d ∷ rest ≡ v ++ behind → (length v ≤ length w) ⊎ ((u : List ℕ) × (v ≡ w ++ d ∷ u))
 longer d w rest [] behind e = inl (omega arith)
 longer d [] rest (c ∷ v) behind e = let first : c ≡ d = cc in inr (v, ap (λ x. x ∷ v) first)
 longer d (b ∷ w) rest (c ∷ v) behind e =

@@ -9,7 +9,7 @@ use Rattle.pj_xgrammar.specs.declared.rule.Rule.TheVariants as r
 use Rattle.pj_xmeaning.specs.Operands.{Operand, other}
 use Rattle.pj_xmeaning.specs.Reach.{All}
 use Rattle.pj_xmeaning.specs.Reads.{Takes, Reads, primary, no_predicate, parenthesized, inside}
-use Rattle.pj_xsyntax_laws.specs.Levels.{is_level, ReadsAt}
+use Rattle.pj_xsyntax_laws.specs.Levels.{is_level, LevelReads}
 use Rattle.pj_xsyntax_laws.proofs.Climbing.{climb}
 use Rattle.pj_xsyntax_laws.proofs.WholeReadings.{reading}
 
@@ -18,7 +18,7 @@ step_of : {depth : ℕ} {xs ys : List Lexed} {a : Operand} → Reads All r.Prima
 step_of k = reading (primary {predicates = []} k (reading no_predicate))
 
 -- so it is read by each level
-at_level : (outer : Rule) (depth : ℕ) (xs ys : List Lexed) (a : Operand) → IsTrue (is_level outer) → Reads All r.PrimaryExpr depth xs ys a → ReadsAt outer depth xs ys a
+at_level : (outer : Rule) (depth : ℕ) (xs ys : List Lexed) (a : Operand) → IsTrue (is_level outer) → Reads All r.PrimaryExpr depth xs ys a → LevelReads outer depth xs ys a
 at_level r.Expr depth xs ys a is k = climb 15 0 depth xs ys a (step_of k)
 at_level r.ExprSingle depth xs ys a is k = climb 14 1 depth xs ys a (step_of k)
 at_level r.OrExpr depth xs ys a is k = climb 13 2 depth xs ys a (step_of k)
@@ -40,7 +40,7 @@ at_level r.Parenthesized depth xs ys a is k = reading (inside (climb 15 0 depth 
 at_level _ depth xs ys a is k = absurd (false≢true is)
 
 -- what a level reads may stand in parentheses
-within : (inner : Rule) (depth : ℕ) (xs ys : List Lexed) (a : Operand) → ReadsAt inner depth xs ys a → Reads All r.Parenthesized depth xs ys a
+within : (inner : Rule) (depth : ℕ) (xs ys : List Lexed) (a : Operand) → LevelReads inner depth xs ys a → Reads All r.Parenthesized depth xs ys a
 within r.Expr depth xs ys a k = reading (inside (climb 0 0 depth xs ys a k))
 within r.ExprSingle depth xs ys a k = reading (inside (climb 1 0 depth xs ys a k))
 within r.OrExpr depth xs ys a k = reading (inside (climb 2 0 depth xs ys a k))
@@ -61,7 +61,7 @@ within r.PrimaryExpr depth xs ys a k = reading (inside (climb 15 0 depth xs ys a
 within r.Parenthesized depth xs ys a k = k
 within _ depth xs ys a k = absurd k
 
-pub in_parentheses : (inner outer : Rule) (depth : ℕ) (xs ys zs us : List Lexed) (a : Operand) → IsTrue (is_level outer) → Takes All (suc depth) (t "(") xs ys → ReadsAt inner (suc depth) ys zs a → Takes All depth (t ")") zs us
-    → ReadsAt outer depth xs us (other a.tree a.names)
+pub in_parentheses : (inner outer : Rule) (depth : ℕ) (xs ys zs us : List Lexed) (a : Operand) → IsTrue (is_level outer) → Takes All (suc depth) (t "(") xs ys → LevelReads inner (suc depth) ys zs a → Takes All depth (t ")") zs us
+    → LevelReads outer depth xs us (other a.tree a.names)
 in_parentheses inner outer depth xs ys zs us a is open_ read close_ =
     at_level outer depth xs us (other a.tree a.names) is (reading (parenthesized {a = a} open_ (within inner (suc depth) ys zs a read) close_))

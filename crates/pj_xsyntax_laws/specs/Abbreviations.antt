@@ -24,8 +24,9 @@ word text from = lexed kind.Name (codes text) from
 abbrev pub along_child : ℕ → ℕ → List Lexed → List Lexed
 along_child from to xs = word "child" from ∷ sign s.ColonColon "::" to ∷ xs
 
--- The second tokens are the first ones, where abbreviations are written out, and these tokens behind them. Their offsets are those of another text. If
--- it nests, `//` and `..` may be written out, too, whose longer forms have a kind test with its parentheses.
+-- The second tokens are the first ones, where abbreviations are written out and literals of one string and names of one function are put for each other,
+-- and these tokens behind them. Their offsets are those of another text. If it nests, `//` and `..` may be written out, too, whose longer forms have a
+-- kind test with its parentheses.
 pub data WrittenOut (nests : Bool) (behind : List Lexed) : List Lexed → List Lexed → Type 0 where
   done : WrittenOut nests behind [] behind
   -- A token as it was. A `/` that stands alone still does: so a `|` behind it is not written out, since `union` would begin a step there.
@@ -45,6 +46,6 @@ pub data WrittenOut (nests : Bool) (behind : List Lexed) : List Lexed → List L
   -- two literals of one string, as `'x'` and `"x"`
   literal : {v w : List ℕ} {xs ys : List Lexed} (from a : ℕ) → string_of (encode_utf8_all v) ≡ string_of (encode_utf8_all w) → WrittenOut nests behind xs ys →
       WrittenOut nests behind (lexed kind.String v from ∷ xs) (lexed kind.String w a ∷ ys)
-  -- two names of one function, as `fn:count` and `count`, before its arguments; elsewhere a name is what it is
+  -- two names of one function, as `fn:count` and `count`, before its arguments; elsewhere they are two names, of elements, attributes or variables
   function : {v w : List ℕ} {callee : Callee} {xs ys : List Lexed} (from a : ℕ) → callee_of (encode_utf8_all v) ≡ Some callee → callee_of (encode_utf8_all w) ≡ Some callee →
       begins_with_parenthesis xs ≡ true → WrittenOut nests behind xs ys → WrittenOut nests behind (lexed kind.Name v from ∷ xs) (lexed kind.Name w a ∷ ys)

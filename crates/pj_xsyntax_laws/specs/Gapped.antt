@@ -25,6 +25,10 @@ abbrev pub located : ℕ → List Piece → List Lexed
 located from [] = []
 located from (p ∷ ps) = lexed p.word.kind p.word.text from ∷ located (from + size p.word.text + size p.gap) ps
 
+-- the tokens at offsets so much greater
+abbrev pub moved : ℕ → List Lexed → List Lexed
+moved by tokens = map (λ l. lexed l.kind l.text (by + l.from)) tokens
+
 -- the whole of it is white space and comments; it may be empty
 abbrev pub IsGap : List ℕ → Type 0
 IsGap gap = Past gap []

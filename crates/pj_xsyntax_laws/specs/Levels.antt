@@ -1,6 +1,6 @@
 -- The levels of operators: the rules that read an expression, from the comma's down to that of primary expressions (XPath 2.0, A.1 and A.4, with those
 -- of XPath 3.1, A.4), and the rule of what stands in parentheses, which may be nothing. Clauses, as that of `return`, are no levels: each begins with
--- its word.
+-- a word or a sign of its own. Neither is `RelativePathExpr`, which says steps in a row.
 use Rattle.std.specs.Prelude.{ℕ, Bool, true, false, List}
 use Rattle.pj_xtokens.specs.Tokens.{Lexed}
 use Rattle.pj_xgrammar.specs.declared.rule.Rule.{Rule}
@@ -32,24 +32,24 @@ is_level r.Parenthesized = true
 is_level _ = false
 
 -- What a level reads (`Reads`): where so many things that nest are open, the expression stands at the front of the first tokens, and the second ones
--- stand behind it. A rule that is no level reads nothing.
-abbrev pub ReadsAt : Rule → ℕ → List Lexed → List Lexed → Operand → Type 0
-ReadsAt r.Expr = Reads All r.Expr
-ReadsAt r.ExprSingle = Reads All r.ExprSingle
-ReadsAt r.OrExpr = Reads All r.OrExpr
-ReadsAt r.AndExpr = Reads All r.AndExpr
-ReadsAt r.ComparisonExpr = Reads All r.ComparisonExpr
-ReadsAt r.StringConcatExpr = Reads All r.StringConcatExpr
-ReadsAt r.RangeExpr = Reads All r.RangeExpr
-ReadsAt r.AdditiveExpr = Reads All r.AdditiveExpr
-ReadsAt r.MultiplicativeExpr = Reads All r.MultiplicativeExpr
-ReadsAt r.UnionExpr = Reads All r.UnionExpr
-ReadsAt r.IntersectExceptExpr = Reads All r.IntersectExceptExpr
-ReadsAt r.UnaryExpr = Reads All r.UnaryExpr
-ReadsAt r.SimpleMapExpr = Reads All r.SimpleMapExpr
-ReadsAt r.Operand = Reads All r.Operand
-ReadsAt r.PathExpr = Reads All r.PathExpr
-ReadsAt r.StepExpr = Reads All r.StepExpr
-ReadsAt r.PrimaryExpr = Reads All r.PrimaryExpr
-ReadsAt r.Parenthesized = Reads All r.Parenthesized
-ReadsAt _ = λ depth xs ys a. ⊥
+-- stand behind it. Of a rule that is no level nothing is said here.
+abbrev pub LevelReads : Rule → ℕ → List Lexed → List Lexed → Operand → Type 0
+LevelReads r.Expr = Reads All r.Expr
+LevelReads r.ExprSingle = Reads All r.ExprSingle
+LevelReads r.OrExpr = Reads All r.OrExpr
+LevelReads r.AndExpr = Reads All r.AndExpr
+LevelReads r.ComparisonExpr = Reads All r.ComparisonExpr
+LevelReads r.StringConcatExpr = Reads All r.StringConcatExpr
+LevelReads r.RangeExpr = Reads All r.RangeExpr
+LevelReads r.AdditiveExpr = Reads All r.AdditiveExpr
+LevelReads r.MultiplicativeExpr = Reads All r.MultiplicativeExpr
+LevelReads r.UnionExpr = Reads All r.UnionExpr
+LevelReads r.IntersectExceptExpr = Reads All r.IntersectExceptExpr
+LevelReads r.UnaryExpr = Reads All r.UnaryExpr
+LevelReads r.SimpleMapExpr = Reads All r.SimpleMapExpr
+LevelReads r.Operand = Reads All r.Operand
+LevelReads r.PathExpr = Reads All r.PathExpr
+LevelReads r.StepExpr = Reads All r.StepExpr
+LevelReads r.PrimaryExpr = Reads All r.PrimaryExpr
+LevelReads r.Parenthesized = Reads All r.Parenthesized
+LevelReads _ = λ depth xs ys a. ⊥

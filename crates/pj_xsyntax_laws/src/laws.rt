@@ -1,7 +1,7 @@
 //! Laws of the syntax of XPath. The functions do nothing, and their contracts are the laws.
 
 ghost use Rattle.pj_xtokens.specs.Rules as lexical;
-ghost use Rattle.std.specs.Prelude.{All, Bool, Contains, IsTrue, List, None, Some, [], codes, false, suc, true, ℕ, ◌++◌, ◌<◌, ◌∷◌, ◌^◌, ◌≡◌, ◌≢◌, ◌≤◌, ◌⊎◌};
+ghost use Rattle.std.specs.Prelude.{All, Bool, Contains, IsTrue, List, None, Some, [], codes, false, suc, true, ℕ, ◌+◌, ◌++◌, ◌<◌, ◌∷◌, ◌^◌, ◌≡◌, ◌≢◌, ◌≤◌, ◌⊎◌};
 ghost use Rattle.std.specs.Fmt.{decimal};
 ghost use Rattle.pj_xtokens.specs.Characters.{is_digit, is_white};
 ghost use Rattle.pj_xtokens.specs.Signs.{Entry, signs};
@@ -38,8 +38,8 @@ ghost use Rattle.pj_xshape.specs.Nesting.{nesting_of_tree};
 ghost use Rattle.pj_xshape.specs.Shapes.{part_of_tree};
 ghost use Rattle.pj_xshape.specs.Spelled.{IsSpelled};
 ghost use Rattle.pj_xsyntax_laws.specs.Abbreviations.{WrittenOut, along_child, sign};
-ghost use Rattle.pj_xsyntax_laws.specs.Gapped.{ArePieces, IsGap, Piece, gapped, located, words_in};
-ghost use Rattle.pj_xsyntax_laws.specs.Levels.{ReadsAt, is_level};
+ghost use Rattle.pj_xsyntax_laws.specs.Gapped.{ArePieces, IsGap, Piece, gapped, located, moved, words_in};
+ghost use Rattle.pj_xsyntax_laws.specs.Levels.{LevelReads, is_level};
 ghost use Rattle.pj_xsyntax_laws.specs.Printed.{function_name, printed};
 
 use pj_xderive::runs_end_before_faults;
@@ -67,7 +67,7 @@ pub fn signs_and_literals_spell()
 }
 
 /// No token but a string has white space in it: a space, a tab, a line feed or a carriage return (XML 1.0, 2.3). So no name has any.
-pub fn strings_alone_have_spaces()
+pub fn strings_alone_have_white_space()
     ensures { (kind : TokenKind) (text : List ℕ) → lexical.Spells kind text → kind ≢ kinds.String → All (λ c. is_white c ≡ false) text }
 {}
 
@@ -124,9 +124,9 @@ pub fn spelled_expressions_are_printed()
     tokens_are_well_spelled();
 }
 
-/// Abbreviations stand for their longer forms: a text that spells an expression spells the same one where `@` and `|` are written out, and literals of one
-/// string and names of one function before its arguments, as `count` and `fn:count`, are put for each other; `//` and `..` are written out too, where one
-/// more thing may be open, since the parentheses of a kind test nest (XPath 2.0, 3.2.4, 3.3.3, 3.1.1 and 3.1.5).
+/// Abbreviations stand for their longer forms: a text that spells an expression spells the same one where `@` and `|` are written out, but a `|` behind a
+/// `/` that stands alone, and literals of one string and names of one function before its arguments, as `count` and `fn:count`, are put for each other;
+/// `//` and `..` are written out too, where one more thing may be open, since the parentheses of a kind test nest (XPath 2.0, 3.2.4, 3.3.3, 3.1.1 and 3.1.5).
 pub fn abbreviations_stand_for_longer_forms()
     ensures as_deep { (variables : List (List ℕ)) (text other : List ℕ) (tokens others : List Lexed) (tree : Tree) → Tokens (size text) text tokens (ends.Text (size text)) →
         Tokens (size other) other others (ends.Text (size other)) → WrittenOut false [] tokens others → Spells variables text tree → Spells variables other tree }
@@ -144,9 +144,10 @@ pub fn steps_without_axis_are_children()
         Reads reach.All r.StepExpr depth (along_child from to xs) zs (child_step test predicates) }
 {}
 
-/// Comments change nothing, and neither does white space: of words that each spell a token, with a gap of white space and comments behind each, which may
-/// be empty behind the last one alone, and a gap before the first one, the tokens are these words, and a text of them spells what it spells with one
-/// space behind each (XPath 2.0, 2.6 and A.2.4.1). So does any text that has tokens up to its end, also where nothing stands between some of them.
+/// Comments change nothing, and neither does white space: of words that each spell a token, with a gap of white space and comments before the first one
+/// and behind each, which is not empty between two words, the tokens are these words, and a text of them spells what it spells with one space behind each
+/// (XPath 2.0, 2.6 and A.2.4.1). Two texts that have tokens up to their ends, with a gap that is not empty between them, have the tokens of both, the second
+/// ones moved. Two texts whose tokens are the same words spell the same, also where nothing stands between some of them.
 pub fn comments_change_nothing()
     ensures tokens { (front : List ℕ) (pieces : List Piece) → IsGap front → ArePieces pieces →
         Tokens (size (front ++ gapped pieces)) (front ++ gapped pieces) (located (size front) pieces) (ends.Text (size (front ++ gapped pieces))) }
@@ -154,10 +155,11 @@ pub fn comments_change_nothing()
         Spells variables (front ++ gapped pieces) tree → Spells variables (spaced (words_in pieces)) tree }
     ensures with_gaps { (variables : List (List ℕ)) (front : List ℕ) (pieces : List Piece) (tree : Tree) → IsGap front → ArePieces pieces →
         Spells variables (spaced (words_in pieces)) tree → Spells variables (front ++ gapped pieces) tree }
-    ensures with_spaces { (variables : List (List ℕ)) (text : List ℕ) (tokens : List Lexed) (tree : Tree) → Tokens (size text) text tokens (ends.Text (size text)) →
-        Spells variables text tree → Spells variables (spaced (words_of tokens)) tree }
-    ensures without_spaces { (variables : List (List ℕ)) (text : List ℕ) (tokens : List Lexed) (tree : Tree) → Tokens (size text) text tokens (ends.Text (size text)) →
-        Spells variables (spaced (words_of tokens)) tree → Spells variables text tree }
+    ensures joined { (before gap after : List ℕ) (firsts others : List Lexed) → IsGap gap → gap ≢ [] → Tokens (size before) before firsts (ends.Text (size before)) →
+        Tokens (size after) after others (ends.Text (size after)) →
+        Tokens (size (before ++ gap ++ after)) (before ++ gap ++ after) (firsts ++ moved (size before + size gap) others) (ends.Text (size (before ++ gap ++ after))) }
+    ensures same_words { (variables : List (List ℕ)) (text other : List ℕ) (tokens others : List Lexed) (tree : Tree) → Tokens (size text) text tokens (ends.Text (size text)) →
+        Tokens (size other) other others (ends.Text (size other)) → words_of tokens ≡ words_of others → Spells variables text tree → Spells variables other tree }
 {
     scanner_follows_the_rules();
     tokens_are_one();
@@ -175,13 +177,13 @@ pub fn prefix_of_functions_is_optional()
 {}
 
 /// Parentheses leave no trace: an expression in parentheses, where one more thing may be open, is read as the expression, but that it is no literal and
-/// no variable alone. What any level of operators reads, that level reads in parentheses too, which are superfluous then, and so does each other level.
-/// And a text whose tokens say an expression where one more thing may be open spells that in parentheses, too.
+/// no variable alone. What any level of operators reads, each level reads in parentheses, the same one too. What stands around them is another matter:
+/// `(/) * 2` is an expression and `/ * 2` is none. And a text whose tokens say an expression where one more thing may be open spells that in parentheses, too.
 pub fn parentheses_leave_no_trace()
     ensures operands { (depth : ℕ) (xs ys zs us : List Lexed) (a : Operand) → Takes reach.All (suc depth) (t "(") xs ys → Reads reach.All r.Expr (suc depth) ys zs a → Takes reach.All depth (t ")") zs us →
         Reads reach.All r.PrimaryExpr depth xs us (other a.tree a.names) }
-    ensures levels { (inner outer : Rule) (depth : ℕ) (xs ys zs us : List Lexed) (a : Operand) → IsTrue (is_level outer) → Takes reach.All (suc depth) (t "(") xs ys → ReadsAt inner (suc depth) ys zs a →
-        Takes reach.All depth (t ")") zs us → ReadsAt outer depth xs us (other a.tree a.names) }
+    ensures levels { (inner outer : Rule) (depth : ℕ) (xs ys zs us : List Lexed) (a : Operand) → IsTrue (is_level outer) → Takes reach.All (suc depth) (t "(") xs ys → LevelReads inner (suc depth) ys zs a →
+        Takes reach.All depth (t ")") zs us → LevelReads outer depth xs us (other a.tree a.names) }
     ensures texts { (variables : List (List ℕ)) (text : List ℕ) (tokens others : List Lexed) (from to : ℕ) (a : Operand) →
         Tokens (size text) text (sign s.LeftParenthesis "(" from ∷ others) (ends.Text (size text)) → WrittenOut false (sign s.RightParenthesis ")" to ∷ []) tokens others →
         Reads reach.All r.Expr 1 tokens [] a → first_fault variables a.names ≡ None → Spells variables text a.tree }
