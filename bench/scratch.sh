@@ -6,8 +6,8 @@ scratch=$(mktemp -d)
 trap 'rm -rf "$scratch"' EXIT
 
 # scratch_repository PROGRAM 'LIBRARY..' CRATE..
-# Copies the crates with their proofs, which are made again where nothing of them is kept on this machine, and makes a folder
-# for the program, $bench, which uses the libraries. The script writes the program's src/main.rt.
+# Copies the crates with their proofs, which are made again unless this checkout has the libraries that `rt lib` made of the same text, and makes a
+# folder for the program, $bench, which uses the libraries. The script writes the program's src/main.rt.
 scratch_repository() {
     local program=$1 libraries=$2 crate part
     shift 2
@@ -16,6 +16,11 @@ scratch_repository() {
         for part in src specs proofs; do
             if [ -d "$here/crates/$crate/$part" ]; then cp -r "$here/crates/$crate/$part" "$scratch/crates/$crate/"; fi
         done
+        # (its stamp tells what text it was made of, and `rt` takes it for that text alone)
+        if [ -d "$here/crates/$crate/out/rlib" ]; then
+            mkdir "$scratch/crates/$crate/out"
+            cp -r "$here/crates/$crate/out/rlib" "$scratch/crates/$crate/out/"
+        fi
         grep "^$crate:" "$here/crates.txt" >> "$scratch/crates.txt"
     done
     echo "$program: $libraries" >> "$scratch/crates.txt"
