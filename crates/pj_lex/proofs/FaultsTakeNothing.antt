@@ -26,7 +26,7 @@ use Rattle.pj_lex.specs.declared.comment.CommentState.TheVariants as comment
 use Rattle.pj_lex.proofs.Follows.{goes_on}
 use Rattle.pj_lex.proofs.Meaning.{meaning, meaning_of}
 use Rattle.pj_patterns.specs.Derivatives.{derive, derive_rules, keep, spells_none}
-use Rattle.pj_patterns.proofs.Derived.{first_of_from, first_of_to, spelled_from, spelled_to}
+use Rattle.pj_patterns.specs.Derived.{first_of_from, first_of_to, spelled_from, spelled_to}
 
 abbrev first_some : Option Category → Option Category → Option Category
 first_some None o = o

@@ -10,7 +10,7 @@ use Rattle.pj_lex.specs.declared.category.Category.{Category}
 use Rattle.pj_lex.specs.declared.state.State.{State}
 use Rattle.pj_lex.specs.declared.state.State.TheVariants as s
 use Rattle.pj_patterns.specs.Derivatives.{derive_rules, spells_none}
-use Rattle.pj_patterns.proofs.Derived.{first_of_from, first_of_to, spelled_from, spelled_to}
+use Rattle.pj_patterns.specs.Derived.{first_of_from, first_of_to, spelled_from, spelled_to}
 use Rattle.pj_lex.proofs.Meaning.{meaning, meaning_of}
 use Rattle.pj_lex.proofs.Follows.{goes_on, spells}
 

@@ -16,7 +16,7 @@ use Rattle.pj_lex.specs.declared.token.TokenKind.{TokenKind}
 use Rattle.pj_lex.specs.declared.category.Category.{Category}
 use Rattle.pj_lex.proofs.Meaning.{ascii}
 use Rattle.pj_patterns.specs.Derivatives.{derive_rules}
-use Rattle.pj_patterns.proofs.Derived.{first_of_from, first_of_unique}
+use Rattle.pj_patterns.specs.Derived.{first_of_from, first_of_unique}
 use Rattle.pj_lex.proofs.Follows.{holds_ascii}
 use Rattle.pj_lex.proofs.Scanned.{never_empty}
 

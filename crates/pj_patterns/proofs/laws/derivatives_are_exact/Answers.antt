@@ -1,4 +1,4 @@
-use Rattle.pj_patterns.proofs.Derived.{first_of_from, first_of_to}
+use Rattle.pj_patterns.specs.Derived.{first_of_from, first_of_to}
 use Rattle.pj_patterns.proofs.laws.derivatives_are_exact.Goals as goal
 
 pub returns-clause-from : goal.returns-clause-from

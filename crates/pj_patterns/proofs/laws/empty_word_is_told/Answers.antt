@@ -1,4 +1,4 @@
-use Rattle.pj_patterns.proofs.Derived.{spelled_from, spelled_to}
+use Rattle.pj_patterns.specs.Derived.{spelled_from, spelled_to}
 use Rattle.pj_patterns.proofs.laws.empty_word_is_told.Goals as goal
 
 pub returns-clause-from : goal.returns-clause-from

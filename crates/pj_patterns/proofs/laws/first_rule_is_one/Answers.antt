@@ -1,4 +1,4 @@
-use Rattle.pj_patterns.proofs.Derived.{first_of_unique}
+use Rattle.pj_patterns.specs.Derived.{first_of_unique}
 use Rattle.pj_patterns.proofs.laws.first_rule_is_one.Goals as goal
 
 pub returns : goal.returns
