@@ -18,7 +18,8 @@ use Rattle.pj_properties.specs.Flags.{flag_value}
 use Rattle.pj_properties.specs.declared.property.Property.{Property}
 use Rattle.pj_properties.specs.declared.property.Property.TheVariants.{Text, Number, Flag}
 use Rattle.pj_xvalue.specs.declared.value.Value.{Value}
-use Rattle.pj_xvalue.specs.Attributes.{attribute_value, is_typed, is_among, are_different, boolean_attributes, integer_attributes, string_attributes}
+use Rattle.pj_xexpressions.specs.Among.{is_among}
+use Rattle.pj_xvalue.specs.Attributes.{attribute_value, is_typed, are_different, boolean_attributes, integer_attributes, string_attributes}
 use Rattle.pj_xvalue.specs.Items.{ItemValue, String, Integer, Boolean}
 use Rattle.pj_base.specs.WordTable.{value_in}
 use Rattle.pj_attrs.specs.Attribute.{value_of, property_named, names_in, attribute_names, value_named, attribute}

@@ -14,7 +14,7 @@ use Rattle.pj_rule_texts.specs.declared.rule.RuleTexts.{RuleTexts}
 use Rattle.pj_workers.specs.Cold.{AreRowsOf, World}
 use Rattle.pj_workers.specs.NoTypes.{no_types}
 use Rattle.pj_workers.specs.Rules.{AreRulesOf, IsRuleOf, Rule, source_of}
-use Rattle.pj_xvalue.specs.declared.expr.Expr.{Expr}
+use Rattle.pj_xexpressions.specs.declared.expr.Expr.{Expr}
 use Rattle.pj_check.specs.Steps.{AreRows}
 
 module _ {X : Type 0} where

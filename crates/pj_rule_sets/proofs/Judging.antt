@@ -16,7 +16,7 @@ use Rattle.pj_rule_sets.specs.declared.fault.ExpressionFault.{ExpressionFault}
 use Rattle.pj_rule_sets.specs.declared.fault.ExpressionFault.TheVariants.{XPath, Pattern, Memory}
 use Rattle.pj_rule_sets.specs.declared.spelled.Spelled.{Spelled}
 use Rattle.pj_rule_sets.specs.Faults as faults
-use Rattle.pj_xvalue.specs.Trees.{tree_of}
+use Rattle.pj_xexpressions.specs.Trees.{tree_of}
 use Rattle.pj_xparse.specs.Faults as syntax
 use Rattle.pj_xparse.specs.Spells.{Spells}
 use Rattle.pj_xparse.specs.declared.fault.XSyntax.{XSyntax}
@@ -25,7 +25,7 @@ use Rattle.pj_xpatterns.specs.Refusing.{AreTaken}
 use Rattle.pj_xpatterns.specs.declared.compiled.PatternFault.{PatternFault}
 use Rattle.pj_xpatterns.specs.declared.compiled.PatternFault.TheVariants.{Refused}
 use Rattle.pj_xpatterns.specs.declared.compiled.PatternFault.TheVariants as pattern
-use Rattle.pj_xvalue.specs.declared.expr.Expr.{Expr}
+use Rattle.pj_xexpressions.specs.declared.expr.Expr.{Expr}
 use Rattle.pj_xvalue.specs.declared.item.Item.{Item}
 
 -- the names of variables, as they are kept and as they are seen

@@ -9,7 +9,7 @@ use Rattle.pj_rule_sets.specs.declared.fault.ExpressionFault.{ExpressionFault}
 use Rattle.pj_rule_sets.specs.declared.fault.ExpressionFault.TheVariants.{XPath, Pattern, Memory}
 use Rattle.pj_rule_texts.specs.Values.{Text}
 use Rattle.pj_rule_texts.specs.declared.rule.RuleTexts.{RuleTexts}
-use Rattle.pj_xvalue.specs.Trees.{Tree, tree_of}
+use Rattle.pj_xexpressions.specs.Trees.{Tree, tree_of}
 use Rattle.pj_xparse.specs.Faults as syntax
 use Rattle.pj_xparse.specs.Spells.{Spells}
 use Rattle.pj_xparse.specs.declared.fault.XSyntax.{XSyntax}
@@ -21,7 +21,7 @@ use Rattle.pj_xtokens.specs.Size.{size}
 use Rattle.pj_xtokens.specs.Tokens.{Lexed, Tokens}
 use Rattle.pj_xtokens.specs.declared.token.End.{End}
 use Rattle.pj_xpatterns.specs.Laws.{PatternsByTree}
-use Rattle.pj_xvalue.specs.declared.expr.Expr.{Expr}
+use Rattle.pj_xexpressions.specs.declared.expr.Expr.{Expr}
 
 -- the tokens of a text and where they end are one
 abbrev TokensAreOne : Type 0

@@ -1,9 +1,9 @@
 -- Calls of PMD's functions in a text. As long as there are no types, they have no answer, so that a text that calls one is refused.
 use Rattle.std.specs.Prelude.{◌≡◌, ℕ, Bool, true, false, ◌&&◌, List, [], ◌∷◌, Option, Some, None, if◌then◌else◌}
 use denote.Bor.{Bor}
-use Rattle.pj_xvalue.specs.Names.{callee_of}
-use Rattle.pj_xvalue.specs.declared.name.Callee.{Callee}
-use Rattle.pj_xvalue.specs.declared.name.Callee.TheVariants.{Pmd}
+use Rattle.pj_xexpressions.specs.Names.{callee_of}
+use Rattle.pj_xexpressions.specs.declared.name.Callee.{Callee}
+use Rattle.pj_xexpressions.specs.declared.name.Callee.TheVariants.{Pmd}
 use Rattle.pj_xtokens.specs.First.{begins_with_name, begins_with_parenthesis, first_from, first_text}
 use Rattle.pj_xtokens.specs.Size.{size}
 use Rattle.pj_xtokens.specs.Tokens.{Lexed, Tokens}

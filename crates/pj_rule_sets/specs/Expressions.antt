@@ -9,13 +9,13 @@ use Rattle.pj_rule_sets.specs.Calls.{CallsNone}
 use Rattle.pj_rule_sets.specs.Patterns.{is_covered, property_patterns, suppression_of, suppressing_regex_of, whole_of}
 use Rattle.pj_rule_sets.specs.declared.expressions.RuleExpressions.{RuleExpressions}
 use Rattle.pj_rule_sets.specs.declared.spelled.Spelled.{Spelled}
-use Rattle.pj_xvalue.specs.Trees.{tree_of}
+use Rattle.pj_xexpressions.specs.Trees.{tree_of}
 use Rattle.pj_xparse.specs.Spells.{Spells}
 use Rattle.pj_xpatterns.specs.Meaning.{Pattern, has}
 use Rattle.pj_xpatterns.specs.Refusing.{AreTaken}
 use Rattle.pj_xpatterns.specs.Written.{Variables, patterns_in}
-use Rattle.pj_xvalue.specs.Expressions.{IsExpression}
-use Rattle.pj_xvalue.specs.declared.expr.Expr.{Expr}
+use Rattle.pj_xexpressions.specs.Expressions.{IsExpression}
+use Rattle.pj_xexpressions.specs.declared.expr.Expr.{Expr}
 
 -- each property is a variable of both expressions, but those that need no type
 abbrev pub variables_of : RuleTexts → Variables

@@ -8,7 +8,7 @@ use Rattle.pj_rule_sets.specs.Expressions.{IsSpelledBy, Spell, names_of, pattern
 use Rattle.pj_rule_sets.specs.Patterns.{suppression_of}
 use Rattle.pj_rule_sets.specs.declared.fault.ExpressionFault.{ExpressionFault}
 use Rattle.pj_rule_sets.specs.declared.fault.ExpressionFault.TheVariants.{XPath, Pattern, Memory}
-use Rattle.pj_xvalue.specs.Trees.{tree_of}
+use Rattle.pj_xexpressions.specs.Trees.{tree_of}
 use Rattle.pj_xparse.specs.Faults as syntax
 use Rattle.pj_xparse.specs.Spells.{Spells}
 use Rattle.pj_xparse.specs.declared.fault.XSyntax.{XSyntax}
@@ -18,7 +18,7 @@ use Rattle.pj_xpatterns.specs.Meaning as pattern
 use Rattle.pj_xpatterns.specs.Meaning.{IsNoPattern}
 use Rattle.pj_xpatterns.specs.declared.compiled.PatternFault.{PatternFault}
 use Rattle.pj_xpatterns.specs.declared.compiled.PatternFault.TheVariants as patterns
-use Rattle.pj_xvalue.specs.declared.expr.Expr.{Expr}
+use Rattle.pj_xexpressions.specs.declared.expr.Expr.{Expr}
 
 -- One of the patterns is none.
 pub record HasNoPattern (list : List pattern.Pattern) : Type 0 where

@@ -7,7 +7,7 @@ use Rattle.pj_rule_texts.specs.declared.rule.RuleTexts.{RuleTexts}
 use Rattle.pj_rule_sets.specs.declared.path_patterns.PathPatterns.{PathPatterns}
 use Rattle.pj_xpatterns.specs.Meaning.{Pattern, has}
 use Rattle.pj_xpatterns.specs.Written.{patterns_in}
-use Rattle.pj_xvalue.specs.declared.expr.Expr.{Expr}
+use Rattle.pj_xexpressions.specs.declared.expr.Expr.{Expr}
 
 -- The patterns are those of the expression that the text spells, with the variables of these texts.
 pub record ArePatternsOf (texts : RuleTexts) (text : Text) (patterns : List Pattern) : Type 0 where

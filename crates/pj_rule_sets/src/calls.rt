@@ -7,11 +7,11 @@ ghost use Rattle.pj_rule_sets.specs.Faults.{IsCallFault};
 ghost use Rattle.pj_xtokens.specs.Answer.{lexed_of};
 
 use pj_base::Text;
+use pj_xexpressions::{Callee, function_named};
 use pj_xparse::XSyntax;
 use pj_xtokens::{
     Token, begins_with_name, begins_with_parenthesis, first_from, first_text, tokens,
 };
-use pj_xvalue::{Callee, function_named};
 use std::alloc::Global;
 
 /// Whether it is a function of PMD.

@@ -14,9 +14,10 @@ use crate::patterns::{is_covered_by, judge_properties, value_of};
 use crate::spelled::Spelled;
 use pj_base::{Copied, Names, NoMemory, Text};
 use pj_rule_texts::{RuleTexts, variables_of};
+use pj_xexpressions::Expr;
 use pj_xparse::{Parser, parse_with};
 use pj_xpatterns::{PatternFault, Patterns};
-use pj_xvalue::{BoundVars, Expr, Sequence};
+use pj_xvalue::{BoundVars, Sequence};
 use std::alloc::Global;
 
 /// What is kept of a rule beside its texts.

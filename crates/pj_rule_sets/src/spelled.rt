@@ -1,7 +1,7 @@
 //! An expression with its patterns.
 
+use pj_xexpressions::Expr;
 use pj_xpatterns::Patterns;
-use pj_xvalue::Expr;
 
 /// An expression with its patterns, each compiled once.
 #[derive(Drop)]

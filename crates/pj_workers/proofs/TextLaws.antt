@@ -11,13 +11,13 @@ use Rattle.pj_tree.specs.declared.node.Node.{Node}
 use Rattle.pj_xdenotes.specs.Context.{Context, Variables, at}
 use Rattle.pj_xdenotes.specs.Denotes.{denotes}
 use Rattle.pj_xdenotes.specs.Means.{Means, give, judged, ◌>>=◌}
-use Rattle.pj_xvalue.specs.Trees.{Tree, tree_of}
+use Rattle.pj_xexpressions.specs.Trees.{Tree, tree_of}
 use Rattle.pj_xparse.specs.Spells.{Spells}
 use Rattle.pj_xpatterns.specs.Laws.{PatternsByTree}
 use Rattle.pj_xtrees.specs.Laws.{DenotesByTree}
 use Rattle.pj_xvalue.specs.Boolean.{effective_boolean}
 use Rattle.pj_xvalue.specs.Items.{ItemValue, Document, Element}
-use Rattle.pj_xvalue.specs.declared.expr.Expr.{Expr}
+use Rattle.pj_xexpressions.specs.declared.expr.Expr.{Expr}
 use Rattle.pj_workers.specs.FileFacts.{around_file}
 use Rattle.pj_workers.specs.FileMeaning.{Bytes, Replies, file_meaning, head_of, merge, nothing, rule_at, rule_meaning}
 use Rattle.pj_workers.specs.Laws.{AreAlike, RulesAreTexts}

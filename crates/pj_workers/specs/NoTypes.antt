@@ -8,7 +8,7 @@ use Rattle.pj_tree.specs.declared.node.Node.{Node}
 use Rattle.pj_xdenotes.specs.Means.{Means}
 use Rattle.pj_xvalue.specs.Items.{ItemValue, Boolean}
 use Rattle.pj_xvalue.specs.Replies.{is_type_test, may_be}
-use Rattle.pj_xvalue.specs.declared.pmd_function.PmdFunction.{PmdFunction}
+use Rattle.pj_xexpressions.specs.declared.pmd_function.PmdFunction.{PmdFunction}
 use Rattle.pj_workers.specs.FileMeaning.{Replies}
 
 abbrev pub always_false : PmdFunction → Option Node → List (List ItemValue) → Means (List ItemValue)

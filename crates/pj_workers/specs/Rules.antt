@@ -9,7 +9,7 @@ use Rattle.pj_rule_texts.specs.Values.{Text}
 use Rattle.pj_rule_texts.specs.declared.rule.RuleTexts.{RuleTexts}
 use Rattle.pj_xpatterns.specs.Meaning.{Pattern}
 use Rattle.pj_xpatterns.specs.Written.{patterns_in}
-use Rattle.pj_xvalue.specs.declared.expr.Expr.{Expr}
+use Rattle.pj_xexpressions.specs.declared.expr.Expr.{Expr}
 
 -- A rule of a list of rules: its texts, the path patterns of its top ruleset, and the marker of comments. All that a rule means
 -- is determined by these.

@@ -1,7 +1,8 @@
 //! The functions of PMD as long as there are no types.
 
 use pj_tree::Node;
-use pj_xvalue::{Arguments, Calls, Item, PmdFunction, Sequence, XFault};
+use pj_xexpressions::PmdFunction;
+use pj_xvalue::{Arguments, Calls, Item, Sequence, XFault};
 use std::alloc::Global;
 
 /// Each function replies false and asks for no class. The parser of rules refuses texts that call one.

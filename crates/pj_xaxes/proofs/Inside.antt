@@ -7,7 +7,7 @@ use Rattle.std.proofs.lemmas.List.FromFn.{get_or-range_with_len, length-range_wi
 use Rattle.std.specs.declared.cmp.Ordering.TheVariants.{Less, Equal, Greater}
 use Rattle.pj_tree.specs.declared.node.Node.{Node}
 use Rattle.pj_tree.specs.Tree.{Tree}
-use Rattle.pj_xvalue.specs.declared.axis.Axis.{Axis}
+use Rattle.pj_xexpressions.specs.declared.axis.Axis.{Axis}
 use Rattle.pj_xvalue.specs.Items.{ItemValue, IsOfTree}
 use Rattle.pj_xvalue.specs.OfTree.{OfTree}
 use Rattle.pj_xvalue.proofs.OfTreeLaws.{of_tree-each, each-of_tree}

@@ -4,8 +4,8 @@ use Rattle.std.specs.Option.{MatchOption}
 use Rattle.std.proofs.lemmas.Bool.{false≢true, and_right, or_from, ne_eqb, false_from_ne_true}
 use Rattle.pj_tree.specs.declared.node.Node.{Node}
 use Rattle.pj_tree.specs.Tree.{Tree, IsSyntaxTree, parent_of, is_parent, is_descendant}
-use Rattle.pj_xvalue.specs.declared.axis.Axis.{Axis}
-use Rattle.pj_xvalue.specs.declared.axis.Axis.TheVariants.{Child, Descendant, SelfNode, DescendantOrSelf, FollowingSibling, Following, Parent, Ancestor, PrecedingSibling, Preceding, AncestorOrSelf}
+use Rattle.pj_xexpressions.specs.declared.axis.Axis.{Axis}
+use Rattle.pj_xexpressions.specs.declared.axis.Axis.TheVariants.{Child, Descendant, SelfNode, DescendantOrSelf, FollowingSibling, Following, Parent, Ancestor, PrecedingSibling, Preceding, AncestorOrSelf}
 use Rattle.pj_xaxes.specs.Axes.{node, on_axis, same_parent}
 use Rattle.pj_xaxes.specs.Search.{is_over, least, reach, IsPastParent, NoneFrom}
 use Rattle.pj_xaxes.proofs.Ancestry.{parent-before, has_parent, parent-from, below-between}

@@ -1,8 +1,8 @@
 -- What the search for the nodes of an axis keeps to.
 use Rattle.std.specs.Prelude.{ℕ, ◌+◌, ◌-◌, map, filter, ◌≡◌, ◌≤◌, ◌<◌, Bool, true, false, List, Option, MatchOption, IsTrue, ◌↔◌, length}
 use Rattle.pj_tree.specs.declared.node.Node.{Node}
-use Rattle.pj_xvalue.specs.declared.axis.Axis.{Axis}
-use Rattle.pj_xvalue.specs.declared.axis.Axis.TheVariants.{Child, FollowingSibling, AncestorOrSelf}
+use Rattle.pj_xexpressions.specs.declared.axis.Axis.{Axis}
+use Rattle.pj_xexpressions.specs.declared.axis.Axis.TheVariants.{Child, FollowingSibling, AncestorOrSelf}
 use Rattle.pj_tree.specs.Tree.{Tree, parent_of, is_descendant}
 use Rattle.std.specs.List.{range_with_len}
 use Rattle.pj_xaxes.specs.Axes.{on_axis, is_reverse, same_parent, node, turned}

@@ -5,7 +5,7 @@ ghost use Rattle.pj_xaxes.specs.Axes.{axis_nodes};
 
 use crate::search::{first_between, goes_backwards, last_between, window};
 use pj_tree::{Node, SyntaxTree};
-use pj_xvalue::Axis;
+use pj_xexpressions::Axis;
 use std::marker::Model;
 
 /// The nodes of an axis that are left to come, in axis order: an iterator, which contracts see as their list.

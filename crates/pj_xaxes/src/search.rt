@@ -8,7 +8,7 @@ ghost use Rattle.pj_xaxes.specs.Search.{picked};
 ghost use Rattle.pj_xaxes.specs.Search.{is_over, least, reach, IsPastParent, NoneFrom, IsWindow, IsPastSiblingBefore, IsPastSiblings};
 
 use pj_tree::{Node, SyntaxTree};
-use pj_xvalue::Axis;
+use pj_xexpressions::Axis;
 
 /// Whether the axis goes backwards.
 pub fn goes_backwards(axis: Axis) -> bool

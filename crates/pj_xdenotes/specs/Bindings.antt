@@ -1,6 +1,6 @@
 -- Expressions that bind variables: `for` (XPath 2.0, 3.7), `some` and `every` (3.9), and `let` (XPath 3.1, 3.10).
 use Rattle.std.specs.Prelude.{ℕ, List, [], ◌∷◌}
-use Rattle.pj_xoperators.specs.declared.operator.Quantifier.{Quantifier}
+use Rattle.pj_xexpressions.specs.declared.operator.Quantifier.{Quantifier}
 use Rattle.pj_xvalue.specs.Boolean.{effective_boolean}
 use Rattle.pj_xvalue.specs.Items.{ItemValue}
 use Rattle.pj_xdenotes.specs.Means.{Means, ◌>>=◌, give, judged, chain, decided, one_boolean}

@@ -7,10 +7,10 @@ use Rattle.pj_tree.specs.Tree.{kind_of}
 use Rattle.pj_tree.specs.Kind.{name_of}
 use Rattle.pj_xvalue.specs.declared.fault.XCode.{XCode}
 use Rattle.pj_xvalue.specs.declared.fault.XCode.TheVariants.{XPTY0004}
-use Rattle.pj_xvalue.specs.declared.function.Function.{Function}
-use Rattle.pj_xvalue.specs.declared.function.Function.TheVariants as f
-use Rattle.pj_xvalue.specs.declared.pmd_function.PmdFunction.{PmdFunction}
-use Rattle.pj_xvalue.specs.Functions.{takes, pmd_takes}
+use Rattle.pj_xexpressions.specs.declared.function.Function.{Function}
+use Rattle.pj_xexpressions.specs.declared.function.Function.TheVariants as f
+use Rattle.pj_xexpressions.specs.declared.pmd_function.PmdFunction.{PmdFunction}
+use Rattle.pj_xexpressions.specs.Functions.{takes, pmd_takes}
 use Rattle.pj_xvalue.specs.Items.{ItemValue, Document, Element, Attribute, String, Integer, is_node}
 use Rattle.pj_xvalue.specs.Arguments.{and_then}
 use Rattle.pj_xfuncs.specs.Library.{called as given}

@@ -3,14 +3,14 @@
 use Rattle.std.specs.Prelude.{ℕ, ℤ, List, [], ◌∷◌, ◌++◌, Option, Result, Ok, if◌then◌else◌}
 use Rattle.pj_tree.specs.declared.node.Node.{Node}
 use Rattle.pj_xvalue.specs.declared.fault.XCode.{XCode}
-use Rattle.pj_xoperators.specs.declared.operator.Additive.{Additive}
-use Rattle.pj_xoperators.specs.declared.operator.Multiplicative.{Multiplicative}
-use Rattle.pj_xoperators.specs.declared.operator.SetOperator.{SetOperator}
-use Rattle.pj_xvalue.specs.declared.expr.Expr.{Expr}
-use Rattle.pj_xvalue.specs.declared.expr.Expr.TheOpen.{Expr-F}
-use Rattle.pj_xvalue.specs.declared.expr.Expr.TheFolds.{fold-Expr}
-use Rattle.pj_xoperators.specs.declared.operator.Quantifier.TheVariants as quantifier
-use Rattle.pj_xvalue.specs.declared.pmd_function.PmdFunction.{PmdFunction}
+use Rattle.pj_xexpressions.specs.declared.operator.Additive.{Additive}
+use Rattle.pj_xexpressions.specs.declared.operator.Multiplicative.{Multiplicative}
+use Rattle.pj_xexpressions.specs.declared.operator.SetOperator.{SetOperator}
+use Rattle.pj_xexpressions.specs.declared.expr.Expr.{Expr}
+use Rattle.pj_xexpressions.specs.declared.expr.Expr.TheOpen.{Expr-F}
+use Rattle.pj_xexpressions.specs.declared.expr.Expr.TheFolds.{fold-Expr}
+use Rattle.pj_xexpressions.specs.declared.operator.Quantifier.TheVariants as quantifier
+use Rattle.pj_xexpressions.specs.declared.pmd_function.PmdFunction.{PmdFunction}
 use Rattle.pj_xvalue.specs.Boolean.{effective_boolean}
 use Rattle.pj_xvalue.specs.Items.{ItemValue, Document, String}
 use Rattle.pj_xvalue.specs.Comparison.{general_comparison}

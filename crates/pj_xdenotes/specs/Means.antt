@@ -2,8 +2,8 @@
 use Rattle.std.specs.Prelude.{Bool, true, not, List, [], ◌∷◌, Result, Ok, Err, if◌then◌else◌}
 use Rattle.pj_names.specs.Asking.{Asking, Return, bind}
 use Rattle.pj_xvalue.specs.declared.fault.XCode.{XCode}
-use Rattle.pj_xoperators.specs.declared.operator.Quantifier.{Quantifier}
-use Rattle.pj_xoperators.specs.declared.operator.Quantifier.TheVariants as quantifier
+use Rattle.pj_xexpressions.specs.declared.operator.Quantifier.{Quantifier}
+use Rattle.pj_xexpressions.specs.declared.operator.Quantifier.TheVariants as quantifier
 use Rattle.pj_xvalue.specs.Items.{ItemValue, Boolean}
 use Rattle.pj_xvalue.specs.Boolean.{effective_boolean}
 

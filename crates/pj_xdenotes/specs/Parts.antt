@@ -1,6 +1,6 @@
 -- Parts of an expression that are lists, with what their expressions denote.
 use Rattle.std.specs.Prelude.{ℕ, List, map}
-use Rattle.pj_xvalue.specs.declared.expr.Expr.{Expr}
+use Rattle.pj_xexpressions.specs.declared.expr.Expr.{Expr}
 use Rattle.pj_xdenotes.specs.Context.{Denotation}
 
 -- the variables of a `for`, `let`, `some` or `every`

@@ -1,6 +1,6 @@
 -- What the arms of a match promise, where the value is of one form.
 use Rattle.std.proofs.Common.{◌≡◌, ℕ, ℤ, List, [], ◌∷◌, Option, Some, None, Result, Ok, sym, ◌∙◌, ap, subst}
-use Rattle.pj_xvalue.specs.declared.expr.Expr.{Expr}
+use Rattle.pj_xexpressions.specs.declared.expr.Expr.{Expr}
 use Rattle.pj_xvalue.specs.declared.fault.XFault.{XFault}
 use Rattle.pj_xvalue.specs.Items.{ItemValue, Integer}
 use Rattle.pj_xvalue.specs.OfTree.{OfTree}

@@ -4,7 +4,7 @@ use Rattle.std.specs.Option.{ForSome}
 use Rattle.pj_names.specs.Told.{Told}
 use Rattle.pj_names.proofs.AskingLaws.{ComesTo, comes-begin}
 use Rattle.pj_tree.specs.declared.node.Node.{Node}
-use Rattle.pj_xvalue.specs.declared.expr.Expr.{Expr}
+use Rattle.pj_xexpressions.specs.declared.expr.Expr.{Expr}
 use Rattle.pj_xvalue.specs.Items.{ItemValue, Document, Element, Attribute, String, Integer, Boolean, IsOfTree}
 use Rattle.pj_xvalue.specs.OfTree.{VariablesOfTree}
 use Rattle.pj_xdenotes.specs.Means.{Means, ◌>>=◌}

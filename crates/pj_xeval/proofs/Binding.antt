@@ -1,7 +1,7 @@
 -- How the constructs that bind variables go on.
 use Rattle.std.proofs.Common.{◌≡◌, ℕ, ◌+◌, true, not, List, [], ◌∷◌, ◌++◌, reverse, drop, refl, sym, ◌∙◌, ap, subst, add-one}
 use Rattle.std.proofs.lemmas.List.{reverse-reverse, map-append}
-use Rattle.pj_xvalue.specs.declared.expr.Expr.{Expr}
+use Rattle.pj_xexpressions.specs.declared.expr.Expr.{Expr}
 use Rattle.pj_xvalue.specs.declared.item.Item.{Item}
 use Rattle.pj_xvalue.specs.Items.{ItemValue, value_of_item, values_of}
 use Rattle.pj_xdenotes.specs.Means.{give, ◌>>=◌, chain, decided, decides, one_boolean}

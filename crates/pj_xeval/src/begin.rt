@@ -14,13 +14,12 @@ ghost use Rattle.pj_xframes.specs.Scopes.{Scoped, variables_of};
 
 use crate::bindings::{for_from, let_from, quantified_from};
 use pj_base::Copied;
+use pj_xexpressions::{Axis, Expr, NodeTest, Quantifier};
 use pj_xframes::{
     Frame, Next, Scope, Task, Turn, arguments, items, nodes, pmd_arguments, texts, truths,
 };
 use pj_xsteps::{At, NodeItems, Setting, attributes, is_backwards, literal, one, stepped};
-use pj_xvalue::{
-    Arguments, Attributes, Axis, Expr, Item, NodeTest, Quantifier, Sequence, XCode, XFault,
-};
+use pj_xvalue::{Arguments, Attributes, Item, Sequence, XCode, XFault};
 use std::alloc::Global;
 
 /// `/`: the document, where the context item is a node.

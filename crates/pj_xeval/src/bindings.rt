@@ -14,11 +14,12 @@ ghost use Rattle.pj_xframes.specs.Going.{ForTurnsOfTree, Goes, GoesIf, NextOfTre
 ghost use Rattle.pj_xframes.specs.Scopes.{Scoped, variables_of, without};
 
 use pj_base::{NoMemory, Text};
+use pj_xexpressions::{Expr, Quantifier};
 use pj_xframes::{
     Binder, Binding, ForTurns, Frame, Next, QuantifiedTurns, Scope, Task, boolean, decides,
 };
 use pj_xsteps::{one, turned_back};
-use pj_xvalue::{Expr, Quantifier, Sequence, XFault, boolean_value};
+use pj_xvalue::{Sequence, XFault, boolean_value};
 use std::alloc::Global;
 
 /// Begins a `for`.

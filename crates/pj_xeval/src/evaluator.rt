@@ -12,10 +12,11 @@ use crate::machine::{Pause, settle};
 use pj_base::ListOf;
 use pj_names::AskFault;
 use pj_tree::SyntaxTree;
+use pj_xexpressions::Expr;
 use pj_xframes::{Next, Scope, Task};
 use pj_xfuncs::Patterns;
 use pj_xsteps::{At, Setting, node_in};
-use pj_xvalue::{Attributes, BoundVars, Calls, Expr, Item, Sequence, XFault};
+use pj_xvalue::{Attributes, BoundVars, Calls, Item, Sequence, XFault};
 use std::alloc::Global;
 
 /// Where an expression is evaluated, with which variables and patterns.

@@ -13,9 +13,10 @@ use crate::react::react;
 use crate::turns::turns_over;
 use pj_base::ListOf;
 use pj_names::AskFault;
+use pj_xexpressions::PmdFunction;
 use pj_xframes::{Frame, Next, Scope};
 use pj_xsteps::{At, Setting};
-use pj_xvalue::{Arguments, Attributes, PmdFunction, Sequence, XFault};
+use pj_xvalue::{Arguments, Attributes, Sequence, XFault};
 
 /// Why the steps pause.
 #[derive(Drop)]

@@ -12,9 +12,10 @@ ghost use Rattle.pj_xframes.specs.Going.{Goes, GoesIf, NextOfTree, TurnsOfTree};
 ghost use Rattle.pj_xframes.specs.Scopes.{Scoped, variables_of};
 
 use pj_base::NoMemory;
+use pj_xexpressions::Expr;
 use pj_xframes::{Frame, Next, Task, Turn, Turns};
 use pj_xsteps::{At, keeps_at, turned_back, united};
-use pj_xvalue::{Expr, Item, Sequence, XCode, XFault};
+use pj_xvalue::{Item, Sequence, XCode, XFault};
 use std::alloc::Global;
 use std::mem;
 

@@ -4,9 +4,9 @@ use Rattle.pj_names.specs.declared.oracle.AskFault.TheVariants.{Failed, Memory}
 use Rattle.pj_xvalue.specs.declared.fault.XFault.{XFault}
 use Rattle.pj_xvalue.specs.declared.fault.XFault.TheVariants.{Code, Ask}
 use Rattle.pj_xvalue.specs.Items.{ItemValue, values_of, IsOfTree}
-use Rattle.pj_xvalue.specs.Functions.{pmd_takes}
+use Rattle.pj_xexpressions.specs.Functions.{pmd_takes}
 use Rattle.pj_xvalue.specs.declared.item.Item.{Item}
-use Rattle.pj_xvalue.specs.declared.pmd_function.PmdFunction.{PmdFunction}
+use Rattle.pj_xexpressions.specs.declared.pmd_function.PmdFunction.{PmdFunction}
 use Rattle.pj_xvalue.specs.OfTree.{OfTree, ArgumentsOfTree}
 use Rattle.pj_xdenotes.specs.Means.{Means, fail}
 use Rattle.pj_xdenotes.specs.Context.{Around, Context}

@@ -1,10 +1,10 @@
 //! What is to be done, and what waits for a value.
 use pj_base::Text;
-use pj_xsteps::{At, NodeItems};
-use pj_xvalue::{
-    Additive, Arguments, Compare, Expr, Function, Multiplicative, PmdFunction, Quantifier,
-    Sequence, SetOperator, Sign,
+use pj_xexpressions::{
+    Additive, Compare, Expr, Function, Multiplicative, PmdFunction, Quantifier, SetOperator, Sign,
 };
+use pj_xsteps::{At, NodeItems};
+use pj_xvalue::{Arguments, Sequence};
 
 /// What an evaluation can begin with.
 #[derive(Clone, Copy)]

@@ -16,10 +16,9 @@ ghost use Rattle.pj_xframes.specs.Scopes.{Scoped, variables_of};
 
 use crate::frame::{Frame, Next, Task};
 use pj_base::Text;
+use pj_xexpressions::{Expr, Function, PmdFunction, SetOperator};
 use pj_xsteps::{At, NodeItems, Setting, call, one, text_operand};
-use pj_xvalue::{
-    Arguments, Attributes, Expr, Function, Item, PmdFunction, Sequence, SetOperator, XCode, XFault,
-};
+use pj_xvalue::{Arguments, Attributes, Item, Sequence, XCode, XFault};
 use std::alloc::Global;
 
 /// `a, b, ..` with the items so far and the parts left.

@@ -13,8 +13,9 @@ ghost use Rattle.pj_xframes.specs.Going.{Goes, GoesIf, NextOfTree};
 ghost use Rattle.pj_xframes.specs.Scopes.{Scoped, variables_of};
 
 use crate::frame::{Frame, Next, Task};
+use pj_xexpressions::{Compare, Expr, Quantifier};
 use pj_xsteps::{Setting, compared, one};
-use pj_xvalue::{Attributes, Compare, Expr, Item, Quantifier, Sequence, XFault, boolean_value};
+use pj_xvalue::{Attributes, Item, Sequence, XFault, boolean_value};
 use std::alloc::Global;
 
 /// Whether such a truth of one member decides.

@@ -13,8 +13,9 @@ ghost use Rattle.pj_xframes.specs.Going.{Goes, GoesIf, NextOfTree};
 ghost use Rattle.pj_xframes.specs.Scopes.{Scoped, variables_of};
 
 use crate::frame::{Frame, Next, Task};
+use pj_xexpressions::{Additive, Expr, Multiplicative, Sign};
 use pj_xsteps::{Setting, number_items, operand, product, range, signed, sum};
-use pj_xvalue::{Additive, Attributes, Expr, Multiplicative, Sequence, Sign, XFault};
+use pj_xvalue::{Attributes, Sequence, XFault};
 use std::alloc::Global;
 
 /// A sum with the total so far and the operands left.

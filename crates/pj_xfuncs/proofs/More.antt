@@ -1,6 +1,6 @@
 -- More arguments than a function can take.
 use Rattle.std.proofs.Common.{◌≡◌, ◌<◌, List, [], ◌∷◌, map, length, refl, arith}
-use Rattle.pj_xvalue.specs.declared.function.Function.{Function}
+use Rattle.pj_xexpressions.specs.declared.function.Function.{Function}
 use Rattle.pj_xvalue.specs.declared.item.Item.{Item}
 use Rattle.pj_xvalue.specs.Items.{values_of}
 use Rattle.pj_xpatterns.specs.Meaning.{Pattern}

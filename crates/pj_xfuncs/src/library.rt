@@ -18,8 +18,9 @@ use crate::strings::{
     substring_from,
 };
 use crate::translate::translate;
+use pj_xexpressions::Function;
 use pj_xpatterns::{Patterns, matches, replace, tokenize};
-use pj_xvalue::{Arguments, Function, Sequence, XCode, XFault, boolean_singleton};
+use pj_xvalue::{Arguments, Sequence, XCode, XFault, boolean_singleton};
 use std::alloc::Global;
 
 /// What the function gives for its arguments, where the library has these patterns (XPath Functions and Operators).

@@ -1,12 +1,12 @@
 -- What the productions make, by name: for each rule of the grammar an action for each of its productions, in their order. What the actions
 -- make of the values of rules is not said here. The comments are the sections of XPath 2.0, A.1, as in the grammar.
 use Rattle.std.specs.Prelude.{ℕ, List, [], ◌∷◌, ◌++◌, Option, Some, None, slice_get}
-use Rattle.pj_xoperators.specs.declared.operator.Compare.TheVariants as compare
-use Rattle.pj_xoperators.specs.declared.operator.Additive.TheVariants as sum
-use Rattle.pj_xoperators.specs.declared.operator.Multiplicative.TheVariants as product
-use Rattle.pj_xoperators.specs.declared.operator.SetOperator.TheVariants as set
-use Rattle.pj_xoperators.specs.declared.operator.Sign.TheVariants as sign
-use Rattle.pj_xoperators.specs.declared.operator.Quantifier.TheVariants as quantifier
+use Rattle.pj_xexpressions.specs.declared.operator.Compare.TheVariants as compare
+use Rattle.pj_xexpressions.specs.declared.operator.Additive.TheVariants as sum
+use Rattle.pj_xexpressions.specs.declared.operator.Multiplicative.TheVariants as product
+use Rattle.pj_xexpressions.specs.declared.operator.SetOperator.TheVariants as set
+use Rattle.pj_xexpressions.specs.declared.operator.Sign.TheVariants as sign
+use Rattle.pj_xexpressions.specs.declared.operator.Quantifier.TheVariants as quantifier
 use Rattle.pj_xgrammar.specs.declared.rule.Rule.{Rule}
 use Rattle.pj_xgrammar.specs.declared.rule.Rule.TheVariants as r
 use Rattle.pj_xgrammar.specs.XPath.{rules}

@@ -1,6 +1,6 @@
 //! What the productions make of the values of their rules.
 
-use pj_xoperators::{Additive, Compare, Multiplicative, Quantifier, SetOperator, Sign};
+use pj_xexpressions::{Additive, Compare, Multiplicative, Quantifier, SetOperator, Sign};
 
 /// What a production makes. A rule's value is made by its production from the values of the rules in it, of which an action has
 /// as many as is said here, and from the tokens from the one on at which it begins.

@@ -4,7 +4,7 @@ ghost use Rattle.std.specs.Prelude.{◌≡◌};
 ghost use Rattle.pj_xgrammar.specs.Actions.{actions, action_of};
 
 use crate::action::{Action, Binder, Chain, Change, Kind, Leaf, Operation, Rest, Single, Step};
-use pj_xoperators::{Additive, Compare, Multiplicative, Quantifier, SetOperator, Sign};
+use pj_xexpressions::{Additive, Compare, Multiplicative, Quantifier, SetOperator, Sign};
 
 const LEFT_OUT: Action = Action::Leaf(Leaf::LeftOut);
 

@@ -1,9 +1,9 @@
 -- Predicates that keep all.
 use Rattle.std.proofs.Common.{◌≡◌, ℕ, ◌+◌, true, List, [], ◌∷◌, ◌++◌, map, length, sym, ◌∙◌, ap, append_assoc}
 use Rattle.std.proofs.lemmas.List.{append-nil}
-use Rattle.pj_xvalue.specs.declared.expr.Expr.{Expr}
-use Rattle.pj_xvalue.specs.declared.expr.Expr.TheVariants as expr
-use Rattle.pj_xvalue.specs.declared.function.Function.TheVariants as f
+use Rattle.pj_xexpressions.specs.declared.expr.Expr.{Expr}
+use Rattle.pj_xexpressions.specs.declared.expr.Expr.TheVariants as expr
+use Rattle.pj_xexpressions.specs.declared.function.Function.TheVariants as f
 use Rattle.pj_xvalue.specs.Items.{ItemValue, Boolean}
 use Rattle.pj_xdenotes.specs.Means.{Means, give, judged, ◌>>=◌, chain}
 use Rattle.pj_xdenotes.specs.Context.{Context, Variables, Denotation, at}

@@ -7,7 +7,7 @@ use Rattle.pj_names.specs.declared.answer.Answer.{Answer}
 use Rattle.pj_names.specs.ClassName.{Name}
 use Rattle.pj_names.specs.Asking.{value_of}
 use Rattle.pj_names.proofs.MeaningLaws.{value_of-bind}
-use Rattle.pj_xvalue.specs.declared.expr.Expr.{Expr}
+use Rattle.pj_xexpressions.specs.declared.expr.Expr.{Expr}
 use Rattle.pj_xvalue.specs.declared.fault.XCode.{XCode}
 use Rattle.pj_xvalue.specs.declared.fault.XCode.TheVariants.{XPTY0004}
 use Rattle.pj_xvalue.specs.Items.{ItemValue, is_node, are_nodes}

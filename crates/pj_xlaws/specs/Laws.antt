@@ -6,11 +6,11 @@ use Rattle.pj_names.specs.ClassName.{Name}
 use Rattle.pj_names.specs.Asking.{value_of}
 use Rattle.pj_names.specs.Meaning as names
 use Rattle.pj_tree.specs.declared.node.Node.{Node}
-use Rattle.pj_xvalue.specs.declared.expr.Expr.{Expr}
-use Rattle.pj_xvalue.specs.declared.expr.Expr.TheVariants as expr
+use Rattle.pj_xexpressions.specs.declared.expr.Expr.{Expr}
+use Rattle.pj_xexpressions.specs.declared.expr.Expr.TheVariants as expr
 use Rattle.pj_xvalue.specs.declared.fault.XCode.{XCode}
-use Rattle.pj_xvalue.specs.declared.function.Function.TheVariants as f
-use Rattle.pj_xvalue.specs.declared.pmd_function.PmdFunction.{PmdFunction}
+use Rattle.pj_xexpressions.specs.declared.function.Function.TheVariants as f
+use Rattle.pj_xexpressions.specs.declared.pmd_function.PmdFunction.{PmdFunction}
 use Rattle.pj_xvalue.specs.Items.{ItemValue}
 use Rattle.pj_xaxes.specs.Order.{ordered}
 use Rattle.pj_xvalue.specs.Arguments.{and_then}

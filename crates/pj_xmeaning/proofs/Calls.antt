@@ -3,8 +3,8 @@ use Rattle.std.proofs.Common.{◌≡◌, ◌∙◌, ◌==◌, sym, ap, refl, ℕ
 use Rattle.std.proofs.Math.Seq.{drop-nil}
 use Rattle.std.proofs.lemmas.Bool.{eqb-true}
 use Rattle.std.proofs.lemmas.List.{length-map, nil_from_length}
-use Rattle.pj_xvalue.specs.declared.expr.Expr.{Expr}
-use Rattle.pj_xvalue.specs.Trees.{Tree, Filter, node, tree_of}
+use Rattle.pj_xexpressions.specs.declared.expr.Expr.{Expr}
+use Rattle.pj_xexpressions.specs.Trees.{Tree, Filter, node, tree_of}
 use Rattle.pj_xmeaning.specs.Mentions.{Mention, Argument}
 use Rattle.pj_xmeaning.specs.Operands.{Arguments, arguments_in, in_roles, is_closed, judged, trees_of}
 use Rattle.pj_xmeaning.specs.Seen.{seen_given, seen_reading}

@@ -2,8 +2,8 @@
 use Rattle.std.proofs.Common.{◌≡◌, ◌++◌, ◌==◌, true, false, List, [], ◌∷◌, None, map, length, refl, sym, ap}
 use Rattle.std.proofs.lemmas.Bool.{eqb-true}
 use Rattle.std.proofs.lemmas.List.{nil_from_length}
-use Rattle.pj_xvalue.specs.Trees as tree
-use Rattle.pj_xvalue.specs.Trees.{Construct, node, operated}
+use Rattle.pj_xexpressions.specs.Trees as tree
+use Rattle.pj_xexpressions.specs.Trees.{Construct, node, operated}
 use Rattle.pj_xgrammar.specs.declared.action.Operation.{Operation}
 use Rattle.pj_xgrammar.specs.declared.action.Operation.TheVariants as operation
 use Rattle.pj_xmeaning.specs.Operands.{Operand, chain, compared, mixed, names_behind, names_of, operations, other, ranging, trees_of}

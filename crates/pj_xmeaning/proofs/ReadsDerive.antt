@@ -6,16 +6,16 @@ use Rattle.pj_ll.specs.declared.grammar.Symbol.{Symbol}
 use Rattle.pj_ll.specs.declared.grammar.Symbol.TheVariants as symbol
 use Rattle.pj_ll.specs.Grammar.{closes}
 use Rattle.pj_ll.specs.Leads.{start}
-use Rattle.pj_xoperators.specs.declared.operator.Compare.TheVariants as compare
-use Rattle.pj_xoperators.specs.declared.operator.Additive.TheVariants as sum
-use Rattle.pj_xoperators.specs.declared.operator.Multiplicative.TheVariants as product
-use Rattle.pj_xoperators.specs.declared.operator.SetOperator.TheVariants as set
-use Rattle.pj_xoperators.specs.declared.operator.Sign.TheVariants as sign
-use Rattle.pj_xoperators.specs.declared.operator.Quantifier.TheVariants as quantifier
-use Rattle.pj_xvalue.specs.declared.axis.Axis.TheVariants as axes
-use Rattle.pj_xvalue.specs.declared.expr.NodeTest.TheVariants.{Name, AnyName, AnyNode, AnyElement}
-use Rattle.pj_xvalue.specs.Trees as tree
-use Rattle.pj_xvalue.specs.Trees.{alone}
+use Rattle.pj_xexpressions.specs.declared.operator.Compare.TheVariants as compare
+use Rattle.pj_xexpressions.specs.declared.operator.Additive.TheVariants as sum
+use Rattle.pj_xexpressions.specs.declared.operator.Multiplicative.TheVariants as product
+use Rattle.pj_xexpressions.specs.declared.operator.SetOperator.TheVariants as set
+use Rattle.pj_xexpressions.specs.declared.operator.Sign.TheVariants as sign
+use Rattle.pj_xexpressions.specs.declared.operator.Quantifier.TheVariants as quantifier
+use Rattle.pj_xexpressions.specs.declared.axis.Axis.TheVariants as axes
+use Rattle.pj_xexpressions.specs.declared.expr.NodeTest.TheVariants.{Name, AnyName, AnyNode, AnyElement}
+use Rattle.pj_xexpressions.specs.Trees as tree
+use Rattle.pj_xexpressions.specs.Trees.{alone}
 use Rattle.pj_xtokens.specs.Tokens.{Lexed}
 use Rattle.pj_xtokens.specs.First.{first_text, first_from}
 use Rattle.pj_xgrammar.specs.declared.rule.Rule.{Rule}

@@ -1,7 +1,7 @@
 -- Variables before what follows them.
 use Rattle.std.proofs.Common.{◌≡◌, ◌∙◌, refl, ap, ℕ, suc, ◌+◌, List, [], ◌∷◌, ◌++◌, map, length, arith}
 use Rattle.std.proofs.lemmas.List.{map-append}
-use Rattle.pj_xvalue.specs.Trees.{Tree, tree_of}
+use Rattle.pj_xexpressions.specs.Trees.{Tree, tree_of}
 use Rattle.pj_xmeaning.specs.Mentions.{Mention, Binds, Ends, scoped}
 use Rattle.pj_xmeaning.specs.Operands.{Binding, bindings_of, scopes_of}
 use Rattle.pj_xmeaning.specs.Seen.{seen_bound}

@@ -1,6 +1,6 @@
 -- Steps and paths, of which expressions in a row are parts.
 use Rattle.std.proofs.Common.{◌≡◌, ◌∙◌, ◌==◌, ap, refl, false, List, [], ◌∷◌, ◌++◌, map, length}
-use Rattle.pj_xvalue.specs.Trees.{Tree, Filter, Path, node}
+use Rattle.pj_xexpressions.specs.Trees.{Tree, Filter, Path, node}
 use Rattle.pj_xmeaning.specs.Mentions.{Mention}
 use Rattle.pj_xmeaning.specs.Operands.{Operand, filtered, names_of, other, path, trees_of}
 use Rattle.pj_xmeaning.specs.Seen.{seen_reading}

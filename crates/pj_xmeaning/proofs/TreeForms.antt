@@ -1,21 +1,21 @@
 -- What each form of an expression is, by what its parts are.
 use Rattle.std.proofs.Common.{◌≡◌, ℕ, ℤ, List, [], ◌∷◌, map, Option, Vec, Box, Global}
-use Rattle.pj_xvalue.specs.declared.axis.Axis.{Axis}
-use Rattle.pj_xvalue.specs.declared.function.Function.{Function}
-use Rattle.pj_xoperators.specs.declared.operator.Compare.{Compare}
-use Rattle.pj_xvalue.specs.declared.pmd_function.PmdFunction.{PmdFunction}
-use Rattle.pj_xoperators.specs.declared.operator.Additive.{Additive}
-use Rattle.pj_xoperators.specs.declared.operator.Multiplicative.{Multiplicative}
-use Rattle.pj_xvalue.specs.declared.expr.NodeTest.{NodeTest}
-use Rattle.pj_xoperators.specs.declared.operator.Quantifier.{Quantifier}
-use Rattle.pj_xoperators.specs.declared.operator.SetOperator.{SetOperator}
-use Rattle.pj_xoperators.specs.declared.operator.Sign.{Sign}
-use Rattle.pj_xvalue.specs.declared.expr.Expr.{Expr}
-use Rattle.pj_xvalue.specs.declared.expr.Expr.TheOpen.{Expr-F}
-use Rattle.pj_xvalue.specs.declared.expr.Expr.TheVariants as expr
-use Rattle.pj_xvalue.specs.declared.expr.Expr.TheViews.{roll-Expr}
-use Rattle.pj_xvalue.specs.declared.expr.Expr.TheFolds.{fold-roll-Expr}
-use Rattle.pj_xvalue.specs.Trees.{Tree, Comma, For, Let, Quantified, If, Or, And, Comparison, Concatenation, Range, Additive', Multiplicative', Union, IntersectExcept, Unary, SimpleMap, Path, Root, Step, AttributeStep, Filter, Integer, String, Variable, ContextItem, Call, PmdCall, node, alone, binder, operated, tree_step, tree_of}
+use Rattle.pj_xexpressions.specs.declared.axis.Axis.{Axis}
+use Rattle.pj_xexpressions.specs.declared.function.Function.{Function}
+use Rattle.pj_xexpressions.specs.declared.operator.Compare.{Compare}
+use Rattle.pj_xexpressions.specs.declared.pmd_function.PmdFunction.{PmdFunction}
+use Rattle.pj_xexpressions.specs.declared.operator.Additive.{Additive}
+use Rattle.pj_xexpressions.specs.declared.operator.Multiplicative.{Multiplicative}
+use Rattle.pj_xexpressions.specs.declared.expr.NodeTest.{NodeTest}
+use Rattle.pj_xexpressions.specs.declared.operator.Quantifier.{Quantifier}
+use Rattle.pj_xexpressions.specs.declared.operator.SetOperator.{SetOperator}
+use Rattle.pj_xexpressions.specs.declared.operator.Sign.{Sign}
+use Rattle.pj_xexpressions.specs.declared.expr.Expr.{Expr}
+use Rattle.pj_xexpressions.specs.declared.expr.Expr.TheOpen.{Expr-F}
+use Rattle.pj_xexpressions.specs.declared.expr.Expr.TheVariants as expr
+use Rattle.pj_xexpressions.specs.declared.expr.Expr.TheViews.{roll-Expr}
+use Rattle.pj_xexpressions.specs.declared.expr.Expr.TheFolds.{fold-roll-Expr}
+use Rattle.pj_xexpressions.specs.Trees.{Tree, Comma, For, Let, Quantified, If, Or, And, Comparison, Concatenation, Range, Additive', Multiplicative', Union, IntersectExcept, Unary, SimpleMap, Path, Root, Step, AttributeStep, Filter, Integer, String, Variable, ContextItem, Call, PmdCall, node, alone, binder, operated, tree_step, tree_of}
 use Rattle.pj_xmeaning.specs.Seen.{behind_of}
 
 pub tree_of_comma : (parts : Vec Expr Global) → tree_of (expr.Comma parts) ≡ node Comma (map tree_of parts.items)

@@ -1,11 +1,11 @@
 -- What the tokens of a text name, in their order: variables with their scopes, and functions with what they want of their arguments.
 use Rattle.std.specs.Prelude.{ℕ, ◌+◌, List, [], ◌∷◌, ◌++◌, Option, Some, None}
-use Rattle.pj_xvalue.specs.declared.function.Function.{Function}
-use Rattle.pj_xvalue.specs.declared.function.Function.TheVariants as f
-use Rattle.pj_xvalue.specs.Expressions.{Written}
-use Rattle.pj_xvalue.specs.declared.name.Callee.{Callee}
-use Rattle.pj_xvalue.specs.declared.name.Callee.TheVariants as callee
-use Rattle.pj_xvalue.specs.Names.{callee_of}
+use Rattle.pj_xexpressions.specs.declared.function.Function.{Function}
+use Rattle.pj_xexpressions.specs.declared.function.Function.TheVariants as f
+use Rattle.pj_xexpressions.specs.Expressions.{Written}
+use Rattle.pj_xexpressions.specs.declared.name.Callee.{Callee}
+use Rattle.pj_xexpressions.specs.declared.name.Callee.TheVariants as callee
+use Rattle.pj_xexpressions.specs.Names.{callee_of}
 use Rattle.pj_xmeaning.specs.declared.role.Role.{Role}
 use Rattle.pj_xmeaning.specs.declared.role.Role.TheVariants as role
 

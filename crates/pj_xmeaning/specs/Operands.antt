@@ -1,25 +1,25 @@
 -- The values of the rules: what the tokens of a rule say.
 use Rattle.std.specs.Prelude.{ℕ, Bool, true, false, List, [], ◌∷◌, ◌++◌, map, length, Option, Some, None, if◌then◌else◌}
-use Rattle.pj_xvalue.specs.declared.axis.Axis.{Axis}
-use Rattle.pj_xoperators.specs.declared.operator.Compare.{Compare}
-use Rattle.pj_xoperators.specs.declared.operator.Additive.{Additive}
-use Rattle.pj_xoperators.specs.declared.operator.Multiplicative.{Multiplicative}
-use Rattle.pj_xoperators.specs.declared.operator.SetOperator.{SetOperator}
-use Rattle.pj_xoperators.specs.declared.operator.Sign.{Sign}
-use Rattle.pj_xvalue.specs.declared.expr.NodeTest.{NodeTest}
-use Rattle.pj_xvalue.specs.declared.expr.NodeTest.TheVariants.{Name, AnyName}
-use Rattle.pj_xvalue.specs.Expressions as written
-use Rattle.pj_xvalue.specs.Expressions.{Written}
+use Rattle.pj_xexpressions.specs.declared.axis.Axis.{Axis}
+use Rattle.pj_xexpressions.specs.declared.operator.Compare.{Compare}
+use Rattle.pj_xexpressions.specs.declared.operator.Additive.{Additive}
+use Rattle.pj_xexpressions.specs.declared.operator.Multiplicative.{Multiplicative}
+use Rattle.pj_xexpressions.specs.declared.operator.SetOperator.{SetOperator}
+use Rattle.pj_xexpressions.specs.declared.operator.Sign.{Sign}
+use Rattle.pj_xexpressions.specs.declared.expr.NodeTest.{NodeTest}
+use Rattle.pj_xexpressions.specs.declared.expr.NodeTest.TheVariants.{Name, AnyName}
+use Rattle.pj_xexpressions.specs.Expressions as written
+use Rattle.pj_xexpressions.specs.Expressions.{Written}
 use Rattle.pj_xtokens.specs.Tokens.{Lexed}
 use Rattle.pj_xgrammar.specs.declared.rule.Rule.{Rule}
 use Rattle.pj_xgrammar.specs.declared.rule.Rule.TheVariants as r
 use Rattle.pj_xtokens.specs.Literals.{integer_of, string_of}
 use Rattle.pj_xtokens.specs.First.{behind_first, first_text, begins_with_name, first_from}
 use Rattle.pj_xmeaning.specs.Steps.{empty_sequence}
-use Rattle.pj_xvalue.specs.Names.{callee_of, axis_of}
-use Rattle.pj_xvalue.specs.declared.name.Callee.{Callee}
-use Rattle.pj_xvalue.specs.Trees as tree
-use Rattle.pj_xvalue.specs.Trees.{Tree, Construct, node, alone, binder, operated}
+use Rattle.pj_xexpressions.specs.Names.{callee_of, axis_of}
+use Rattle.pj_xexpressions.specs.declared.name.Callee.{Callee}
+use Rattle.pj_xexpressions.specs.Trees as tree
+use Rattle.pj_xexpressions.specs.Trees.{Tree, Construct, node, alone, binder, operated}
 use Rattle.pj_xmeaning.specs.Steps as forms
 use Rattle.pj_xmeaning.specs.Mentions.{Mention, Variable, Call, Argument, roles_named, scoped}
 use Rattle.pj_xmeaning.specs.declared.role.Role.{Role}

@@ -1,11 +1,11 @@
 -- The values that the code makes of rules, which are those of the relation (`Operands`).
 use Rattle.std.specs.Prelude.{ℕ, Bool, false, List, [], Option, None}
-use Rattle.pj_xoperators.specs.declared.operator.Compare.{Compare}
-use Rattle.pj_xoperators.specs.declared.operator.Additive.{Additive}
-use Rattle.pj_xoperators.specs.declared.operator.Multiplicative.{Multiplicative}
-use Rattle.pj_xoperators.specs.declared.operator.SetOperator.{SetOperator}
-use Rattle.pj_xvalue.specs.declared.expr.NodeTest.{NodeTest}
-use Rattle.pj_xvalue.specs.declared.expr.NodeTest.TheVariants.{AnyName}
+use Rattle.pj_xexpressions.specs.declared.operator.Compare.{Compare}
+use Rattle.pj_xexpressions.specs.declared.operator.Additive.{Additive}
+use Rattle.pj_xexpressions.specs.declared.operator.Multiplicative.{Multiplicative}
+use Rattle.pj_xexpressions.specs.declared.operator.SetOperator.{SetOperator}
+use Rattle.pj_xexpressions.specs.declared.expr.NodeTest.{NodeTest}
+use Rattle.pj_xexpressions.specs.declared.expr.NodeTest.TheVariants.{AnyName}
 use Rattle.pj_xgrammar.specs.declared.rule.Rule.{Rule}
 use Rattle.pj_xgrammar.specs.declared.rule.Rule.TheVariants as r
 use Rattle.pj_xmeaning.specs.Operands.{Operand, Binding, Arguments, Open, Behind, Predicates, Value, nothing}

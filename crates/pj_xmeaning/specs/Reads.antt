@@ -8,19 +8,19 @@
 use Rattle.std.specs.Prelude.{◌≡◌, ℕ, suc, Bool, true, false, List, [], ◌∷◌, Option, Some, None}
 use Rattle.pj_ll.specs.declared.grammar.Symbol.{Symbol}
 use Rattle.pj_ll.specs.declared.grammar.Symbol.TheVariants.{Terminal}
-use Rattle.pj_xvalue.specs.declared.axis.Axis.TheVariants as axes
-use Rattle.pj_xoperators.specs.declared.operator.Compare.{Compare}
-use Rattle.pj_xoperators.specs.declared.operator.Compare.TheVariants as compare
-use Rattle.pj_xoperators.specs.declared.operator.Additive.{Additive}
-use Rattle.pj_xoperators.specs.declared.operator.Additive.TheVariants as sum
-use Rattle.pj_xoperators.specs.declared.operator.Multiplicative.{Multiplicative}
-use Rattle.pj_xoperators.specs.declared.operator.Multiplicative.TheVariants as product
-use Rattle.pj_xoperators.specs.declared.operator.SetOperator.{SetOperator}
-use Rattle.pj_xoperators.specs.declared.operator.SetOperator.TheVariants as set
-use Rattle.pj_xoperators.specs.declared.operator.Sign.TheVariants as sign
-use Rattle.pj_xoperators.specs.declared.operator.Quantifier.TheVariants as quantifier
-use Rattle.pj_xvalue.specs.declared.expr.NodeTest.{NodeTest}
-use Rattle.pj_xvalue.specs.declared.expr.NodeTest.TheVariants.{Name, AnyName, AnyNode, AnyElement}
+use Rattle.pj_xexpressions.specs.declared.axis.Axis.TheVariants as axes
+use Rattle.pj_xexpressions.specs.declared.operator.Compare.{Compare}
+use Rattle.pj_xexpressions.specs.declared.operator.Compare.TheVariants as compare
+use Rattle.pj_xexpressions.specs.declared.operator.Additive.{Additive}
+use Rattle.pj_xexpressions.specs.declared.operator.Additive.TheVariants as sum
+use Rattle.pj_xexpressions.specs.declared.operator.Multiplicative.{Multiplicative}
+use Rattle.pj_xexpressions.specs.declared.operator.Multiplicative.TheVariants as product
+use Rattle.pj_xexpressions.specs.declared.operator.SetOperator.{SetOperator}
+use Rattle.pj_xexpressions.specs.declared.operator.SetOperator.TheVariants as set
+use Rattle.pj_xexpressions.specs.declared.operator.Sign.TheVariants as sign
+use Rattle.pj_xexpressions.specs.declared.operator.Quantifier.TheVariants as quantifier
+use Rattle.pj_xexpressions.specs.declared.expr.NodeTest.{NodeTest}
+use Rattle.pj_xexpressions.specs.declared.expr.NodeTest.TheVariants.{Name, AnyName, AnyNode, AnyElement}
 use Rattle.pj_xtokens.specs.Tokens.{Lexed}
 use Rattle.pj_xgrammar.specs.declared.rule.Rule.{Rule}
 use Rattle.pj_xgrammar.specs.declared.rule.Rule.TheVariants as r
@@ -30,8 +30,8 @@ use Rattle.pj_xgrammar.specs.Notation.{t, integer, string, axis, lone_slash}
 use Rattle.pj_xgrammar.specs.XPath.{xpath}
 use Rattle.pj_xtokens.specs.First.{first_text, first_from}
 use Rattle.pj_xmeaning.specs.Steps.{empty_sequence}
-use Rattle.pj_xvalue.specs.Trees as tree
-use Rattle.pj_xvalue.specs.Trees.{alone}
+use Rattle.pj_xexpressions.specs.Trees as tree
+use Rattle.pj_xexpressions.specs.Trees.{alone}
 use Rattle.pj_xmeaning.specs.Operands.{Operand, Binding, Arguments, Closed, Next, Behind, Test, Called, Predicates, Value, absent, other, chain, mixed, compared, ranging, signed, bound, chosen, variable, cut_variable, integer_literal, string_literal, rooted, descendants, path, step, child_step, attribute_step, filtered, kind_test, named}
 use Rattle.pj_xmeaning.specs.Reach.{Reach, All, Within, IsBefore, IsCut}
 

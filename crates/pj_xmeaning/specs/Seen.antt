@@ -3,10 +3,10 @@ use Rattle.std.specs.Prelude.{ℕ, Bool, true, false, List, [], ◌∷◌, map, 
 use Rattle.std.specs.Option.{option_map}
 use Rattle.std.specs.declared.alloc.Global.{Global}
 use Rattle.std.proofs.Common.{Box}
-use Rattle.pj_xoperators.specs.declared.operator.Compare.{Compare}
-use Rattle.pj_xvalue.specs.declared.expr.Expr.{Expr}
-use Rattle.pj_xvalue.specs.Trees.{Tree, tree_of}
-use Rattle.pj_xvalue.specs.Expressions.{Written, Literal, Number, Name, Other}
+use Rattle.pj_xexpressions.specs.declared.operator.Compare.{Compare}
+use Rattle.pj_xexpressions.specs.declared.expr.Expr.{Expr}
+use Rattle.pj_xexpressions.specs.Trees.{Tree, tree_of}
+use Rattle.pj_xexpressions.specs.Expressions.{Written, Literal, Number, Name, Other}
 use Rattle.pj_xtokens.specs.Literals.{string_of}
 use Rattle.pj_xmeaning.specs.Mentions as mention
 use Rattle.pj_xmeaning.specs.Mentions.{Mention}

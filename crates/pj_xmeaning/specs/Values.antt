@@ -2,11 +2,11 @@
 -- from the values of the rules in it, in their order, and from the tokens from the one on at which it begins (a grammar with synthesized
 -- attributes: Aho, Lam, Sethi, Ullman, section 5.2.3).
 use Rattle.std.specs.Prelude.{ℕ, Bool, true, false, List, [], ◌∷◌, Option, Some, None}
-use Rattle.pj_xvalue.specs.declared.axis.Axis.TheVariants as axis
-use Rattle.pj_xvalue.specs.declared.expr.NodeTest.{NodeTest}
-use Rattle.pj_xvalue.specs.declared.expr.NodeTest.TheVariants.{Name, AnyName, AnyNode, AnyElement}
-use Rattle.pj_xvalue.specs.Trees as tree
-use Rattle.pj_xvalue.specs.Trees.{Construct, alone}
+use Rattle.pj_xexpressions.specs.declared.axis.Axis.TheVariants as axis
+use Rattle.pj_xexpressions.specs.declared.expr.NodeTest.{NodeTest}
+use Rattle.pj_xexpressions.specs.declared.expr.NodeTest.TheVariants.{Name, AnyName, AnyNode, AnyElement}
+use Rattle.pj_xexpressions.specs.Trees as tree
+use Rattle.pj_xexpressions.specs.Trees.{Construct, alone}
 use Rattle.pj_xtokens.specs.First.{behind_first, first_from, first_text}
 use Rattle.pj_xtokens.specs.Tokens.{Lexed}
 use Rattle.pj_xgrammar.specs.Beginnings.{Beginning, beginnings}

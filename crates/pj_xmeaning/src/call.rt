@@ -1,8 +1,8 @@
 //! Calls of functions.
 
 ghost use Rattle.std.specs.Prelude.{◌≡◌, ◌++◌, ◌∷◌, [], drop, map, IfOk, Some};
-ghost use Rattle.pj_xvalue.specs.Names.{callee_of};
-ghost use Rattle.pj_xvalue.specs.Trees.{tree_of};
+ghost use Rattle.pj_xexpressions.specs.Names.{callee_of};
+ghost use Rattle.pj_xexpressions.specs.Trees.{tree_of};
 ghost use Rattle.pj_xmeaning.specs.Mentions as mention;
 ghost use Rattle.pj_xmeaning.specs.Operands.{trees_of, arguments_in, in_roles, told, call};
 ghost use Rattle.pj_xmeaning.specs.Seen.{seen_mention, seen_mentions, seen_reading, seen_given, seen_arguments};
@@ -14,7 +14,7 @@ use crate::operand::{Given, Reading};
 use crate::role::{Role, roles_named};
 use crate::row::{apart, before};
 use pj_base::NoMemory;
-use pj_xvalue::{Callee, Expr, function_named};
+use pj_xexpressions::{Callee, Expr, function_named};
 use std::alloc::Global;
 
 /// A mention before others.

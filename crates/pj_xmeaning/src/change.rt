@@ -13,9 +13,9 @@ use crate::operand::Reading;
 use crate::part::Part;
 use crate::step::{along, child_step, descendants, filtered, kind_test, named, path, rooted};
 use pj_base::{NoMemory, Text};
+use pj_xexpressions::{Axis, Compare, Expr, NodeTest, Sign};
 use pj_xgrammar::{Change, Single};
 use pj_xtokens::{Token, begins_with_name, behind_first, first_from, first_text};
-use pj_xvalue::{Axis, Compare, Expr, NodeTest, Sign};
 use std::alloc::Global;
 
 /// The second operand of a comparison behind its operator.

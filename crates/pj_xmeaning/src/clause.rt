@@ -1,7 +1,7 @@
 //! Variables and choices.
 
 ghost use Rattle.std.specs.Prelude.{◌≡◌, ◌++◌, [], ◌∷◌, map, IfOk};
-ghost use Rattle.pj_xvalue.specs.Trees.{binder, tree_of};
+ghost use Rattle.pj_xexpressions.specs.Trees.{binder, tree_of};
 ghost use Rattle.pj_xmeaning.specs.Mentions as mention;
 ghost use Rattle.pj_xmeaning.specs.Mentions.{scoped};
 ghost use Rattle.pj_xmeaning.specs.Operands.{bindings_of, bound, chosen, scopes_of};
@@ -16,8 +16,8 @@ use crate::operand::{Bound, Reading, boxed};
 use crate::part::Part;
 use crate::row::before;
 use pj_base::{NoMemory, Text};
+use pj_xexpressions::Expr;
 use pj_xgrammar::Binder;
-use pj_xvalue::Expr;
 use std::alloc::Global;
 
 /// The name of a variable that is bound, and what its expression names, with the variable behind it, before others.

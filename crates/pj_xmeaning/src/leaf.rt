@@ -3,9 +3,9 @@
 ghost use Rattle.std.specs.Prelude.{◌≡◌, [], map, IfOk};
 ghost use Rattle.pj_xtokens.specs.Answer.{lexed_of};
 ghost use Rattle.pj_xtokens.specs.First.{first_text};
-ghost use Rattle.pj_xvalue.specs.Trees as tree;
-ghost use Rattle.pj_xvalue.specs.Trees.{alone};
-ghost use Rattle.pj_xvalue.specs.declared.expr.NodeTest.TheVariants.{Name};
+ghost use Rattle.pj_xexpressions.specs.Trees as tree;
+ghost use Rattle.pj_xexpressions.specs.Trees.{alone};
+ghost use Rattle.pj_xexpressions.specs.declared.expr.NodeTest.TheVariants.{Name};
 ghost use Rattle.pj_xmeaning.specs.Operands.{other, integer_literal, string_literal};
 ghost use Rattle.pj_xmeaning.specs.Seen.{seen_reading, seen_part};
 ghost use Rattle.pj_xmeaning.specs.Values.{leaf_value};
@@ -15,9 +15,9 @@ use crate::named::Spelling;
 use crate::operand::{Given, Reading};
 use crate::part::Part;
 use pj_base::{NoMemory, Text};
+use pj_xexpressions::{Expr, NodeTest};
 use pj_xgrammar::Leaf;
 use pj_xtokens::{Token, first_text, integer_value, string_value};
-use pj_xvalue::{Expr, NodeTest};
 use std::alloc::Global;
 
 /// The integer that the first token writes (XPath 2.0, 3.1.1).

@@ -1,14 +1,14 @@
 //! Expressions as they are read, and the variables and arguments around them.
 
 ghost use Rattle.std.specs.Prelude.{◌≡◌, IfOk};
-ghost use Rattle.pj_xvalue.specs.Trees.{tree_of};
+ghost use Rattle.pj_xexpressions.specs.Trees.{tree_of};
 ghost use Rattle.pj_xmeaning.specs.Operands.{other, nothing};
 ghost use Rattle.pj_xmeaning.specs.Seen.{seen_reading, seen_mentions};
 
 use crate::front::Front;
 use crate::named::{Named, Spelling};
 use pj_base::NoMemory;
-use pj_xvalue::Expr;
+use pj_xexpressions::Expr;
 use std::alloc::Global;
 
 /// An expression as it is read.

@@ -2,7 +2,7 @@
 
 ghost use Rattle.std.specs.Prelude.{◌≡◌, map, IfOk};
 ghost use Rattle.std.specs.Option.{option_map};
-ghost use Rattle.pj_xvalue.specs.Trees.{Additive', Multiplicative', IntersectExcept, node, tree_of};
+ghost use Rattle.pj_xexpressions.specs.Trees.{Additive', Multiplicative', IntersectExcept, node, tree_of};
 ghost use Rattle.pj_xmeaning.specs.Operands.{operations, names_behind, chain, mixed, compared, ranging};
 ghost use Rattle.pj_xmeaning.specs.Seen.{behind_of, seen_behind, seen_last, seen_mentions, seen_part, seen_reading, seen_second};
 ghost use Rattle.pj_xmeaning.specs.Parts.{One};
@@ -14,8 +14,8 @@ use crate::operand::{Reading, boxed};
 use crate::part::Part;
 use crate::row::{apart, before};
 use pj_base::NoMemory;
+use pj_xexpressions::{Additive, Compare, Expr, Multiplicative, SetOperator};
 use pj_xgrammar::{Chain, Operation};
-use pj_xvalue::{Additive, Compare, Expr, Multiplicative, SetOperator};
 use std::alloc::Global;
 
 /// The expressions of operands, each behind its operator, and what they name, from the last on.

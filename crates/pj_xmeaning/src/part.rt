@@ -10,7 +10,7 @@ ghost use Rattle.pj_xmeaning.specs.Values.{is_end, is_one};
 use crate::front::Front;
 use crate::operand::{Bound, Given, Reading};
 use pj_base::NoMemory;
-use pj_xvalue::{Additive, Compare, Multiplicative, NodeTest, SetOperator};
+use pj_xexpressions::{Additive, Compare, Multiplicative, NodeTest, SetOperator};
 use std::alloc::Global;
 
 /// The value of a rule: what its tokens say.

@@ -3,7 +3,7 @@
 ghost use Rattle.std.specs.Prelude.{◌≡◌};
 ghost use Rattle.pj_xmeaning.specs.Mentions.{roles_of, roles_named};
 
-use pj_xvalue::{Callee, Function, function_named};
+use pj_xexpressions::{Callee, Function, function_named};
 
 /// What an argument of a function has to be (XQuery 1.0 and XPath 2.0 Functions and Operators, 7.6).
 #[derive(Clone, Copy, Debug, PartialEq, Eq)]

@@ -1,7 +1,7 @@
 //! Expressions in a row.
 
 ghost use Rattle.std.specs.Prelude.{◌≡◌, ◌++◌, map, IfOk};
-ghost use Rattle.pj_xvalue.specs.Trees.{tree_of};
+ghost use Rattle.pj_xexpressions.specs.Trees.{tree_of};
 ghost use Rattle.pj_xmeaning.specs.Operands.{trees_of, names_of};
 ghost use Rattle.pj_xmeaning.specs.Seen.{seen_mentions, seen_reading};
 
@@ -9,7 +9,7 @@ use crate::front::Front;
 use crate::named::Named;
 use crate::operand::Reading;
 use pj_base::NoMemory;
-use pj_xvalue::Expr;
+use pj_xexpressions::Expr;
 use std::alloc::Global;
 
 /// What both name, the first one before the other.

@@ -1,7 +1,7 @@
 //! Steps: tests, filters and paths.
 
 ghost use Rattle.std.specs.Prelude.{◌≡◌, [], map, IfOk};
-ghost use Rattle.pj_xvalue.specs.Trees.{tree_of};
+ghost use Rattle.pj_xexpressions.specs.Trees.{tree_of};
 ghost use Rattle.pj_xtokens.specs.Answer.{lexed_of};
 ghost use Rattle.pj_xmeaning.specs.Operands.{other, descendants, rooted, path, step, child_step, attribute_step, axis_step, filtered, kind_test, named};
 ghost use Rattle.pj_xmeaning.specs.Parts.{tail};
@@ -14,9 +14,9 @@ use crate::operand::{Reading, boxed};
 use crate::part::Part;
 use crate::row::{apart, before};
 use pj_base::{NoMemory, Text};
+use pj_xexpressions::{Axis, Expr, NodeTest, axis_named};
 use pj_xgrammar::{Kind, Step};
 use pj_xtokens::{Token, first_from, first_text};
-use pj_xvalue::{Axis, Expr, NodeTest, axis_named};
 use std::alloc::Global;
 
 /// An expression that names nothing.

@@ -1,9 +1,9 @@
 -- What is read of tokens, where no name has a fault, is an expression.
 use Rattle.std.proofs.Common.{◌≡◌, ℕ, ◌≤◌, true, List, [], None, sym, ◌∙◌, ap, subst, arith}
 use Rattle.pj_xtokens.specs.Tokens.{Lexed}
-use Rattle.pj_xvalue.specs.declared.expr.Expr.{Expr}
-use Rattle.pj_xvalue.specs.Expressions.{Part, IsExpression, part_of}
-use Rattle.pj_xvalue.specs.Trees.{Tree, tree_of}
+use Rattle.pj_xexpressions.specs.declared.expr.Expr.{Expr}
+use Rattle.pj_xexpressions.specs.Expressions.{Part, IsExpression, part_of}
+use Rattle.pj_xexpressions.specs.Trees.{Tree, tree_of}
 use Rattle.pj_xmeaning.specs.Operands.{Operand}
 use Rattle.pj_xmeaning.specs.Reads.{AreRead}
 use Rattle.pj_xparse.specs.NameFaults.{first_fault}

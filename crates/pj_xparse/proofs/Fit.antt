@@ -2,9 +2,9 @@
 use Rattle.std.proofs.Common.{◌≡◌, ℕ, suc, ◌+◌, ◌⊎◌, inl, inr, true, List, [], ◌∷◌, ◌++◌, map, length, None, refl, sym, ap, subst, arith, rules}
 use Rattle.std.specs.Prelude.{nat_eq, nat_le, not}
 use Rattle.std.proofs.lemmas.Bool.{and_from, le-leb, eq-eqb}
-use Rattle.pj_xvalue.specs.Expressions.{Part, Scope, Written, Other, all_fit, chain_fits}
-use Rattle.pj_xvalue.specs.Trees as tree
-use Rattle.pj_xvalue.specs.Trees.{Tree, Construct, node, alone}
+use Rattle.pj_xexpressions.specs.Expressions.{Part, Scope, Written, Other, all_fit, chain_fits}
+use Rattle.pj_xexpressions.specs.Trees as tree
+use Rattle.pj_xexpressions.specs.Trees.{Tree, Construct, node, alone}
 use Rattle.pj_xmeaning.specs.Mentions.{Mention}
 use Rattle.pj_xparse.specs.NameFaults.{first_fault_from}
 use Rattle.pj_xshape.specs.Shapes.{written_by, fits_by, part_of_tree, operators_fit, exactly}

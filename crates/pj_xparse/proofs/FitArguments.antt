@@ -2,16 +2,16 @@
 use Rattle.std.proofs.Common.{◌≡◌, ℕ, suc, ◌⊎◌, inl, inr, Bool, true, false, List, [], ◌∷◌, ◌++◌, map, length, Option, Some, None, refl, sym, ap, subst}
 use Rattle.std.specs.Prelude.{⊤, ◌&&◌}
 use Rattle.std.proofs.lemmas.Bool.{and_from}
-use Rattle.pj_xvalue.specs.declared.function.Function.{Function}
-use Rattle.pj_xvalue.specs.declared.function.Function.TheVariants as f
-use Rattle.pj_xvalue.specs.Expressions.{Part, Scope, Written, Other, all_fit, arguments_fit, is_pattern, are_flags, is_replacement}
-use Rattle.pj_xvalue.specs.Functions.{takes, pmd_takes}
-use Rattle.pj_xvalue.specs.Trees as tree
-use Rattle.pj_xvalue.specs.Trees.{Tree}
-use Rattle.pj_xvalue.specs.Names.{callee_of}
+use Rattle.pj_xexpressions.specs.declared.function.Function.{Function}
+use Rattle.pj_xexpressions.specs.declared.function.Function.TheVariants as f
+use Rattle.pj_xexpressions.specs.Expressions.{Part, Scope, Written, Other, all_fit, arguments_fit, is_pattern, are_flags, is_replacement}
+use Rattle.pj_xexpressions.specs.Functions.{takes, pmd_takes}
+use Rattle.pj_xexpressions.specs.Trees as tree
+use Rattle.pj_xexpressions.specs.Trees.{Tree}
+use Rattle.pj_xexpressions.specs.Names.{callee_of}
 use Rattle.pj_xmeaning.specs.Steps.{called, filtered}
-use Rattle.pj_xvalue.specs.declared.name.Callee.{Callee}
-use Rattle.pj_xvalue.specs.declared.name.Callee.TheVariants as callee
+use Rattle.pj_xexpressions.specs.declared.name.Callee.{Callee}
+use Rattle.pj_xexpressions.specs.declared.name.Callee.TheVariants as callee
 use Rattle.pj_xmeaning.specs.declared.role.Role.{Role}
 use Rattle.pj_xmeaning.specs.declared.role.Role.TheVariants as role
 use Rattle.pj_xmeaning.specs.Mentions.{Mention, Call, Argument, roles_of, roles_in, roles_named}

@@ -1,6 +1,6 @@
 -- What is said of the value of each rule: its expressions fit where what they name has no fault.
 use Rattle.std.specs.Prelude.{⊤, List, [], ◌∷◌, map, Option, Some, None}
-use Rattle.pj_xvalue.specs.Trees.{Tree}
+use Rattle.pj_xexpressions.specs.Trees.{Tree}
 use Rattle.pj_xgrammar.specs.declared.rule.Rule.{Rule}
 use Rattle.pj_xgrammar.specs.declared.rule.Rule.TheVariants as r
 use Rattle.pj_xmeaning.specs.Operands.{Operand, Binding, Arguments, Closed, Open, Next, Behind, Test, Called, Predicates, Value, trees_of, names_of, operations, names_behind}

@@ -2,8 +2,8 @@
 use Rattle.std.proofs.Common.{◌≡◌, ℕ, suc, ◌+◌, ◌<◌, ◌≤◌, ◌⊎◌, inl, inr, ⊎_elim, Bool, true, false, List, [], ◌∷◌, map, length, max, refl, ◌∙◌, ap, arith}
 use Rattle.std.specs.Prelude.{⊤, cond, nat_lt, nat_eq}
 use Rattle.std.proofs.lemmas.Bool.Decides.{leb_tells}
-use Rattle.pj_xvalue.specs.Trees as tree
-use Rattle.pj_xvalue.specs.Trees.{Tree, Trees, Construct, Node, NoMore, More, node}
+use Rattle.pj_xexpressions.specs.Trees as tree
+use Rattle.pj_xexpressions.specs.Trees.{Tree, Trees, Construct, Node, NoMore, More, node}
 use Rattle.pj_xshape.specs.Shapes.{level_by}
 use Rattle.pj_xshape.specs.Nodes.{nested_as, nested_of_node}
 use Rattle.pj_xshape.specs.Nesting.{Nested, operand_before, chain_before, clauses_before, choice_before, enclosed, filter_inside, step_before, further_before, steps_before, axis_nesting, test_nesting, nested_by, nested_of, nested_each}

@@ -10,7 +10,7 @@ use Rattle.std.proofs.lemmas.Bool.{cases_Bool}
 use Rattle.std.proofs.lemmas.Bool.Decides.{nat_tests}
 use Rattle.std.proofs.lemmas.Slice.Eq.{bytes_eq-Decides}
 use Rattle.std.proofs.lemmas.Map.Text.{btree_map_updates_str}
-use Rattle.pj_xvalue.specs.Attributes.{is_among}
+use Rattle.pj_xexpressions.specs.Among.{is_among}
 use Rattle.pj_xparse.specs.Bound.{count_in, times, AreCounts}
 
 pub times-le-length : (name : List ℕ) (names : List (List ℕ)) → times name names ≤ length names

@@ -2,15 +2,15 @@
 use Rattle.std.proofs.Common.{◌≡◌, ℕ, suc, ◌+◌, ◌≤◌, ⊎_elim, Bool, true, false, List, [], ◌∷◌, map, length, max, Option, Some, None, ap, le_refl, arith}
 use Rattle.std.specs.Prelude.{cond}
 use Rattle.std.proofs.lemmas.Bool.{cases_Bool, eqb-true, false≢true}
-use Rattle.pj_xvalue.specs.declared.axis.Axis.{Axis}
-use Rattle.pj_xvalue.specs.declared.axis.Axis.TheVariants as axis
-use Rattle.pj_xvalue.specs.declared.expr.NodeTest.{NodeTest}
-use Rattle.pj_xvalue.specs.declared.expr.NodeTest.TheVariants as tests
-use Rattle.pj_xvalue.specs.declared.name.Callee.{Callee}
-use Rattle.pj_xvalue.specs.declared.name.Callee.TheVariants as callee
-use Rattle.pj_xvalue.specs.Names.{axis_of, callee_of}
-use Rattle.pj_xvalue.specs.Trees as tree
-use Rattle.pj_xvalue.specs.Trees.{Tree, Node, NoMore, More, node, alone}
+use Rattle.pj_xexpressions.specs.declared.axis.Axis.{Axis}
+use Rattle.pj_xexpressions.specs.declared.axis.Axis.TheVariants as axis
+use Rattle.pj_xexpressions.specs.declared.expr.NodeTest.{NodeTest}
+use Rattle.pj_xexpressions.specs.declared.expr.NodeTest.TheVariants as tests
+use Rattle.pj_xexpressions.specs.declared.name.Callee.{Callee}
+use Rattle.pj_xexpressions.specs.declared.name.Callee.TheVariants as callee
+use Rattle.pj_xexpressions.specs.Names.{axis_of, callee_of}
+use Rattle.pj_xexpressions.specs.Trees as tree
+use Rattle.pj_xexpressions.specs.Trees.{Tree, Node, NoMore, More, node, alone}
 use Rattle.pj_xtokens.specs.Tokens.{Lexed}
 use Rattle.pj_xmeaning.specs.Steps as forms
 use Rattle.pj_xshape.specs.Nesting.{Nested, operand_before, chain_before, step_before, further_before, enclosed, axis_nesting, test_nesting, nested_of, nested_each}

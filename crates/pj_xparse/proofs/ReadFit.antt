@@ -2,22 +2,22 @@
 use Rattle.std.proofs.Common.{◌≡◌, ℕ, suc, ◌^◌, inr, Bool, true, false, List, [], ◌∷◌, map, length, Option, Some, None, refl, sym, ap, subst, append_assoc}
 use Rattle.std.specs.Prelude.{cond, nat_lt, pos}
 use Rattle.std.proofs.lemmas.Bool.{and_from}
-use Rattle.pj_xvalue.specs.declared.axis.Axis.{Axis}
-use Rattle.pj_xvalue.specs.declared.axis.Axis.TheVariants as axis
-use Rattle.pj_xvalue.specs.declared.expr.NodeTest.{NodeTest}
-use Rattle.pj_xvalue.specs.declared.expr.NodeTest.TheVariants as tests
-use Rattle.pj_xoperators.specs.declared.operator.Compare.{Compare}
-use Rattle.pj_xoperators.specs.declared.operator.Sign.{Sign}
-use Rattle.pj_xoperators.specs.declared.operator.Sign.TheVariants as sign
-use Rattle.pj_xvalue.specs.Expressions.{Part, Scope, Number, Name, Other, is_digits}
+use Rattle.pj_xexpressions.specs.declared.axis.Axis.{Axis}
+use Rattle.pj_xexpressions.specs.declared.axis.Axis.TheVariants as axis
+use Rattle.pj_xexpressions.specs.declared.expr.NodeTest.{NodeTest}
+use Rattle.pj_xexpressions.specs.declared.expr.NodeTest.TheVariants as tests
+use Rattle.pj_xexpressions.specs.declared.operator.Compare.{Compare}
+use Rattle.pj_xexpressions.specs.declared.operator.Sign.{Sign}
+use Rattle.pj_xexpressions.specs.declared.operator.Sign.TheVariants as sign
+use Rattle.pj_xexpressions.specs.Expressions.{Part, Scope, Number, Name, Other, is_digits}
 use Rattle.pj_xtokens.specs.Tokens.{Lexed}
 use Rattle.pj_xtokens.specs.Literals.{integer_of, number_from, if_it_fits, string_of}
 use Rattle.pj_xtokens.specs.First.{first_text, first_from}
 use Rattle.pj_xgrammar.specs.declared.rule.Rule.{Rule}
 use Rattle.pj_xmeaning.specs.Steps as forms
-use Rattle.pj_xvalue.specs.Names.{axis_of}
-use Rattle.pj_xvalue.specs.Trees as tree
-use Rattle.pj_xvalue.specs.Trees.{Tree, Construct, alone, operated}
+use Rattle.pj_xexpressions.specs.Names.{axis_of}
+use Rattle.pj_xexpressions.specs.Trees as tree
+use Rattle.pj_xexpressions.specs.Trees.{Tree, Construct, alone, operated}
 use Rattle.pj_xmeaning.specs.Mentions.{Mention, Variable}
 use Rattle.pj_xparse.specs.NameFaults as fault
 use Rattle.pj_xparse.specs.NameFaults.{is_bound, first_fault}

@@ -3,12 +3,12 @@ use Rattle.std.proofs.Common.{◌≡◌, ℕ, true, List, [], ◌∷◌, refl}
 use Rattle.std.specs.Prelude.{⊤}
 use Rattle.pj_ll.specs.declared.grammar.Symbol.{Symbol}
 use Rattle.pj_ll.specs.declared.grammar.Symbol.TheVariants as symbol
-use Rattle.pj_xvalue.specs.declared.axis.Axis.TheVariants as axes
-use Rattle.pj_xvalue.specs.declared.expr.NodeTest.TheVariants.{AnyName, AnyNode, AnyElement}
-use Rattle.pj_xvalue.specs.Trees as tree
-use Rattle.pj_xvalue.specs.Trees.{alone}
-use Rattle.pj_xoperators.specs.declared.operator.Sign.TheVariants as sign
-use Rattle.pj_xoperators.specs.declared.operator.Quantifier.TheVariants as quantifier
+use Rattle.pj_xexpressions.specs.declared.axis.Axis.TheVariants as axes
+use Rattle.pj_xexpressions.specs.declared.expr.NodeTest.TheVariants.{AnyName, AnyNode, AnyElement}
+use Rattle.pj_xexpressions.specs.Trees as tree
+use Rattle.pj_xexpressions.specs.Trees.{alone}
+use Rattle.pj_xexpressions.specs.declared.operator.Sign.TheVariants as sign
+use Rattle.pj_xexpressions.specs.declared.operator.Quantifier.TheVariants as quantifier
 use Rattle.pj_xtokens.specs.Tokens.{Lexed}
 use Rattle.pj_xtokens.specs.First.{first_text}
 use Rattle.pj_xtokens.specs.Literals.{integer_of, string_of}

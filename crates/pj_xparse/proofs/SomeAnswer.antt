@@ -5,7 +5,7 @@ use Rattle.pj_ll.specs.declared.parser.End.TheVariants as outcome
 use Rattle.pj_xtokens.specs.Size.{size}
 use Rattle.pj_xtokens.specs.Tokens.{Lexed, Tokens}
 use Rattle.pj_xtokens.specs.declared.token.End as token
-use Rattle.pj_xvalue.specs.Trees.{Tree}
+use Rattle.pj_xexpressions.specs.Trees.{Tree}
 use Rattle.pj_xderive.specs.Expressions.{AreClear, AreDerived, IsOutcome, IsRun}
 use Rattle.pj_xmeaning.specs.Operands.{Operand}
 use Rattle.pj_xmeaning.specs.Reads.{AreRead}

@@ -1,7 +1,7 @@
 //! The variables that are bound around a place of a text.
 
 ghost use Rattle.std.specs.Prelude.{◌≡◌, ◌∷◌, [], drop, OnOk};
-ghost use Rattle.pj_xvalue.specs.Attributes.{is_among};
+ghost use Rattle.pj_xexpressions.specs.Among.{is_among};
 ghost use Rattle.pj_xparse.specs.Bound.{count_in, names_of, IsCounted};
 
 use pj_base::NoMemory;

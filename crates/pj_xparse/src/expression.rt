@@ -2,8 +2,8 @@
 
 ghost use Rattle.std.specs.Prelude.{◌≡◌, ◌≢◌, IfOk, IfErr};
 ghost use Rattle.std.specs.Str.{chars};
-ghost use Rattle.pj_xvalue.specs.Expressions.{IsExpression};
-ghost use Rattle.pj_xvalue.specs.Trees.{tree_of};
+ghost use Rattle.pj_xexpressions.specs.Expressions.{IsExpression};
+ghost use Rattle.pj_xexpressions.specs.Trees.{tree_of};
 ghost use Rattle.pj_xparse.specs.Seen.{fault_of};
 ghost use Rattle.pj_xparse.specs.Faults.{IsFault, named_fault};
 ghost use Rattle.pj_xparse.specs.Spells.{Spells};
@@ -15,9 +15,9 @@ use crate::named::{NameFault, first_fault};
 use crate::syntax::syntax_fault;
 use pj_base::{Names, NoMemory, Text};
 use pj_xderive::{Parser, derivation};
+use pj_xexpressions::Expr;
 use pj_xmeaning::reading;
 use pj_xtokens::{gaps_stand_in_front, tokens, tokens_are_not_empty};
-use pj_xvalue::Expr;
 use std::alloc::Global;
 
 /// The fault of what is named, with a copy of the name.

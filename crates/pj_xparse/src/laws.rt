@@ -5,9 +5,9 @@ ghost use Rattle.std.specs.Prelude.{IsTrue, List, None, [], length, ℕ, ◌+◌
 ghost use Rattle.std.specs.Str.{all_scalars};
 ghost use Rattle.pj_xtokens.specs.Tokens.{Lexed, Tokens};
 ghost use Rattle.pj_xtokens.specs.declared.token.End.{End};
-ghost use Rattle.pj_xvalue.specs.Expressions.{IsExpression};
-ghost use Rattle.pj_xvalue.specs.Trees.{Tree, tree_of};
-ghost use Rattle.pj_xvalue.specs.declared.expr.Expr.{Expr};
+ghost use Rattle.pj_xexpressions.specs.Expressions.{IsExpression};
+ghost use Rattle.pj_xexpressions.specs.Trees.{Tree, tree_of};
+ghost use Rattle.pj_xexpressions.specs.declared.expr.Expr.{Expr};
 ghost use Rattle.pj_xderive.specs.Expressions.{AreClear, AreDerived, IsRun};
 ghost use Rattle.pj_xmeaning.specs.Operands.{Operand};
 ghost use Rattle.pj_xmeaning.specs.Reads.{AreRead};

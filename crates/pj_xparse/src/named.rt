@@ -10,8 +10,8 @@ ghost use Rattle.pj_xmeaning.specs.Seen.{seen_mention, seen_mentions};
 use crate::bound::BoundNames;
 use crate::written::{fits_role, is_given};
 use pj_base::{Names, NoMemory};
+use pj_xexpressions::{Callee, function_named};
 use pj_xmeaning::Named;
-use pj_xvalue::{Callee, function_named};
 use std::alloc::Global;
 
 /// A fault of what is named. Offsets are bytes of the text, from 0.

@@ -2,8 +2,8 @@
 
 ghost use Rattle.std.specs.Prelude.{◌≡◌, IfOk, nat_eq, not, codes};
 ghost use Rattle.std.specs.List.{list_all, list_any};
-ghost use Rattle.pj_xvalue.specs.Attributes.{is_among};
-ghost use Rattle.pj_xvalue.specs.Expressions.{is_pattern, are_flags, is_replacement};
+ghost use Rattle.pj_xexpressions.specs.Among.{is_among};
+ghost use Rattle.pj_xexpressions.specs.Expressions.{is_pattern, are_flags, is_replacement};
 ghost use Rattle.pj_xparse.specs.Bound.{names_of, IsCounted};
 ghost use Rattle.pj_xparse.specs.NameFaults.{fits_role};
 ghost use Rattle.pj_xmeaning.specs.Seen.{seen_written};

@@ -1,14 +1,14 @@
 -- The patterns of an expression are told by its tree.
 use Rattle.std.proofs.Common.{◌≡◌, sym, ap, ◌∙◌, ℕ, List, [], ◌∷◌, ◌++◌, map}
-use Rattle.pj_xvalue.specs.Trees as tree
-use Rattle.pj_xvalue.specs.Trees.{Construct, Tree, tree_step, tree_of}
+use Rattle.pj_xexpressions.specs.Trees as tree
+use Rattle.pj_xexpressions.specs.Trees.{Construct, Tree, tree_step, tree_of}
 use Rattle.pj_xpatterns.specs.Meaning.{Pattern}
 use Rattle.pj_xpatterns.specs.Written.{Seen, Variables, of_call, of_each, of_second, patterns_in, seen_of, seen_step}
-use Rattle.pj_xvalue.specs.Expressions.{Written, Literal, Number, Name, Other}
-use Rattle.pj_xvalue.specs.declared.expr.Expr.{Expr}
-use Rattle.pj_xvalue.specs.declared.expr.Expr.TheOpen.{Expr-F}
-use Rattle.pj_xvalue.specs.declared.expr.Expr.TheFolds.{map-Expr}
-use Rattle.pj_xvalue.specs.TreeFolds.{fold_tree, fold_node, fold_by_tree, first, rest, bound, behind_all, bound_is, body_is, operands_are}
+use Rattle.pj_xexpressions.specs.Expressions.{Written, Literal, Number, Name, Other}
+use Rattle.pj_xexpressions.specs.declared.expr.Expr.{Expr}
+use Rattle.pj_xexpressions.specs.declared.expr.Expr.TheOpen.{Expr-F}
+use Rattle.pj_xexpressions.specs.declared.expr.Expr.TheFolds.{map-Expr}
+use Rattle.pj_xexpressions.specs.TreeFolds.{fold_tree, fold_node, fold_by_tree, first, rest, bound, behind_all, bound_is, body_is, operands_are}
 
 abbrev nothing : Seen
 nothing = record { written = Other; patterns = [] }

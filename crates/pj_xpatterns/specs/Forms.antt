@@ -1,5 +1,5 @@
 -- How an argument is written, as the code tells it.
-use Rattle.pj_xvalue.specs.Expressions.{Written, Literal, Number, Name, Other}
+use Rattle.pj_xexpressions.specs.Expressions.{Written, Literal, Number, Name, Other}
 use Rattle.pj_xpatterns.specs.declared.own.Form.{Form}
 use Rattle.pj_xpatterns.specs.declared.own.Form.TheVariants as form
 

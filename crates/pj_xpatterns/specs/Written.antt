@@ -1,13 +1,13 @@
 -- The patterns that an expression is written with: the second arguments of `matches`, `tokenize` and `replace`.
 use Rattle.std.specs.Prelude.{ℕ, List, [], ◌∷◌, ◌++◌, map, take, drop, flat_map, Option, Some, None, slice_get, nat_eq, if◌then◌else◌}
 use Rattle.std.specs.Cmp.Lexicographic.{pointwise}
-use Rattle.pj_xvalue.specs.declared.function.Function.{Function}
-use Rattle.pj_xvalue.specs.declared.function.Function.TheVariants as f
-use Rattle.pj_xvalue.specs.declared.expr.Expr.{Expr}
-use Rattle.pj_xvalue.specs.declared.expr.Expr.TheOpen.{Expr-F}
-use Rattle.pj_xvalue.specs.declared.expr.Expr.TheFolds.{fold-Expr}
+use Rattle.pj_xexpressions.specs.declared.function.Function.{Function}
+use Rattle.pj_xexpressions.specs.declared.function.Function.TheVariants as f
+use Rattle.pj_xexpressions.specs.declared.expr.Expr.{Expr}
+use Rattle.pj_xexpressions.specs.declared.expr.Expr.TheOpen.{Expr-F}
+use Rattle.pj_xexpressions.specs.declared.expr.Expr.TheFolds.{fold-Expr}
 use Rattle.pj_xvalue.specs.declared.item.Item.{Item}
-use Rattle.pj_xvalue.specs.Expressions.{Written, Literal, Name, written_as}
+use Rattle.pj_xexpressions.specs.Expressions.{Written, Literal, Name, written_as}
 use Rattle.pj_xvalue.specs.Items.{ItemValue, String, values_of}
 use Rattle.pj_xpatterns.specs.declared.flags.PatternFlags.{PatternFlags}
 use Rattle.pj_xpatterns.specs.Meaning.{Text, Pattern, flags_of, no_flags}

@@ -6,7 +6,8 @@ ghost use Rattle.pj_xpatterns.specs.Written.{Variables, couple, flags_place, one
 
 use crate::flags::PatternFlags;
 use pj_base::{ListOf, NoMemory, Text};
-use pj_xvalue::{BoundVars, Expr, Function, Sequence};
+use pj_xexpressions::{Expr, Function};
+use pj_xvalue::{BoundVars, Sequence};
 use std::alloc::Global;
 
 /// Patterns with their flags.

@@ -4,7 +4,8 @@ ghost use Rattle.pj_xpatterns.specs.Written.{patterns_in, variables_of, bound_se
 
 use crate::own::{Found, push_own};
 use pj_base::{NoMemory, Text};
-use pj_xvalue::{Additive, BoundVars, Expr, Multiplicative, SetOperator};
+use pj_xexpressions::{Additive, Expr, Multiplicative, SetOperator};
+use pj_xvalue::BoundVars;
 use std::alloc::Global;
 
 /// Puts the patterns of the expression at the end, in the order of the text.

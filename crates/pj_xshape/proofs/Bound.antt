@@ -1,8 +1,8 @@
 -- Variables with their expressions and what follows them, as one list of parts.
 use Rattle.std.proofs.Common.{◌≡◌, sym, ap, ◌∙◌, ℕ, ◌&&◌, List, [], ◌∷◌, ◌++◌, map, length, nat_le, arith}
 use Rattle.std.proofs.lemmas.List.{length-map}
-use Rattle.pj_xvalue.specs.Expressions.{Part, Scope, clauses, with_variable, bindings_fit}
-use Rattle.pj_xvalue.specs.Expressions as expressions
+use Rattle.pj_xexpressions.specs.Expressions.{Part, Scope, clauses, with_variable, bindings_fit}
+use Rattle.pj_xexpressions.specs.Expressions as expressions
 use Rattle.pj_xshape.specs.Shapes.{clauses_nesting, scoped_fit, binder_fits}
 use Rattle.pj_xshape.proofs.Fitted.{and_only}
 

@@ -2,7 +2,7 @@
 use Rattle.std.proofs.Common.{◌≡◌, refl, sym, ap, ◌∙◌, ℕ, ◌+◌, Bool, true, false, ◌&&◌, List, ◌∷◌, length, nat_le, arith}
 use Rattle.std.proofs.lemmas.Bool.{eq-eqb}
 use Rattle.std.proofs.lemmas.Bool.Decides.{nat_tests}
-use Rattle.pj_xvalue.specs.Expressions.{Part, Scope, all_fit, operated_fits, chain_fits}
+use Rattle.pj_xexpressions.specs.Expressions.{Part, Scope, all_fit, operated_fits, chain_fits}
 use Rattle.pj_xshape.specs.Shapes.{operators_fit}
 
 pub and_only : (a : Bool) → a ≡ (a && true)

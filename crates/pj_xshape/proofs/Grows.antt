@@ -1,8 +1,8 @@
 -- A word behind a text does not make it nest less.
 use Rattle.std.proofs.Common.{ℕ, ◌+◌, ◌≤◌, Bool, true, false, if◌then◌else◌, List, [], ◌∷◌, length, max, nat_lt, nat_eq, le_refl, arith}
 use Rattle.std.specs.Prelude.{⊤}
-use Rattle.pj_xvalue.specs.Trees as tree
-use Rattle.pj_xvalue.specs.Trees.{Tree, Trees, Construct, Node, NoMore, More}
+use Rattle.pj_xexpressions.specs.Trees as tree
+use Rattle.pj_xexpressions.specs.Trees.{Tree, Trees, Construct, Node, NoMore, More}
 use Rattle.pj_xshape.specs.Nesting.{Nested, operand_before, chain_before, clauses_before, choice_before, step_before, further_before, steps_before, nested_by, nested_of, nested_each}
 
 pub record Grows (text : Nested) : Type 0 where

@@ -2,12 +2,12 @@
 use mathlib.Core.List.{map-map}
 use Rattle.std.proofs.Common.{◌≡◌, refl, sym, ap, ap₂, ◌∙◌, ℕ, ◌||◌, List, [], ◌∷◌, map, length}
 use Rattle.std.proofs.lemmas.List.{length-map}
-use Rattle.pj_xvalue.specs.declared.expr.Expr.TheOpen.{Expr-F}
-use Rattle.pj_xvalue.specs.declared.expr.Expr.TheFolds.{map-Expr}
-use Rattle.pj_xvalue.specs.Attributes.{is_among}
-use Rattle.pj_xvalue.specs.Expressions.{Part, Number, Name, is_digits, part_step}
-use Rattle.pj_xvalue.specs.Trees as tree
-use Rattle.pj_xvalue.specs.Trees.{Tree, Construct, tree_step}
+use Rattle.pj_xexpressions.specs.declared.expr.Expr.TheOpen.{Expr-F}
+use Rattle.pj_xexpressions.specs.declared.expr.Expr.TheFolds.{map-Expr}
+use Rattle.pj_xexpressions.specs.Among.{is_among}
+use Rattle.pj_xexpressions.specs.Expressions.{Part, Number, Name, is_digits, part_step}
+use Rattle.pj_xexpressions.specs.Trees as tree
+use Rattle.pj_xexpressions.specs.Trees.{Tree, Construct, tree_step}
 use Rattle.pj_xshape.specs.Shapes.{part_by, part_of_tree}
 use Rattle.pj_xshape.proofs.Bound.{names_of, parts_of}
 use Rattle.pj_xshape.specs.Nodes.{part_of_node}

@@ -1,6 +1,6 @@
 -- Of a tree and its text the level is the same, and the nesting that is said of the tree is no more than that of the text.
 use Rattle.std.proofs.Common.{◌≡◌, ap, ◌≤◌, Bool}
-use Rattle.pj_xvalue.specs.Trees.{Tree, Trees, Node, NoMore, More}
+use Rattle.pj_xexpressions.specs.Trees.{Tree, Trees, Node, NoMore, More}
 use Rattle.pj_xshape.specs.Shapes.{level_by, part_of_tree, parts_of_trees}
 use Rattle.pj_xshape.specs.Nesting.{nested_of, nested_each}
 use Rattle.pj_xshape.proofs.Within.{IsWithin, AreWithin, as_many_within, descendants_free, nesting_within}

@@ -1,14 +1,14 @@
 -- What the surroundings see of an expression is what they see of its tree.
 use mathlib.Core.Path.{fun_ext}
 use Rattle.std.proofs.Common.{◌≡◌, sym, ap, ◌∙◌, subst}
-use Rattle.pj_xvalue.specs.declared.expr.Expr.{Expr}
-use Rattle.pj_xvalue.specs.declared.expr.Expr.TheOpen.{Expr-F}
-use Rattle.pj_xvalue.specs.declared.expr.Expr.TheViews.{roll-Expr}
-use Rattle.pj_xvalue.specs.declared.expr.Expr.TheFolds.{map-Expr, ind-Expr, fold-roll-Expr}
-use Rattle.pj_xvalue.specs.Expressions.{Part, part_step, part_of}
-use Rattle.pj_xvalue.specs.Trees.{Tree, tree_step, tree_of}
+use Rattle.pj_xexpressions.specs.declared.expr.Expr.{Expr}
+use Rattle.pj_xexpressions.specs.declared.expr.Expr.TheOpen.{Expr-F}
+use Rattle.pj_xexpressions.specs.declared.expr.Expr.TheViews.{roll-Expr}
+use Rattle.pj_xexpressions.specs.declared.expr.Expr.TheFolds.{map-Expr, ind-Expr, fold-roll-Expr}
+use Rattle.pj_xexpressions.specs.Expressions.{Part, part_step, part_of}
+use Rattle.pj_xexpressions.specs.Trees.{Tree, tree_step, tree_of}
 use Rattle.pj_xshape.specs.Shapes.{part_of_tree}
-use Rattle.pj_xvalue.specs.Layers.{map-Expr_twice}
+use Rattle.pj_xexpressions.specs.Layers.{map-Expr_twice}
 use Rattle.pj_xshape.proofs.LayerForms.{part_of_layer}
 
 abbrev HasShape : Expr → Type 0

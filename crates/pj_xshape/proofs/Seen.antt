@@ -1,7 +1,7 @@
 -- What is seen of parts in the fields of an expression is what is seen of the same parts in a list.
 use Rattle.std.proofs.Common.{◌≡◌, refl, ap, ℕ, ◌+◌, Bool, ◌&&◌, List, [], ◌∷◌, length, max, arith}
-use Rattle.pj_xvalue.specs.Expressions.{Part, Scope, Written, Other, operand, operands, clause, clauses, predicates_nesting, operated_fits, chain_fits}
-use Rattle.pj_xvalue.specs.Expressions as expressions
+use Rattle.pj_xexpressions.specs.Expressions.{Part, Scope, Written, Other, operand, operands, clause, clauses, predicates_nesting, operated_fits, chain_fits}
+use Rattle.pj_xexpressions.specs.Expressions as expressions
 use Rattle.pj_xshape.specs.Shapes.{clauses_nesting, choice_nesting, filter_nesting, signed_nesting, binder_fits, exactly, operators_fit}
 use Rattle.pj_xshape.proofs.Fitted.{and_only, and_both, and_each, operated_fit, filtered_fit}
 use Rattle.pj_xshape.proofs.Bound.{names_of, parts_of, clauses_nest, binder_fit}

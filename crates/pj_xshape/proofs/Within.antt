@@ -2,11 +2,11 @@
 use Rattle.std.proofs.Common.{◌≡◌, refl, sym, subst, ℕ, ◌+◌, ◌≤◌, Bool, true, false, if◌then◌else◌, List, [], ◌∷◌, length, max, nat_lt, nat_eq, arith}
 use Rattle.std.specs.Prelude.{⊤}
 use Rattle.std.proofs.lemmas.Bool.{eqb-true, false≢true}
-use Rattle.pj_xvalue.specs.Expressions.{Part, operand, operands, predicates_nesting, steps_nesting}
-use Rattle.pj_xvalue.specs.declared.axis.Axis.TheVariants as axis
-use Rattle.pj_xvalue.specs.declared.expr.NodeTest.TheVariants as test
-use Rattle.pj_xvalue.specs.Trees as tree
-use Rattle.pj_xvalue.specs.Trees.{Construct}
+use Rattle.pj_xexpressions.specs.Expressions.{Part, operand, operands, predicates_nesting, steps_nesting}
+use Rattle.pj_xexpressions.specs.declared.axis.Axis.TheVariants as axis
+use Rattle.pj_xexpressions.specs.declared.expr.NodeTest.TheVariants as test
+use Rattle.pj_xexpressions.specs.Trees as tree
+use Rattle.pj_xexpressions.specs.Trees.{Construct}
 use Rattle.pj_xshape.specs.Shapes.{clauses_nesting, choice_nesting, filter_nesting, nesting_by, part_by}
 use Rattle.pj_xshape.specs.Nesting.{Nested, operand_before, chain_before, clauses_before, choice_before, enclosed, filter_inside, step_before, further_before, steps_before, is_descendants_by, nested_by}
 

@@ -1,7 +1,7 @@
 -- What a node looks like, by what its parts look like.
 use mathlib.Core.Path.{ap}
 use Rattle.std.proofs.Common.{◌≡◌, refl, List, [], ◌∷◌, length, map}
-use Rattle.pj_xvalue.specs.Trees.{Tree, Construct, trees, node}
+use Rattle.pj_xexpressions.specs.Trees.{Tree, Construct, trees, node}
 use Rattle.pj_xshape.specs.Nesting.{Nested, is_descendants_by, nested_by, nested_of, nested_each}
 use Rattle.pj_xshape.specs.Shapes.{level_by, part_by, part_of_tree, parts_of_trees}
 

@@ -1,11 +1,11 @@
 -- What the surroundings see of an expression, said of its tree: level, nesting, and where it may stand. Of an `Expr` the same is said
 -- beside its type, with the meaning of each number: here it is said by construct, of a list of parts.
 use Rattle.std.specs.Prelude.{ℕ, ◌+◌, Bool, false, not, ◌&&◌, ◌||◌, List, [], ◌∷◌, length, map, max, nat_eq, nat_le, if◌then◌else◌}
-use Rattle.pj_xvalue.specs.Attributes.{is_among}
-use Rattle.pj_xvalue.specs.Functions.{takes, pmd_takes}
-use Rattle.pj_xvalue.specs.Expressions.{Part, Scope, Written, Literal, Number, Name, Other, operand, operands, clause, predicates_nesting, steps_nesting, all_fit, chain_fits, with_variable, arguments_fit, is_digits, most}
-use Rattle.pj_xvalue.specs.Trees as tree
-use Rattle.pj_xvalue.specs.Trees.{Tree, Trees, Construct, Node, NoMore, More}
+use Rattle.pj_xexpressions.specs.Among.{is_among}
+use Rattle.pj_xexpressions.specs.Functions.{takes, pmd_takes}
+use Rattle.pj_xexpressions.specs.Expressions.{Part, Scope, Written, Literal, Number, Name, Other, operand, operands, clause, predicates_nesting, steps_nesting, all_fit, chain_fits, with_variable, arguments_fit, is_digits, most}
+use Rattle.pj_xexpressions.specs.Trees as tree
+use Rattle.pj_xexpressions.specs.Trees.{Tree, Trees, Construct, Node, NoMore, More}
 
 -- how a construct is written as an argument, where that decides
 abbrev pub written_by : Construct → Written

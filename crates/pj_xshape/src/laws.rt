@@ -1,12 +1,12 @@
 //! Laws of shapes. The functions do nothing, and their contracts are the laws.
 
 ghost use Rattle.std.specs.Prelude.{◌≡◌, ◌≤◌, ℕ, List, [], ◌∷◌};
-ghost use Rattle.pj_xoperators.specs.declared.operator.Additive.TheVariants as additive;
-ghost use Rattle.pj_xoperators.specs.declared.operator.Multiplicative.TheVariants as multiplicative;
-ghost use Rattle.pj_xvalue.specs.declared.expr.Expr.{Expr};
-ghost use Rattle.pj_xvalue.specs.Expressions.{part_of};
-ghost use Rattle.pj_xvalue.specs.Trees as tree;
-ghost use Rattle.pj_xvalue.specs.Trees.{Tree, alone, binder, node, tree_of};
+ghost use Rattle.pj_xexpressions.specs.declared.operator.Additive.TheVariants as additive;
+ghost use Rattle.pj_xexpressions.specs.declared.operator.Multiplicative.TheVariants as multiplicative;
+ghost use Rattle.pj_xexpressions.specs.declared.expr.Expr.{Expr};
+ghost use Rattle.pj_xexpressions.specs.Expressions.{part_of};
+ghost use Rattle.pj_xexpressions.specs.Trees as tree;
+ghost use Rattle.pj_xexpressions.specs.Trees.{Tree, alone, binder, node, tree_of};
 ghost use Rattle.pj_xshape.specs.Nesting.{nesting_of_tree};
 ghost use Rattle.pj_xshape.specs.Shapes.{part_of_tree};
 

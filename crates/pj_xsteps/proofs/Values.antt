@@ -5,11 +5,11 @@ use Rattle.std.proofs.lemmas.Grind.{flat_map-append}
 use Rattle.std.proofs.lemmas.List.Elements.{filter-append}
 use Rattle.std.specs.List.{enumerate_from}
 use Rattle.pj_tree.specs.declared.node.Node.{Node}
-use Rattle.pj_xvalue.specs.declared.expr.NodeTest.{NodeTest}
+use Rattle.pj_xexpressions.specs.declared.expr.NodeTest.{NodeTest}
 use Rattle.pj_xvalue.specs.declared.item.Item.{Item}
 use Rattle.pj_xvalue.specs.Items.{ItemValue, Attribute, value_of_item, values_of}
 use Rattle.pj_xdenotes.specs.Steps.{named_attributes, passes_name, has_value}
-use Rattle.pj_xvalue.specs.declared.function.Function.{Function}
+use Rattle.pj_xexpressions.specs.declared.function.Function.{Function}
 use Rattle.pj_xfuncs.specs.Library.{called as given}
 use Rattle.pj_xdenotes.specs.Context.{Around, Context}
 use Rattle.pj_xdenotes.specs.Calls.{of_text}

@@ -7,7 +7,8 @@ ghost use Rattle.pj_xdenotes.specs.Arithmetic.{integers as integers_between, lit
 
 use crate::sequences::one;
 use pj_base::NoMemory;
-use pj_xvalue::{Additive, Item, Multiplicative, Sequence, Sign, XCode, XFault};
+use pj_xexpressions::{Additive, Multiplicative, Sign};
+use pj_xvalue::{Item, Sequence, XCode, XFault};
 use std::alloc::Global;
 
 /// A sum or a difference.

@@ -11,7 +11,8 @@ use crate::setting::Setting;
 use pj_base::NoMemory;
 use pj_tree::{Node, SyntaxTree};
 use pj_xaxes::axis;
-use pj_xvalue::{Attributes, Axis, Item, NodeTest, Sequence};
+use pj_xexpressions::{Axis, NodeTest};
+use pj_xvalue::{Attributes, Item, Sequence};
 use std::alloc::Global;
 
 /// Whether the element passes the test.

@@ -15,8 +15,9 @@ use crate::sequences::one;
 use crate::setting::Setting;
 use pj_base::{Copied, NoMemory};
 use pj_tree::Node;
+use pj_xexpressions::Function;
 use pj_xfuncs::call as library_call;
-use pj_xvalue::{Arguments, Attributes, Function, Item, Sequence, XCode, XFault};
+use pj_xvalue::{Arguments, Attributes, Item, Sequence, XCode, XFault};
 use std::alloc::Global;
 
 /// The context node, where the context item is a node of the tree.

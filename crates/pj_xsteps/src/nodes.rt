@@ -10,7 +10,8 @@ ghost use Rattle.pj_xdenotes.specs.Sets.{chosen, stays as stays_by};
 
 use pj_base::{Copied, NoMemory};
 use pj_xaxes::{in_order, is_among};
-use pj_xvalue::{Item, Sequence, SetOperator, XCode, are_nodes};
+use pj_xexpressions::SetOperator;
+use pj_xvalue::{Item, Sequence, XCode, are_nodes};
 use std::alloc::Global;
 use std::marker::Model;
 

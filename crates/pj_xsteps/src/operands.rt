@@ -13,7 +13,8 @@ ghost use Rattle.pj_xdenotes.specs.Operands.{operand as operand_of, text_operand
 use crate::setting::Setting;
 use pj_base::{Copied, NoMemory};
 use pj_tree::Node;
-use pj_xvalue::{Attributes, Compare, Item, Sequence, Value, XCode, XFault, compare, has_node};
+use pj_xexpressions::Compare;
+use pj_xvalue::{Attributes, Item, Sequence, Value, XCode, XFault, compare, has_node};
 use std::alloc::Global;
 
 /// The value of an attribute as an item.

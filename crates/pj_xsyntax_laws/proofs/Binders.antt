@@ -13,11 +13,11 @@ use Rattle.pj_xgrammar.specs.declared.word.Phrase.TheVariants as phrase
 use Rattle.pj_xgrammar.specs.Notation.{t}
 use Rattle.pj_xgrammar.specs.Terminals.{first_behind, behind_of, is_dollar, terminal_number}
 use Rattle.pj_xsyntax_laws.specs.Spaced.{Word, placed}
-use Rattle.pj_xoperators.specs.declared.operator.Quantifier.{Quantifier}
-use Rattle.pj_xoperators.specs.declared.operator.Quantifier.TheVariants as quantifier
-use Rattle.pj_xvalue.specs.Expressions.{Scope, Other, with_variable}
-use Rattle.pj_xvalue.specs.Trees as tree
-use Rattle.pj_xvalue.specs.Trees.{Tree, Trees, Construct, Node, NoMore, More, trees}
+use Rattle.pj_xexpressions.specs.declared.operator.Quantifier.{Quantifier}
+use Rattle.pj_xexpressions.specs.declared.operator.Quantifier.TheVariants as quantifier
+use Rattle.pj_xexpressions.specs.Expressions.{Scope, Other, with_variable}
+use Rattle.pj_xexpressions.specs.Trees as tree
+use Rattle.pj_xexpressions.specs.Trees.{Tree, Trees, Construct, Node, NoMore, More, trees}
 use Rattle.pj_xmeaning.specs.Mentions.{scoped}
 use Rattle.pj_xmeaning.specs.Operands.{Operand, Binding, bindings_of, scopes_of, bound}
 use Rattle.pj_xmeaning.specs.Reach.{All}

@@ -9,15 +9,15 @@ use Rattle.pj_xgrammar.specs.Words.{word_of}
 use Rattle.pj_xgrammar.specs.Terminals.{first_behind, begins_step, terminal_number, word_terminal}
 use Rattle.pj_xgrammar.specs.XPath.{xpath}
 use Rattle.pj_xsyntax_laws.specs.Spaced.{placed}
-use Rattle.pj_xvalue.specs.declared.function.Function.{Function}
-use Rattle.pj_xvalue.specs.declared.pmd_function.PmdFunction.{PmdFunction}
-use Rattle.pj_xvalue.specs.Functions.{takes, pmd_takes}
-use Rattle.pj_xvalue.specs.Expressions.{Scope, Other, arguments_fit}
-use Rattle.pj_xvalue.specs.Names.{callee_of}
-use Rattle.pj_xvalue.specs.Trees as tree
-use Rattle.pj_xvalue.specs.Trees.{Tree, Trees, Node}
+use Rattle.pj_xexpressions.specs.declared.function.Function.{Function}
+use Rattle.pj_xexpressions.specs.declared.pmd_function.PmdFunction.{PmdFunction}
+use Rattle.pj_xexpressions.specs.Functions.{takes, pmd_takes}
+use Rattle.pj_xexpressions.specs.Expressions.{Scope, Other, arguments_fit}
+use Rattle.pj_xexpressions.specs.Names.{callee_of}
+use Rattle.pj_xexpressions.specs.Trees as tree
+use Rattle.pj_xexpressions.specs.Trees.{Tree, Trees, Node}
 use Rattle.pj_xmeaning.specs.Steps.{filtered, called}
-use Rattle.pj_xvalue.specs.declared.name.Callee.{Callee}
+use Rattle.pj_xexpressions.specs.declared.name.Callee.{Callee}
 use Rattle.pj_xparse.specs.NameFaults.{callee_takes, is_function}
 use Rattle.pj_xmeaning.specs.Mentions.{Mention, Call, roles_in, roles_named}
 use Rattle.pj_xmeaning.specs.Operands.{Arguments, Called, arguments_in, is_closed, in_roles, told, names_of, trees_of}

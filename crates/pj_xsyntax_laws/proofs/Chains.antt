@@ -7,9 +7,9 @@ use Rattle.pj_xtokens.specs.Tokens.{Lexed, lexed}
 use Rattle.pj_xtokens.specs.declared.token.Sign.TheVariants as s
 use Rattle.pj_xgrammar.specs.Terminals.{behind_of}
 use Rattle.pj_xsyntax_laws.specs.Spaced.{Word}
-use Rattle.pj_xvalue.specs.Expressions.{Scope, Other}
-use Rattle.pj_xvalue.specs.Trees as tree
-use Rattle.pj_xvalue.specs.Trees.{Tree, Trees, Construct, Node, More, trees}
+use Rattle.pj_xexpressions.specs.Expressions.{Scope, Other}
+use Rattle.pj_xexpressions.specs.Trees as tree
+use Rattle.pj_xexpressions.specs.Trees.{Tree, Trees, Construct, Node, More, trees}
 use Rattle.pj_xgrammar.specs.declared.rule.Rule.TheVariants as r
 use Rattle.pj_xmeaning.specs.Operands as value
 use Rattle.pj_xmeaning.specs.Operands.{Operand, names_of}

@@ -9,9 +9,9 @@ use Rattle.pj_xgrammar.specs.declared.terminal.Behind.TheVariants as b
 use Rattle.pj_xgrammar.specs.Notation.{t}
 use Rattle.pj_xgrammar.specs.Terminals.{first_behind, behind_of}
 use Rattle.pj_xsyntax_laws.specs.Spaced.{Word, placed}
-use Rattle.pj_xvalue.specs.Expressions.{Scope, Written, Other}
-use Rattle.pj_xvalue.specs.Trees as tree
-use Rattle.pj_xvalue.specs.Trees.{Tree, Trees, Node, NoMore, More}
+use Rattle.pj_xexpressions.specs.Expressions.{Scope, Written, Other}
+use Rattle.pj_xexpressions.specs.Trees as tree
+use Rattle.pj_xexpressions.specs.Trees.{Tree, Trees, Node, NoMore, More}
 use Rattle.pj_xmeaning.specs.Operands.{Operand}
 use Rattle.pj_xmeaning.specs.Reach.{All}
 use Rattle.pj_xmeaning.specs.Reads as relation

@@ -1,9 +1,9 @@
 -- Examples of the printed form.
 use Rattle.std.proofs.Common.{◌≡◌, [], ◌∷◌, codes, refl}
-use Rattle.pj_xvalue.specs.declared.axis.Axis.TheVariants as axis
-use Rattle.pj_xvalue.specs.declared.expr.NodeTest.TheVariants.{AnyName, AnyNode}
-use Rattle.pj_xvalue.specs.declared.function.Function.TheVariants as f
-use Rattle.pj_xvalue.specs.Trees.{node, alone, Path, Root, Step, Or, And, ContextItem, Call}
+use Rattle.pj_xexpressions.specs.declared.axis.Axis.TheVariants as axis
+use Rattle.pj_xexpressions.specs.declared.expr.NodeTest.TheVariants.{AnyName, AnyNode}
+use Rattle.pj_xexpressions.specs.declared.function.Function.TheVariants as f
+use Rattle.pj_xexpressions.specs.Trees.{node, alone, Path, Root, Step, Or, And, ContextItem, Call}
 use Rattle.pj_xsyntax_laws.specs.Printed.{printed, printed_of, printed_each}
 
 -- a `/` before a word is in parentheses, and an operator of a lower level too

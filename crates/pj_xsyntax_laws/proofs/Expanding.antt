@@ -3,15 +3,15 @@ use Rattle.std.proofs.Common.{◌≡◌, ℕ, suc, ◌≤◌, Bool, true, false,
 use Rattle.std.proofs.lemmas.Bool.{false≢true}
 use lib.Utf8.{encode}
 use Rattle.pj_ll.specs.declared.grammar.Symbol.{Symbol}
-use Rattle.pj_xvalue.specs.declared.axis.Axis.TheVariants as axes
-use Rattle.pj_xoperators.specs.declared.operator.Compare.TheVariants as compare
-use Rattle.pj_xoperators.specs.declared.operator.Additive.TheVariants as sum
-use Rattle.pj_xoperators.specs.declared.operator.Multiplicative.TheVariants as product
-use Rattle.pj_xoperators.specs.declared.operator.SetOperator.TheVariants as set
-use Rattle.pj_xoperators.specs.declared.operator.Sign.TheVariants as signs
-use Rattle.pj_xoperators.specs.declared.operator.Quantifier.TheVariants as quantifier
-use Rattle.pj_xvalue.specs.declared.expr.NodeTest.{NodeTest}
-use Rattle.pj_xvalue.specs.declared.expr.NodeTest.TheVariants.{Name, AnyName, AnyNode, AnyElement}
+use Rattle.pj_xexpressions.specs.declared.axis.Axis.TheVariants as axes
+use Rattle.pj_xexpressions.specs.declared.operator.Compare.TheVariants as compare
+use Rattle.pj_xexpressions.specs.declared.operator.Additive.TheVariants as sum
+use Rattle.pj_xexpressions.specs.declared.operator.Multiplicative.TheVariants as product
+use Rattle.pj_xexpressions.specs.declared.operator.SetOperator.TheVariants as set
+use Rattle.pj_xexpressions.specs.declared.operator.Sign.TheVariants as signs
+use Rattle.pj_xexpressions.specs.declared.operator.Quantifier.TheVariants as quantifier
+use Rattle.pj_xexpressions.specs.declared.expr.NodeTest.{NodeTest}
+use Rattle.pj_xexpressions.specs.declared.expr.NodeTest.TheVariants.{Name, AnyName, AnyNode, AnyElement}
 use Rattle.pj_xtokens.specs.Size.{size}
 use Rattle.pj_xtokens.specs.Tokens.{Lexed, Tokens}
 use Rattle.pj_xtokens.specs.declared.token.End.{End}
@@ -25,9 +25,9 @@ use Rattle.pj_xgrammar.specs.Notation.{t, name}
 use Rattle.pj_xgrammar.specs.Terminals.{first_behind, begins_step, terminal_number}
 use Rattle.pj_xgrammar.specs.XPath.{greatest_nesting, xpath}
 use Rattle.pj_xtokens.specs.First.{first_text}
-use Rattle.pj_xvalue.specs.Names.{axis_of}
-use Rattle.pj_xvalue.specs.Trees as tree
-use Rattle.pj_xvalue.specs.Trees.{Tree, alone}
+use Rattle.pj_xexpressions.specs.Names.{axis_of}
+use Rattle.pj_xexpressions.specs.Trees as tree
+use Rattle.pj_xexpressions.specs.Trees.{Tree, alone}
 use Rattle.pj_xparse.specs.NameFaults.{first_fault}
 use Rattle.pj_xmeaning.specs.Operands.{Operand, Value, Behind, Test, other, rooted, descendants, step, attribute_step, kind_test, named}
 use Rattle.pj_xmeaning.specs.Reach.{All}

@@ -1,6 +1,6 @@
 -- Where positions ascend, the first fault in the list comes before each other.
 use Rattle.std.proofs.Common.{◌≡◌, ℕ, ◌<◌, ◌⊎◌, inl, inr, Bool, true, false, List, [], ◌∷◌, Option, Some, None, refl, sym, ap, subst, ◌∙◌}
-use Rattle.pj_xvalue.specs.Expressions.{Scope}
+use Rattle.pj_xexpressions.specs.Expressions.{Scope}
 use Rattle.pj_xmeaning.specs.Mentions.{Mention}
 use Rattle.pj_xmeaning.specs.Mentions as mention
 use Rattle.pj_xparse.specs.NameFaults.{Fault, Form, Function, Variable, is_bound, is_function, fits_role, unless, fault_in, scope_behind, earlier, first_fault_from}

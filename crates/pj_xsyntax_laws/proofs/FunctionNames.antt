@@ -9,8 +9,8 @@ use Rattle.pj_xgrammar.specs.Terminals.{name_behind, word_terminal, kind_termina
 use Rattle.pj_xgrammar.specs.declared.terminal.Behind.{Behind}
 use Rattle.pj_xgrammar.specs.declared.terminal.Behind.TheVariants as b
 use Rattle.pj_xgrammar.specs.declared.word.Word.{Word}
-use Rattle.pj_xvalue.specs.Names.{callee_of}
-use Rattle.pj_xvalue.specs.declared.name.Callee.{Callee}
+use Rattle.pj_xexpressions.specs.Names.{callee_of}
+use Rattle.pj_xexpressions.specs.declared.name.Callee.{Callee}
 
 same_is : (v w : List ℕ) → same v w ≡ true → v ≡ w
 same_is [] [] h = refl

@@ -6,7 +6,7 @@ use Rattle.pj_xtokens.specs.Size.{size}
 use Rattle.pj_xtokens.specs.Tokens.{Tokens, ended, token}
 use Rattle.pj_xtokens.specs.declared.token.End.TheVariants as ends
 use Rattle.pj_xsyntax_laws.proofs.Sizes.{size-append}
-use Rattle.pj_xvalue.specs.Trees.{Tree}
+use Rattle.pj_xexpressions.specs.Trees.{Tree}
 use Rattle.pj_xparse.specs.Spells.{Spells}
 use Rattle.pj_xsyntax_laws.specs.Gapped.{Piece, words_in, gapped, located, IsGap, ArePieces}
 use Rattle.pj_xsyntax_laws.specs.Spaced.{AreSpelled, Word, placed, spaced, words_of}

@@ -2,8 +2,8 @@
 use Rattle.std.proofs.Common.{ℕ, List, ◌∷◌, ◌++◌, Bool, map, max}
 use Rattle.pj_xtokens.specs.Tokens.{Lexed}
 use Rattle.pj_xsyntax_laws.specs.Spaced.{placed}
-use Rattle.pj_xvalue.specs.Expressions.{Scope, Written, Other}
-use Rattle.pj_xvalue.specs.Trees.{Tree, Trees, NoMore, More}
+use Rattle.pj_xexpressions.specs.Expressions.{Scope, Written, Other}
+use Rattle.pj_xexpressions.specs.Trees.{Tree, Trees, NoMore, More}
 use Rattle.pj_xmeaning.specs.Mentions.{Mention}
 use Rattle.pj_xshape.specs.Shapes.{part_of_tree}
 use Rattle.pj_xshape.specs.Nesting.{operand_before, nested_of, nested_each, chain_before}

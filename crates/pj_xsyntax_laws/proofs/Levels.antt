@@ -2,9 +2,9 @@
 use Rattle.std.proofs.Common.{◌≡◌, ℕ, suc, true, length, refl, ap}
 use Rattle.std.specs.Prelude.{nat_lt}
 use Rattle.std.proofs.lemmas.Bool.{false≢true}
-use Rattle.pj_xvalue.specs.Expressions.{Other}
-use Rattle.pj_xvalue.specs.Trees.{Tree, Trees, Construct, Node, NoMore, More}
-use Rattle.pj_xvalue.specs.Trees as tree
+use Rattle.pj_xexpressions.specs.Expressions.{Other}
+use Rattle.pj_xexpressions.specs.Trees.{Tree, Trees, Construct, Node, NoMore, More}
+use Rattle.pj_xexpressions.specs.Trees as tree
 use Rattle.pj_xshape.specs.Shapes.{level_by, written_by, part_of_tree, parts_of_trees}
 use Rattle.pj_xshape.specs.Nesting.{nested_of, nested_each}
 use Rattle.pj_xsyntax_laws.specs.Printed.{printed_of, printed_each}

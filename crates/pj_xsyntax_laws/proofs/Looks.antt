@@ -23,7 +23,7 @@ use Rattle.pj_xgrammar.specs.declared.terminal.Terminal.TheVariants as terminal
 use Rattle.pj_xgrammar.specs.Terminals.{first_behind, kind_behind, begins_step, is_dollar, is_parenthesis, is_brace, is_as, is_of, makes_phrase, word_terminal, sign_terminal, kind_terminal, terminal_of, terminal_number}
 use Rattle.pj_xtokens.specs.First.{first_text, begins_with_parenthesis}
 use Rattle.pj_xtokens.specs.Literals.{string_of}
-use Rattle.pj_xvalue.specs.Names.{callee_of}
+use Rattle.pj_xexpressions.specs.Names.{callee_of}
 use Rattle.pj_xmeaning.specs.Reach.{All}
 use Rattle.pj_xmeaning.specs.Reads.{Takes, token, cut, IsAmong, here, further}
 use Rattle.pj_xsyntax_laws.specs.Abbreviations.{sign, word, WrittenOut, done, kept, descendants, attribute, parent, union, literal, function}

@@ -1,7 +1,7 @@
 -- What is named without a fault.
 use Rattle.std.proofs.Common.{◌≡◌, ◌∙◌, ℕ, List, [], ◌∷◌, ◌++◌, drop, ◌+◌, refl, ap, append_assoc, add-one}
 use Rattle.std.specs.Prelude.{IsTrue}
-use Rattle.pj_xvalue.specs.Expressions.{Scope, Written, with_variable}
+use Rattle.pj_xexpressions.specs.Expressions.{Scope, Written, with_variable}
 use Rattle.pj_xparse.specs.NameFaults.{Variable, Function, Form, is_bound, is_function, fits_role, unless, earlier, first_fault_from}
 use Rattle.pj_xmeaning.specs.Mentions as mention
 use Rattle.pj_xmeaning.specs.Mentions.{Mention, scoped}

@@ -5,15 +5,15 @@ use Rattle.std.proofs.lemmas.Bool.{false≢true}
 use Rattle.pj_xtokens.specs.Tokens.{Lexed, lexed}
 use Rattle.pj_xgrammar.specs.Terminals.{behind_of}
 use Rattle.pj_xsyntax_laws.specs.Spaced.{Word}
-use Rattle.pj_xoperators.specs.declared.operator.Additive.{Additive}
-use Rattle.pj_xoperators.specs.declared.operator.Additive.TheVariants as sum
-use Rattle.pj_xoperators.specs.declared.operator.Multiplicative.{Multiplicative}
-use Rattle.pj_xoperators.specs.declared.operator.Multiplicative.TheVariants as product
-use Rattle.pj_xoperators.specs.declared.operator.SetOperator.{SetOperator}
-use Rattle.pj_xoperators.specs.declared.operator.SetOperator.TheVariants as set
-use Rattle.pj_xvalue.specs.Expressions.{Scope, Other}
-use Rattle.pj_xvalue.specs.Trees as tree
-use Rattle.pj_xvalue.specs.Trees.{Tree, Trees, Construct, Node, NoMore, More, trees}
+use Rattle.pj_xexpressions.specs.declared.operator.Additive.{Additive}
+use Rattle.pj_xexpressions.specs.declared.operator.Additive.TheVariants as sum
+use Rattle.pj_xexpressions.specs.declared.operator.Multiplicative.{Multiplicative}
+use Rattle.pj_xexpressions.specs.declared.operator.Multiplicative.TheVariants as product
+use Rattle.pj_xexpressions.specs.declared.operator.SetOperator.{SetOperator}
+use Rattle.pj_xexpressions.specs.declared.operator.SetOperator.TheVariants as set
+use Rattle.pj_xexpressions.specs.Expressions.{Scope, Other}
+use Rattle.pj_xexpressions.specs.Trees as tree
+use Rattle.pj_xexpressions.specs.Trees.{Tree, Trees, Construct, Node, NoMore, More, trees}
 use Rattle.pj_xgrammar.specs.declared.rule.Rule.TheVariants as r
 use Rattle.pj_xmeaning.specs.Operands as value
 use Rattle.pj_xmeaning.specs.Operands.{Operand, operations, names_behind}

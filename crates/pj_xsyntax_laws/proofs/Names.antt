@@ -21,8 +21,8 @@ use Rattle.pj_xgrammar.specs.Terminals.{first_behind, terminal_number, word_term
 use Rattle.pj_xgrammar.specs.Notation.{t, axis}
 use Rattle.pj_xgrammar.specs.XPath.{xpath}
 use Rattle.pj_xsyntax_laws.specs.Spaced.{placed}
-use Rattle.pj_xvalue.specs.declared.expr.NodeTest.{NodeTest}
-use Rattle.pj_xvalue.specs.declared.expr.NodeTest.TheVariants as test
+use Rattle.pj_xexpressions.specs.declared.expr.NodeTest.{NodeTest}
+use Rattle.pj_xexpressions.specs.declared.expr.NodeTest.TheVariants as test
 use Rattle.pj_xmeaning.specs.Reach.{All}
 use Rattle.pj_xmeaning.specs.Reads.{Takes, token, IsAmong, here, further, Reads, variable_name, axis_variable, node_variable, element_variable, plain_name, name_test, axis_name_test, any_name_test, node_test, element_test, kind_parentheses, no_parentheses}
 use Rattle.pj_xshape.specs.Spelled.{IsText, IsTestSpelled}

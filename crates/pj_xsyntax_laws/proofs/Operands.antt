@@ -7,8 +7,8 @@ use Rattle.pj_xgrammar.specs.declared.rule.Rule.TheVariants as r
 use Rattle.pj_xgrammar.specs.declared.terminal.Behind.TheVariants as b
 use Rattle.pj_xgrammar.specs.Terminals.{first_behind}
 use Rattle.pj_xsyntax_laws.specs.Spaced.{Word}
-use Rattle.pj_xvalue.specs.Expressions.{Scope, Written}
-use Rattle.pj_xvalue.specs.Trees.{Tree}
+use Rattle.pj_xexpressions.specs.Expressions.{Scope, Written}
+use Rattle.pj_xexpressions.specs.Trees.{Tree}
 use Rattle.pj_xmeaning.specs.Reach.{All}
 use Rattle.pj_xmeaning.specs.Reads as relation
 use Rattle.pj_xshape.specs.Shapes.{part_of_tree}

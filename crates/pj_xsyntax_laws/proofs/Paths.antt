@@ -10,11 +10,11 @@ use Rattle.pj_xgrammar.specs.declared.terminal.Terminal.TheVariants as terminal
 use Rattle.pj_xgrammar.specs.Notation as symbol
 use Rattle.pj_xgrammar.specs.Terminals.{first_behind, begins_step, terminal_number}
 use Rattle.pj_xsyntax_laws.specs.Spaced.{Word, placed}
-use Rattle.pj_xvalue.specs.declared.axis.Axis.TheVariants as axis
-use Rattle.pj_xvalue.specs.declared.expr.NodeTest.TheVariants as test
-use Rattle.pj_xvalue.specs.Expressions.{Scope, Other}
-use Rattle.pj_xvalue.specs.Trees as tree
-use Rattle.pj_xvalue.specs.Trees.{Tree, Trees, Construct, Node, NoMore, More, node, alone}
+use Rattle.pj_xexpressions.specs.declared.axis.Axis.TheVariants as axis
+use Rattle.pj_xexpressions.specs.declared.expr.NodeTest.TheVariants as test
+use Rattle.pj_xexpressions.specs.Expressions.{Scope, Other}
+use Rattle.pj_xexpressions.specs.Trees as tree
+use Rattle.pj_xexpressions.specs.Trees.{Tree, Trees, Construct, Node, NoMore, More, node, alone}
 use Rattle.pj_xmeaning.specs.Steps.{descendants}
 use Rattle.pj_xmeaning.specs.Operands as value
 use Rattle.pj_xmeaning.specs.Operands.{Operand, names_of, trees_of}

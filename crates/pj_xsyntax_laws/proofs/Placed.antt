@@ -2,13 +2,13 @@
 use Rattle.std.proofs.Common.{◌≡◌, ℕ, ◌+◌, ◌*◌, ◌≤◌, Bool, true, false, List, [], ◌∷◌, ◌++◌, length, Option, Some, None, refl, subst, append-nil, arith}
 use Rattle.std.specs.Prelude.{if◌then◌else◌}
 use Rattle.pj_ll.specs.declared.grammar.Symbol.{Symbol}
-use Rattle.pj_xoperators.specs.declared.operator.Compare.{Compare}
+use Rattle.pj_xexpressions.specs.declared.operator.Compare.{Compare}
 use Rattle.pj_xtokens.specs.Tokens.{Lexed}
 use Rattle.pj_xtokens.specs.First.{behind_first, first_text, first_from, begins_with_name}
-use Rattle.pj_xvalue.specs.Expressions.{Written}
-use Rattle.pj_xvalue.specs.declared.name.Callee.{Callee}
-use Rattle.pj_xvalue.specs.Names.{callee_of}
-use Rattle.pj_xvalue.specs.Trees.{Construct}
+use Rattle.pj_xexpressions.specs.Expressions.{Written}
+use Rattle.pj_xexpressions.specs.declared.name.Callee.{Callee}
+use Rattle.pj_xexpressions.specs.Names.{callee_of}
+use Rattle.pj_xexpressions.specs.Trees.{Construct}
 use Rattle.pj_xmeaning.specs.declared.role.Role.{Role}
 use Rattle.pj_xmeaning.specs.Mentions.{Mention, Variable, Call, Argument, Binds, Ends, roles_named}
 use Rattle.pj_xmeaning.specs.Operands.{Operand, Arguments, Open, Behind, Test, Called, Predicates, names_of, names_behind, chain, mixed, compared, ranging, variable, cut_variable, path, filtered, arguments_in, is_closed, judged, in_roles, told, named}

@@ -4,23 +4,23 @@ use Rattle.std.proofs.lemmas.Bool.{false≢true}
 use Rattle.std.proofs.lemmas.List.{map-append}
 use Rattle.std.specs.Str.{encode_utf8_all}
 use lib.Utf8.{encode}
-use Rattle.pj_xvalue.specs.declared.axis.Axis.{Axis}
-use Rattle.pj_xoperators.specs.declared.operator.Compare.{Compare}
-use Rattle.pj_xvalue.specs.declared.expr.NodeTest.{NodeTest}
-use Rattle.pj_xvalue.specs.declared.expr.NodeTest.TheVariants as tests
-use Rattle.pj_xoperators.specs.declared.operator.Sign.{Sign}
-use Rattle.pj_xvalue.specs.Expressions as written
-use Rattle.pj_xvalue.specs.Expressions.{Written, Scope}
+use Rattle.pj_xexpressions.specs.declared.axis.Axis.{Axis}
+use Rattle.pj_xexpressions.specs.declared.operator.Compare.{Compare}
+use Rattle.pj_xexpressions.specs.declared.expr.NodeTest.{NodeTest}
+use Rattle.pj_xexpressions.specs.declared.expr.NodeTest.TheVariants as tests
+use Rattle.pj_xexpressions.specs.declared.operator.Sign.{Sign}
+use Rattle.pj_xexpressions.specs.Expressions as written
+use Rattle.pj_xexpressions.specs.Expressions.{Written, Scope}
 use Rattle.pj_xtokens.specs.Tokens.{Lexed}
 use Rattle.pj_xgrammar.specs.declared.rule.Rule.{Rule}
 use Rattle.pj_xgrammar.specs.declared.rule.Rule.TheVariants as r
 use Rattle.pj_xtokens.specs.Literals.{integer_of, string_of}
 use Rattle.pj_xtokens.specs.First.{first_text, first_from}
-use Rattle.pj_xvalue.specs.Names.{callee_of, axis_of}
-use Rattle.pj_xvalue.specs.declared.name.Callee.{Callee}
-use Rattle.pj_xvalue.specs.declared.name.Callee.TheVariants as callee
-use Rattle.pj_xvalue.specs.Trees as tree
-use Rattle.pj_xvalue.specs.Trees.{Tree, Construct, node, alone, binder, operated}
+use Rattle.pj_xexpressions.specs.Names.{callee_of, axis_of}
+use Rattle.pj_xexpressions.specs.declared.name.Callee.{Callee}
+use Rattle.pj_xexpressions.specs.declared.name.Callee.TheVariants as callee
+use Rattle.pj_xexpressions.specs.Trees as tree
+use Rattle.pj_xexpressions.specs.Trees.{Tree, Construct, node, alone, binder, operated}
 use Rattle.pj_xmeaning.specs.Steps as forms
 use Rattle.pj_xmeaning.specs.Mentions as mention
 use Rattle.pj_xmeaning.specs.Mentions.{Mention, roles_in, roles_named, scoped}

@@ -5,10 +5,10 @@ use lib.Utf8.{encode}
 use Rattle.pj_xtokens.specs.First.{begins_with_parenthesis}
 use Rattle.pj_xtokens.specs.Tokens.{Lexed, lexed}
 use Rattle.pj_xtokens.specs.declared.token.TokenKind.TheVariants as kind
-use Rattle.pj_xvalue.specs.declared.function.Function.{Function}
-use Rattle.pj_xvalue.specs.declared.function.Function.TheVariants as f
-use Rattle.pj_xvalue.specs.declared.name.Callee.TheVariants as callee
-use Rattle.pj_xvalue.specs.Names.{callee_of}
+use Rattle.pj_xexpressions.specs.declared.function.Function.{Function}
+use Rattle.pj_xexpressions.specs.declared.function.Function.TheVariants as f
+use Rattle.pj_xexpressions.specs.declared.name.Callee.TheVariants as callee
+use Rattle.pj_xexpressions.specs.Names.{callee_of}
 use Rattle.pj_xsyntax_laws.specs.Abbreviations.{WrittenOut, function}
 use Rattle.pj_xsyntax_laws.specs.Printed.{function_name}
 use Rattle.pj_xsyntax_laws.proofs.Tables.{function-meaning}

@@ -10,9 +10,9 @@ use Rattle.pj_xgrammar.specs.declared.rule.Rule.TheVariants as r
 use Rattle.pj_xgrammar.specs.declared.terminal.Behind.TheVariants as b
 use Rattle.pj_xgrammar.specs.Terminals.{first_behind, begins_step}
 use Rattle.pj_xsyntax_laws.specs.Spaced.{Word, word, literal, placed}
-use Rattle.pj_xvalue.specs.Expressions.{Scope, Written, Literal, Number, Name, Other}
-use Rattle.pj_xvalue.specs.Trees as tree
-use Rattle.pj_xvalue.specs.Trees.{Tree, Trees, Node, NoMore, More}
+use Rattle.pj_xexpressions.specs.Expressions.{Scope, Written, Literal, Number, Name, Other}
+use Rattle.pj_xexpressions.specs.Trees as tree
+use Rattle.pj_xexpressions.specs.Trees.{Tree, Trees, Node, NoMore, More}
 use Rattle.pj_xparse.specs.NameFaults.{is_bound}
 use Rattle.pj_xmeaning.specs.Mentions as mention
 use Rattle.pj_xmeaning.specs.Reach.{All}

@@ -4,7 +4,7 @@ use Rattle.pj_xtokens.specs.Tokens.{Lexed}
 use Rattle.pj_xtokens.specs.First.{first_text, first_from}
 use Rattle.pj_xgrammar.specs.declared.rule.Rule.{Rule}
 use Rattle.pj_xgrammar.specs.declared.rule.Rule.TheVariants as r
-use Rattle.pj_xvalue.specs.Trees as tree
+use Rattle.pj_xexpressions.specs.Trees as tree
 use Rattle.pj_xmeaning.specs.declared.role.Role.{Role}
 use Rattle.pj_xmeaning.specs.Mentions.{Mention, scoped}
 use Rattle.pj_xmeaning.specs.Operands.{Operand, Binding, Arguments, Next, Value, names_of, names_behind, scopes_of, in_roles, other, absent}

@@ -7,8 +7,8 @@ use Rattle.pj_xgrammar.specs.declared.rule.Rule.TheVariants as r
 use Rattle.pj_xgrammar.specs.declared.terminal.Behind.TheVariants as b
 use Rattle.pj_xgrammar.specs.Terminals.{first_behind, begins_step}
 use Rattle.pj_xsyntax_laws.specs.Spaced.{Word, placed, spaced}
-use Rattle.pj_xvalue.specs.Expressions.{Scope, Written, Other}
-use Rattle.pj_xvalue.specs.Trees.{Tree, Trees, NoMore, More, trees}
+use Rattle.pj_xexpressions.specs.Expressions.{Scope, Written, Other}
+use Rattle.pj_xexpressions.specs.Trees.{Tree, Trees, NoMore, More, trees}
 use Rattle.pj_xmeaning.specs.Steps.{filtered}
 use Rattle.pj_xmeaning.specs.Mentions.{Mention}
 use Rattle.pj_xmeaning.specs.Operands.{Operand, trees_of, names_of}

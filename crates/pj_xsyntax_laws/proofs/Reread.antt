@@ -10,8 +10,8 @@ use Rattle.pj_xtokens.specs.Tokens.{Lexed, Tokens}
 use Rattle.pj_xtokens.specs.declared.token.End.{End}
 use Rattle.pj_xsyntax_laws.specs.Spaced.{placed, spaced}
 use Rattle.pj_xsyntax_laws.proofs.Placing.{tokens_from}
-use Rattle.pj_xvalue.specs.Expressions.{Scope}
-use Rattle.pj_xvalue.specs.Trees.{Tree}
+use Rattle.pj_xexpressions.specs.Expressions.{Scope}
+use Rattle.pj_xexpressions.specs.Trees.{Tree}
 use Rattle.pj_xparse.specs.NameFaults.{first_fault, first_fault_from}
 use Rattle.pj_xmeaning.specs.Operands.{Operand}
 use Rattle.pj_xmeaning.specs.Reads.{AreRead}

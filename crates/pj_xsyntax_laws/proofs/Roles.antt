@@ -2,11 +2,11 @@
 use Rattle.std.proofs.Common.{◌≡◌, ◌∙◌, ℕ, suc, List, [], ◌∷◌, ◌++◌, Bool, true, false, length, refl, sym, ap, subst, arith}
 use Rattle.std.specs.Prelude.{◌&&◌, ◌||◌, ◌==◌, IsTrue}
 use Rattle.std.proofs.lemmas.Bool.{false≢true, and_parts, and_from, eqb-true}
-use Rattle.pj_xvalue.specs.declared.function.Function.{Function}
-use Rattle.pj_xvalue.specs.declared.function.Function.TheVariants as f
-use Rattle.pj_xvalue.specs.Functions.{takes}
-use Rattle.pj_xvalue.specs.Expressions.{Scope, Written, arguments_fit}
-use Rattle.pj_xvalue.specs.Trees.{Tree}
+use Rattle.pj_xexpressions.specs.declared.function.Function.{Function}
+use Rattle.pj_xexpressions.specs.declared.function.Function.TheVariants as f
+use Rattle.pj_xexpressions.specs.Functions.{takes}
+use Rattle.pj_xexpressions.specs.Expressions.{Scope, Written, arguments_fit}
+use Rattle.pj_xexpressions.specs.Trees.{Tree}
 use Rattle.pj_xparse.specs.NameFaults.{fits_role}
 use Rattle.pj_xmeaning.specs.Mentions.{Mention, Argument, roles_of}
 use Rattle.pj_xmeaning.specs.declared.role.Role.{Role}

@@ -7,8 +7,8 @@ use Rattle.pj_xgrammar.specs.declared.rule.Rule.TheVariants as r
 use Rattle.pj_xgrammar.specs.declared.terminal.Behind.TheVariants as b
 use Rattle.pj_xgrammar.specs.Terminals.{first_behind}
 use Rattle.pj_xsyntax_laws.specs.Spaced.{placed}
-use Rattle.pj_xvalue.specs.Expressions.{Scope}
-use Rattle.pj_xvalue.specs.Trees.{Tree, Trees, More}
+use Rattle.pj_xexpressions.specs.Expressions.{Scope}
+use Rattle.pj_xexpressions.specs.Trees.{Tree, Trees, More}
 use Rattle.pj_xmeaning.specs.Operands.{Operand, Arguments, Closed, Next}
 use Rattle.pj_xmeaning.specs.Reach.{All}
 use Rattle.pj_xmeaning.specs.Reads as relation

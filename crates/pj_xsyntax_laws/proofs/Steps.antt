@@ -13,14 +13,14 @@ use Rattle.pj_xgrammar.specs.Words.{word_of}
 use Rattle.pj_xgrammar.specs.declared.word.Word.TheVariants as w
 use Rattle.pj_xgrammar.specs.declared.word.Keyword.TheVariants as k
 use Rattle.pj_xsyntax_laws.specs.Spaced.{Word, placed}
-use Rattle.pj_xvalue.specs.declared.axis.Axis.{Axis}
-use Rattle.pj_xvalue.specs.declared.axis.Axis.TheVariants as axes
-use Rattle.pj_xvalue.specs.declared.expr.NodeTest.{NodeTest}
-use Rattle.pj_xvalue.specs.declared.expr.NodeTest.TheVariants as tests
-use Rattle.pj_xvalue.specs.Expressions.{Scope, Other}
-use Rattle.pj_xvalue.specs.Names.{axis_of}
-use Rattle.pj_xvalue.specs.Trees as tree
-use Rattle.pj_xvalue.specs.Trees.{Tree, Trees, Node, NoMore, More, trees}
+use Rattle.pj_xexpressions.specs.declared.axis.Axis.{Axis}
+use Rattle.pj_xexpressions.specs.declared.axis.Axis.TheVariants as axes
+use Rattle.pj_xexpressions.specs.declared.expr.NodeTest.{NodeTest}
+use Rattle.pj_xexpressions.specs.declared.expr.NodeTest.TheVariants as tests
+use Rattle.pj_xexpressions.specs.Expressions.{Scope, Other}
+use Rattle.pj_xexpressions.specs.Names.{axis_of}
+use Rattle.pj_xexpressions.specs.Trees as tree
+use Rattle.pj_xexpressions.specs.Trees.{Tree, Trees, Node, NoMore, More, trees}
 use Rattle.pj_xmeaning.specs.Steps.{along}
 use Rattle.pj_xmeaning.specs.Operands.{Test, names_of, trees_of}
 use Rattle.pj_xmeaning.specs.Reach.{All}

@@ -7,14 +7,14 @@ use Rattle.pj_xgrammar.specs.Terminals.{name_behind}
 use Rattle.pj_xgrammar.specs.declared.terminal.Behind.TheVariants as b
 use Rattle.pj_xgrammar.specs.declared.word.Word.TheVariants as w
 use Rattle.pj_xgrammar.specs.declared.word.Keyword.TheVariants as k
-use Rattle.pj_xvalue.specs.declared.axis.Axis.{Axis}
-use Rattle.pj_xvalue.specs.declared.axis.Axis.TheVariants as axis
-use Rattle.pj_xvalue.specs.declared.function.Function.{Function}
-use Rattle.pj_xvalue.specs.declared.function.Function.TheVariants as f
-use Rattle.pj_xvalue.specs.declared.pmd_function.PmdFunction.{PmdFunction}
-use Rattle.pj_xvalue.specs.declared.pmd_function.PmdFunction.TheVariants as pmd
-use Rattle.pj_xvalue.specs.declared.name.Callee.TheVariants as callee
-use Rattle.pj_xvalue.specs.Names.{axis_of, callee_of}
+use Rattle.pj_xexpressions.specs.declared.axis.Axis.{Axis}
+use Rattle.pj_xexpressions.specs.declared.axis.Axis.TheVariants as axis
+use Rattle.pj_xexpressions.specs.declared.function.Function.{Function}
+use Rattle.pj_xexpressions.specs.declared.function.Function.TheVariants as f
+use Rattle.pj_xexpressions.specs.declared.pmd_function.PmdFunction.{PmdFunction}
+use Rattle.pj_xexpressions.specs.declared.pmd_function.PmdFunction.TheVariants as pmd
+use Rattle.pj_xexpressions.specs.declared.name.Callee.TheVariants as callee
+use Rattle.pj_xexpressions.specs.Names.{axis_of, callee_of}
 use Rattle.pj_xsyntax_laws.specs.Printed.{axis_name, function_name, pmd_function_name}
 
 pub axis-word : (a : Axis) → word_of (axis_name a) ≡ Some (w.Keyword k.Axis)

@@ -6,8 +6,8 @@ use Rattle.pj_xtokens.specs.First.{first_from}
 use Rattle.pj_xgrammar.specs.declared.terminal.Behind.TheVariants as b
 use Rattle.pj_xgrammar.specs.Terminals.{first_behind, behind_of}
 use Rattle.pj_xsyntax_laws.specs.Spaced.{Word, placed}
-use Rattle.pj_xvalue.specs.Expressions.{Scope}
-use Rattle.pj_xvalue.specs.Trees.{Tree, Trees, NoMore, More}
+use Rattle.pj_xexpressions.specs.Expressions.{Scope}
+use Rattle.pj_xexpressions.specs.Trees.{Tree, Trees, NoMore, More}
 use Rattle.pj_xmeaning.specs.Mentions.{Mention}
 use Rattle.pj_xmeaning.specs.Operands.{Operand}
 use Rattle.pj_xshape.specs.Shapes.{part_of_tree}

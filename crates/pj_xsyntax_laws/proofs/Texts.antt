@@ -5,7 +5,7 @@ use Rattle.pj_xtokens.specs.Tokens.{Lexed, Tokens, lexed}
 use Rattle.pj_xtokens.specs.declared.token.End.TheVariants as ends
 use Rattle.pj_xgrammar.specs.Terminals.{first_behind, begins_step}
 use Rattle.pj_xgrammar.specs.declared.terminal.Behind.TheVariants as b
-use Rattle.pj_xvalue.specs.Trees.{Tree}
+use Rattle.pj_xexpressions.specs.Trees.{Tree}
 use Rattle.pj_xparse.specs.Spells.{Spells}
 use Rattle.pj_xsyntax_laws.specs.Abbreviations.{WrittenOut, done, kept}
 use Rattle.pj_xsyntax_laws.specs.Spaced.{Word, word, words_of}

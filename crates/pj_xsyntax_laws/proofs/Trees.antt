@@ -3,11 +3,11 @@ use Rattle.std.proofs.Common.{◌≡◌, ◌∙◌, ℕ, suc, ◌+◌, List, [],
 use Rattle.std.specs.Prelude.{◌&&◌, ◌||◌, IsTrue, nat_eq, nat_le}
 use Rattle.std.proofs.Math.Dec.{eqb-suc-zero}
 use Rattle.std.proofs.lemmas.Bool.{false≢true, and_parts, eqb-true, le-leb}
-use Rattle.pj_xvalue.specs.Attributes.{is_among}
-use Rattle.pj_xvalue.specs.Functions.{takes, pmd_takes}
-use Rattle.pj_xvalue.specs.Expressions.{Part, Scope, with_variable, all_fit, chain_fits, arguments_fit, is_digits}
-use Rattle.pj_xvalue.specs.Trees as tree
-use Rattle.pj_xvalue.specs.Trees.{Tree, Trees, Construct, Node, NoMore, More}
+use Rattle.pj_xexpressions.specs.Among.{is_among}
+use Rattle.pj_xexpressions.specs.Functions.{takes, pmd_takes}
+use Rattle.pj_xexpressions.specs.Expressions.{Part, Scope, with_variable, all_fit, chain_fits, arguments_fit, is_digits}
+use Rattle.pj_xexpressions.specs.Trees as tree
+use Rattle.pj_xexpressions.specs.Trees.{Tree, Trees, Construct, Node, NoMore, More}
 use Rattle.pj_xshape.specs.Shapes.{part_of_tree, parts_of_trees, fits_by, exactly, operators_fit, scoped_fit, binder_fits, level_by}
 use Rattle.pj_xshape.specs.Spelled.{IsSpelled, AreSpelled, IsConstructSpelled, AreNames}
 use Rattle.pj_xsyntax_laws.specs.Printed.{printed_of, printed_each}

@@ -10,8 +10,8 @@ use Rattle.pj_xgrammar.specs.declared.terminal.Behind.TheVariants as b
 use Rattle.pj_xgrammar.specs.Terminals.{first_behind, begins_step}
 use Rattle.pj_xtokens.specs.Literals.{string_of}
 use Rattle.pj_xtokens.specs.First.{begins_with_parenthesis}
-use Rattle.pj_xvalue.specs.declared.name.Callee.{Callee}
-use Rattle.pj_xvalue.specs.Names.{callee_of}
+use Rattle.pj_xexpressions.specs.declared.name.Callee.{Callee}
+use Rattle.pj_xexpressions.specs.Names.{callee_of}
 
 -- the token of a sign, and of a name, at an offset
 abbrev pub sign : Sign → String → ℕ → Lexed

@@ -26,30 +26,30 @@ use Rattle.pj_xdenotes.specs.Operands.{listed, named_value, only_nodes, operand,
 use Rattle.pj_xdenotes.specs.Sets.{chosen, stays as stays_in}
 use Rattle.pj_xdenotes.specs.Steps.{attributes, from_node, in_document_order, named_attributes, stepped}
 use Rattle.pj_xdenotes.specs.Turns.{in_turn, keeps, kept, mapped, narrowed, numbered, passing, path, simple_map, step_in_turn, through, united, walked, with_all, with_kept}
-use Rattle.pj_xvalue.specs.Trees as tree
-use Rattle.pj_xvalue.specs.Trees.{Construct, Tree, Trees, NoMore, More, tree_of}
+use Rattle.pj_xexpressions.specs.Trees as tree
+use Rattle.pj_xexpressions.specs.Trees.{Construct, Tree, Trees, NoMore, More, tree_of}
 use Rattle.pj_xvalue.specs.Atomic.{has_node}
 use Rattle.pj_xvalue.specs.Boolean.{effective_boolean}
 use Rattle.pj_xvalue.specs.Comparison.{general_comparison}
-use Rattle.pj_xvalue.specs.Functions.{takes, pmd_takes}
+use Rattle.pj_xexpressions.specs.Functions.{takes, pmd_takes}
 use Rattle.pj_xvalue.specs.Items.{ItemValue, Document, Element, Attribute, String, Integer, Boolean, IsOfTree, AreOfTree, are_atomic, are_nodes, is_node, values_of}
 use Rattle.pj_xvalue.specs.OfTree.{OfTree, ArgumentsOfTree, VariablesOfTree}
 use Rattle.pj_xvalue.proofs.OfTreeLaws.{of_tree-nil, of_tree-one, of_tree-append, of_tree-atomic, of_tree-head, each-of_tree, arguments-nil, arguments-cons, arguments-head, arguments-more, arguments-tail, variables-more}
-use Rattle.pj_xvalue.specs.declared.expr.Expr.{Expr}
-use Rattle.pj_xoperators.specs.declared.operator.Quantifier.{Quantifier}
-use Rattle.pj_xoperators.specs.declared.operator.Quantifier.TheVariants as quantifier
-use Rattle.pj_xoperators.specs.declared.operator.SetOperator.{SetOperator}
-use Rattle.pj_xvalue.specs.declared.expr.NodeTest.{NodeTest}
+use Rattle.pj_xexpressions.specs.declared.expr.Expr.{Expr}
+use Rattle.pj_xexpressions.specs.declared.operator.Quantifier.{Quantifier}
+use Rattle.pj_xexpressions.specs.declared.operator.Quantifier.TheVariants as quantifier
+use Rattle.pj_xexpressions.specs.declared.operator.SetOperator.{SetOperator}
+use Rattle.pj_xexpressions.specs.declared.expr.NodeTest.{NodeTest}
 use Rattle.pj_xvalue.specs.declared.fault.XCode.{XCode}
 use Rattle.pj_xvalue.specs.declared.fault.XCode.TheVariants.{XPTY0004, XPTY0018, XPTY0019, XPTY0020}
-use Rattle.pj_xvalue.specs.declared.function.Function.{Function}
-use Rattle.pj_xvalue.specs.declared.function.Function.TheVariants as f
+use Rattle.pj_xexpressions.specs.declared.function.Function.{Function}
+use Rattle.pj_xexpressions.specs.declared.function.Function.TheVariants as f
 use Rattle.pj_xvalue.specs.declared.item.Item.{Item}
 use Rattle.pj_xvalue.specs.declared.item.Item.TheVariants as item
 use Rattle.pj_xtrees.specs.Laws.{Reply, RepliesOfTree, ValuesOfTree}
 use Rattle.pj_xtrees.proofs.DenotedTrees.{by, denotes_tree, nothing, one, two, three}
 use Rattle.pj_xtrees.proofs.Related.{Any, Gives, Paired, Same, any, branch, chained, decided_alike, failed, follow, gave, judges, stays}
-use Rattle.pj_xvalue.specs.TreeFolds.{behind_all, bound, first, fold_tree, fold_trees, rest}
+use Rattle.pj_xexpressions.specs.TreeFolds.{behind_all, bound, first, fold_tree, fold_trees, rest}
 
 -- ---- what is of every tree
 

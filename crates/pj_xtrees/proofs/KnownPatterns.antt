@@ -13,14 +13,14 @@ use Rattle.pj_xfuncs.specs.Library.{by_number, is_concat, of_four, of_several, o
 use Rattle.pj_xfuncs.specs.Library.{called as given}
 use Rattle.pj_xpatterns.specs.Patterns.{flags_in, known, matches, never_empty, plain, replace, tokenize, tokens}
 use Rattle.pj_xpatterns.specs.Meaning.{Pattern, has, is_found, with_replaced}
-use Rattle.pj_xvalue.specs.Functions.{takes}
+use Rattle.pj_xexpressions.specs.Functions.{takes}
 use Rattle.pj_xvalue.specs.Items.{ItemValue, String}
-use Rattle.pj_xvalue.specs.declared.expr.Expr.{Expr}
-use Rattle.pj_xvalue.specs.declared.expr.Expr.TheFolds.{fold-Expr}
-use Rattle.pj_xvalue.specs.declared.expr.Expr.TheOpen.{Expr-F}
+use Rattle.pj_xexpressions.specs.declared.expr.Expr.{Expr}
+use Rattle.pj_xexpressions.specs.declared.expr.Expr.TheFolds.{fold-Expr}
+use Rattle.pj_xexpressions.specs.declared.expr.Expr.TheOpen.{Expr-F}
 use Rattle.pj_xvalue.specs.declared.fault.XCode.TheVariants.{XPTY0004}
-use Rattle.pj_xvalue.specs.declared.function.Function.{Function}
-use Rattle.pj_xvalue.specs.declared.function.Function.TheVariants as f
+use Rattle.pj_xexpressions.specs.declared.function.Function.{Function}
+use Rattle.pj_xexpressions.specs.declared.function.Function.TheVariants as f
 use Rattle.pj_xtrees.specs.Laws.{Reply}
 
 module _ (some others : List Pattern) (same : (pattern : Pattern) → has some pattern ≡ has others pattern) where

@@ -4,7 +4,7 @@ use Rattle.pj_names.specs.Asking.{Return, Ask, Unbounded, bind}
 use Rattle.pj_xdenotes.specs.Means.{Means, give, fail, judged, after, ◌>>=◌, chain, decided, decides, one_boolean}
 use Rattle.pj_xvalue.specs.Boolean.{effective_boolean}
 use Rattle.pj_xvalue.specs.Items.{ItemValue}
-use Rattle.pj_xoperators.specs.declared.operator.Quantifier.{Quantifier}
+use Rattle.pj_xexpressions.specs.declared.operator.Quantifier.{Quantifier}
 use Rattle.pj_xvalue.specs.declared.fault.XCode.{XCode}
 use Rattle.pj_xtrees.specs.Laws.{Always}
 

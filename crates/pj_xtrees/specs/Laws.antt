@@ -11,12 +11,12 @@ use Rattle.pj_xdenotes.specs.Context.{Around, Context, around}
 use Rattle.pj_xdenotes.specs.Context as bound
 use Rattle.pj_xdenotes.specs.Denotes.{denotes}
 use Rattle.pj_xdenotes.specs.Means.{Means}
-use Rattle.pj_xvalue.specs.Trees.{tree_of}
+use Rattle.pj_xexpressions.specs.Trees.{tree_of}
 use Rattle.pj_xpatterns.specs.Meaning.{Pattern, has}
 use Rattle.pj_xvalue.specs.Items.{ItemValue, IsOfTree}
 use Rattle.pj_xvalue.specs.OfTree.{OfTree, ArgumentsOfTree, VariablesOfTree}
-use Rattle.pj_xvalue.specs.declared.expr.Expr.{Expr}
-use Rattle.pj_xvalue.specs.declared.pmd_function.PmdFunction.{PmdFunction}
+use Rattle.pj_xexpressions.specs.declared.expr.Expr.{Expr}
+use Rattle.pj_xexpressions.specs.declared.pmd_function.PmdFunction.{PmdFunction}
 
 -- what the functions of PMD reply
 abbrev pub Reply : Type 0

@@ -2,7 +2,7 @@
 use Rattle.std.proofs.Common.{◌≡◌, ◌≢◌, Bool, true, false, List, [], ◌∷◌, ◌++◌, map, Result, Ok, Err, IsOk, refl, sym, ◌∙◌, ap, subst}
 use Rattle.std.specs.List.{All}
 use Rattle.std.proofs.lemmas.List.Elements.{All-nil, All-cons, All-head, All-tail, All-weaker}
-use Rattle.pj_xoperators.specs.declared.operator.Compare.{Compare}
+use Rattle.pj_xexpressions.specs.declared.operator.Compare.{Compare}
 use Rattle.pj_xvalue.specs.declared.fault.XCode.{XCode}
 use Rattle.pj_xvalue.specs.Items.{ItemValue}
 use Rattle.pj_xvalue.specs.Comparison.{pair_compares, decided, first_deciding, pairs, general_comparison}

@@ -1,7 +1,6 @@
 -- What attributes are, as evaluation sees them.
-use Rattle.std.specs.Prelude.{ℕ, Bool, true, false, not, ◌&&◌, List, [], ◌∷◌, nat_eq, codes}
-use Rattle.std.specs.List.{list_any}
-use Rattle.std.specs.Cmp.Lexicographic.{pointwise}
+use Rattle.std.specs.Prelude.{ℕ, Bool, true, false, not, ◌&&◌, List, [], ◌∷◌, codes}
+use Rattle.pj_xexpressions.specs.Among.{is_among}
 use Rattle.pj_xvalue.specs.declared.value.Value.{Value}
 use Rattle.pj_xvalue.specs.declared.value.Value.TheVariants as value
 use Rattle.pj_xvalue.specs.Items.{ItemValue, String, Integer, Boolean}
@@ -37,9 +36,6 @@ string_attributes =
     codes "AccessType" ∷ codes "BinaryName" ∷ codes "ConstValue" ∷ codes "Image" ∷ codes "ImportedName" ∷ codes "ImportedSimpleName" ∷ codes "Kind"
     ∷ codes "Label" ∷ codes "MethodName" ∷ codes "Name" ∷ codes "Operator" ∷ codes "PackageName" ∷ codes "PackageQualifier" ∷ codes "SimpleName"
     ∷ codes "Visibility" ∷ []
-
-abbrev pub is_among : List ℕ → List (List ℕ) → Bool
-is_among name names = list_any (λ other. pointwise nat_eq other name) names
 
 -- whether no name stands twice
 abbrev pub are_different : List (List ℕ) → Bool

@@ -1,7 +1,7 @@
 -- What a general comparison comes to, told by the pairs that it is of (XPath 2.0, 3.5.2), apart from going through them.
 use Rattle.std.specs.Prelude.{◌≡◌, true, false, List, ◌∷◌, ◌++◌, Ok, Err, IsOk}
 use Rattle.std.specs.List.{All}
-use Rattle.pj_xoperators.specs.declared.operator.Compare.{Compare}
+use Rattle.pj_xexpressions.specs.declared.operator.Compare.{Compare}
 use Rattle.pj_xvalue.specs.declared.fault.XCode.{XCode}
 use Rattle.pj_xvalue.specs.Items.{ItemValue}
 use Rattle.pj_xvalue.specs.Comparison.{pair_compares}

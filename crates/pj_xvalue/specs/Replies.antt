@@ -4,8 +4,8 @@ use Rattle.pj_names.specs.declared.oracle.AskFault.{AskFault}
 use Rattle.pj_xvalue.specs.declared.fault.XCode.{XCode}
 use Rattle.pj_xvalue.specs.declared.fault.XFault.{XFault}
 use Rattle.pj_xvalue.specs.declared.fault.XFault.TheVariants as fault
-use Rattle.pj_xvalue.specs.declared.pmd_function.PmdFunction.{PmdFunction}
-use Rattle.pj_xvalue.specs.declared.pmd_function.PmdFunction.TheVariants as pmd
+use Rattle.pj_xexpressions.specs.declared.pmd_function.PmdFunction.{PmdFunction}
+use Rattle.pj_xexpressions.specs.declared.pmd_function.PmdFunction.TheVariants as pmd
 use Rattle.pj_xvalue.specs.Items.{ItemValue, String, Boolean, are_atomic}
 
 -- What a call that may ask classes returned, where a code of XPath is a value of what is meant: it is given for the same

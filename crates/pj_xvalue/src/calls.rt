@@ -7,19 +7,20 @@ ghost use Rattle.pj_tree.specs.declared.node.Node.{Node};
 ghost use Rattle.pj_tree.specs.declared.node.Place.{Place};
 ghost use Rattle.pj_xvalue.specs.declared.fault.XCode.{XCode};
 ghost use Rattle.pj_xvalue.specs.declared.modifiers.Modifiers.{Modifiers};
-ghost use Rattle.pj_xvalue.specs.declared.pmd_function.PmdFunction.{PmdFunction};
+ghost use Rattle.pj_xexpressions.specs.declared.pmd_function.PmdFunction.{PmdFunction};
 ghost use Rattle.pj_xvalue.specs.Items.{ItemValue, values_of};
 ghost use Rattle.pj_xvalue.specs.OfTree.{ArgumentsOfTree};
-ghost use Rattle.pj_xvalue.specs.Functions.{pmd_takes};
-ghost use Rattle.pj_xvalue.specs.Attributes.{attribute_value, is_typed, is_among, are_different};
+ghost use Rattle.pj_xexpressions.specs.Functions.{pmd_takes};
+ghost use Rattle.pj_xexpressions.specs.Among.{is_among};
+ghost use Rattle.pj_xvalue.specs.Attributes.{attribute_value, is_typed, are_different};
 ghost use Rattle.pj_xvalue.specs.Replies.{outcome, may_return, may_be};
 
 use crate::fault::XFault;
 use crate::item::{Arguments, Sequence};
 use crate::modifiers::Modifiers;
-use crate::pmd_function::PmdFunction;
 use crate::value::Value;
 use pj_tree::{Node, Place};
+use pj_xexpressions::PmdFunction;
 use std::alloc::Global;
 
 /// The attributes, modifiers and places of the nodes of one tree. No call takes memory.

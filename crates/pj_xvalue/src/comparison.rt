@@ -5,7 +5,7 @@ ghost use Rattle.pj_xvalue.specs.Comparison.{holds, pair_compares, first_decidin
 
 use crate::fault::XCode;
 use crate::item::{Item, Sequence};
-use pj_xoperators::Compare;
+use pj_xexpressions::Compare;
 use std::cmp::Ordering;
 
 /// Whether some pair of a left and a right item is as the operator says (XPath 2.0, 3.5.2).

@@ -1,6 +1,6 @@
 //! Laws of the definitions, each the contract of a call that does nothing.
 ghost use Rattle.std.specs.Prelude.{◌≡◌, ◌↔◌, true, false, Ok, Err, List};
-ghost use Rattle.pj_xoperators.specs.declared.operator.Compare.{Compare};
+ghost use Rattle.pj_xexpressions.specs.declared.operator.Compare.{Compare};
 ghost use Rattle.pj_xvalue.specs.declared.fault.XCode.{XCode};
 ghost use Rattle.pj_xvalue.specs.Items.{ItemValue};
 ghost use Rattle.pj_xvalue.specs.Comparison.{general_comparison};

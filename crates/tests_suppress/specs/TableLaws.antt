@@ -6,7 +6,8 @@ use Rattle.std.specs.Cmp.Lexicographic.{pointwise}
 use Rattle.std.proofs.lemmas.Bool.{cases_Bool}
 use Rattle.std.proofs.lemmas.Slice.Eq.{bytes_eq-Decides}
 use Rattle.pj_tree.specs.declared.node.Node.{Node}
-use Rattle.pj_xvalue.specs.Attributes.{are_different, attribute_value, is_among, is_typed, string_attributes}
+use Rattle.pj_xexpressions.specs.Among.{is_among}
+use Rattle.pj_xvalue.specs.Attributes.{are_different, attribute_value, is_typed, string_attributes}
 use Rattle.pj_xvalue.specs.Items.{ItemValue, String}
 use Rattle.pj_xvalue.specs.declared.value.Value.{Value}
 use Rattle.tests_suppress.specs.Table.{Text, string_at, table_names, value_in}

@@ -1,7 +1,7 @@
 //! Expressions as texts in which each operator has its parentheses.
 
 use pj_base::{NoMemory, Text};
-use pj_xvalue::{
+use pj_xexpressions::{
     Additive, Axis, Compare, Expr, Function, Multiplicative, NodeTest, PmdFunction, Quantifier,
     SetOperator, Sign,
 };

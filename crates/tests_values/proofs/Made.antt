@@ -1,10 +1,10 @@
 -- Expressions that the tests make.
 use Rattle.std.proofs.Common.{◌≡◌, ℕ, ◌+◌, ◌<◌, ◌≤◌, true, false, List, [], ◌∷◌, Vec, Global, nat_lt, if◌then◌else◌, refl, arith}
-use Rattle.pj_xvalue.specs.declared.function.Function.TheVariants.{Matches}
-use Rattle.pj_xvalue.specs.declared.expr.Expr.{Expr}
-use Rattle.pj_xvalue.specs.declared.expr.Expr.TheVariants as expr
-use Rattle.pj_xvalue.specs.Expressions.{Part, operand, part_of, IsExpression}
-use Rattle.pj_xvalue.proofs.ExpressionForms.{part_of-Or, part_of-Call, part_of-String}
+use Rattle.pj_xexpressions.specs.declared.function.Function.TheVariants.{Matches}
+use Rattle.pj_xexpressions.specs.declared.expr.Expr.{Expr}
+use Rattle.pj_xexpressions.specs.declared.expr.Expr.TheVariants as expr
+use Rattle.pj_xexpressions.specs.Expressions.{Part, operand, part_of, IsExpression}
+use Rattle.pj_xexpressions.proofs.ExpressionForms.{part_of-Or, part_of-Call, part_of-String}
 
 -- parentheses add one
 operand_within : (least : ℕ) (part : Part) → part.nesting < 200 → operand least part ≤ 200

@@ -4,7 +4,8 @@ ghost use Rattle.std.specs.Prelude.{◌<◌, length};
 
 use pj_tree::{Builder, Kind, Node, ShapeFault, SyntaxTree};
 use pj_xaxes::{axis, in_order};
-use pj_xvalue::{Axis, Item, Sequence, are_nodes};
+use pj_xexpressions::Axis;
+use pj_xvalue::{Item, Sequence, are_nodes};
 use std::alloc::{AllocError, Global};
 use std::fmt::Write;
 use std::test::Fail;

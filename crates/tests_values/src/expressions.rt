@@ -1,10 +1,10 @@
 //! Expressions that were made by hand are expressions, as contracts have them.
 
 ghost use Rattle.std.specs.Prelude.{◌≡◌, ◌<◌, ℕ, [], IfOk};
-ghost use Rattle.pj_xvalue.specs.Expressions.{IsExpression, part_of};
+ghost use Rattle.pj_xexpressions.specs.Expressions.{IsExpression, part_of};
 
 use pj_base::{NoMemory, Text};
-use pj_xvalue::{Expr, Function};
+use pj_xexpressions::{Expr, Function};
 use std::alloc::Global;
 use std::test::Fail;
 

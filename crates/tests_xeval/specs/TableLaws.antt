@@ -7,7 +7,8 @@ use Rattle.std.proofs.lemmas.Bool.{cases_Bool}
 use Rattle.std.proofs.lemmas.Slice.Eq.{bytes_eq-Decides}
 use Rattle.pj_tree.specs.declared.node.Node.{Node}
 use Rattle.pj_xvalue.specs.declared.value.Value.{Value}
-use Rattle.pj_xvalue.specs.Attributes.{attribute_value, are_different, is_among, is_typed, boolean_attributes, integer_attributes, string_attributes}
+use Rattle.pj_xexpressions.specs.Among.{is_among}
+use Rattle.pj_xvalue.specs.Attributes.{attribute_value, are_different, is_typed, boolean_attributes, integer_attributes, string_attributes}
 use Rattle.pj_xvalue.specs.Items.{ItemValue, String, Integer, Boolean}
 use Rattle.tests_xeval.specs.Table.{named, sized, final, value_in, table_names}
 

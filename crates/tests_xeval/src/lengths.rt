@@ -3,7 +3,7 @@
 use crate::queries::{expect, gives, tree};
 use pj_base::{NoMemory, Text};
 use pj_tree::SyntaxTree;
-use pj_xvalue::{Additive, Expr, Function, Quantifier};
+use pj_xexpressions::{Additive, Expr, Function, Quantifier};
 use std::alloc::Global;
 use std::test::Fail;
 

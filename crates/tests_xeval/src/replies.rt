@@ -7,7 +7,8 @@ ghost use Rattle.pj_xvalue.specs.Replies.{may_return, outcome};
 use pj_base::NoMemory;
 use pj_names::AskFault;
 use pj_tree::Node;
-use pj_xvalue::{Arguments, Calls, Item, PmdFunction, Sequence, XCode, XFault};
+use pj_xexpressions::PmdFunction;
+use pj_xvalue::{Arguments, Calls, Item, Sequence, XCode, XFault};
 use std::alloc::Global;
 
 /// `typeIs` is true at nodes of the tree; `matchesSig` comes to a code, and `hasAnnotation` wants memory; the others give the

@@ -2,9 +2,10 @@
 
 use pj_base::{Names, NoMemory, Text};
 use pj_tree::Node;
+use pj_xexpressions::{Expr, Function, Sign};
 use pj_xfuncs::{PatternFault, Patterns, call};
 use pj_xparse::parse;
-use pj_xvalue::{Arguments, BoundVars, Expr, Function, Item, Sequence, Sign, XFault};
+use pj_xvalue::{Arguments, BoundVars, Item, Sequence, XFault};
 use std::alloc::Global;
 use std::test::Fail;
 

@@ -1,6 +1,6 @@
 use Rattle.std.proofs.Common.{◌∷◌, [], ◌∙◌, ℕ, List, Ok, length, map, sym, subst, ap}
 use Rattle.std.specs.Prelude.{if◌then◌else◌}
-use Rattle.pj_xoperators.specs.declared.operator.Quantifier.TheVariants as quantifier
+use Rattle.pj_xexpressions.specs.declared.operator.Quantifier.TheVariants as quantifier
 use Rattle.pj_xvalue.specs.Boolean.{effective_boolean}
 use Rattle.pj_xvalue.specs.Comparison.{general_comparison}
 use Rattle.pj_xvalue.specs.declared.item.Item.{Item}

@@ -1,5 +1,5 @@
 use Rattle.std.proofs.Common.{List, map, ap, refl, sym}
-use Rattle.pj_xvalue.specs.declared.expr.Expr.{Expr}
+use Rattle.pj_xexpressions.specs.declared.expr.Expr.{Expr}
 use Rattle.pj_xdenotes.specs.Denotes.{denotes}
 use Rattle.pj_xdenotes.specs.Turns.{simple_map}
 use Rattle.pj_xframes.specs.Scopes.{variables_of}

@@ -1,5 +1,5 @@
 use Rattle.std.proofs.Common.{ℕ, List, refl, sym, ap}
-use Rattle.pj_xvalue.specs.declared.expr.Expr.{Expr}
+use Rattle.pj_xexpressions.specs.declared.expr.Expr.{Expr}
 use Rattle.pj_xdenotes.specs.Bindings.{quantified}
 use Rattle.pj_xdenotes.specs.Parts.{bindings_of}
 use Rattle.pj_xdenotes.specs.Denotes.{denotes}

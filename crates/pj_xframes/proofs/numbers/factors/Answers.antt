@@ -1,6 +1,6 @@
 use Rattle.std.proofs.Common.{refl}
-use Rattle.pj_xoperators.specs.declared.operator.Multiplicative.{Multiplicative}
-use Rattle.pj_xvalue.specs.declared.expr.Expr.{Expr}
+use Rattle.pj_xexpressions.specs.declared.operator.Multiplicative.{Multiplicative}
+use Rattle.pj_xexpressions.specs.declared.expr.Expr.{Expr}
 use Rattle.pj_xdenotes.specs.Arithmetic.{number_items}
 use Rattle.pj_xdenotes.specs.Denotes.{denotes, behind, with_factor}
 use Rattle.pj_xdenotes.specs.Means.{give}

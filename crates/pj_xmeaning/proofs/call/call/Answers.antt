@@ -1,7 +1,7 @@
 use Rattle.std.proofs.Common.{◌≡◌, ◌∙◌, ◌++◌, List, ℕ, Bool, map, length, ap, sym, rules, arith}
 use Rattle.std.proofs.lemmas.List.{length-map}
-use Rattle.pj_xvalue.specs.Names.{callee_of}
-use Rattle.pj_xvalue.specs.Trees.{tree_of}
+use Rattle.pj_xexpressions.specs.Names.{callee_of}
+use Rattle.pj_xexpressions.specs.Trees.{tree_of}
 use Rattle.pj_xmeaning.specs.Mentions.{Call, roles_named}
 use Rattle.pj_xmeaning.specs.Operands.{arguments_in, in_roles, is_closed, names_of, other, told, trees_of}
 use Rattle.pj_xmeaning.specs.Seen.{seen_arguments, seen_mentions, seen_reading}

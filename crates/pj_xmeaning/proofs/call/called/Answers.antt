@@ -1,5 +1,5 @@
 use Rattle.std.proofs.Common.{◌≡◌, ◌∙◌, ap, map, [], rules}
-use Rattle.pj_xvalue.specs.Trees.{Comma, node, tree_of}
+use Rattle.pj_xexpressions.specs.Trees.{Comma, node, tree_of}
 use Rattle.pj_xmeaning.specs.Steps.{called}
 use Rattle.pj_xmeaning.proofs.TreeForms.{tree_of_comma}
 use Rattle.pj_xmeaning.proofs.call.called.Goals as goal

@@ -1,6 +1,6 @@
 use Rattle.std.proofs.Common.{◌≡◌, ◌∙◌, ◌++◌, ◌∷◌, [], List, ℕ, true, map, drop, length, ap, sym, rules, arith, append_assoc}
 use Rattle.std.proofs.lemmas.List.{map-append}
-use Rattle.pj_xvalue.specs.Trees.{tree_of}
+use Rattle.pj_xexpressions.specs.Trees.{tree_of}
 use Rattle.pj_xmeaning.specs.Operands.{in_roles}
 use Rattle.pj_xmeaning.specs.Seen.{seen_mentions, seen_given}
 use Rattle.pj_xmeaning.specs.declared.role.Role.{Role}

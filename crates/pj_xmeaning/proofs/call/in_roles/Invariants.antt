@@ -1,5 +1,5 @@
 use Rattle.std.proofs.Common.{◌≡◌, ◌++◌, map, length}
-use Rattle.pj_xvalue.specs.Trees.{tree_of}
+use Rattle.pj_xexpressions.specs.Trees.{tree_of}
 use Rattle.pj_xmeaning.specs.Operands.{in_roles}
 use Rattle.pj_xmeaning.specs.Seen.{seen_mentions, seen_given}
 use Rattle.pj_xmeaning.proofs.call.in_roles.Given as goal

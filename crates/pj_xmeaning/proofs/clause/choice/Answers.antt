@@ -1,5 +1,5 @@
 use Rattle.std.proofs.Common.{◌∙◌, ◌∷◌, [], ◌++◌, ap, sym, append_assoc}
-use Rattle.pj_xvalue.specs.Trees.{If, node, tree_of}
+use Rattle.pj_xexpressions.specs.Trees.{If, node, tree_of}
 use Rattle.pj_xmeaning.specs.Operands.{Operand}
 use Rattle.pj_xmeaning.specs.Parts.{operand}
 use Rattle.pj_xmeaning.specs.Seen.{seen_mentions, seen_part}

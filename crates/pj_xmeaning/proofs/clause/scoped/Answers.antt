@@ -1,7 +1,7 @@
 use Rattle.std.proofs.Common.{◌≡◌, ◌∙◌, ◌++◌, ◌∷◌, [], List, ℕ, map, length, ap, sym, rules, arith, append_assoc}
 use Rattle.std.specs.Prelude.{reverse}
 use Rattle.std.proofs.lemmas.List.{map-append}
-use Rattle.pj_xvalue.specs.Trees.{tree_of}
+use Rattle.pj_xexpressions.specs.Trees.{tree_of}
 use Rattle.pj_xmeaning.specs.Operands.{scopes_of}
 use Rattle.pj_xmeaning.specs.Seen.{seen_bound, seen_mentions}
 use Rattle.pj_xmeaning.proofs.Lists.{pushed}

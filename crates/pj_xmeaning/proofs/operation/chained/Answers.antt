@@ -1,5 +1,5 @@
 use Rattle.std.proofs.Common.{◌∙◌, ap, sym, map}
-use Rattle.pj_xvalue.specs.Trees.{node, tree_of}
+use Rattle.pj_xexpressions.specs.Trees.{node, tree_of}
 use Rattle.pj_xmeaning.specs.Values.{construct_of}
 use Rattle.pj_xmeaning.proofs.TreeForms.{tree_of_comma, tree_of_or, tree_of_and, tree_of_concatenation, tree_of_union, tree_of_simple_map}
 use Rattle.pj_xmeaning.proofs.operation.chained.Goals as goal

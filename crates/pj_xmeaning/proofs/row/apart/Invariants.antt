@@ -1,6 +1,6 @@
 use Rattle.std.proofs.Common.{◌≡◌, map}
 use Rattle.std.specs.Prelude.{reverse}
-use Rattle.pj_xvalue.specs.Trees.{tree_of}
+use Rattle.pj_xexpressions.specs.Trees.{tree_of}
 use Rattle.pj_xmeaning.specs.Operands.{trees_of, names_of}
 use Rattle.pj_xmeaning.specs.Seen.{seen_mentions, seen_reading}
 use Rattle.pj_xmeaning.proofs.row.apart.Given as goal

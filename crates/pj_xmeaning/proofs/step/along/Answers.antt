@@ -1,5 +1,5 @@
 use Rattle.std.proofs.Common.{◌∙◌, ap}
-use Rattle.pj_xvalue.specs.Trees.{Step, node}
+use Rattle.pj_xexpressions.specs.Trees.{Step, node}
 use Rattle.pj_xmeaning.proofs.StepForms.{other_alike}
 use Rattle.pj_xmeaning.proofs.TreeForms.{tree_of_step}
 use Rattle.pj_xmeaning.proofs.step.along.Goals as goal

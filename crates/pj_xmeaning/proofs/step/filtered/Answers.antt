@@ -1,5 +1,5 @@
 use Rattle.std.proofs.Common.{◌≡◌, ◌∙◌, ◌∷◌, ◌++◌, ap, sym, map}
-use Rattle.pj_xvalue.specs.Trees.{Filter, node, tree_of}
+use Rattle.pj_xexpressions.specs.Trees.{Filter, node, tree_of}
 use Rattle.pj_xmeaning.specs.Operands.{names_of}
 use Rattle.pj_xmeaning.specs.Seen.{seen_mentions, seen_reading}
 use Rattle.pj_xmeaning.proofs.StepForms.{filter_all, other_alike}

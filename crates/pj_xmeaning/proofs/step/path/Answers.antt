@@ -1,5 +1,5 @@
 use Rattle.std.proofs.Common.{◌≡◌, ◌∙◌, ap, map}
-use Rattle.pj_xvalue.specs.Trees.{Path, node}
+use Rattle.pj_xexpressions.specs.Trees.{Path, node}
 use Rattle.pj_xmeaning.specs.Operands.{names_of, trees_of}
 use Rattle.pj_xmeaning.specs.Seen.{seen_reading}
 use Rattle.pj_xmeaning.proofs.StepForms.{other_alike, path_all}

@@ -1,5 +1,5 @@
 use Rattle.std.proofs.Common.{◌≡◌, ◌∙◌, ◌++◌, List, Option, OnOk, map, ap, ap₂, subst}
-use Rattle.pj_xvalue.specs.Expressions.{Written}
+use Rattle.pj_xexpressions.specs.Expressions.{Written}
 use Rattle.pj_xpatterns.specs.Meaning.{Pattern}
 use Rattle.pj_xpatterns.specs.Written.{couple, pattern_at, pattern_text, seen_of, variables_of, written_flags}
 use Rattle.pj_xpatterns.proofs.own.push_own.Goals as goal

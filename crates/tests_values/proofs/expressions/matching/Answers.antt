@@ -1,5 +1,5 @@
 use Rattle.std.proofs.Common.{◌≡◌, [], ◌∷◌, rules}
-use Rattle.pj_xvalue.specs.declared.expr.Expr.TheVariants as expr
+use Rattle.pj_xexpressions.specs.declared.expr.Expr.TheVariants as expr
 use Rattle.tests_values.proofs.Made.{matching_is, matching_nesting}
 use Rattle.tests_values.proofs.expressions.matching.Goals as goal
 

@@ -1,6 +1,6 @@
 //! The functions of PMD.
 ghost use Rattle.std.specs.Prelude.{◌≡◌};
-ghost use Rattle.pj_xvalue.specs.Functions.{pmd_takes};
+ghost use Rattle.pj_xexpressions.specs.Functions.{pmd_takes};
 
 /// A function of PMD. The first five have the prefix `pmd:`, the others `pmd-java:`.
 #[derive(Clone, Copy, Debug, PartialEq, Eq)]

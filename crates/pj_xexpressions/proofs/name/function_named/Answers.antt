@@ -1,6 +1,6 @@
 use Rattle.std.proofs.Common.{◌∙◌}
-use Rattle.pj_xvalue.proofs.Names.{callee_is}
-use Rattle.pj_xvalue.proofs.name.function_named.Goals as goal
+use Rattle.pj_xexpressions.proofs.Names.{callee_is}
+use Rattle.pj_xexpressions.proofs.name.function_named.Goals as goal
 
 pub returns : goal.returns
 returns c =

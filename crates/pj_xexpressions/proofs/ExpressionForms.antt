@@ -1,23 +1,23 @@
 -- What each form of an expression is seen as, by what its parts are seen as.
 use Rattle.std.proofs.Common.{◌≡◌, ℕ, ◌+◌, ℤ, true, not, ◌&&◌, ◌||◌, if◌then◌else◌, List, length, map, max, nat_eq, Option, Vec, Box, Global}
-use Rattle.pj_xvalue.specs.declared.axis.Axis.{Axis}
-use Rattle.pj_xvalue.specs.declared.function.Function.{Function}
-use Rattle.pj_xoperators.specs.declared.operator.Compare.{Compare}
-use Rattle.pj_xvalue.specs.declared.pmd_function.PmdFunction.{PmdFunction}
-use Rattle.pj_xoperators.specs.declared.operator.Additive.{Additive}
-use Rattle.pj_xoperators.specs.declared.operator.Multiplicative.{Multiplicative}
-use Rattle.pj_xvalue.specs.declared.expr.NodeTest.{NodeTest}
-use Rattle.pj_xoperators.specs.declared.operator.Quantifier.{Quantifier}
-use Rattle.pj_xoperators.specs.declared.operator.SetOperator.{SetOperator}
-use Rattle.pj_xoperators.specs.declared.operator.Sign.{Sign}
-use Rattle.pj_xvalue.specs.declared.expr.Expr.{Expr}
-use Rattle.pj_xvalue.specs.declared.expr.Expr.TheOpen.{Expr-F}
-use Rattle.pj_xvalue.specs.declared.expr.Expr.TheVariants as expr
-use Rattle.pj_xvalue.specs.declared.expr.Expr.TheViews.{roll-Expr}
-use Rattle.pj_xvalue.specs.declared.expr.Expr.TheFolds.{fold-roll-Expr}
-use Rattle.pj_xvalue.specs.Attributes.{is_among}
-use Rattle.pj_xvalue.specs.Functions.{takes, pmd_takes}
-use Rattle.pj_xvalue.specs.Expressions.{Part, Literal, Number, Name, Other, operand, operands, clause, clauses, predicates_nesting, steps_nesting, arguments_fit, all_fit, chain_fits, binder_fits, operated_fits, is_digits, part_step, part_of}
+use Rattle.pj_xexpressions.specs.declared.axis.Axis.{Axis}
+use Rattle.pj_xexpressions.specs.declared.function.Function.{Function}
+use Rattle.pj_xexpressions.specs.declared.operator.Compare.{Compare}
+use Rattle.pj_xexpressions.specs.declared.pmd_function.PmdFunction.{PmdFunction}
+use Rattle.pj_xexpressions.specs.declared.operator.Additive.{Additive}
+use Rattle.pj_xexpressions.specs.declared.operator.Multiplicative.{Multiplicative}
+use Rattle.pj_xexpressions.specs.declared.expr.NodeTest.{NodeTest}
+use Rattle.pj_xexpressions.specs.declared.operator.Quantifier.{Quantifier}
+use Rattle.pj_xexpressions.specs.declared.operator.SetOperator.{SetOperator}
+use Rattle.pj_xexpressions.specs.declared.operator.Sign.{Sign}
+use Rattle.pj_xexpressions.specs.declared.expr.Expr.{Expr}
+use Rattle.pj_xexpressions.specs.declared.expr.Expr.TheOpen.{Expr-F}
+use Rattle.pj_xexpressions.specs.declared.expr.Expr.TheVariants as expr
+use Rattle.pj_xexpressions.specs.declared.expr.Expr.TheViews.{roll-Expr}
+use Rattle.pj_xexpressions.specs.declared.expr.Expr.TheFolds.{fold-roll-Expr}
+use Rattle.pj_xexpressions.specs.Among.{is_among}
+use Rattle.pj_xexpressions.specs.Functions.{takes, pmd_takes}
+use Rattle.pj_xexpressions.specs.Expressions.{Part, Literal, Number, Name, Other, operand, operands, clause, clauses, predicates_nesting, steps_nesting, arguments_fit, all_fit, chain_fits, binder_fits, operated_fits, is_digits, part_step, part_of}
 
 -- a variable with what its expression is seen as
 abbrev pub bound_part : List ℕ × Expr → List ℕ × Part

@@ -1,7 +1,7 @@
 //! The names of functions and axes.
 
 ghost use Rattle.std.specs.Prelude.{◌≡◌};
-ghost use Rattle.pj_xvalue.specs.Names.{functions, pmd_functions, found_in, unprefixed, xpath_or_pmd, callee_of, axis_of};
+ghost use Rattle.pj_xexpressions.specs.Names.{functions, pmd_functions, found_in, unprefixed, xpath_or_pmd, callee_of, axis_of};
 
 use crate::axis::Axis;
 use crate::function::Function;

@@ -1,12 +1,12 @@
 -- What a fold gives of an expression is what a fold gives of its tree.
 use mathlib.Core.Path.{fun_ext}
 use Rattle.std.proofs.Common.{◌≡◌, sym, ap, ◌∙◌, subst, List, [], ◌∷◌, ◌++◌, map, refl}
-use Rattle.pj_xvalue.specs.declared.expr.Expr.{Expr}
-use Rattle.pj_xvalue.specs.declared.expr.Expr.TheOpen.{Expr-F}
-use Rattle.pj_xvalue.specs.declared.expr.Expr.TheViews.{roll-Expr}
-use Rattle.pj_xvalue.specs.declared.expr.Expr.TheFolds.{map-Expr, ind-Expr, fold-Expr, fold-roll-Expr}
-use Rattle.pj_xvalue.specs.Trees.{Construct, Tree, Trees, Node, NoMore, More, node, trees, tree_step, tree_of}
-use Rattle.pj_xvalue.specs.Layers.{map-Expr_twice}
+use Rattle.pj_xexpressions.specs.declared.expr.Expr.{Expr}
+use Rattle.pj_xexpressions.specs.declared.expr.Expr.TheOpen.{Expr-F}
+use Rattle.pj_xexpressions.specs.declared.expr.Expr.TheViews.{roll-Expr}
+use Rattle.pj_xexpressions.specs.declared.expr.Expr.TheFolds.{map-Expr, ind-Expr, fold-Expr, fold-roll-Expr}
+use Rattle.pj_xexpressions.specs.Trees.{Construct, Tree, Trees, Node, NoMore, More, node, trees, tree_step, tree_of}
+use Rattle.pj_xexpressions.specs.Layers.{map-Expr_twice}
 
 -- ---- folds of trees
 

@@ -1,9 +1,9 @@
 -- Mapping the parts of one layer of an expression twice is mapping them once.
 use mathlib.Core.Former.{map-map}
 use Rattle.std.proofs.Common.{◌≡◌, refl}
-use Rattle.pj_xvalue.specs.declared.expr.Expr.TheOpen.{Expr-F}
-use Rattle.pj_xvalue.specs.declared.expr.Expr.TheShapes.{former-Expr-Comma-0, former-Expr-For-0, former-Expr-For-1, former-Expr-Additive-1, former-Expr-Multiplicative-1, former-Expr-IntersectExcept-1}
-use Rattle.pj_xvalue.specs.declared.expr.Expr.TheFolds.{map-Expr}
+use Rattle.pj_xexpressions.specs.declared.expr.Expr.TheOpen.{Expr-F}
+use Rattle.pj_xexpressions.specs.declared.expr.Expr.TheShapes.{former-Expr-Comma-0, former-Expr-For-0, former-Expr-For-1, former-Expr-Additive-1, former-Expr-Multiplicative-1, former-Expr-IntersectExcept-1}
+use Rattle.pj_xexpressions.specs.declared.expr.Expr.TheFolds.{map-Expr}
 
 pub map-Expr_twice : {A B C : Type 0} (f : A → B) (g : B → C) (layer : Expr-F A) → map-Expr B C g (map-Expr A B f layer) ≡ map-Expr A C (λ a. g (f a)) layer
 map-Expr_twice f g (Expr-F.Comma parts) = λ i. Expr-F.Comma (map-map former-Expr-Comma-0 _ _ _ f g parts i)

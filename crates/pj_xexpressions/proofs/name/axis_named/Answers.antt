@@ -1,6 +1,6 @@
-use Rattle.pj_xvalue.specs.Names.{axes, axis_of}
-use Rattle.pj_xvalue.proofs.Names.{absent, same_false, none, other}
-use Rattle.pj_xvalue.proofs.name.axis_named.Goals as goal
+use Rattle.pj_xexpressions.specs.Names.{axes, axis_of}
+use Rattle.pj_xexpressions.proofs.Names.{absent, same_false, none, other}
+use Rattle.pj_xexpressions.proofs.name.axis_named.Goals as goal
 
 pub returns-in_default : goal.returns-in_default
 unfolding axis_of

@@ -1,6 +1,6 @@
-use Rattle.pj_xvalue.specs.Names.{pmd_functions}
-use Rattle.pj_xvalue.proofs.Names.{absent, same_false, none, other}
-use Rattle.pj_xvalue.proofs.name.pmd_function.Goals as goal
+use Rattle.pj_xexpressions.specs.Names.{pmd_functions}
+use Rattle.pj_xexpressions.proofs.Names.{absent, same_false, none, other}
+use Rattle.pj_xexpressions.proofs.name.pmd_function.Goals as goal
 
 pub returns-in_default : goal.returns-in_default
 returns-in_default c = absent c.args.name.now pmd_functions (

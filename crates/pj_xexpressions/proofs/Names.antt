@@ -1,9 +1,9 @@
 -- Names in tables.
 use Rattle.std.proofs.Common.{◌≡◌, ◌∙◌, ℕ, List, [], ◌∷◌, true, false, cond, Option, Some, None, sym, refl, ap, ⊎_elim}
 use Rattle.std.proofs.lemmas.Bool.{false≢true, and_parts, cases_Bool, eqb-true}
-use Rattle.pj_xvalue.specs.declared.function.Function.{Function}
-use Rattle.pj_xvalue.specs.declared.pmd_function.PmdFunction.{PmdFunction}
-use Rattle.pj_xvalue.specs.Names.{Entry, same, found_in, functions, pmd_functions, unprefixed, xpath_or_pmd, callee_of}
+use Rattle.pj_xexpressions.specs.declared.function.Function.{Function}
+use Rattle.pj_xexpressions.specs.declared.pmd_function.PmdFunction.{PmdFunction}
+use Rattle.pj_xexpressions.specs.Names.{Entry, same, found_in, functions, pmd_functions, unprefixed, xpath_or_pmd, callee_of}
 
 same_is : (t w : List ℕ) → same t w ≡ true → t ≡ w
 same_is [] [] h = refl

@@ -2,13 +2,13 @@
 -- nowhere: its printed form is, under further conditions that are said with that form.
 use Rattle.std.specs.Prelude.{ℕ, ◌+◌, ◌≤◌, ℤ, pos, negsuc, Bool, true, false, not, ◌&&◌, ◌||◌, List, [], ◌∷◌, length, map, Option, Some, None, IsTrue, if◌then◌else◌, nat_le, nat_lt, nat_eq, max, codes}
 use Rattle.std.specs.List.{list_all, list_any}
-use Rattle.pj_xvalue.specs.declared.function.Function.{Function}
-use Rattle.pj_xvalue.specs.declared.function.Function.TheVariants as f
-use Rattle.pj_xvalue.specs.declared.expr.Expr.{Expr}
-use Rattle.pj_xvalue.specs.declared.expr.Expr.TheOpen.{Expr-F}
-use Rattle.pj_xvalue.specs.declared.expr.Expr.TheFolds.{fold-Expr}
-use Rattle.pj_xvalue.specs.Attributes.{is_among}
-use Rattle.pj_xvalue.specs.Functions.{takes, pmd_takes}
+use Rattle.pj_xexpressions.specs.declared.function.Function.{Function}
+use Rattle.pj_xexpressions.specs.declared.function.Function.TheVariants as f
+use Rattle.pj_xexpressions.specs.declared.expr.Expr.{Expr}
+use Rattle.pj_xexpressions.specs.declared.expr.Expr.TheOpen.{Expr-F}
+use Rattle.pj_xexpressions.specs.declared.expr.Expr.TheFolds.{fold-Expr}
+use Rattle.pj_xexpressions.specs.Among.{is_among}
+use Rattle.pj_xexpressions.specs.Functions.{takes, pmd_takes}
 
 -- The variables at a place of an expression: those that the rule set gives to the whole expression, and those that a
 -- `for`, `let`, `some` or `every` around the place binds.

@@ -2,9 +2,9 @@
 
 use crate::axis::Axis;
 use crate::function::Function;
+use crate::operator::{Additive, Compare, Multiplicative, Quantifier, SetOperator, Sign};
 use crate::pmd_function::PmdFunction;
 use pj_base::Text;
-use pj_xoperators::{Additive, Compare, Multiplicative, Quantifier, SetOperator, Sign};
 
 /// An expression, with its section in XML Path Language (XPath) 2.0 where no other is named.
 ///

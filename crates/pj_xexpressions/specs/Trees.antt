@@ -1,19 +1,19 @@
 -- Expressions as contracts compare them. An `Expr` keeps its parts in boxes and vectors, and two of these differ by their places in
 -- memory; of these no contract speaks.
 use Rattle.std.specs.Prelude.{ℕ, ℤ, List, [], ◌∷◌, ◌++◌, map, Option}
-use Rattle.pj_xvalue.specs.declared.axis.Axis.{Axis}
-use Rattle.pj_xvalue.specs.declared.function.Function.{Function}
-use Rattle.pj_xoperators.specs.declared.operator.Compare.{Compare}
-use Rattle.pj_xvalue.specs.declared.pmd_function.PmdFunction.{PmdFunction}
-use Rattle.pj_xoperators.specs.declared.operator.Additive.{Additive}
-use Rattle.pj_xoperators.specs.declared.operator.Multiplicative.{Multiplicative}
-use Rattle.pj_xvalue.specs.declared.expr.NodeTest.{NodeTest}
-use Rattle.pj_xoperators.specs.declared.operator.Quantifier.{Quantifier}
-use Rattle.pj_xoperators.specs.declared.operator.SetOperator.{SetOperator}
-use Rattle.pj_xoperators.specs.declared.operator.Sign.{Sign}
-use Rattle.pj_xvalue.specs.declared.expr.Expr.{Expr}
-use Rattle.pj_xvalue.specs.declared.expr.Expr.TheOpen.{Expr-F}
-use Rattle.pj_xvalue.specs.declared.expr.Expr.TheFolds.{fold-Expr}
+use Rattle.pj_xexpressions.specs.declared.axis.Axis.{Axis}
+use Rattle.pj_xexpressions.specs.declared.function.Function.{Function}
+use Rattle.pj_xexpressions.specs.declared.operator.Compare.{Compare}
+use Rattle.pj_xexpressions.specs.declared.pmd_function.PmdFunction.{PmdFunction}
+use Rattle.pj_xexpressions.specs.declared.operator.Additive.{Additive}
+use Rattle.pj_xexpressions.specs.declared.operator.Multiplicative.{Multiplicative}
+use Rattle.pj_xexpressions.specs.declared.expr.NodeTest.{NodeTest}
+use Rattle.pj_xexpressions.specs.declared.operator.Quantifier.{Quantifier}
+use Rattle.pj_xexpressions.specs.declared.operator.SetOperator.{SetOperator}
+use Rattle.pj_xexpressions.specs.declared.operator.Sign.{Sign}
+use Rattle.pj_xexpressions.specs.declared.expr.Expr.{Expr}
+use Rattle.pj_xexpressions.specs.declared.expr.Expr.TheOpen.{Expr-F}
+use Rattle.pj_xexpressions.specs.declared.expr.Expr.TheFolds.{fold-Expr}
 
 -- What an expression is, without its parts. A `for`, a `let`, a `some` and an `every` have the names of their variables, and the
 -- chains that mix operators have these in their order.

@@ -1,6 +1,6 @@
 //! The functions of XPath.
 ghost use Rattle.std.specs.Prelude.{◌≡◌};
-ghost use Rattle.pj_xvalue.specs.Functions.{takes};
+ghost use Rattle.pj_xexpressions.specs.Functions.{takes};
 
 /// A function of XPath, with its section in XQuery 1.0 and XPath 2.0 Functions and Operators. None takes a collation.
 #[derive(Clone, Copy, Debug, PartialEq, Eq)]

@@ -1,0 +1,2 @@
+pub mod ExpressionForms
+mod Names
