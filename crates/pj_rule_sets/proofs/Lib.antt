@@ -1,7 +1,6 @@
 pub mod Judging
 pub mod Lists
 pub mod OneAnswer
-pub mod Slices
 pub mod Sources
 pub mod Listing
 pub mod Keys

@@ -94,3 +94,7 @@ token_shorter not_empty rest body behind k p l =
 -- the offset of an end of the text, as the code computes it
 pub offset_is : (text body : List ℕ) → IsUtf8 text → IsUtf8 body → IsBehind (chars body) (chars text) → length text - length body + size (chars body) ≡ length text
 offset_is text body u v b = omega (arith, length_behind text body u v b, size_chars body v)
+
+-- what is told of a text's bytes, where its characters take so many
+pub in_bytes : (text : List ℕ) → IsUtf8 text → (ls : List Lexed) (end : End) → Tokens (length text) (chars text) ls end → Tokens (size (chars text)) (chars text) ls end
+in_bytes text utf8 ls end read = subst (λ n. Tokens n (chars text) ls end) (size_chars text utf8) read

@@ -3,6 +3,7 @@
 ghost use Rattle.std.specs.Prelude.{◌≡◌, ◌<◌, ◌^◌, IfOk, length, map};
 ghost use Rattle.std.specs.Str.{chars};
 ghost use Rattle.pj_xtokens.specs.Answer.{lexed_of};
+ghost use Rattle.pj_xtokens.specs.Size.{size};
 ghost use Rattle.pj_xtokens.specs.Tokens.{Tokens};
 
 use crate::gap::skip_gap;
@@ -28,7 +29,7 @@ pub struct TokenList<'t> {
 /// bytes.
 pub fn tokens<'t>(alloc: Global, text: &'t str) -> Result<TokenList<'t>, NoMemory>
     requires fits { length text.now < 2 ^ 32 }
-    ensures { IfOk result (λ found. Tokens (length text.now) (chars text.now) (map lexed_of found.list) found.end) }
+    ensures { IfOk result (λ found. Tokens (size (chars text.now)) (chars text.now) (map lexed_of found.list) found.end) }
 {
     tokens_are_not_empty();
     let mut list = Vec::new(alloc);

@@ -5,7 +5,7 @@ use Rattle.pj_xtokens.specs.Answer.{lexed_of}
 use Rattle.pj_xtokens.specs.Tokens.{Tokens, Lexed}
 use Rattle.pj_xtokens.specs.declared.token.End.TheVariants as ends
 use Rattle.pj_xtokens.proofs.Ends.{length_behind}
-use Rattle.pj_xtokens.proofs.Reading.{Leads, past_behind, behind_behind, empty_text, full_text, leads_ended, leads_unspelled, leads_token, leads_joined, token_shorter, offset_is}
+use Rattle.pj_xtokens.proofs.Reading.{Leads, in_bytes, past_behind, behind_behind, empty_text, full_text, leads_ended, leads_unspelled, leads_token, leads_joined, token_shorter, offset_is}
 use Rattle.pj_xtokens.proofs.token_list.tokens.Goals as goal
 
 pub skip_gap-body-requires : goal.skip_gap-body-requires
@@ -17,15 +17,15 @@ overflow_sub-from c =
 
 pub returns-then-is_empty : goal.returns-then-is_empty
 returns-then-is_empty c =
-    subst (λ (ls : List Lexed). Tokens (length c.args.text.now) (chars c.args.text.now) ls (ends.Text (length c.args.text.now))) (ap (map lexed_of) (sym c.from_vec-list.ensures))
-    (leads_ended _ _ _ _ c.loop-body.invariant.leads _ c.skip_gap-body.ensures.past (empty_text _ _ c.is_empty.ensures c.if-is_empty.true))
+    in_bytes _ c.utf8.text _ _ (subst (λ (ls : List Lexed). Tokens (length c.args.text.now) (chars c.args.text.now) ls (ends.Text (length c.args.text.now))) (ap (map lexed_of) (sym c.from_vec-list.ensures))
+    (leads_ended _ _ _ _ c.loop-body.invariant.leads _ c.skip_gap-body.ensures.past (empty_text _ _ c.is_empty.ensures c.if-is_empty.true)))
 
 pub returns-in_default : goal.returns-in_default
 returns-in_default c =
     let at = behind_behind _ _ _ c.loop-body.invariant.behind (past_behind _ _ c.skip_gap-body.ensures.past) in
-    subst (λ (ls : List Lexed). Tokens (length c.args.text.now) (chars c.args.text.now) ls (ends.Fault (length c.args.text.now - length c.skip_gap-body.result.now))) (ap (map lexed_of) (sym c.from_vec-list-in_default.ensures))
+    in_bytes _ c.utf8.text _ _ (subst (λ (ls : List Lexed). Tokens (length c.args.text.now) (chars c.args.text.now) ls (ends.Fault (length c.args.text.now - length c.skip_gap-body.result.now))) (ap (map lexed_of) (sym c.from_vec-list-in_default.ensures))
     (leads_unspelled _ _ _ _ c.loop-body.invariant.leads _ _ c.skip_gap-body.ensures.past c.skip_gap-body.ensures.solid c.in_default.ensures
-    (offset_is _ _ c.utf8.text c.skip_gap-body.utf8 at) (full_text _ _ c.skip_gap-body.utf8 c.is_empty.ensures c.if-is_empty.false))
+    (offset_is _ _ c.utf8.text c.skip_gap-body.utf8 at) (full_text _ _ c.skip_gap-body.utf8 c.is_empty.ensures c.if-is_empty.false)))
 
 pub overflow_sub-result : goal.overflow_sub-result
 overflow_sub-result c =
@@ -39,11 +39,11 @@ returns-then-is_joined c =
     let at = behind_behind _ _ _ c.loop-body.invariant.behind (past_behind _ _ c.skip_gap-body.ensures.past) in
     let u : IsUtf8 c.in-Some.behind.now = search rules in
     let end = behind_behind _ _ _ at (chars c.before-in-loop-body.result.now, c.before-in-loop-body.ensures.split) in
-    subst (λ (ls : List Lexed). Tokens total (chars c.args.text.now) ls (ends.Fault (total - length c.in-Some.behind.now)))
+    in_bytes _ c.utf8.text _ _ (subst (λ (ls : List Lexed). Tokens total (chars c.args.text.now) ls (ends.Fault (total - length c.in-Some.behind.now)))
     (sym (ap (map lexed_of) (c.from_vec-list-then-is_joined.ensures ∙ c.in_ok-push.ensures.items) ∙ map-append lexed_of _ _))
     (leads_joined _ _ _ _ c.loop-body.invariant.leads _ _ (chars c.before-in-loop-body.result.now) c.in-Some.kind (total - length c.skip_gap-body.result.now) c.skip_gap-body.ensures.past c.skip_gap-body.ensures.solid
     c.in-Some.ensures c.before-in-loop-body.ensures.split (offset_is _ _ c.utf8.text c.skip_gap-body.utf8 at) (total - length c.in-Some.behind.now)
-    (sym c.is_joined.ensures ∙ c.if-is_joined.true) (offset_is _ _ c.utf8.text u end))
+    (sym c.is_joined.ensures ∙ c.if-is_joined.true) (offset_is _ _ c.utf8.text u end)))
 
 pub loop-body-smaller : goal.loop-body-smaller
 loop-body-smaller c = token_shorter c.tokens_are_not_empty.ensures _ _ _ _ c.skip_gap-body.ensures.past c.in-Some.ensures
