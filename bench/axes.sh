@@ -10,7 +10,8 @@
 set -euo pipefail
 . "$(dirname "$0")/scratch.sh"
 . "$(dirname "$0")/trees.sh"
-scratch_repository axes_bench 'pj_base pj_tree pj_xvalue pj_xaxes' pj_base pj_names pj_tree pj_xoperators pj_xvalue pj_xaxes
+libraries='pj_base pj_tree pj_xaxes pj_xexpressions'
+scratch_repository axes_bench "$libraries" $(with_lower_crates $libraries)
 trees_of_chains
 cat > "$bench/src/main.rt" <<'PROGRAM'
 // Rows of time.
@@ -23,7 +24,7 @@ mod trees;
 use crate::trees::tree;
 use pj_tree::{Node, SyntaxTree};
 use pj_xaxes::axis;
-use pj_xvalue::Axis;
+use pj_xexpressions::Axis;
 use std::io;
 use std::time::CpuClock;
 

@@ -13,15 +13,17 @@
 # row is the search in the empty string, which is little more than the making of a matcher.
 set -euo pipefail
 . "$(dirname "$0")/scratch.sh"
-scratch_repository functions_bench 'anyhow pj_base pj_xvalue pj_xpatterns pj_xfuncs' pj_base pj_names pj_tree pj_xoperators pj_xvalue pj_xpatterns pj_xfuncs
+libraries='pj_base pj_xexpressions pj_xfuncs pj_xpatterns pj_xvalue'
+scratch_repository functions_bench "anyhow $libraries" $(with_lower_crates $libraries)
 cat > "$bench/src/main.rt" <<'PROGRAM'
 // Rows of time.
 #![tactic(auto)]
 
 use anyhow::Result;
 use pj_base::{NoMemory, Text};
+use pj_xexpressions::{Expr, Function};
 use pj_xfuncs::{Patterns, call};
-use pj_xvalue::{Arguments, BoundVars, Expr, Function, Item, Sequence};
+use pj_xvalue::{Arguments, BoundVars, Item, Sequence};
 use std::alloc::Global;
 use std::time::CpuClock;
 

@@ -10,7 +10,7 @@
 set -euo pipefail
 . "$(dirname "$0")/scratch.sh"
 . "$(dirname "$0")/trees.sh"
-libraries='pj_attrs pj_base pj_names pj_parse pj_source pj_symbols pj_tree pj_xdenotes pj_xeval pj_xfuncs pj_xparse pj_xvalue'
+libraries='pj_attrs pj_base pj_names pj_parse pj_source pj_symbols pj_tree pj_xdenotes pj_xeval pj_xexpressions pj_xfuncs pj_xparse pj_xvalue'
 scratch_repository xeval_bench "$libraries" $(with_lower_crates $libraries)
 trees_of_chains
 for part in $(cd "$here/crates/tests_xeval" && find src/replies.rt src/facts.rt specs proofs/facts -type f ! -name Lib.antt); do
@@ -51,9 +51,10 @@ use pj_source::Source;
 use pj_symbols::Symbols;
 use pj_tree::SyntaxTree;
 use pj_xeval::{Focus, evaluate};
+use pj_xexpressions::Expr;
 use pj_xfuncs::Patterns;
 use pj_xparse::parse as parse_expression;
-use pj_xvalue::{Attributes, BoundVars, Expr, Item};
+use pj_xvalue::{Attributes, BoundVars, Item};
 use std::alloc::{AllocError, Global};
 use std::io;
 use std::time::CpuClock;

@@ -11,8 +11,8 @@
 # text: a row has the characters, and nanoseconds of processor time for each text with either.
 set -euo pipefail
 . "$(dirname "$0")/scratch.sh"
-scratch_repository xparse_bench 'pj_base pj_xparse' pj_base pj_ll pj_names pj_tree pj_xoperators pj_xvalue pj_patterns pj_xtokens pj_xgrammar pj_xderive \
-    pj_xmeaning pj_xshape pj_xparse
+libraries='pj_base pj_xparse'
+scratch_repository xparse_bench "$libraries" $(with_lower_crates $libraries)
 cat > "$bench/src/main.rt" <<'PROGRAM'
 // Rows of time.
 #![tactic(auto)]
