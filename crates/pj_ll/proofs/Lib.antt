@@ -9,6 +9,7 @@ pub mod Stacking
 pub mod Choices
 pub mod Going
 pub mod Places
+pub mod Placing
 pub mod Decided
 pub mod Pieces
 pub mod OneEnd

@@ -2,6 +2,7 @@
 pub mod Grammar
 pub mod Leads
 pub mod Outcome
+pub mod Steps
 pub mod Predictive
 pub mod Test
 -- derivations put together

@@ -3,10 +3,12 @@ use Rattle.std.specs.Prelude.{◌≡◌, ℕ, ◌<◌, ◌≤◌, ⊤, true, Lis
 use Rattle.pj_ll.specs.declared.grammar.Symbol.{Symbol}
 use Rattle.pj_ll.specs.declared.grammar.Symbol.TheVariants.{Terminal, Rule, LeftOut, Close}
 use Rattle.pj_ll.specs.declared.parser.End.{End}
+use Rattle.pj_ll.specs.declared.parser.Step.{Step}
 use Rattle.pj_ll.specs.Grammar.{Entry, Grammar, grammar_of}
 use Rattle.pj_ll.specs.Leads.{Leads, Behind, start}
 use Rattle.pj_ll.specs.Outcome.{AreClearBelow, IsEnd, LeadTo}
 use Rattle.pj_ll.specs.Predictive.{RuleFacts, fact_at, nullable_of, first_of, IsIn, HaveNoLeftOut, HaveLeftOutFirst, IsChosenAt}
+use Rattle.pj_ll.specs.Steps.{ArePlaced, productions_in}
 use Rattle.pj_ll.specs.Table.{IsChoice}
 
 -- what comes next in a derivation of the terminals that leaves the symbols: a terminal, also one that is left out, or the end
@@ -63,6 +65,12 @@ pub record IsMoving (fs : List RuleFacts) (productions : List Entry) (a : Option
 pub record HasMoved (fs : List RuleFacts) (productions : List Entry) (a : Option ℕ) (ss : List Symbol) (ps : List ℕ) (ss' : List Symbol) (ps' : List ℕ) : Type 0 where
   pub moving : IsMoving fs productions a ss ps ss' ps'
   pub settled : IsSettled productions a ss'
+
+-- the productions led past the terminals before the place to the symbols, and each stands where it was used
+pub record HasLed (g : Grammar) (ts : List ℕ) (place : ℕ) (steps : List Step) (ss : List Symbol) : Type 0 where
+  pub within : place ≤ length ts
+  pub leads : Leads g start (take place ts) (productions_in steps) ss
+  pub placed : ArePlaced g ts steps
 
 -- each derivation of more than the terminals begins with the productions, and goes on from the symbols
 pub record IsOnlyWay (g : Grammar) (before ps : List ℕ) (ss : List Symbol) : Type 0 where

@@ -4,6 +4,7 @@ ghost use Rattle.std.specs.Prelude.{◌≡◌, ◌+◌, ◌<◌, ◌≤◌, ◌^
 ghost use Rattle.std.specs.Str.{chars};
 ghost use Rattle.pj_ll.specs.Leads.{CanGoOn};
 ghost use Rattle.pj_ll.specs.Outcome as ll;
+ghost use Rattle.pj_ll.specs.Steps.{ArePlaced, productions_in};
 ghost use Rattle.pj_ll.specs.declared.parser.End.TheVariants.{LeftOut, Stops, TooDeep};
 ghost use Rattle.pj_xtokens.specs.Size.{size};
 ghost use Rattle.pj_xtokens.specs.Answer.{lexed_of};
@@ -232,21 +233,22 @@ fn outcome(
     }
 }
 
-/// The leftmost derivation of the tokens of an expression by the numbers of its productions, or the first place at which
-/// something is left out, more than 200 things that nest are open, or what stands there cannot follow; with the productions
+/// The leftmost derivation of the tokens of an expression, by the numbers of its productions and the places at which they begin, or the first place
+/// at which something is left out, more than 200 things that nest are open, or what stands there cannot follow; with the productions
 /// up to there. Places are numbers of tokens, from 0, and the number of all tokens is the place of the end. There are fewer than
 /// 2^32 tokens. It fails only for want of memory.
 pub fn derivation(alloc: Global, parser: &Parser, tokens: &[Token<'_>]) -> Result<Run, NoMemory>
     requires few { length tokens.now < 2 ^ 32 }
     ensures outcome { IfOk result (λ run. IsOutcome (map lexed_of tokens.now) run.end) }
-    ensures leads { IfOk result (λ run. LeadTo (map lexed_of tokens.now) run.productions.items run.end) }
-    ensures run { IfOk result (λ run. IsRun (map lexed_of tokens.now) run.productions.items) }
+    ensures leads { IfOk result (λ run. LeadTo (map lexed_of tokens.now) (productions_in run.steps.items) run.end) }
+    ensures run { IfOk result (λ run. IsRun (map lexed_of tokens.now) (productions_in run.steps.items)) }
+    ensures places { IfOk result (λ run. ArePlaced xpath_grammar (numbers (map lexed_of tokens.now)) run.steps.items) }
 {
     let terminals = terminals_of(alloc, tokens)?;
     let run = parser.run(alloc, terminals.as_slice())?;
     let end = outcome(alloc, parser, tokens, terminals.as_slice(), run.end)?;
     Ok(Run {
-        productions: run.productions,
+        steps: run.steps,
         end,
     })
 }

@@ -2,6 +2,7 @@
 
 ghost use Rattle.std.specs.Prelude.{◌<◌, ◌^◌, IfOk, length};
 ghost use Rattle.pj_ll.specs.Outcome as ll;
+ghost use Rattle.pj_ll.specs.Steps.{ArePlaced, productions_in};
 ghost use Rattle.pj_xgrammar.specs.XPath.{greatest_nesting, xpath_grammar};
 
 use crate::grammar::pieces;
@@ -43,7 +44,8 @@ impl Parser {
     pub(crate) fn run(&self, alloc: Global, terminals: &[u16]) -> Result<Run, NoMemory>
         requires few { length terminals.now < 2 ^ 32 }
         ensures ends { IfOk result (λ run. ll.IsEnd xpath_grammar terminals.now greatest_nesting run.end) }
-        ensures leads { IfOk result (λ run. ll.LeadTo xpath_grammar terminals.now run.productions.items run.end) }
+        ensures leads { IfOk result (λ run. ll.LeadTo xpath_grammar terminals.now (productions_in run.steps.items) run.end) }
+        ensures places { IfOk result (λ run. ArePlaced xpath_grammar terminals.now run.steps.items) }
     {
         tested_tables_are_predictive();
         parse(alloc, &self.table, terminals, GREATEST_NESTING)

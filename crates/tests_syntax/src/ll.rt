@@ -4,7 +4,7 @@ ghost use Rattle.std.specs.Prelude.{◌^◌, ◌<◌, length};
 
 use pj_base::NoMemory;
 use pj_ll::Piece::{AtEnd, Close, LeftOut, On, Production, Rule, Terminal};
-use pj_ll::{End, Piece, Table, parse, tested_tables_are_predictive};
+use pj_ll::{End, Piece, Step, Table, parse, tested_tables_are_predictive};
 use std::alloc::Global;
 use std::test::Fail;
 
@@ -33,6 +33,13 @@ static SUMS: [Piece; 29] = [
     Production(2), LeftOut(BRACKET), On(BRACKET),
 ];
 
+/// Whether the steps use these productions, in this order.
+fn uses(steps: &[Step], productions: &[u16]) -> bool {
+    let mut pairs = steps.iter().zip(productions);
+    steps.len() == productions.len()
+        && pairs.all(|(step, production)| step.production == *production)
+}
+
 /// Whether the run ends so, with these productions.
 fn gives(
     alloc: Global,
@@ -46,7 +53,7 @@ fn gives(
     tested_tables_are_predictive();
     let table = Table::new(alloc, &SUMS)?;
     let run = parse(alloc, &table, terminals, deepest)?;
-    Ok(run.end == end && run.productions.as_slice() == productions)
+    Ok(run.end == end && uses(run.steps.as_slice(), productions))
 }
 
 /// Terminals, the number of parentheses that may be open, how the run ends, and its productions.

@@ -7,7 +7,7 @@ use crate::meaning_rows::{
 };
 use crate::printed::is_printed;
 use pj_base::NoMemory;
-use pj_ll::End;
+use pj_ll::{End, Step};
 use pj_xderive::{Parser, derivation};
 use pj_xmeaning::reading;
 use pj_xtokens::{Token, tokens};
@@ -17,11 +17,11 @@ use std::test::Fail;
 /// Whether the tokens spell this by a leftmost derivation, with each operator in parentheses.
 fn is_meaning(
     alloc: Global,
-    productions: &[u16],
+    steps: &[Step],
     tokens: &[Token<'_>],
     wanted: &str,
 ) -> Result<bool, NoMemory> {
-    let read = reading(alloc, productions, tokens)?;
+    let read = reading(alloc, steps, tokens)?;
     is_printed(alloc, &read.expr, wanted)
 }
 
@@ -33,7 +33,7 @@ fn spells(alloc: Global, tokens: &[Token<'_>], wanted: &str) -> Result<bool, NoM
     let parser = Parser::new(alloc)?;
     let run = derivation(alloc, &parser, tokens)?;
     match run.end {
-        End::Whole => is_meaning(alloc, run.productions.as_slice(), tokens, wanted),
+        End::Whole => is_meaning(alloc, run.steps.as_slice(), tokens, wanted),
         _ => Ok(false),
     }
 }

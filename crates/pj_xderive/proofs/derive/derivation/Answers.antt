@@ -1,6 +1,7 @@
 use Rattle.std.proofs.Common.{◌≡◌, length, map, ap, subst, ◌∙◌, arith}
 use Rattle.std.proofs.lemmas.List.{length-map}
 use Rattle.pj_ll.specs.Outcome as ll
+use Rattle.pj_ll.specs.Steps.{ArePlaced, productions_in}
 use Rattle.pj_xtokens.specs.Answer.{lexed_of}
 use Rattle.pj_xgrammar.specs.declared.terminal.Behind.TheVariants as b
 use Rattle.pj_xgrammar.specs.XPath.{xpath_grammar}
@@ -18,5 +19,10 @@ run-requires c =
 pub returns-clause-leads : goal.returns-clause-leads
 returns-clause-leads c =
     let is : c.as_slice.result.now ≡ numbers (map lexed_of c.args.tokens.now) = c.as_slice.ensures.value ∙ c.in_ok-terminals.ensures in
-    c.in_ok-end.ensures.leads c.in_ok-run.run'.productions.items
-    (subst (λ l. ll.LeadTo xpath_grammar l c.in_ok-run.run'.productions.items c.in_ok-run.run'.end) is c.in_ok-run.ensures.leads)
+    c.in_ok-end.ensures.leads (productions_in c.in_ok-run.run'.steps.items)
+    (subst (λ l. ll.LeadTo xpath_grammar l (productions_in c.in_ok-run.run'.steps.items) c.in_ok-run.run'.end) is c.in_ok-run.ensures.leads)
+
+pub returns-clause-places : goal.returns-clause-places
+returns-clause-places c =
+    let is : c.as_slice.result.now ≡ numbers (map lexed_of c.args.tokens.now) = c.as_slice.ensures.value ∙ c.in_ok-terminals.ensures in
+    subst (λ l. ArePlaced xpath_grammar l c.in_ok-run.run'.steps.items) is c.in_ok-run.ensures.places

@@ -2,6 +2,7 @@ use Rattle.std.proofs.Common.{sym, ap, subst, ◌∙◌, IfOk}
 use Rattle.pj_ll.specs.Grammar.{entries_of, grammar_of}
 use Rattle.pj_ll.specs.Predictive.{IsPredictive}
 use Rattle.pj_ll.specs.Outcome as ll
+use Rattle.pj_ll.specs.Steps.{ArePlaced, productions_in}
 use Rattle.pj_xderive.specs.declared.table.TheConstants.{PIECES}
 use Rattle.pj_xderive.proofs.RuleFacts.{xpath_facts}
 use Rattle.pj_xderive.proofs.SameTable.{test_is, table_is}
@@ -18,5 +19,9 @@ returns-clause-ends c =
 
 pub returns-clause-leads : goal.returns-clause-leads
 returns-clause-leads c =
-    subst (λ g. IfOk c.parse.result (λ run. ll.LeadTo g c.args.terminals.now run.productions.items run.end)) (ap grammar_of c.self.invariant ∙ table_is)
+    subst (λ g. IfOk c.parse.result (λ run. ll.LeadTo g c.args.terminals.now (productions_in run.steps.items) run.end)) (ap grammar_of c.self.invariant ∙ table_is)
     c.parse.ensures.leads
+
+pub returns-clause-places : goal.returns-clause-places
+returns-clause-places c =
+    subst (λ g. IfOk c.parse.result (λ run. ArePlaced g c.args.terminals.now run.steps.items)) (ap grammar_of c.self.invariant ∙ table_is) c.parse.ensures.places
