@@ -1,4 +1,5 @@
 pub mod Apart
+pub mod BeginningsLead
 pub mod Completing
 pub mod Deeper
 pub mod Endings

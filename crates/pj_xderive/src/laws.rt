@@ -1,6 +1,6 @@
 //! Laws of outcomes. The functions do nothing, and their contracts are the laws.
 
-ghost use Rattle.std.specs.Prelude.{◌≡◌, ◌≤◌, ℕ, List};
+ghost use Rattle.std.specs.Prelude.{◌++◌, ◌≡◌, ◌≤◌, ℕ, List, length};
 ghost use Rattle.pj_ll.specs.declared.parser.End.{End};
 ghost use Rattle.pj_ll.specs.Grammar.{Entry, grammar_of};
 ghost use Rattle.pj_ll.specs.Outcome as terminals;
@@ -8,7 +8,7 @@ ghost use Rattle.pj_ll.specs.Predictive.{RuleFacts, IsPredictive};
 ghost use Rattle.pj_xtokens.specs.Tokens.{Lexed};
 ghost use Rattle.pj_xgrammar.specs.Terminals.{numbers};
 ghost use Rattle.pj_xgrammar.specs.XPath.{greatest_nesting, xpath_grammar};
-ghost use Rattle.pj_xderive.specs.Expressions.{AreDerived, IsOutcome, IsRun, place_of};
+ghost use Rattle.pj_xderive.specs.Expressions.{AreDerived, CanGoOn, IsOutcome, IsRun, LeadBehindFirst, place_of};
 
 use pj_ll::{one_end, tested_tables_are_predictive};
 
@@ -46,6 +46,12 @@ pub fn runs_end_before_faults()
     grammar_is_predictive();
     one_end();
 }
+
+/// Tokens begin an expression exactly where productions lead behind their terminals, as these are before some other tokens.
+pub fn beginnings_lead()
+    ensures led { (tokens : List Lexed) → CanGoOn tokens → (more : List Lexed) × ((productions : List ℕ) × LeadBehindFirst (tokens ++ more) (length tokens) productions) }
+    ensures begun { (tokens more : List Lexed) (productions : List ℕ) → LeadBehindFirst (tokens ++ more) (length tokens) productions → CanGoOn tokens }
+{}
 
 /// The grammar is LL(1): with some select sets its predictive parser is exact.
 pub fn grammar_is_predictive()

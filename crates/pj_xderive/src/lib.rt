@@ -14,6 +14,7 @@ mod table;
 pub use derive::derivation;
 pub use grammar::productions;
 pub use laws::{
-    grammar_is_predictive, one_derivation, one_outcome, one_run, runs_end_before_faults,
+    beginnings_lead, grammar_is_predictive, one_derivation, one_outcome, one_run,
+    runs_end_before_faults,
 };
 pub use parser::Parser;

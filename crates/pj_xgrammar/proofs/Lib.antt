@@ -1,4 +1,2 @@
 pub mod Numbers
-pub mod SameTables
-pub mod Tables
 pub mod Words

@@ -13,13 +13,13 @@ use Rattle.pj_xgrammar.specs.declared.rule.Rule.{Rule}
 use Rattle.pj_xgrammar.specs.declared.rule.Rule.TheVariants as r
 use Rattle.pj_xgrammar.specs.Notation.{t, rule_number}
 use Rattle.pj_xgrammar.specs.XPath.{xpath, rules, line, lines_of, xpath_grammar}
-use Rattle.pj_xgrammar.specs.Actions.{actions_of, actions_by, actions, action_in, action_of}
+use Rattle.pj_xmeaning.specs.Actions.{actions_of, actions_by, actions, action_in, action_of}
 use Rattle.pj_xmeaning.specs.Parts.{RuleValue, Missing, operand, word, held}
 use Rattle.pj_xmeaning.specs.Values.{top, made, up_to, variable_named}
-use Rattle.pj_xgrammar.specs.declared.action.Action.{Action}
-use Rattle.pj_xgrammar.specs.declared.action.Action.TheVariants as action
-use Rattle.pj_xgrammar.specs.declared.action.Leaf.TheVariants as leaf
-use Rattle.pj_xmeaning.specs.Operands.{Operand, Arguments, Next}
+use Rattle.pj_xmeaning.specs.declared.action.Action.{Action}
+use Rattle.pj_xmeaning.specs.declared.action.Action.TheVariants as action
+use Rattle.pj_xmeaning.specs.declared.action.Leaf.TheVariants as leaf
+use Rattle.pj_xreadings.specs.Operands.{Operand, Arguments, Next}
 use Rattle.pj_xmeaning.specs.Reach.{Reach, All, UpTo, IsCut, IsBefore, Within}
 use Rattle.pj_xmeaning.proofs.Derived as d
 use Rattle.pj_xmeaning.proofs.Derived.{Derived, Fill}

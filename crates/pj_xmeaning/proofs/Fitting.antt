@@ -1,12 +1,12 @@
 -- That the actions fit the grammar: they take as many values as there are rules in the productions.
 use Rattle.std.proofs.Common.{◌≡◌, ℕ, ◌+◌, List, [], ◌∷◌, map, refl}
 use Rattle.pj_xgrammar.specs.XPath.{xpath, rules, xpath_grammar}
-use Rattle.pj_xgrammar.specs.Actions.{actions_of, actions}
-use Rattle.pj_xgrammar.specs.Slots.{slots}
-use Rattle.pj_xgrammar.specs.declared.form.Slot.{Slot}
-use Rattle.pj_xgrammar.specs.declared.form.Slot.TheVariants as slot
-use Rattle.pj_xgrammar.specs.declared.action.Action.{Action}
-use Rattle.pj_xgrammar.specs.declared.action.Action.TheVariants as action
+use Rattle.pj_xmeaning.specs.Actions.{actions_of, actions}
+use Rattle.pj_xmeaning.specs.Slots.{slots}
+use Rattle.pj_xmeaning.specs.Slots.{Slot}
+use Rattle.pj_xmeaning.specs.Slots as slot
+use Rattle.pj_xmeaning.specs.declared.action.Action.{Action}
+use Rattle.pj_xmeaning.specs.declared.action.Action.TheVariants as action
 
 -- how many values the action takes
 abbrev pub taken : Action → ℕ

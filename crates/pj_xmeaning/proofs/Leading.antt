@@ -13,7 +13,7 @@ use Rattle.pj_xtokens.specs.Tokens.{Lexed}
 use Rattle.pj_xgrammar.specs.declared.terminal.Behind.TheVariants as b
 use Rattle.pj_xgrammar.specs.Terminals.{first_behind, numbers}
 use Rattle.pj_xgrammar.specs.XPath.{greatest_nesting, xpath_grammar}
-use Rattle.pj_xgrammar.specs.Actions.{action_of}
+use Rattle.pj_xmeaning.specs.Actions.{action_of}
 use Rattle.pj_xmeaning.specs.Parts.{RuleValue}
 use Rattle.pj_xmeaning.specs.Values.{made}
 use Rattle.pj_xmeaning.specs.Reach.{All}

@@ -1,10 +1,7 @@
-pub mod TreeForms
-pub mod Lists
+pub mod Alone
+pub mod SameTables
+pub mod Tables
 pub mod Values
-pub mod Chains
-pub mod StepForms
-pub mod Calls
-pub mod Scopes
 pub mod Beginnings
 pub mod Clear
 pub mod Counts
@@ -16,6 +13,7 @@ pub mod Flattening
 pub mod Going
 pub mod Leading
 pub mod Made
+pub mod Placed
 pub mod Places
 pub mod ReadsDerive
 pub mod Running

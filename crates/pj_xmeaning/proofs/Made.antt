@@ -4,12 +4,13 @@ use Rattle.std.specs.Prelude.{⊤}
 use Rattle.pj_xtokens.specs.Tokens.{Lexed}
 use Rattle.pj_xgrammar.specs.declared.rule.Rule.{Rule}
 use Rattle.pj_xgrammar.specs.declared.rule.Rule.TheVariants as r
-use Rattle.pj_xgrammar.specs.declared.action.Action.{Action}
-use Rattle.pj_xgrammar.specs.declared.action.Action.TheVariants as action
-use Rattle.pj_xgrammar.specs.declared.action.Leaf.TheVariants as leaf
-use Rattle.pj_xgrammar.specs.declared.action.Change.TheVariants as change
-use Rattle.pj_xgrammar.specs.declared.action.Rest.TheVariants as rest
-use Rattle.pj_xmeaning.specs.Operands.{absent, variable}
+use Rattle.pj_xmeaning.specs.declared.action.Action.{Action}
+use Rattle.pj_xmeaning.specs.declared.action.Action.TheVariants as action
+use Rattle.pj_xmeaning.specs.declared.action.Leaf.TheVariants as leaf
+use Rattle.pj_xmeaning.specs.declared.action.Change.TheVariants as change
+use Rattle.pj_xmeaning.specs.declared.action.Rest.TheVariants as rest
+use Rattle.pj_xmeaning.specs.RuleMeanings.{absent}
+use Rattle.pj_xreadings.specs.Operands.{variable}
 use Rattle.pj_xmeaning.specs.Parts.{RuleValue, Missing, operand, word, held}
 use Rattle.pj_xmeaning.specs.Values.{made, up_to, variable_named}
 

@@ -8,8 +8,8 @@ use Rattle.pj_xgrammar.specs.declared.rule.Rule.{Rule}
 use Rattle.pj_xgrammar.specs.declared.rule.Rule.TheVariants as r
 use Rattle.pj_xgrammar.specs.Notation.{rule_number}
 use Rattle.pj_xgrammar.specs.XPath.{xpath, rules, line, lines_of, xpath_grammar}
-use Rattle.pj_xgrammar.specs.Actions.{actions_of, actions_by, actions, action_in, action_of}
-use Rattle.pj_xgrammar.specs.declared.action.Action.{Action}
+use Rattle.pj_xmeaning.specs.Actions.{actions_of, actions_by, actions, action_in, action_of}
+use Rattle.pj_xmeaning.specs.declared.action.Action.{Action}
 
 -- ---- the numbers of rules
 

@@ -22,10 +22,11 @@ use Rattle.pj_xgrammar.specs.declared.rule.Rule.{Rule}
 use Rattle.pj_xgrammar.specs.declared.rule.Rule.TheVariants as r
 use Rattle.pj_xgrammar.specs.Notation.{R, rule_number}
 use Rattle.pj_xgrammar.specs.XPath.{xpath, rules, line}
-use Rattle.pj_xgrammar.specs.Actions as action
-use Rattle.pj_xgrammar.specs.Actions.{actions_of, action_of}
-use Rattle.pj_xgrammar.specs.declared.action.Action.{Action}
-use Rattle.pj_xmeaning.specs.Operands.{Operand, Binding, Value, Next, Test, Called, Predicates, absent, other, chain, mixed, compared, ranging, signed, bound, chosen, variable, rooted, descendants, path, step, child_step, attribute_step, filtered, kind_test, named}
+use Rattle.pj_xmeaning.specs.Actions as action
+use Rattle.pj_xmeaning.specs.Actions.{actions_of, action_of}
+use Rattle.pj_xmeaning.specs.declared.action.Action.{Action}
+use Rattle.pj_xreadings.specs.Operands.{Operand, Binding, Next, Test, Called, Predicates, other, chain, mixed, compared, ranging, signed, bound, chosen, variable, rooted, descendants, path, step, child_step, attribute_step, filtered, kind_test, named}
+use Rattle.pj_xmeaning.specs.RuleMeanings.{Value, absent}
 use Rattle.pj_xmeaning.specs.Parts as part
 use Rattle.pj_xmeaning.specs.Parts.{RuleValue, Missing, held}
 use Rattle.pj_xmeaning.specs.Values as fold

@@ -10,7 +10,7 @@ use Rattle.pj_xgrammar.specs.declared.rule.Rule.{Rule}
 use Rattle.pj_xgrammar.specs.Notation.{rule_number}
 use Rattle.pj_xgrammar.specs.Terminals.{numbers}
 use Rattle.pj_xgrammar.specs.XPath.{greatest_nesting, rules, xpath_grammar}
-use Rattle.pj_xmeaning.specs.Operands.{Operand}
+use Rattle.pj_xreadings.specs.Operands.{Operand}
 use Rattle.pj_xmeaning.specs.Reads.{AreRead}
 use Rattle.pj_xmeaning.specs.SoFar.{SayUpTo}
 use Rattle.pj_xmeaning.specs.Values.{said}

@@ -8,16 +8,16 @@ use Rattle.pj_ll.specs.Grammar.{Line}
 use Rattle.pj_ll.specs.Leads.{start}
 use Rattle.pj_xtokens.specs.Tokens.{Lexed}
 use Rattle.pj_xgrammar.specs.XPath.{xpath_grammar}
-use Rattle.pj_xgrammar.specs.Slots.{slots, slots_in, production_slots}
-use Rattle.pj_xgrammar.specs.Beginnings.{beginnings}
-use Rattle.pj_xgrammar.specs.declared.form.Slot.{Slot}
-use Rattle.pj_xgrammar.specs.declared.form.Slot.TheVariants as slot
-use Rattle.pj_xgrammar.specs.Actions.{actions, action_in, action_of}
+use Rattle.pj_xmeaning.specs.Slots.{slots, slots_in, production_slots}
+use Rattle.pj_xmeaning.specs.Beginnings.{beginnings}
+use Rattle.pj_xmeaning.specs.Slots.{Slot}
+use Rattle.pj_xmeaning.specs.Slots as slot
+use Rattle.pj_xmeaning.specs.Actions.{actions, action_in, action_of}
 use Rattle.pj_xmeaning.proofs.Fitting.{ActionsFit, taken, rules_among}
 use Rattle.pj_xmeaning.specs.Parts.{RuleValue, operand}
 use Rattle.pj_xmeaning.specs.Values.{top, made, acted, values, said}
-use Rattle.pj_xgrammar.specs.declared.action.Action.{Action}
-use Rattle.pj_xgrammar.specs.declared.action.Action.TheVariants as action
+use Rattle.pj_xmeaning.specs.declared.action.Action.{Action}
+use Rattle.pj_xmeaning.specs.declared.action.Action.TheVariants as action
 use Rattle.pj_xmeaning.specs.Reach.{Reach, All, UpTo, IsCut}
 use Rattle.pj_xmeaning.proofs.Derived.{Derived, by, Fill, none, token, rule, close, cut}
 use Rattle.pj_xmeaning.proofs.Splitting.{behind_is}
@@ -25,7 +25,7 @@ use Rattle.pj_xmeaning.proofs.Taking.{before_cut}
 
 -- ---- an action takes the values of its production
 
-slots_are : (p : ℕ) (line : Line) → slice_get xpath_grammar p ≡ Some line → production_slots p ≡ slots line.symbols
+pub slots_are : (p : ℕ) (line : Line) → slice_get xpath_grammar p ≡ Some line → production_slots p ≡ slots line.symbols
 unfolding production_slots
 slots_are p line at = ap slots_in at
 

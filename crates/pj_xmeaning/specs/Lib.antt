@@ -1,12 +1,12 @@
 -- definitions
-pub mod Mentions
-pub mod Steps
-pub mod Operands
+pub mod RuleMeanings
 pub mod Reach
 pub mod Reads
 pub mod SoFar
--- what the code answers
-pub mod Seen
--- for private clauses
+-- for private clauses: what productions make, and where they begin
+pub mod Actions
+pub mod Slots
+pub mod Beginnings
 pub mod Parts
 pub mod Values
+pub mod Seen

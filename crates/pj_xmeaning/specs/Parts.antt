@@ -1,4 +1,4 @@
--- The values that the code makes of rules, which are those of the relation (`Operands`).
+-- The values that the code makes of rules, which are those of the relation (`RuleMeanings`).
 use Rattle.std.specs.Prelude.{ℕ, Bool, false, List, [], Option, None}
 use Rattle.pj_xexpressions.specs.declared.operator.Compare.{Compare}
 use Rattle.pj_xexpressions.specs.declared.operator.Additive.{Additive}
@@ -8,7 +8,8 @@ use Rattle.pj_xexpressions.specs.declared.expr.NodeTest.{NodeTest}
 use Rattle.pj_xexpressions.specs.declared.expr.NodeTest.TheVariants.{AnyName}
 use Rattle.pj_xgrammar.specs.declared.rule.Rule.{Rule}
 use Rattle.pj_xgrammar.specs.declared.rule.Rule.TheVariants as r
-use Rattle.pj_xmeaning.specs.Operands.{Operand, Binding, Arguments, Open, Behind, Predicates, Value, nothing}
+use Rattle.pj_xreadings.specs.Operands.{Operand, Binding, Arguments, Open, Behind, Predicates, nothing}
+use Rattle.pj_xmeaning.specs.RuleMeanings.{Value}
 
 -- The value of a rule: what its tokens say.
 pub data RuleValue : Type 0 where

@@ -29,10 +29,11 @@ use Rattle.pj_xgrammar.specs.Terminals.{first_behind, terminal_of, terminal_numb
 use Rattle.pj_xgrammar.specs.Notation.{t, integer, string, axis, lone_slash}
 use Rattle.pj_xgrammar.specs.XPath.{xpath}
 use Rattle.pj_xtokens.specs.First.{first_text, first_from}
-use Rattle.pj_xmeaning.specs.Steps.{empty_sequence}
+use Rattle.pj_xreadings.specs.Steps.{empty_sequence}
 use Rattle.pj_xexpressions.specs.Trees as tree
 use Rattle.pj_xexpressions.specs.Trees.{alone}
-use Rattle.pj_xmeaning.specs.Operands.{Operand, Binding, Arguments, Closed, Next, Behind, Test, Called, Predicates, Value, absent, other, chain, mixed, compared, ranging, signed, bound, chosen, variable, cut_variable, integer_literal, string_literal, rooted, descendants, path, step, child_step, attribute_step, filtered, kind_test, named}
+use Rattle.pj_xreadings.specs.Operands.{Operand, Binding, Arguments, Closed, Next, Behind, Test, Called, Predicates, other, chain, mixed, compared, ranging, signed, bound, chosen, variable, cut_variable, integer_literal, string_literal, rooted, descendants, path, step, child_step, attribute_step, filtered, kind_test, named}
+use Rattle.pj_xmeaning.specs.RuleMeanings.{Value, absent}
 use Rattle.pj_xmeaning.specs.Reach.{Reach, All, Within, IsBefore, IsCut}
 
 -- The first token is read as the terminal, and the others stand behind it; or the tokens are cut off, so that none is taken.

@@ -3,38 +3,32 @@
 -- attributes: Aho, Lam, Sethi, Ullman, section 5.2.3).
 use Rattle.std.specs.Prelude.{ℕ, Bool, true, false, List, [], ◌∷◌, Option, Some, None}
 use Rattle.pj_xexpressions.specs.declared.axis.Axis.TheVariants as axis
-use Rattle.pj_xexpressions.specs.declared.expr.NodeTest.{NodeTest}
-use Rattle.pj_xexpressions.specs.declared.expr.NodeTest.TheVariants.{Name, AnyName, AnyNode, AnyElement}
+use Rattle.pj_xexpressions.specs.declared.expr.NodeTest.TheVariants.{Name, AnyName, AnyNode}
 use Rattle.pj_xexpressions.specs.Trees as tree
-use Rattle.pj_xexpressions.specs.Trees.{Construct, alone}
+use Rattle.pj_xexpressions.specs.Trees.{alone}
 use Rattle.pj_xtokens.specs.First.{behind_first, first_from, first_text}
 use Rattle.pj_xtokens.specs.Tokens.{Lexed}
-use Rattle.pj_xgrammar.specs.Beginnings.{Beginning, beginnings}
-use Rattle.pj_xgrammar.specs.declared.form.Slot.TheVariants as slot
-use Rattle.pj_xgrammar.specs.Actions.{action_of}
-use Rattle.pj_xmeaning.specs.Operands.{Operand, Closed, Next, Test, Called, Predicates, other, chain, mixed, compared, ranging, signed, bound, chosen, variable, cut_variable, integer_literal, string_literal, rooted, descendants, path, step, child_step, attribute_step, filtered, kind_test, named}
-use Rattle.pj_xmeaning.specs.Steps.{empty_sequence}
+use Rattle.pj_xmeaning.specs.Beginnings.{Beginning, beginnings}
+use Rattle.pj_xmeaning.specs.Slots as slot
+use Rattle.pj_xmeaning.specs.Actions.{action_of}
+use Rattle.pj_xreadings.specs.Constructs.{binder_of, construct_of, kind_of}
+use Rattle.pj_xreadings.specs.Operands.{Operand, Closed, Next, Test, Called, Predicates, other, chain, mixed, compared, ranging, signed, bound, chosen, variable, cut_variable, integer_literal, string_literal, rooted, descendants, path, step, child_step, attribute_step, filtered, kind_test, named}
+use Rattle.pj_xreadings.specs.Steps.{empty_sequence}
 use Rattle.pj_xmeaning.specs.Parts.{RuleValue, Missing, Nothing, One, Many, Bound, Compared, UpTo, Sums, Products, Sets, Given, Tested, Parentheses, Word, Tail, operand, operands, bindings, comparison, range, sums, products, sets, arguments, test, parentheses, word, tail}
-use Rattle.pj_xgrammar.specs.declared.action.Action.{Action}
-use Rattle.pj_xgrammar.specs.declared.action.Action.TheVariants as action
-use Rattle.pj_xgrammar.specs.declared.action.Leaf.{Leaf}
-use Rattle.pj_xgrammar.specs.declared.action.Leaf.TheVariants as leaf
-use Rattle.pj_xgrammar.specs.declared.action.Kind.{Kind}
-use Rattle.pj_xgrammar.specs.declared.action.Kind.TheVariants as kind
-use Rattle.pj_xgrammar.specs.declared.action.Change.{Change}
-use Rattle.pj_xgrammar.specs.declared.action.Change.TheVariants as change
-use Rattle.pj_xgrammar.specs.declared.action.Single.{Single}
-use Rattle.pj_xgrammar.specs.declared.action.Single.TheVariants as single
-use Rattle.pj_xgrammar.specs.declared.action.Rest.{Rest}
-use Rattle.pj_xgrammar.specs.declared.action.Rest.TheVariants as rest
-use Rattle.pj_xgrammar.specs.declared.action.Chain.{Chain}
-use Rattle.pj_xgrammar.specs.declared.action.Chain.TheVariants as chains
-use Rattle.pj_xgrammar.specs.declared.action.Operation.{Operation}
-use Rattle.pj_xgrammar.specs.declared.action.Operation.TheVariants as operation
-use Rattle.pj_xgrammar.specs.declared.action.Binder.{Binder}
-use Rattle.pj_xgrammar.specs.declared.action.Binder.TheVariants as binding
-use Rattle.pj_xgrammar.specs.declared.action.Step.{Step}
-use Rattle.pj_xgrammar.specs.declared.action.Step.TheVariants as steps
+use Rattle.pj_xmeaning.specs.declared.action.Action.{Action}
+use Rattle.pj_xmeaning.specs.declared.action.Action.TheVariants as action
+use Rattle.pj_xmeaning.specs.declared.action.Leaf.{Leaf}
+use Rattle.pj_xmeaning.specs.declared.action.Leaf.TheVariants as leaf
+use Rattle.pj_xmeaning.specs.declared.action.Change.{Change}
+use Rattle.pj_xmeaning.specs.declared.action.Change.TheVariants as change
+use Rattle.pj_xmeaning.specs.declared.action.Single.{Single}
+use Rattle.pj_xmeaning.specs.declared.action.Single.TheVariants as single
+use Rattle.pj_xmeaning.specs.declared.action.Rest.{Rest}
+use Rattle.pj_xmeaning.specs.declared.action.Rest.TheVariants as rest
+use Rattle.pj_xmeaning.specs.declared.action.Operation.{Operation}
+use Rattle.pj_xmeaning.specs.declared.action.Operation.TheVariants as operation
+use Rattle.pj_xmeaning.specs.declared.action.Step.{Step}
+use Rattle.pj_xmeaning.specs.declared.action.Step.TheVariants as steps
 
 -- ---- tokens
 
@@ -69,10 +63,6 @@ up_to value = Some (operand value)
 abbrev pub variable_named : List Lexed → RuleValue → Operand
 variable_named tokens Missing = cut_variable tokens
 variable_named tokens value = variable tokens (word value)
-
-abbrev pub kind_of : Kind → NodeTest
-kind_of kind.Node = AnyNode
-kind_of kind.Element = AnyElement
 
 abbrev pub change_value : Change → List Lexed → RuleValue → RuleValue
 change_value change.Bindings tokens value = Bound (bindings value)
@@ -109,14 +99,6 @@ rest_value rest.FurtherArgument tokens first others = Given (Next (first_from (b
 rest_value rest.AxisTest tokens first others = Tail (Test (test first) (operands others))
 rest_value rest.Called tokens first others = Tail (Called (arguments first) (operands others))
 
-abbrev pub construct_of : Chain → Construct
-construct_of chains.Comma = tree.Comma
-construct_of chains.Or = tree.Or
-construct_of chains.And = tree.And
-construct_of chains.Concatenation = tree.Concatenation
-construct_of chains.Union = tree.Union
-construct_of chains.SimpleMap = tree.SimpleMap
-
 abbrev pub operation_value : Operation → RuleValue → RuleValue → Operand
 operation_value (operation.Chain operator) first behind = chain (construct_of operator) (operand first) (operands behind)
 operation_value operation.Comparison first behind = compared (operand first) (comparison behind)
@@ -140,11 +122,6 @@ is_end _ = false
 abbrev pub is_one : RuleValue → Bool
 is_one (One a) = true
 is_one _ = false
-
-abbrev pub binder_of : Binder → List (List ℕ) → Construct
-binder_of binding.For = tree.For
-binder_of binding.Let = tree.Let
-binder_of (binding.Quantified quantifier) = tree.Quantified quantifier
 
 abbrev pub step_value : Step → List Lexed → RuleValue → RuleValue → Operand
 step_value steps.Primary tokens first behind = filtered (operand first) (operands behind)

@@ -1,21 +1,22 @@
 //! Values of one other.
 
-ghost use Rattle.std.specs.Prelude.{◌≡◌, ◌∷◌, [], map, IfOk, Some};
+ghost use Rattle.std.specs.Prelude.{◌≡◌, map, IfOk, Some};
 ghost use Rattle.pj_xtokens.specs.Answer.{lexed_of};
-ghost use Rattle.pj_xmeaning.specs.Mentions.{Variable};
-ghost use Rattle.pj_xmeaning.specs.Operands.{other, signed, variable, cut_variable};
+ghost use Rattle.pj_xreadings.specs.Seen.{seen_reading};
 ghost use Rattle.pj_xmeaning.specs.Parts.{Compared, One, UpTo, operand};
-ghost use Rattle.pj_xmeaning.specs.Seen.{seen_mentions, seen_reading, seen_part};
+ghost use Rattle.pj_xmeaning.specs.Seen.{seen_part};
 ghost use Rattle.pj_xmeaning.specs.Values.{up_to, variable_named, change_value, single_value};
 
-use crate::named::{Named, Spelling};
-use crate::operand::Reading;
+use crate::action::{Change, Single};
 use crate::part::Part;
-use crate::step::{along, child_step, descendants, filtered, kind_test, named, path, rooted};
+use crate::step::named;
 use pj_base::{NoMemory, Text};
-use pj_xexpressions::{Axis, Compare, Expr, NodeTest, Sign};
-use pj_xgrammar::{Change, Single};
-use pj_xtokens::{Token, begins_with_name, behind_first, first_from, first_text};
+use pj_xexpressions::{Axis, Compare, NodeTest};
+use pj_xreadings::{
+    Reading, along, child_step, context_item, cut_variable, descendants, filtered, kind_test,
+    parenthesized, path, rooted, signed, variable,
+};
+use pj_xtokens::{Token, first_text};
 use std::alloc::Global;
 
 /// The second operand of a comparison behind its operator.
@@ -65,67 +66,6 @@ pub fn change<'t>(
     })
 }
 
-/// The operand behind the sign (XPath 2.0, 3.4).
-#[tactic(auto, using(crate::proofs::TreeForms::tree_of_unary))]
-fn signed<'t>(alloc: Global, sign: Sign, operand: Reading<'t>) -> Result<Reading<'t>, NoMemory>
-    ensures { IfOk result (λ made. seen_reading made ≡ signed sign (seen_reading operand.entry)) }
-{
-    let Reading { expr, names, .. } = operand;
-    let expr = Expr::Unary(sign, Box::new(alloc, expr)?);
-    Ok(Reading::other(expr, names))
-}
-
-/// The expression in parentheses, which is no literal and no variable alone.
-fn parenthesized<'t>(inner: Reading<'t>) -> Reading<'t>
-    ensures { seen_reading result ≡ other (seen_reading inner.entry).tree (seen_reading inner.entry).names }
-{
-    let Reading { expr, names, .. } = inner;
-    Reading::other(expr, names)
-}
-
-/// The mention of the variable, alone.
-#[tactic(auto, using(crate::proofs::Lists::pushed))]
-fn mentioned<'t>(alloc: Global, name: &'t str, from: u32) -> Result<Vec<Named<'t>>, NoMemory>
-    ensures { IfOk result (λ made. seen_mentions made.items ≡ Variable name.now from ∷ []) }
-{
-    let mut names = Vec::new(alloc);
-    names.push(Named::Variable(name, from))?;
-    Ok(names)
-}
-
-/// A variable that is cut off behind its `$`, which is the first token; a name behind that is its name.
-#[tactic(auto, using(crate::proofs::TreeForms::tree_of_variable))]
-fn cut_variable<'t>(alloc: Global, tokens: &[Token<'t>]) -> Result<Reading<'t>, NoMemory>
-    ensures { IfOk result (λ made. seen_reading made ≡ cut_variable (map lexed_of tokens.now)) }
-{
-    let unnamed = Text::from_str(alloc, "")?;
-    let behind = behind_first(tokens);
-    if !begins_with_name(behind) {
-        return Ok(Reading::other(Expr::Variable(unnamed), Vec::new(alloc)));
-    }
-    let name = first_text(behind);
-    let names = mentioned(alloc, name, first_from(tokens))?;
-    Ok(Reading {
-        expr: Expr::Variable(unnamed),
-        written: Spelling::Name(name),
-        names,
-    })
-}
-
-/// The variable of the name, whose `$` is the first token (XPath 2.0, 3.1.2).
-#[tactic(auto, using(crate::proofs::TreeForms::tree_of_variable))]
-fn variable<'t>(alloc: Global, tokens: &[Token<'t>], name: &'t str) -> Result<Reading<'t>, NoMemory>
-    ensures { IfOk result (λ made. seen_reading made ≡ variable (map lexed_of tokens.now) name.now) }
-{
-    let names = mentioned(alloc, name, first_from(tokens))?;
-    let text = Text::from_str(alloc, name)?;
-    Ok(Reading {
-        expr: Expr::Variable(text),
-        written: Spelling::Name(name),
-        names,
-    })
-}
-
 /// The variable whose `$` is the first token; where its name is cut off, what can be said of it.
 fn variable_named<'t>(
     alloc: Global,
@@ -141,7 +81,6 @@ fn variable_named<'t>(
 }
 
 /// The expression that a production makes of the value of its rule, where it begins with the first of the tokens.
-#[tactic(auto, using(crate::proofs::TreeForms::tree_of_context_item))]
 pub fn single<'t>(
     alloc: Global,
     single: Single,
@@ -161,7 +100,7 @@ pub fn single<'t>(
         }
         Single::RelativePath => path(alloc, part.into_readings(alloc)),
         Single::ContextItem => {
-            let item = Reading::other(Expr::ContextItem, Vec::new(alloc));
+            let item = context_item(alloc);
             filtered(alloc, item, part.into_readings(alloc))
         }
         Single::ParentStep => {

@@ -1,89 +1,20 @@
-//! Variables and choices.
+//! Values of two or three others: variables and choices.
 
-ghost use Rattle.std.specs.Prelude.{◌≡◌, ◌++◌, [], ◌∷◌, map, IfOk};
-ghost use Rattle.pj_xexpressions.specs.Trees.{binder, tree_of};
-ghost use Rattle.pj_xmeaning.specs.Mentions as mention;
-ghost use Rattle.pj_xmeaning.specs.Mentions.{scoped};
-ghost use Rattle.pj_xmeaning.specs.Operands.{bindings_of, bound, chosen, scopes_of};
+ghost use Rattle.std.specs.Prelude.{◌≡◌, ◌∷◌, IfOk};
+ghost use Rattle.pj_xreadings.specs.Constructs.{binder_of};
+ghost use Rattle.pj_xreadings.specs.Operands.{bound, chosen};
+ghost use Rattle.pj_xreadings.specs.Seen.{seen_reading};
 ghost use Rattle.pj_xmeaning.specs.Parts as parts;
 ghost use Rattle.pj_xmeaning.specs.Parts.{bindings, operand, word};
-ghost use Rattle.pj_xmeaning.specs.Seen.{seen_bound, seen_mentions, seen_part, seen_reading};
-ghost use Rattle.pj_xmeaning.specs.Values.{binder_of};
+ghost use Rattle.pj_xmeaning.specs.Seen.{seen_part};
 
-use crate::front::Front;
-use crate::named::Named;
-use crate::operand::{Bound, Reading, boxed};
 use crate::part::Part;
-use crate::row::before;
-use pj_base::{NoMemory, Text};
-use pj_xexpressions::Expr;
-use pj_xgrammar::Binder;
+use pj_base::NoMemory;
+use pj_xreadings::{Binder, Bound, Reading, bound, choice};
 use std::alloc::Global;
 
-/// The name of a variable that is bound, and what its expression names, with the variable behind it, before others.
-#[tactic(auto, using(crate::proofs::Lists::pushed))]
-fn opened<'t>(
-    alloc: Global,
-    name: &'t str,
-    names: Vec<Named<'t>>,
-    mut behind: Vec<Named<'t>>,
-) -> Result<(Text, Vec<Named<'t>>), NoMemory>
-    ensures name { IfOk result (λ made. made.0 ≡ name.now) }
-    ensures names { IfOk result (λ made. seen_mentions made.1.items ≡ seen_mentions names.entry.items ++ (mention.Binds name.now ∷ seen_mentions behind.entry.items)) }
-{
-    behind.push(Named::Binds(name))?;
-    let all = before(names, behind)?;
-    Ok((Text::from_str(alloc, name)?, all))
-}
-
-/// What follows variables, and the end of their scopes behind it.
-#[tactic(auto, using(crate::proofs::Lists::pushed))]
-fn closed<'t>(alloc: Global, count: usize, body: Vec<Named<'t>>) -> Result<Vec<Named<'t>>, NoMemory>
-    ensures { IfOk result (λ all. seen_mentions all.items ≡ seen_mentions body.entry.items ++ (mention.Ends count ∷ [])) }
-{
-    let mut end = Vec::new(alloc);
-    end.push(Named::Ends(count))?;
-    before(body, end)
-}
-
-/// The names of variables with their expressions, and what these name before what follows them: each variable is seen by the expressions
-/// behind its own, and by the body.
-fn scoped<'t>(
-    alloc: Global,
-    variables: Front<Bound<'t>>,
-    body: Vec<Named<'t>>,
-) -> Result<(Vec<(Text, Expr)>, Vec<Named<'t>>), NoMemory>
-    ensures { IfOk result (λ made. (map (λ variable. (variable.0, tree_of variable.1)) made.0.items ≡ bindings_of (map seen_bound variables.entry))
-        × (seen_mentions made.1.items ≡ scoped (scopes_of (map seen_bound variables.entry)) 0 (seen_mentions body.entry.items))) }
-{
-    let mut left = variables.into_vec();
-    let mut pairs = Vec::new(alloc);
-    let mut all = closed(alloc, left.len(), body)?;
-    'variables: while let Some(variable) = left.pop() {
-        let Bound { name, value } = variable;
-        let Reading { expr, names, .. } = value;
-        let (name, names) = opened(alloc, name, names, all)?;
-        pairs.push((name, expr))?;
-        all = names;
-    }
-    pairs.reverse();
-    Ok((pairs, all))
-}
-
-/// The expression of variables, each with its own, and what follows them.
-#[tactic(auto, using(crate::proofs::TreeForms::tree_of_for, crate::proofs::TreeForms::tree_of_let, crate::proofs::TreeForms::tree_of_quantified))]
-fn bound_of(word: Binder, variables: Vec<(Text, Expr)>, body: Box<Expr>) -> Expr
-    ensures { tree_of result ≡ binder (binder_of word) (map (λ variable. (variable.0, tree_of variable.1)) variables.items) (tree_of body.value) }
-{
-    match word {
-        Binder::For => Expr::For(variables, body),
-        Binder::Let => Expr::Let(variables, body),
-        Binder::Quantified(quantifier) => Expr::Quantified(quantifier, variables, body),
-    }
-}
-
 /// Variables and what follows them.
-pub fn bound<'t>(
+pub fn scope<'t>(
     alloc: Global,
     word: Binder,
     variables: Part<'t>,
@@ -92,9 +23,7 @@ pub fn bound<'t>(
     ensures { IfOk result (λ made. seen_reading made ≡ bound (binder_of word) (bindings (seen_part variables.entry)) (operand (seen_part body.entry))) }
 {
     let variables = variables.into_bound(alloc);
-    let (body, names) = boxed(alloc, body.into_reading(alloc))?;
-    let (pairs, all) = scoped(alloc, variables, names)?;
-    Ok(Reading::other(bound_of(word, pairs, body), all))
+    bound(alloc, word, variables, body.into_reading(alloc))
 }
 
 /// A variable with its expression, before others.
@@ -114,8 +43,8 @@ pub fn binding<'t>(
     Ok(Part::Bound(others.into_bound(alloc).put(variable)?))
 }
 
-/// The choice between two expressions, with what it names (XPath 2.0, 3.8).
-pub fn choice<'t>(
+/// The choice between two expressions (XPath 2.0, 3.8).
+pub fn condition<'t>(
     alloc: Global,
     test: Part<'t>,
     yes: Part<'t>,
@@ -123,9 +52,7 @@ pub fn choice<'t>(
 ) -> Result<Reading<'t>, NoMemory>
     ensures { IfOk result (λ made. seen_reading made ≡ chosen (operand (seen_part test.entry)) (operand (seen_part yes.entry)) (operand (seen_part no.entry))) }
 {
-    let (test, first) = boxed(alloc, test.into_reading(alloc))?;
-    let (yes, second) = boxed(alloc, yes.into_reading(alloc))?;
-    let (no, third) = boxed(alloc, no.into_reading(alloc))?;
-    let names = before(first, before(second, third)?)?;
-    Ok(Reading::other(Expr::If(test, yes, no), names))
+    let test = test.into_reading(alloc);
+    let yes = yes.into_reading(alloc);
+    choice(alloc, test, yes, no.into_reading(alloc))
 }

@@ -7,7 +7,7 @@ ghost use Rattle.pj_xtokens.specs.Tokens.{Lexed};
 ghost use Rattle.pj_xgrammar.specs.Predictive.{IsPredictiveXPath};
 ghost use Rattle.pj_xgrammar.specs.Terminals.{numbers};
 ghost use Rattle.pj_xgrammar.specs.XPath.{greatest_nesting, xpath_grammar};
-ghost use Rattle.pj_xmeaning.specs.Operands.{Operand};
+ghost use Rattle.pj_xreadings.specs.Operands.{Operand};
 ghost use Rattle.pj_xmeaning.specs.Reads.{AreRead};
 ghost use Rattle.pj_xmeaning.specs.SoFar.{SayUpTo};
 ghost use Rattle.pj_xmeaning.specs.Values.{said};

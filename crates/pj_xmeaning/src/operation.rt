@@ -1,165 +1,16 @@
 //! Operands with what stands behind them.
 
-ghost use Rattle.std.specs.Prelude.{◌≡◌, map, IfOk};
-ghost use Rattle.std.specs.Option.{option_map};
-ghost use Rattle.pj_xexpressions.specs.Trees.{Additive', Multiplicative', IntersectExcept, node, tree_of};
-ghost use Rattle.pj_xmeaning.specs.Operands.{operations, names_behind, chain, mixed, compared, ranging};
-ghost use Rattle.pj_xmeaning.specs.Seen.{behind_of, seen_behind, seen_last, seen_mentions, seen_part, seen_reading, seen_second};
+ghost use Rattle.std.specs.Prelude.{◌≡◌, IfOk};
+ghost use Rattle.pj_xreadings.specs.Seen.{seen_reading};
 ghost use Rattle.pj_xmeaning.specs.Parts.{One};
-ghost use Rattle.pj_xmeaning.specs.Values.{construct_of, operation_value};
+ghost use Rattle.pj_xmeaning.specs.Seen.{seen_part};
+ghost use Rattle.pj_xmeaning.specs.Values.{operation_value};
 
-use crate::front::Front;
-use crate::named::Named;
-use crate::operand::{Reading, boxed};
+use crate::action::Operation;
 use crate::part::Part;
-use crate::row::{apart, before};
 use pj_base::NoMemory;
-use pj_xexpressions::{Additive, Compare, Expr, Multiplicative, SetOperator};
-use pj_xgrammar::{Chain, Operation};
+use pj_xreadings::{Reading, chain_of, comparison, product, range, sets, sum};
 use std::alloc::Global;
-
-/// The expressions of operands, each behind its operator, and what they name, from the last on.
-fn operations<'t, Operator: Drop>(
-    alloc: Global,
-    operands: Front<(Operator, Reading<'t>)>,
-) -> Result<(Front<(Operator, Expr)>, Vec<Named<'t>>), NoMemory>
-    ensures exprs { IfOk result (λ made. map behind_of made.0 ≡ operations (map seen_behind operands.entry)) }
-    ensures names { IfOk result (λ made. seen_mentions made.1.items ≡ names_behind (map seen_behind operands.entry)) }
-{
-    let mut exprs = Front::new(alloc);
-    let mut all = Vec::new(alloc);
-    'operands: for (operator, reading) in operands.into_reversed() {
-        let Reading { expr, names, .. } = reading;
-        exprs = exprs.put((operator, expr))?;
-        all = before(names, all)?;
-    }
-    Ok((exprs, all))
-}
-
-/// The chain of these operands.
-fn chained(operator: Chain, operands: Vec<Expr>) -> Expr
-    ensures { tree_of result ≡ node (construct_of operator) (map tree_of operands.items) }
-{
-    match operator {
-        Chain::Comma => Expr::Comma(operands),
-        Chain::Or => Expr::Or(operands),
-        Chain::And => Expr::And(operands),
-        Chain::Concatenation => Expr::Concatenation(operands),
-        Chain::Union => Expr::Union(operands),
-        Chain::SimpleMap => Expr::SimpleMap(operands),
-    }
-}
-
-/// The operand itself where nothing stands behind it, else a chain.
-#[tactic(auto, using(crate::proofs::Chains::chain_alone, crate::proofs::Chains::chain_all))]
-fn chain<'t>(
-    alloc: Global,
-    operator: Chain,
-    first: Reading<'t>,
-    rest: Front<Reading<'t>>,
-) -> Result<Reading<'t>, NoMemory>
-    ensures { IfOk result (λ made. seen_reading made ≡ chain (construct_of operator) (seen_reading first.entry) (map seen_reading rest.entry)) }
-{
-    if rest.is_empty() {
-        return Ok(first);
-    }
-    let (operands, names) = apart(alloc, rest.put(first)?)?;
-    Ok(Reading::other(chained(operator, operands), names))
-}
-
-/// The operand itself where nothing stands behind it, else a comparison.
-#[tactic(auto, using(crate::proofs::TreeForms::tree_of_comparison))]
-fn comparison<'t>(
-    alloc: Global,
-    first: Reading<'t>,
-    behind: Option<(Compare, Box<Reading<'t>>)>,
-) -> Result<Reading<'t>, NoMemory>
-    ensures { IfOk result (λ made. seen_reading made ≡ compared (seen_reading first.entry) (option_map seen_second behind.entry)) }
-{
-    match behind {
-        Some((compare, second)) => {
-            let (left, names) = boxed(alloc, first)?;
-            let (right, behind) = boxed(alloc, Box::into_inner(second))?;
-            let all = before(names, behind)?;
-            Ok(Reading::other(Expr::Comparison(compare, left, right), all))
-        }
-        None => Ok(first),
-    }
-}
-
-/// The operand itself where nothing stands behind it, else a range.
-#[tactic(auto, using(crate::proofs::TreeForms::tree_of_range))]
-fn range<'t>(
-    alloc: Global,
-    first: Reading<'t>,
-    behind: Option<Box<Reading<'t>>>,
-) -> Result<Reading<'t>, NoMemory>
-    ensures { IfOk result (λ made. seen_reading made ≡ ranging (seen_reading first.entry) (option_map seen_last behind.entry)) }
-{
-    match behind {
-        Some(last) => {
-            let (from, names) = boxed(alloc, first)?;
-            let (to, behind) = boxed(alloc, Box::into_inner(last))?;
-            let all = before(names, behind)?;
-            Ok(Reading::other(Expr::Range(from, to), all))
-        }
-        None => Ok(first),
-    }
-}
-
-/// The operand itself where nothing stands behind it, else a sum.
-#[tactic(auto, using(crate::proofs::Chains::mixed_alone, crate::proofs::Chains::mixed_all, crate::proofs::TreeForms::tree_of_additive))]
-fn sum<'t>(
-    alloc: Global,
-    first: Reading<'t>,
-    rest: Front<(Additive, Reading<'t>)>,
-) -> Result<Reading<'t>, NoMemory>
-    ensures { IfOk result (λ made. seen_reading made ≡ mixed Additive' (seen_reading first.entry) (map seen_behind rest.entry)) }
-{
-    if rest.is_empty() {
-        return Ok(first);
-    }
-    let (left, names) = boxed(alloc, first)?;
-    let (operands, behind) = operations(alloc, rest)?;
-    let all = before(names, behind)?;
-    Ok(Reading::other(Expr::Additive(left, operands.into_vec()), all))
-}
-
-/// The operand itself where nothing stands behind it, else a product.
-#[tactic(auto, using(crate::proofs::Chains::mixed_alone, crate::proofs::Chains::mixed_all, crate::proofs::TreeForms::tree_of_multiplicative))]
-fn product<'t>(
-    alloc: Global,
-    first: Reading<'t>,
-    rest: Front<(Multiplicative, Reading<'t>)>,
-) -> Result<Reading<'t>, NoMemory>
-    ensures { IfOk result (λ made. seen_reading made ≡ mixed Multiplicative' (seen_reading first.entry) (map seen_behind rest.entry)) }
-{
-    if rest.is_empty() {
-        return Ok(first);
-    }
-    let (left, names) = boxed(alloc, first)?;
-    let (operands, behind) = operations(alloc, rest)?;
-    let all = before(names, behind)?;
-    Ok(Reading::other(Expr::Multiplicative(left, operands.into_vec()), all))
-}
-
-/// The operand itself where nothing stands behind it, else an intersection or a difference.
-#[tactic(auto, using(crate::proofs::Chains::mixed_alone, crate::proofs::Chains::mixed_all, crate::proofs::TreeForms::tree_of_intersect_except))]
-fn sets<'t>(
-    alloc: Global,
-    first: Reading<'t>,
-    rest: Front<(SetOperator, Reading<'t>)>,
-) -> Result<Reading<'t>, NoMemory>
-    ensures { IfOk result (λ made. seen_reading made ≡ mixed IntersectExcept (seen_reading first.entry) (map seen_behind rest.entry)) }
-{
-    if rest.is_empty() {
-        return Ok(first);
-    }
-    let (left, names) = boxed(alloc, first)?;
-    let (operands, behind) = operations(alloc, rest)?;
-    let all = before(names, behind)?;
-    Ok(Reading::other(Expr::IntersectExcept(left, operands.into_vec()), all))
-}
 
 /// The expression of an operand and what stands behind it.
 fn operated<'t>(
@@ -172,7 +23,12 @@ fn operated<'t>(
 {
     let operand = first.into_reading(alloc);
     match operation {
-        Operation::Chain(operator) => chain(alloc, operator, operand, behind.into_readings(alloc)),
+        Operation::Chain(operator) => chain_of(
+            alloc,
+            operator,
+            operand,
+            behind.into_readings(alloc),
+        ),
         Operation::Comparison => comparison(alloc, operand, behind.into_compared()),
         Operation::Range => range(alloc, operand, behind.into_range()),
         Operation::Sum => sum(alloc, operand, behind.into_sums(alloc)),
@@ -187,7 +43,7 @@ fn operated<'t>(
 
 /// The value of an operand and what stands behind it. An operand behind which nothing stands is left as it is, since each one comes through all
 /// levels of operators.
-#[tactic(auto, using(crate::proofs::Chains::left_alone))]
+#[tactic(auto, using(crate::proofs::Alone::left_alone))]
 pub fn operation<'t>(
     alloc: Global,
     operation: Operation,

@@ -2,15 +2,14 @@
 
 ghost use Rattle.std.specs.Prelude.{◌≡◌, map, IfOk};
 ghost use Rattle.std.specs.Option.{option_map};
-ghost use Rattle.pj_xmeaning.specs.Parts.{operand, operands, bindings, comparison, range, sums, products, sets, arguments, test, parentheses, word};
-ghost use Rattle.pj_xmeaning.specs.Seen.{seen_reading, seen_behind, seen_second, seen_last, seen_bound, seen_arguments, seen_part};
-ghost use Rattle.pj_xmeaning.specs.Parts.{One};
+ghost use Rattle.pj_xreadings.specs.Seen.{seen_reading, seen_behind, seen_second, seen_last, seen_bound, seen_arguments};
+ghost use Rattle.pj_xmeaning.specs.Parts.{One, operand, operands, bindings, comparison, range, sums, products, sets, arguments, test, parentheses, word};
+ghost use Rattle.pj_xmeaning.specs.Seen.{seen_part};
 ghost use Rattle.pj_xmeaning.specs.Values.{is_end, is_one};
 
-use crate::front::Front;
-use crate::operand::{Bound, Given, Reading};
 use pj_base::NoMemory;
 use pj_xexpressions::{Additive, Compare, Multiplicative, NodeTest, SetOperator};
+use pj_xreadings::{Bound, Front, Given, Reading};
 use std::alloc::Global;
 
 /// The value of a rule: what its tokens say.

@@ -20,7 +20,7 @@ pub fn take<'t>(parts: &mut Vec<Part<'t>>) -> Part<'t>
 }
 
 /// Puts a value before the others.
-#[tactic(auto, using(crate::proofs::Lists::pushed))]
+#[tactic(auto, using(crate::proofs::Values::pushed))]
 pub fn put<'t>(parts: &mut Vec<Part<'t>>, part: Part<'t>) -> Result<(), NoMemory>
     ensures { OnOk result (seen_parts parts.new.items ≡ seen_part part.entry ∷ seen_parts parts.old.items) }
 {

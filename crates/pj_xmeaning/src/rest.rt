@@ -2,17 +2,16 @@
 
 ghost use Rattle.std.specs.Prelude.{◌≡◌, ◌∷◌, map, IfOk};
 ghost use Rattle.pj_xtokens.specs.Answer.{lexed_of};
-ghost use Rattle.pj_xmeaning.specs.Operands.{Next};
+ghost use Rattle.pj_xreadings.specs.Operands.{Next};
+ghost use Rattle.pj_xreadings.specs.Seen.{seen_reading, seen_arguments};
 ghost use Rattle.pj_xmeaning.specs.Parts.{operand, operands, arguments};
-ghost use Rattle.pj_xmeaning.specs.Seen.{seen_reading, seen_arguments, seen_part};
+ghost use Rattle.pj_xmeaning.specs.Seen.{seen_part};
 ghost use Rattle.pj_xmeaning.specs.Values.{rest_value};
 
-use crate::front::Front;
-use crate::operand::{Given, Reading};
+use crate::action::Rest;
 use crate::part::Part;
-use crate::step::descendants;
 use pj_base::NoMemory;
-use pj_xgrammar::Rest;
+use pj_xreadings::{Front, Given, Reading, descendants};
 use pj_xtokens::{Token, behind_first, first_from};
 use std::alloc::Global;
 

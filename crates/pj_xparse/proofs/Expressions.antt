@@ -4,7 +4,7 @@ use Rattle.pj_xtokens.specs.Tokens.{Lexed}
 use Rattle.pj_xexpressions.specs.declared.expr.Expr.{Expr}
 use Rattle.pj_xexpressions.specs.Expressions.{Part, IsExpression, part_of}
 use Rattle.pj_xexpressions.specs.Trees.{Tree, tree_of}
-use Rattle.pj_xmeaning.specs.Operands.{Operand}
+use Rattle.pj_xreadings.specs.Operands.{Operand}
 use Rattle.pj_xmeaning.specs.Reads.{AreRead}
 use Rattle.pj_xparse.specs.NameFaults.{first_fault}
 use Rattle.pj_xshape.specs.Shapes.{part_of_tree}

@@ -1,7 +1,7 @@
 -- Mentions without a fault, and what is bound behind them.
 use Rattle.std.proofs.Common.{◌≡◌, List, [], ◌∷◌, ◌++◌, Option, Some, None, refl, ◌∙◌, ap, subst}
 use Rattle.pj_xexpressions.specs.Expressions.{Scope}
-use Rattle.pj_xmeaning.specs.Mentions.{Mention}
+use Rattle.pj_xreadings.specs.Mentions.{Mention}
 use Rattle.pj_xparse.specs.NameFaults.{Fault, fault_in, scope_behind, earlier, first_fault_from}
 
 -- the variables that are there behind mentions

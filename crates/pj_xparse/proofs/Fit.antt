@@ -5,7 +5,7 @@ use Rattle.std.proofs.lemmas.Bool.{and_from, le-leb, eq-eqb}
 use Rattle.pj_xexpressions.specs.Expressions.{Part, Scope, Written, Other, all_fit, chain_fits}
 use Rattle.pj_xexpressions.specs.Trees as tree
 use Rattle.pj_xexpressions.specs.Trees.{Tree, Construct, node, alone}
-use Rattle.pj_xmeaning.specs.Mentions.{Mention}
+use Rattle.pj_xreadings.specs.Mentions.{Mention}
 use Rattle.pj_xparse.specs.NameFaults.{first_fault_from}
 use Rattle.pj_xshape.specs.Shapes.{written_by, fits_by, part_of_tree, operators_fit, exactly}
 use Rattle.pj_xshape.specs.Nodes.{part_of_node}

@@ -9,17 +9,17 @@ use Rattle.pj_xexpressions.specs.Functions.{takes, pmd_takes}
 use Rattle.pj_xexpressions.specs.Trees as tree
 use Rattle.pj_xexpressions.specs.Trees.{Tree}
 use Rattle.pj_xexpressions.specs.Names.{callee_of}
-use Rattle.pj_xmeaning.specs.Steps.{called, filtered}
+use Rattle.pj_xreadings.specs.Steps.{called, filtered}
 use Rattle.pj_xexpressions.specs.declared.name.Callee.{Callee}
 use Rattle.pj_xexpressions.specs.declared.name.Callee.TheVariants as callee
-use Rattle.pj_xmeaning.specs.declared.role.Role.{Role}
-use Rattle.pj_xmeaning.specs.declared.role.Role.TheVariants as role
-use Rattle.pj_xmeaning.specs.Mentions.{Mention, Call, Argument, roles_of, roles_in, roles_named}
+use Rattle.pj_xreadings.specs.declared.role.Role.{Role}
+use Rattle.pj_xreadings.specs.declared.role.Role.TheVariants as role
+use Rattle.pj_xreadings.specs.Mentions.{Mention, Call, Argument, roles_of, roles_in, roles_named}
 use Rattle.pj_xparse.specs.NameFaults as fault
 use Rattle.pj_xparse.specs.NameFaults.{Fault, Form, unless, fits_role, callee_takes, first_fault_from}
 use Rattle.pj_xshape.specs.Shapes.{part_of_tree}
 use Rattle.pj_xshape.specs.Nodes.{part_of_node}
-use Rattle.pj_xmeaning.specs.Operands.{Operand, Arguments, Closed, Open, Next, trees_of, names_of, arguments_in, is_closed, in_roles, told, call}
+use Rattle.pj_xreadings.specs.Operands.{Operand, Arguments, Closed, Open, Next, trees_of, names_of, arguments_in, is_closed, in_roles, told, call}
 use Rattle.pj_xparse.proofs.Faultless.{AreBalanced, none_balanced, both_balanced, one_balanced, both_none, first_none}
 use Rattle.pj_xparse.proofs.Fit.{IsFit, AreFit, more_fit, chain_fit, filter_chain}
 use Rattle.pj_xparse.proofs.FitValues.{Fits, AllFit, ArgumentsFit}

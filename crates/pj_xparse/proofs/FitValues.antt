@@ -3,7 +3,8 @@ use Rattle.std.specs.Prelude.{⊤, List, [], ◌∷◌, map, Option, Some, None}
 use Rattle.pj_xexpressions.specs.Trees.{Tree}
 use Rattle.pj_xgrammar.specs.declared.rule.Rule.{Rule}
 use Rattle.pj_xgrammar.specs.declared.rule.Rule.TheVariants as r
-use Rattle.pj_xmeaning.specs.Operands.{Operand, Binding, Arguments, Closed, Open, Next, Behind, Test, Called, Predicates, Value, trees_of, names_of, operations, names_behind}
+use Rattle.pj_xreadings.specs.Operands.{Operand, Binding, Arguments, Closed, Open, Next, Behind, Test, Called, Predicates, trees_of, names_of, operations, names_behind}
+use Rattle.pj_xmeaning.specs.RuleMeanings.{Value}
 use Rattle.pj_xparse.proofs.Fit.{IsFit, AreFit}
 
 -- an expression

@@ -16,7 +16,7 @@ use Rattle.pj_xgrammar.specs.declared.terminal.Behind.TheVariants as b
 use Rattle.pj_xgrammar.specs.Terminals.{first_behind, begins_step}
 use Rattle.pj_xshape.specs.Shapes.{level_by}
 use Rattle.pj_xshape.specs.Nesting.{Nested, operand_before, chain_before, clauses_before, nested_by, nested_of}
-use Rattle.pj_xmeaning.specs.Operands.{Operand, Binding, trees_of, chain, operations, mixed, compared, ranging, signed, bindings_of, bound, chosen}
+use Rattle.pj_xreadings.specs.Operands.{Operand, Binding, trees_of, chain, operations, mixed, compared, ranging, signed, bindings_of, bound, chosen}
 use Rattle.pj_xparse.proofs.Gentle.{lower_operand, least_operand, marked_operand, node_operand, open_operand}
 
 -- whether the first of the tokens begins a step where one may begin

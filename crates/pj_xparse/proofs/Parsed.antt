@@ -5,6 +5,8 @@ use Rattle.pj_ll.specs.declared.parser.End.{End}
 use Rattle.pj_ll.specs.declared.parser.End.TheVariants as outcome
 use Rattle.pj_ll.specs.Outcome as terminals
 use Rattle.pj_ll.specs.Outcome.{IsEnd}
+use Rattle.pj_ll.specs.Steps.{ArePlaced, productions_in}
+use Rattle.pj_ll.specs.declared.parser.Step.{Step}
 use Rattle.pj_xtokens.specs.Answer.{lexed_of}
 use Rattle.pj_xtokens.specs.Gaps.{Past}
 use Rattle.pj_xtokens.specs.Rules as lexical
@@ -17,8 +19,8 @@ use Rattle.pj_xtokens.specs.declared.token.End as token
 use Rattle.pj_xtokens.specs.declared.token.End.TheVariants as ends
 use Rattle.pj_xgrammar.specs.Terminals.{numbers}
 use Rattle.pj_xgrammar.specs.XPath.{greatest_nesting, xpath_grammar}
-use Rattle.pj_xderive.specs.Expressions.{AreDerived, IsOutcome, IsRun, LeadTo}
-use Rattle.pj_xmeaning.specs.Operands.{Operand}
+use Rattle.pj_xderive.specs.Expressions.{IsOutcome, IsRun, LeadTo}
+use Rattle.pj_xreadings.specs.Operands.{Operand}
 use Rattle.pj_xmeaning.specs.Reads.{AreRead}
 use Rattle.pj_xmeaning.specs.SoFar.{SaySoFar, SayUpTo}
 use Rattle.pj_xparse.specs.Faults.{syntax_fault}
@@ -29,16 +31,13 @@ use Rattle.pj_xparse.proofs.Sizes.{size_chars}
 use Rattle.pj_xparse.proofs.TokenFacts.{token_count, text_end}
 
 -- there are no more tokens than bytes, where what stands behind a gap is an end of the text, and each token has a character
-pub count_of_tokens : ((text body : List ℕ) → Past text body → IsBehind body text) → ((k : TokenKind) (w : List ℕ) → lexical.Spells k w → 0 < length w) → (text : List ℕ) (tokens : List Lexed) (end : token.End) → IsUtf8 text → Tokens (length text) (chars text) tokens end → length tokens ≤ length text
+pub count_of_tokens : ((text body : List ℕ) → Past text body → IsBehind body text) → ((k : TokenKind) (w : List ℕ) → lexical.Spells k w → 0 < length w) → (text : List ℕ) (tokens : List Lexed) (end : token.End) → IsUtf8 text → Tokens (size (chars text)) (chars text) tokens end → length tokens ≤ length text
 count_of_tokens past_behind not_empty text tokens end utf8 read =
     subst (λ n. length tokens ≤ n) (sym (size_chars text utf8)) (token_count past_behind not_empty _ _ tokens end read)
 
--- the tokens that a slice of some tokens holds are those of the characters
-pub read_slice : (text : List ℕ) (slice all : List Token) (end : token.End) → IsUtf8 text → slice ≡ all → Tokens (length text) (chars text) (map lexed_of all) end
-    → Tokens (size (chars text)) (chars text) (map lexed_of slice) end
-read_slice text slice all end utf8 same read =
-    subst (λ n. Tokens n (chars text) (map lexed_of slice) end) (size_chars text utf8)
-    (subst (λ ts. Tokens (length text) (chars text) (map lexed_of ts) end) (sym same) read)
+-- the tokens that a slice of some tokens holds are those of the text
+pub read_slice : (text : List ℕ) (slice all : List Token) (end : token.End) → slice ≡ all → Tokens (size text) text (map lexed_of all) end → Tokens (size text) text (map lexed_of slice) end
+read_slice text slice all end same read = subst (λ ts. Tokens (size text) text (map lexed_of ts) end) (sym same) read
 
 -- where the tokens of a text have no fault, and all of them are read, the text spells what they say
 pub spelled : (variables : List (List ℕ)) (text : List ℕ) (tokens : List Lexed) (said : Operand) (end : token.End) (o : End) → Tokens (size text) text tokens end
@@ -56,17 +55,21 @@ spelled variables text tokens said end (outcome.Stops i) read none says named = 
 spelled variables text tokens said end (outcome.LeftOut i) read none says named = absurd (cc)
 spelled variables text tokens said end (outcome.TooDeep i) read none says named = absurd (cc)
 
--- Where tokens say something as far as each run of theirs goes to which productions lead:
-module _ {tokens : List Lexed} {productions all : List ℕ} {said : Operand} (same : productions ≡ all)
-    (say : (run : End) → IsEnd xpath_grammar (numbers tokens) greatest_nesting run → terminals.LeadTo xpath_grammar (numbers tokens) productions run → SayUpTo run tokens said) where
+-- Where tokens say something as far as each run of theirs goes to which productions lead, that stand where they begin:
+module _ {tokens : List Lexed} {steps all : List Step} {said : Operand} (same : steps ≡ all) (placed : ArePlaced xpath_grammar (numbers tokens) all)
+    (say : (run : End) → IsEnd xpath_grammar (numbers tokens) greatest_nesting run → terminals.LeadTo xpath_grammar (numbers tokens) (productions_in steps) run →
+        ArePlaced xpath_grammar (numbers tokens) steps → SayUpTo run tokens said) where
+  say_run : (run : End) → IsEnd xpath_grammar (numbers tokens) greatest_nesting run → terminals.LeadTo xpath_grammar (numbers tokens) (productions_in all) run → SayUpTo run tokens said
+  say_run run ends leads =
+      say run ends (subst (λ s. terminals.LeadTo xpath_grammar (numbers tokens) (productions_in s) run) (sym same) leads) (subst (ArePlaced xpath_grammar (numbers tokens)) (sym same) placed)
+
   -- they say it so far, where the productions are those of their run
-  pub say_so_far : IsRun tokens all → SaySoFar tokens said
-  say_so_far run =
-      record { run = run.end; ends = run.ends; reads = say run.end run.ends (subst (λ ps. terminals.LeadTo xpath_grammar (numbers tokens) ps run.end) (sym same) run.leads) }
+  pub say_so_far : IsRun tokens (productions_in all) → SaySoFar tokens said
+  say_so_far run = record { run = run.end; ends = run.ends; reads = say_run run.end run.ends run.leads }
 
   -- and where they have no fault, all of them are read as it
-  pub all_read : (end : token.End) (o : End) → IsOutcome tokens o → LeadTo tokens all o → syntax_fault tokens end o ≡ None → AreRead tokens said
-  all_read end outcome.Whole is leads none = say outcome.Whole (whole_run tokens all leads is.clear) (subst (AreDerived tokens) (sym same) leads)
+  pub all_read : (end : token.End) (o : End) → IsOutcome tokens o → LeadTo tokens (productions_in all) o → syntax_fault tokens end o ≡ None → AreRead tokens said
+  all_read end outcome.Whole is leads none = say_run outcome.Whole (whole_run tokens (productions_in all) leads is.clear) leads
   all_read end (outcome.Stops i) is leads none = absurd (cc)
   all_read end (outcome.LeftOut i) is leads none = absurd (cc)
   all_read end (outcome.TooDeep i) is leads none = absurd (cc)

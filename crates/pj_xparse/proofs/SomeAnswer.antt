@@ -7,7 +7,7 @@ use Rattle.pj_xtokens.specs.Tokens.{Lexed, Tokens}
 use Rattle.pj_xtokens.specs.declared.token.End as token
 use Rattle.pj_xexpressions.specs.Trees.{Tree}
 use Rattle.pj_xderive.specs.Expressions.{AreClear, AreDerived, IsOutcome, IsRun}
-use Rattle.pj_xmeaning.specs.Operands.{Operand}
+use Rattle.pj_xreadings.specs.Operands.{Operand}
 use Rattle.pj_xmeaning.specs.Reads.{AreRead}
 use Rattle.pj_xmeaning.specs.SoFar.{SaySoFar}
 use Rattle.pj_xparse.specs.NameFaults.{Fault, first_fault}

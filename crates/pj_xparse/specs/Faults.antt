@@ -8,7 +8,7 @@ use Rattle.pj_xtokens.specs.declared.token.End as token
 use Rattle.pj_xtokens.specs.declared.token.End.TheVariants as ends
 use Rattle.pj_xgrammar.specs.XPath.{greatest_nesting}
 use Rattle.pj_xderive.specs.Expressions.{IsOutcome}
-use Rattle.pj_xmeaning.specs.Operands.{Operand}
+use Rattle.pj_xreadings.specs.Operands.{Operand}
 use Rattle.pj_xmeaning.specs.SoFar.{SaySoFar}
 use Rattle.pj_xparse.specs.NameFaults as named
 use Rattle.pj_xparse.specs.NameFaults.{Fault, first_fault}

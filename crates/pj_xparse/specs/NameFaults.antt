@@ -7,10 +7,10 @@ use Rattle.pj_xexpressions.specs.Functions.{takes, pmd_takes}
 use Rattle.pj_xexpressions.specs.declared.name.Callee.{Callee}
 use Rattle.pj_xexpressions.specs.declared.name.Callee.TheVariants as callee
 use Rattle.pj_xexpressions.specs.Names.{callee_of}
-use Rattle.pj_xmeaning.specs.declared.role.Role.{Role}
-use Rattle.pj_xmeaning.specs.declared.role.Role.TheVariants as role
-use Rattle.pj_xmeaning.specs.Mentions as mention
-use Rattle.pj_xmeaning.specs.Mentions.{Mention}
+use Rattle.pj_xreadings.specs.declared.role.Role.{Role}
+use Rattle.pj_xreadings.specs.declared.role.Role.TheVariants as role
+use Rattle.pj_xreadings.specs.Mentions as mention
+use Rattle.pj_xreadings.specs.Mentions.{Mention}
 
 -- Offsets are bytes of the text.
 pub data Fault : Type 0 where

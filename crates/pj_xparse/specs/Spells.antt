@@ -5,7 +5,7 @@ use Rattle.pj_xtokens.specs.Tokens.{Lexed, Tokens}
 use Rattle.pj_xtokens.specs.declared.token.End.TheVariants as ends
 use Rattle.pj_xexpressions.specs.Trees.{Tree}
 use Rattle.pj_xparse.specs.NameFaults.{first_fault}
-use Rattle.pj_xmeaning.specs.Operands.{Operand}
+use Rattle.pj_xreadings.specs.Operands.{Operand}
 use Rattle.pj_xmeaning.specs.Reads.{AreRead}
 
 -- The text, in characters, spells the expression, where the rule set gives these variables: its tokens, up to its end, are read as the

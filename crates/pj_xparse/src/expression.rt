@@ -62,7 +62,7 @@ pub fn parse_with(
     gaps_stand_in_front();
     tokens_are_not_empty();
     let run = derivation(alloc, parser, tokens)?;
-    let read = reading(alloc, run.productions.as_slice(), tokens)?;
+    let read = reading(alloc, run.steps.as_slice(), tokens)?;
     if let Some(fault) = first_fault(alloc, read.names, variables)? {
         return Err(named_fault(alloc, fault)?);
     }

@@ -9,7 +9,7 @@ ghost use Rattle.pj_xexpressions.specs.Expressions.{IsExpression};
 ghost use Rattle.pj_xexpressions.specs.Trees.{Tree, tree_of};
 ghost use Rattle.pj_xexpressions.specs.declared.expr.Expr.{Expr};
 ghost use Rattle.pj_xderive.specs.Expressions.{AreClear, AreDerived, IsRun};
-ghost use Rattle.pj_xmeaning.specs.Operands.{Operand};
+ghost use Rattle.pj_xreadings.specs.Operands.{Operand};
 ghost use Rattle.pj_xmeaning.specs.Reads.{AreRead};
 ghost use Rattle.pj_xmeaning.specs.SoFar.{SaySoFar};
 ghost use Rattle.pj_xshape.specs.Nesting.{nesting_of_tree};

@@ -5,13 +5,13 @@ ghost use Rattle.std.specs.Option.{option_map};
 ghost use Rattle.pj_xparse.specs.Bound.{names_of, IsCounted};
 ghost use Rattle.pj_xparse.specs.NameFaults.{callee_takes, is_function, is_bound, fault_in, scope_behind, first_fault};
 ghost use Rattle.pj_xparse.specs.Seen.{fault_of};
-ghost use Rattle.pj_xmeaning.specs.Seen.{seen_mention, seen_mentions};
+ghost use Rattle.pj_xreadings.specs.Seen.{seen_mention, seen_mentions};
 
 use crate::bound::BoundNames;
 use crate::written::{fits_role, is_given};
 use pj_base::{Names, NoMemory};
 use pj_xexpressions::{Callee, function_named};
-use pj_xmeaning::Named;
+use pj_xreadings::Named;
 use std::alloc::Global;
 
 /// A fault of what is named. Offsets are bytes of the text, from 0.

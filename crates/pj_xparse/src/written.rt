@@ -6,11 +6,11 @@ ghost use Rattle.pj_xexpressions.specs.Among.{is_among};
 ghost use Rattle.pj_xexpressions.specs.Expressions.{is_pattern, are_flags, is_replacement};
 ghost use Rattle.pj_xparse.specs.Bound.{names_of, IsCounted};
 ghost use Rattle.pj_xparse.specs.NameFaults.{fits_role};
-ghost use Rattle.pj_xmeaning.specs.Seen.{seen_written};
+ghost use Rattle.pj_xreadings.specs.Seen.{seen_written};
 
 use crate::bound::BoundNames;
 use pj_base::{Names, NoMemory};
-use pj_xmeaning::{Role, Spelling};
+use pj_xreadings::{Role, Spelling};
 use pj_xtokens::string_value;
 use std::alloc::Global;
 

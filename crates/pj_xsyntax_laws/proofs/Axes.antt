@@ -7,7 +7,7 @@ use Rattle.pj_xtokens.specs.Tokens.{Lexed}
 use Rattle.pj_xgrammar.specs.declared.rule.Rule.TheVariants as r
 use Rattle.pj_xgrammar.specs.XPath.{greatest_nesting}
 use Rattle.pj_xexpressions.specs.Names.{axis_of}
-use Rattle.pj_xmeaning.specs.Operands.{Operand, Test, Predicates, child_step}
+use Rattle.pj_xreadings.specs.Operands.{Operand, Test, Predicates, child_step}
 use Rattle.pj_xmeaning.specs.Reach.{All}
 use Rattle.pj_xmeaning.specs.Reads.{Takes, token, cut, Reads, by, axis_name, any_name, node_name, element_name, plain_step, axis_test, axis_predicates, name_predicates, name_test, axis_name_test, any_name_test, node_test, element_test, plain_name}
 use Rattle.pj_xsyntax_laws.specs.Abbreviations.{along_child}

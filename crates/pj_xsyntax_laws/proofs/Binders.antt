@@ -18,8 +18,8 @@ use Rattle.pj_xexpressions.specs.declared.operator.Quantifier.TheVariants as qua
 use Rattle.pj_xexpressions.specs.Expressions.{Scope, Other, with_variable}
 use Rattle.pj_xexpressions.specs.Trees as tree
 use Rattle.pj_xexpressions.specs.Trees.{Tree, Trees, Construct, Node, NoMore, More, trees}
-use Rattle.pj_xmeaning.specs.Mentions.{scoped}
-use Rattle.pj_xmeaning.specs.Operands.{Operand, Binding, bindings_of, scopes_of, bound}
+use Rattle.pj_xreadings.specs.Mentions.{scoped}
+use Rattle.pj_xreadings.specs.Operands.{Operand, Binding, bindings_of, scopes_of, bound}
 use Rattle.pj_xmeaning.specs.Reach.{All}
 use Rattle.pj_xmeaning.specs.Reads as relation
 use Rattle.pj_xmeaning.specs.Reads.{Takes, token, for_expr, let_expr, some_expr, every_expr, in_binding, in_more, in_end, let_binding, let_more, let_end, in_clause, assign_clause, return_clause, satisfies_clause}

@@ -16,11 +16,11 @@ use Rattle.pj_xexpressions.specs.Expressions.{Scope, Other, arguments_fit}
 use Rattle.pj_xexpressions.specs.Names.{callee_of}
 use Rattle.pj_xexpressions.specs.Trees as tree
 use Rattle.pj_xexpressions.specs.Trees.{Tree, Trees, Node}
-use Rattle.pj_xmeaning.specs.Steps.{filtered, called}
+use Rattle.pj_xreadings.specs.Steps.{filtered, called}
 use Rattle.pj_xexpressions.specs.declared.name.Callee.{Callee}
 use Rattle.pj_xparse.specs.NameFaults.{callee_takes, is_function}
-use Rattle.pj_xmeaning.specs.Mentions.{Mention, Call, roles_in, roles_named}
-use Rattle.pj_xmeaning.specs.Operands.{Arguments, Called, arguments_in, is_closed, in_roles, told, names_of, trees_of}
+use Rattle.pj_xreadings.specs.Mentions.{Mention, Call, roles_in, roles_named}
+use Rattle.pj_xreadings.specs.Operands.{Arguments, Called, arguments_in, is_closed, in_roles, told, names_of, trees_of}
 use Rattle.pj_xmeaning.specs.Reads.{token, here, plain_name, plain_step, name_call}
 use Rattle.pj_xshape.specs.Shapes.{part_of_tree}
 use Rattle.pj_xshape.specs.Nesting.{nested_of, nested_each, chain_before}

@@ -11,8 +11,8 @@ use Rattle.pj_xexpressions.specs.Expressions.{Scope, Other}
 use Rattle.pj_xexpressions.specs.Trees as tree
 use Rattle.pj_xexpressions.specs.Trees.{Tree, Trees, Construct, Node, More, trees}
 use Rattle.pj_xgrammar.specs.declared.rule.Rule.TheVariants as r
-use Rattle.pj_xmeaning.specs.Operands as value
-use Rattle.pj_xmeaning.specs.Operands.{Operand, names_of}
+use Rattle.pj_xreadings.specs.Operands as value
+use Rattle.pj_xreadings.specs.Operands.{Operand, names_of}
 use Rattle.pj_xmeaning.specs.Reach.{All}
 use Rattle.pj_xmeaning.specs.Reads as x
 use Rattle.pj_xmeaning.specs.Reads.{token}

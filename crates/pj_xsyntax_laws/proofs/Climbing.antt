@@ -4,7 +4,7 @@ use Rattle.pj_xtokens.specs.Tokens.{Lexed}
 use Rattle.pj_xsyntax_laws.specs.Spaced.{Word, placed}
 use Rattle.pj_xexpressions.specs.Expressions.{Scope, Written}
 use Rattle.pj_xexpressions.specs.Trees.{Tree}
-use Rattle.pj_xmeaning.specs.Operands.{Operand}
+use Rattle.pj_xreadings.specs.Operands.{Operand}
 use Rattle.pj_xmeaning.specs.Reads as x
 use Rattle.pj_xsyntax_laws.proofs.Readings.{ReadsAt, at, operand_of}
 use Rattle.pj_xsyntax_laws.proofs.WholeReadings.{reading}

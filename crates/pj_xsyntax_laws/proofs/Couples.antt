@@ -13,7 +13,7 @@ use Rattle.pj_xexpressions.specs.Expressions.{Scope, Other}
 use Rattle.pj_xexpressions.specs.Trees as tree
 use Rattle.pj_xexpressions.specs.Trees.{Tree, Trees, Construct, Node, NoMore, More, node}
 use Rattle.pj_xgrammar.specs.declared.rule.Rule.TheVariants as r
-use Rattle.pj_xmeaning.specs.Operands.{Operand, other}
+use Rattle.pj_xreadings.specs.Operands.{Operand, other}
 use Rattle.pj_xmeaning.specs.Reach.{All}
 use Rattle.pj_xmeaning.specs.Reads as x
 use Rattle.pj_xmeaning.specs.Reads.{token}

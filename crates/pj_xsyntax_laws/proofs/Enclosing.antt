@@ -9,10 +9,10 @@ use Rattle.pj_xsyntax_laws.specs.Spaced.{Word, placed}
 use Rattle.pj_xexpressions.specs.Expressions.{Scope, Written, Other}
 use Rattle.pj_xexpressions.specs.Trees as tree
 use Rattle.pj_xexpressions.specs.Trees.{Tree, node}
-use Rattle.pj_xmeaning.specs.Steps.{filtered}
-use Rattle.pj_xmeaning.specs.Mentions.{Mention}
-use Rattle.pj_xmeaning.specs.Operands as value
-use Rattle.pj_xmeaning.specs.Operands.{Operand, names_of}
+use Rattle.pj_xreadings.specs.Steps.{filtered}
+use Rattle.pj_xreadings.specs.Mentions.{Mention}
+use Rattle.pj_xreadings.specs.Operands as value
+use Rattle.pj_xreadings.specs.Operands.{Operand, names_of}
 use Rattle.pj_xmeaning.specs.Reach.{All}
 use Rattle.pj_xmeaning.specs.Reads as relation
 use Rattle.pj_xmeaning.specs.Reads.{token, primary, parenthesized}

@@ -1,8 +1,8 @@
 -- Where positions ascend, the first fault in the list comes before each other.
 use Rattle.std.proofs.Common.{◌≡◌, ℕ, ◌<◌, ◌⊎◌, inl, inr, Bool, true, false, List, [], ◌∷◌, Option, Some, None, refl, sym, ap, subst, ◌∙◌}
 use Rattle.pj_xexpressions.specs.Expressions.{Scope}
-use Rattle.pj_xmeaning.specs.Mentions.{Mention}
-use Rattle.pj_xmeaning.specs.Mentions as mention
+use Rattle.pj_xreadings.specs.Mentions.{Mention}
+use Rattle.pj_xreadings.specs.Mentions as mention
 use Rattle.pj_xparse.specs.NameFaults.{Fault, Form, Function, Variable, is_bound, is_function, fits_role, unless, fault_in, scope_behind, earlier, first_fault_from}
 use Rattle.pj_xsyntax_laws.specs.Order.{Position, positions, IsBefore, IsBeforeAll, Ascend, AreBelow}
 use Rattle.pj_xsyntax_laws.specs.Every.{position_of, HasFault}

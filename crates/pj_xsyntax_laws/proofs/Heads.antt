@@ -4,7 +4,7 @@ use Rattle.pj_xtokens.specs.Tokens.{Lexed}
 use Rattle.pj_xsyntax_laws.specs.Spaced.{placed}
 use Rattle.pj_xexpressions.specs.Expressions.{Scope, Written, Other}
 use Rattle.pj_xexpressions.specs.Trees.{Tree, Trees, NoMore, More}
-use Rattle.pj_xmeaning.specs.Mentions.{Mention}
+use Rattle.pj_xreadings.specs.Mentions.{Mention}
 use Rattle.pj_xshape.specs.Shapes.{part_of_tree}
 use Rattle.pj_xshape.specs.Nesting.{operand_before, nested_of, nested_each, chain_before}
 use Rattle.pj_xsyntax_laws.specs.Printed.{operand, chain, printed_of, printed_each}

@@ -3,9 +3,9 @@ use Rattle.std.proofs.Common.{◌≡◌, ◌∙◌, ℕ, List, [], ◌∷◌, �
 use Rattle.std.specs.Prelude.{IsTrue}
 use Rattle.pj_xexpressions.specs.Expressions.{Scope, Written, with_variable}
 use Rattle.pj_xparse.specs.NameFaults.{Variable, Function, Form, is_bound, is_function, fits_role, unless, earlier, first_fault_from}
-use Rattle.pj_xmeaning.specs.Mentions as mention
-use Rattle.pj_xmeaning.specs.Mentions.{Mention, scoped}
-use Rattle.pj_xmeaning.specs.declared.role.Role.{Role}
+use Rattle.pj_xreadings.specs.Mentions as mention
+use Rattle.pj_xreadings.specs.Mentions.{Mention, scoped}
+use Rattle.pj_xreadings.specs.declared.role.Role.{Role}
 
 -- none of it has a fault, and the variables behind it are those before it
 abbrev pub Clean : Scope → List Mention → Type 0

@@ -10,7 +10,7 @@ use Rattle.pj_xderive.specs.Expressions.{IsOutcome, place_of}
 use Rattle.pj_xgrammar.specs.Terminals.{numbers}
 use Rattle.pj_xgrammar.specs.XPath.{greatest_nesting, xpath_grammar}
 use Rattle.pj_xmeaning.specs.SoFar.{SaySoFar, left_by}
-use Rattle.pj_xmeaning.specs.Operands.{Operand}
+use Rattle.pj_xreadings.specs.Operands.{Operand}
 use Rattle.pj_xsyntax_laws.specs.Order.{Ascend, AreBelow, positions, offset_at, offset_of_end}
 use Rattle.pj_xsyntax_laws.proofs.Ordered.{InOrder, ascend, below}
 use Rattle.pj_xsyntax_laws.proofs.TokenOffsets.{at, GapsStandInFront, TokensAreNotEmpty, tokens_ascend, at_place, places_ascend}

@@ -2,7 +2,7 @@
 use Rattle.std.proofs.Common.{◌≡◌, ℕ, ◌+◌, ◌*◌, ◌<◌, ◌≤◌, inl, inr, ⊎_elim, List, [], ◌∷◌, ◌++◌, ap, subst, sym, refl, arith}
 use Rattle.std.specs.Prelude.{⊤}
 use Rattle.std.proofs.lemmas.Bool.{cases_lt}
-use Rattle.pj_xmeaning.specs.Mentions.{Mention, Variable, Call, Argument, Binds, Ends}
+use Rattle.pj_xreadings.specs.Mentions.{Mention, Variable, Call, Argument, Binds, Ends}
 use Rattle.pj_xsyntax_laws.specs.Order.{Position, positions, IsBefore, IsBeforeAll, Ascend, AreBelow}
 
 -- the position as one number

@@ -15,9 +15,9 @@ use Rattle.pj_xexpressions.specs.declared.expr.NodeTest.TheVariants as test
 use Rattle.pj_xexpressions.specs.Expressions.{Scope, Other}
 use Rattle.pj_xexpressions.specs.Trees as tree
 use Rattle.pj_xexpressions.specs.Trees.{Tree, Trees, Construct, Node, NoMore, More, node, alone}
-use Rattle.pj_xmeaning.specs.Steps.{descendants}
-use Rattle.pj_xmeaning.specs.Operands as value
-use Rattle.pj_xmeaning.specs.Operands.{Operand, names_of, trees_of}
+use Rattle.pj_xreadings.specs.Steps.{descendants}
+use Rattle.pj_xreadings.specs.Operands as value
+use Rattle.pj_xreadings.specs.Operands.{Operand, names_of, trees_of}
 use Rattle.pj_xmeaning.specs.Reach.{All}
 use Rattle.pj_xmeaning.specs.Reads as relation
 use Rattle.pj_xmeaning.specs.Reads.{Takes, token, from_root, from_descendants, relative, path_steps, next_step, next_descendants, steps_end}

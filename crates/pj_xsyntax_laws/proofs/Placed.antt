@@ -9,9 +9,9 @@ use Rattle.pj_xexpressions.specs.Expressions.{Written}
 use Rattle.pj_xexpressions.specs.declared.name.Callee.{Callee}
 use Rattle.pj_xexpressions.specs.Names.{callee_of}
 use Rattle.pj_xexpressions.specs.Trees.{Construct}
-use Rattle.pj_xmeaning.specs.declared.role.Role.{Role}
-use Rattle.pj_xmeaning.specs.Mentions.{Mention, Variable, Call, Argument, Binds, Ends, roles_named}
-use Rattle.pj_xmeaning.specs.Operands.{Operand, Arguments, Open, Behind, Test, Called, Predicates, names_of, names_behind, chain, mixed, compared, ranging, variable, cut_variable, path, filtered, arguments_in, is_closed, judged, in_roles, told, named}
+use Rattle.pj_xreadings.specs.declared.role.Role.{Role}
+use Rattle.pj_xreadings.specs.Mentions.{Mention, Variable, Call, Argument, Binds, Ends, roles_named}
+use Rattle.pj_xreadings.specs.Operands.{Operand, Arguments, Open, Behind, Test, Called, Predicates, names_of, names_behind, chain, mixed, compared, ranging, variable, cut_variable, path, filtered, arguments_in, is_closed, judged, in_roles, told, named}
 use Rattle.pj_xmeaning.specs.Reach.{Reach, IsBefore, IsCut}
 use Rattle.pj_xmeaning.specs.Reads.{Takes, token, cut}
 use Rattle.pj_xsyntax_laws.proofs.Ordered.{InOrder, none_in_order, widened, joined}

@@ -21,13 +21,14 @@ use Rattle.pj_xexpressions.specs.declared.name.Callee.{Callee}
 use Rattle.pj_xexpressions.specs.declared.name.Callee.TheVariants as callee
 use Rattle.pj_xexpressions.specs.Trees as tree
 use Rattle.pj_xexpressions.specs.Trees.{Tree, Construct, node, alone, binder, operated}
-use Rattle.pj_xmeaning.specs.Steps as forms
-use Rattle.pj_xmeaning.specs.Mentions as mention
-use Rattle.pj_xmeaning.specs.Mentions.{Mention, roles_in, roles_named, scoped}
+use Rattle.pj_xreadings.specs.Steps as forms
+use Rattle.pj_xreadings.specs.Mentions as mention
+use Rattle.pj_xreadings.specs.Mentions.{Mention, roles_in, roles_named, scoped}
 use Rattle.pj_xparse.specs.NameFaults as fault
 use Rattle.pj_xparse.specs.NameFaults.{Fault, first_fault_from, first_fault, fault_in, scope_behind, unless, earlier, is_bound, is_function, callee_takes, fits_role}
-use Rattle.pj_xmeaning.specs.declared.role.Role.{Role}
-use Rattle.pj_xmeaning.specs.Operands.{Operand, Binding, Arguments, Closed, Open, Next, Behind, Test, Called, Predicates, Value, other, trees_of, names_of, names_behind, operations, bindings_of, scopes_of, arguments_in, is_closed, judged, in_roles, told, chain, mixed, compared, ranging, signed, bound, chosen, variable, integer_literal, string_literal, rooted, path, step, child_step, attribute_step, axis_step, filtered, kind_test, call, named}
+use Rattle.pj_xreadings.specs.declared.role.Role.{Role}
+use Rattle.pj_xreadings.specs.Operands.{Operand, Binding, Arguments, Closed, Open, Next, Behind, Test, Called, Predicates, other, trees_of, names_of, names_behind, operations, bindings_of, scopes_of, arguments_in, is_closed, judged, in_roles, told, chain, mixed, compared, ranging, signed, bound, chosen, variable, integer_literal, string_literal, rooted, path, step, child_step, attribute_step, axis_step, filtered, kind_test, call, named}
+use Rattle.pj_xmeaning.specs.RuleMeanings.{Value}
 use Rattle.pj_xsyntax_laws.specs.Printed.{function_name, pmd_function_name}
 use Rattle.pj_xsyntax_laws.proofs.Tables.{function-meaning, pmd-meaning}
 

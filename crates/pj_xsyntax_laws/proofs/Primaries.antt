@@ -14,7 +14,7 @@ use Rattle.pj_xexpressions.specs.Expressions.{Scope, Written, Literal, Number, N
 use Rattle.pj_xexpressions.specs.Trees as tree
 use Rattle.pj_xexpressions.specs.Trees.{Tree, Trees, Node, NoMore, More}
 use Rattle.pj_xparse.specs.NameFaults.{is_bound}
-use Rattle.pj_xmeaning.specs.Mentions as mention
+use Rattle.pj_xreadings.specs.Mentions as mention
 use Rattle.pj_xmeaning.specs.Reach.{All}
 use Rattle.pj_xmeaning.specs.Reads as relation
 use Rattle.pj_xmeaning.specs.Reads.{token, variable_expr, integer_expr, string_expr, context_item, parenthesized, empty}

@@ -9,9 +9,9 @@ use Rattle.pj_xgrammar.specs.Terminals.{first_behind, begins_step}
 use Rattle.pj_xsyntax_laws.specs.Spaced.{Word, placed, spaced}
 use Rattle.pj_xexpressions.specs.Expressions.{Scope, Written, Other}
 use Rattle.pj_xexpressions.specs.Trees.{Tree, Trees, NoMore, More, trees}
-use Rattle.pj_xmeaning.specs.Steps.{filtered}
-use Rattle.pj_xmeaning.specs.Mentions.{Mention}
-use Rattle.pj_xmeaning.specs.Operands.{Operand, trees_of, names_of}
+use Rattle.pj_xreadings.specs.Steps.{filtered}
+use Rattle.pj_xreadings.specs.Mentions.{Mention}
+use Rattle.pj_xreadings.specs.Operands.{Operand, trees_of, names_of}
 use Rattle.pj_xmeaning.specs.Reach.{All}
 use Rattle.pj_xmeaning.specs.Reads as relation
 use Rattle.pj_xshape.specs.Shapes.{part_of_tree}

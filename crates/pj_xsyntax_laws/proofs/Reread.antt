@@ -13,7 +13,7 @@ use Rattle.pj_xsyntax_laws.proofs.Placing.{tokens_from}
 use Rattle.pj_xexpressions.specs.Expressions.{Scope}
 use Rattle.pj_xexpressions.specs.Trees.{Tree}
 use Rattle.pj_xparse.specs.NameFaults.{first_fault, first_fault_from}
-use Rattle.pj_xmeaning.specs.Operands.{Operand}
+use Rattle.pj_xreadings.specs.Operands.{Operand}
 use Rattle.pj_xmeaning.specs.Reads.{AreRead}
 use Rattle.pj_xparse.specs.WellSpelled.{AreWellSpelled}
 use Rattle.pj_xparse.specs.Spells.{Spells}

@@ -9,7 +9,7 @@ use Rattle.pj_xgrammar.specs.Terminals.{first_behind}
 use Rattle.pj_xsyntax_laws.specs.Spaced.{placed}
 use Rattle.pj_xexpressions.specs.Expressions.{Scope}
 use Rattle.pj_xexpressions.specs.Trees.{Tree, Trees, More}
-use Rattle.pj_xmeaning.specs.Operands.{Operand, Arguments, Closed, Next}
+use Rattle.pj_xreadings.specs.Operands.{Operand, Arguments, Closed, Next}
 use Rattle.pj_xmeaning.specs.Reach.{All}
 use Rattle.pj_xmeaning.specs.Reads as relation
 use Rattle.pj_xmeaning.specs.Reads.{token, some_arguments, more_arguments, arguments_end}

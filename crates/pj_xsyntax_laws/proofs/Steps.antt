@@ -21,8 +21,8 @@ use Rattle.pj_xexpressions.specs.Expressions.{Scope, Other}
 use Rattle.pj_xexpressions.specs.Names.{axis_of}
 use Rattle.pj_xexpressions.specs.Trees as tree
 use Rattle.pj_xexpressions.specs.Trees.{Tree, Trees, Node, NoMore, More, trees}
-use Rattle.pj_xmeaning.specs.Steps.{along}
-use Rattle.pj_xmeaning.specs.Operands.{Test, names_of, trees_of}
+use Rattle.pj_xreadings.specs.Steps.{along}
+use Rattle.pj_xreadings.specs.Operands.{Test, names_of, trees_of}
 use Rattle.pj_xmeaning.specs.Reach.{All}
 use Rattle.pj_xmeaning.specs.Reads as relation
 use Rattle.pj_xmeaning.specs.Reads.{Takes, token, predicate, no_predicate, parent, axis_name, axis_test}

@@ -6,7 +6,7 @@ use Rattle.pj_xtokens.specs.Tokens.{Lexed}
 use Rattle.pj_xgrammar.specs.Notation.{t}
 use Rattle.pj_xgrammar.specs.declared.rule.Rule.{Rule}
 use Rattle.pj_xgrammar.specs.declared.rule.Rule.TheVariants as r
-use Rattle.pj_xmeaning.specs.Operands.{Operand, other}
+use Rattle.pj_xreadings.specs.Operands.{Operand, other}
 use Rattle.pj_xmeaning.specs.Reach.{All}
 use Rattle.pj_xmeaning.specs.Reads.{Takes, Reads, primary, no_predicate, parenthesized, inside}
 use Rattle.pj_xsyntax_laws.specs.Levels.{is_level, LevelReads}

@@ -8,8 +8,8 @@ use Rattle.pj_xgrammar.specs.Terminals.{first_behind, behind_of}
 use Rattle.pj_xsyntax_laws.specs.Spaced.{Word, placed}
 use Rattle.pj_xexpressions.specs.Expressions.{Scope}
 use Rattle.pj_xexpressions.specs.Trees.{Tree, Trees, NoMore, More}
-use Rattle.pj_xmeaning.specs.Mentions.{Mention}
-use Rattle.pj_xmeaning.specs.Operands.{Operand}
+use Rattle.pj_xreadings.specs.Mentions.{Mention}
+use Rattle.pj_xreadings.specs.Operands.{Operand}
 use Rattle.pj_xshape.specs.Shapes.{part_of_tree}
 use Rattle.pj_xshape.specs.Nesting.{operand_before, nested_of, nested_each, chain_before}
 use Rattle.pj_xsyntax_laws.specs.Printed.{operand, chain, printed_of, printed_each}

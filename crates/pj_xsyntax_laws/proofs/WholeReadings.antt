@@ -2,7 +2,7 @@
 use Rattle.std.proofs.Common.{ℕ, List}
 use Rattle.pj_xtokens.specs.Tokens.{Lexed}
 use Rattle.pj_xgrammar.specs.declared.rule.Rule.{Rule}
-use Rattle.pj_xmeaning.specs.Operands.{Value}
+use Rattle.pj_xmeaning.specs.RuleMeanings.{Value}
 use Rattle.pj_xmeaning.specs.Reach.{All}
 use Rattle.pj_xmeaning.specs.Reads.{Reads, Produces, by}
 

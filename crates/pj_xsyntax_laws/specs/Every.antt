@@ -1,7 +1,7 @@
 -- Every fault of what is named, and where it stands.
 use Rattle.std.specs.Prelude.{◌≡◌, ℕ, ◌⊎◌, List, [], ◌∷◌, Some}
 use Rattle.pj_xexpressions.specs.Expressions.{Scope}
-use Rattle.pj_xmeaning.specs.Mentions.{Mention}
+use Rattle.pj_xreadings.specs.Mentions.{Mention}
 use Rattle.pj_xparse.specs.NameFaults.{Fault, Form, Function, Variable, fault_in, scope_behind}
 use Rattle.pj_xsyntax_laws.specs.Order.{Position}
 

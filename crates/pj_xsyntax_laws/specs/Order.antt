@@ -6,7 +6,7 @@ use Rattle.std.specs.Prelude.{◌≡◌, ℕ, ◌<◌, ◌⊎◌, ⊤, List, [],
 use Rattle.pj_xtokens.specs.Tokens.{Lexed}
 use Rattle.pj_xtokens.specs.declared.token.End.{End}
 use Rattle.pj_xtokens.specs.declared.token.End.TheVariants as ends
-use Rattle.pj_xmeaning.specs.Mentions.{Mention, Variable, Call, Argument, Binds, Ends}
+use Rattle.pj_xreadings.specs.Mentions.{Mention, Variable, Call, Argument, Binds, Ends}
 
 -- Where a mention stands: its offset, and its rank among those of one offset. An argument as a whole comes before what it names.
 pub record Position : Type 0 where

@@ -9,11 +9,11 @@ use Prim.Native.String.{String}
 use denote.Enum.Declared.{tag_of}
 use Rattle.pj_xexpressions.specs.declared.axis.Axis.{Axis}
 use Rattle.pj_xexpressions.specs.declared.axis.Axis.TheVariants as axes_of
-use Rattle.pj_xvalue.specs.contracts.axis.Axis as axis
+use Rattle.pj_xexpressions.specs.contracts.axis.Axis as axis
 use Rattle.pj_xexpressions.specs.declared.function.Function.{Function}
-use Rattle.pj_xvalue.specs.contracts.function.Function as function
+use Rattle.pj_xexpressions.specs.contracts.function.Function as function
 use Rattle.pj_xexpressions.specs.declared.pmd_function.PmdFunction.{PmdFunction}
-use Rattle.pj_xvalue.specs.contracts.pmd_function.PmdFunction as pmd_function
+use Rattle.pj_xexpressions.specs.contracts.pmd_function.PmdFunction as pmd_function
 use Rattle.pj_xexpressions.specs.declared.operator.Compare.{Compare}
 use Rattle.pj_xexpressions.specs.declared.operator.Compare.TheVariants as compare
 use Rattle.pj_xexpressions.specs.declared.operator.Additive.{Additive}

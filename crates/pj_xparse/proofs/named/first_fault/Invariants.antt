@@ -1,7 +1,7 @@
 use Rattle.std.proofs.Common.{◌≡◌, length}
 use Rattle.pj_xparse.specs.Bound.{names_of, IsCounted}
 use Rattle.pj_xparse.specs.NameFaults.{first_fault_from, first_fault}
-use Rattle.pj_xmeaning.specs.Seen.{seen_mentions}
+use Rattle.pj_xreadings.specs.Seen.{seen_mentions}
 use Rattle.pj_xparse.proofs.named.first_fault.Given as goal
 
 abbrev pub invariant-mentions : goal.invariant-mentions

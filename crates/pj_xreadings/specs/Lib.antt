@@ -1,0 +1,8 @@
+-- definitions
+pub mod Mentions
+pub mod Steps
+pub mod Operands
+-- what the code answers
+pub mod Seen
+-- for the arguments of the code
+pub mod Constructs
