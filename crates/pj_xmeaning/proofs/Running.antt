@@ -25,7 +25,7 @@ use Rattle.pj_xmeaning.proofs.Valuing.{fill_said, tree_said}
 -- where each rule stands at its number
 module _ (rule_at : (rule : Rule) → slice_get rules (rule_number rule) ≡ Some rule) where
   -- the tokens before a place, which the productions lead behind
-  beginning_said : (tokens : List Lexed) (i : ℕ) (productions : List ℕ) → i ≤ length tokens → LeadBehind xpath_grammar (take i (numbers tokens)) productions →
+  pub beginning_said : (tokens : List Lexed) (i : ℕ) (productions : List ℕ) → i ≤ length tokens → LeadBehind xpath_grammar (take i (numbers tokens)) productions →
       Reads (UpTo (drop i tokens)) r.Expr 0 tokens (drop i tokens) (said productions tokens)
   beginning_said tokens i productions within leads =
       let f = leads_fill tokens i productions within leads in

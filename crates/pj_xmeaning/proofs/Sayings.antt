@@ -4,7 +4,7 @@ use Rattle.pj_ll.specs.declared.grammar.Symbol.{Symbol}
 use Rattle.pj_ll.specs.declared.parser.End.{End}
 use Rattle.pj_ll.specs.declared.parser.End.TheVariants.{Whole, Stops, LeftOut, TooDeep}
 use Rattle.pj_ll.specs.Leads.{Behind, Derives}
-use Rattle.pj_ll.specs.Outcome.{IsEnd, IsLeftOutAt, IsWhole, LeadTo}
+use Rattle.pj_ll.specs.Outcome.{IsEnd, IsLeftOutAt, IsWhole, LeadBehind, LeadTo}
 use Rattle.pj_xtokens.specs.Tokens.{Lexed}
 use Rattle.pj_xgrammar.specs.declared.rule.Rule.{Rule}
 use Rattle.pj_xgrammar.specs.Notation.{rule_number}
@@ -58,6 +58,10 @@ module _ (rule_at : (rule : Rule) → slice_get rules (rule_number rule) ≡ Som
         let l = first_lead i (left_out_within tokens i it) a reads in record { productions = l.productions; leads = l.leads; say = l.say }
     leading (TooDeep i) it a reads =
         let l = first_lead i (within_tokens tokens i it.within) a reads in record { productions = l.productions; leads = l.leads; say = l.say }
+
+  -- what is read before a place has productions that lead behind it
+  pub beginning_leads : (tokens : List Lexed) (i : ℕ) (a : Operand) → i ≤ length tokens → SayUpTo (Stops i) tokens a → (productions : List ℕ) × LeadBehind xpath_grammar (take i (numbers tokens)) productions
+  beginning_leads tokens i a within reads = let l = first_lead tokens i within a reads in (l.productions, l.leads)
 
   pub sayings_are_runs : (end : End) (tokens : List Lexed) (a : Operand) → IsEnd xpath_grammar (numbers tokens) greatest_nesting end → SayUpTo end tokens a →
       (productions : List ℕ) × LeadTo xpath_grammar (numbers tokens) productions end

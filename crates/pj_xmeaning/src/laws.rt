@@ -1,14 +1,16 @@
 //! What the productions of derivations say, and what tokens say, are the same. The functions do nothing, and their contracts are the laws.
 
-ghost use Rattle.std.specs.Prelude.{◌≡◌, ℕ, List};
-ghost use Rattle.pj_ll.specs.Outcome.{IsEnd, IsWhole, LeadTo};
+ghost use Rattle.std.specs.Prelude.{◌≡◌, ◌≤◌, ℕ, List, drop, length, take};
+ghost use Rattle.pj_ll.specs.Outcome.{IsEnd, IsWhole, LeadBehind, LeadTo};
 ghost use Rattle.pj_ll.specs.declared.parser.End.{End};
 ghost use Rattle.pj_xtokens.specs.Tokens.{Lexed};
 ghost use Rattle.pj_xgrammar.specs.Predictive.{IsPredictiveXPath};
 ghost use Rattle.pj_xgrammar.specs.Terminals.{numbers};
 ghost use Rattle.pj_xgrammar.specs.XPath.{greatest_nesting, xpath_grammar};
 ghost use Rattle.pj_xreadings.specs.Operands.{Operand};
-ghost use Rattle.pj_xmeaning.specs.Reads.{AreRead};
+ghost use Rattle.pj_xgrammar.specs.declared.rule.Rule.TheVariants as r;
+ghost use Rattle.pj_xmeaning.specs.Reach.{UpTo};
+ghost use Rattle.pj_xmeaning.specs.Reads.{AreRead, Reads};
 ghost use Rattle.pj_xmeaning.specs.SoFar.{SayUpTo};
 ghost use Rattle.pj_xmeaning.specs.Values.{said};
 
@@ -35,6 +37,17 @@ pub fn runs_say()
 pub fn sayings_are_runs()
     ensures { (end : End) (tokens : List Lexed) (a : Operand) → IsEnd xpath_grammar (numbers tokens) greatest_nesting end → SayUpTo end tokens a →
         (productions : List ℕ) × LeadTo xpath_grammar (numbers tokens) productions end }
+{
+    rules_have_their_numbers();
+}
+
+/// The tokens before a place, which productions lead behind, are read as the beginning of an expression, and productions lead behind what is
+/// read so.
+pub fn beginnings_are_read()
+    ensures read { (tokens : List Lexed) (i : ℕ) (productions : List ℕ) → i ≤ length tokens → LeadBehind xpath_grammar (take i (numbers tokens)) productions →
+        (a : Operand) × Reads (UpTo (drop i tokens)) r.Expr 0 tokens (drop i tokens) a }
+    ensures led { (tokens : List Lexed) (i : ℕ) (a : Operand) → i ≤ length tokens → Reads (UpTo (drop i tokens)) r.Expr 0 tokens (drop i tokens) a →
+        (productions : List ℕ) × LeadBehind xpath_grammar (take i (numbers tokens)) productions }
 {
     rules_have_their_numbers();
 }

@@ -20,4 +20,4 @@ mod rest;
 mod step;
 
 pub use fold::reading;
-pub use laws::{one_saying, readings_are_whole, runs_say, sayings_are_runs};
+pub use laws::{beginnings_are_read, one_saying, readings_are_whole, runs_say, sayings_are_runs};

@@ -58,7 +58,7 @@ spelled variables text tokens said end (outcome.TooDeep i) read none says named 
 -- Where tokens say something as far as each run of theirs goes to which productions lead, that stand where they begin:
 module _ {tokens : List Lexed} {steps all : List Step} {said : Operand} (same : steps ≡ all) (placed : ArePlaced xpath_grammar (numbers tokens) all)
     (say : (run : End) → IsEnd xpath_grammar (numbers tokens) greatest_nesting run → terminals.LeadTo xpath_grammar (numbers tokens) (productions_in steps) run →
-        ArePlaced xpath_grammar (numbers tokens) steps → SayUpTo run tokens said) where
+    ArePlaced xpath_grammar (numbers tokens) steps → SayUpTo run tokens said) where
   say_run : (run : End) → IsEnd xpath_grammar (numbers tokens) greatest_nesting run → terminals.LeadTo xpath_grammar (numbers tokens) (productions_in all) run → SayUpTo run tokens said
   say_run run ends leads =
       say run ends (subst (λ s. terminals.LeadTo xpath_grammar (numbers tokens) (productions_in s) run) (sym same) leads) (subst (ArePlaced xpath_grammar (numbers tokens)) (sym same) placed)
