@@ -24,5 +24,5 @@ returns c = record {
   whole = λ tokens it. c.derivations_are_readings.ensures tokens it.expression.0 it.expression.1 it.clear;
   expression = λ tokens a reads.
       let d = c.readings_are_derivations.ensures tokens a reads in
-      record { expression = (d.0, d.1.0); clear = d.1.1 };
+      record { expression = (d.0, d.1); clear = d.2 };
 }
