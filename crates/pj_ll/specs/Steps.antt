@@ -10,8 +10,8 @@ use Rattle.pj_ll.specs.Leads.{Leads, start}
 abbrev pub productions_in : List Step → List ℕ
 productions_in steps = map (λ (s : Step). s.production) steps
 
--- A production that is used behind these others stands at the place: they lead past the terminals before it to a rule, which
--- is the one that the production replaces.
+-- The place at which the production behind these others is used: they lead past the terminals before it to a rule, which that production
+-- replaces. That it is one of the rule's is said by where all of them lead (`LeadTo`).
 pub record IsPlaced (g : Grammar) (ts before : List ℕ) (place : ℕ) : Type 0 where
   pub within : place ≤ length ts
   pub rule : ℕ

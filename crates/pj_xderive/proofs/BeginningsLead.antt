@@ -3,7 +3,7 @@ use Rattle.std.proofs.Common.{◌≡◌, ℕ, List, [], ◌∷◌, ◌++◌, len
 use Rattle.std.proofs.Math.Seq.{take-append_seam}
 use Rattle.pj_ll.specs.declared.grammar.Symbol.{Symbol}
 use Rattle.pj_ll.specs.declared.grammar.Symbol.TheVariants.{Terminal}
-use Rattle.pj_ll.specs.Leads.{Leads, stay, take_terminal, close, expand, Behind, at_start, behind, start}
+use Rattle.pj_ll.specs.Leads.{Leads, stay, take_terminal, close, expand, at_start, behind, start}
 use Rattle.pj_ll.specs.Composing.{behind_leads}
 use Rattle.pj_ll.specs.Outcome.{LeadBehind}
 use Rattle.pj_xtokens.specs.Tokens.{Lexed}

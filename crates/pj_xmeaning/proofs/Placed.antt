@@ -1,12 +1,10 @@
 -- The productions of a run begin at the tokens at which they are placed.
-use Rattle.std.proofs.Common.{◌≡◌, ℕ, zero, suc, ◌+◌, ◌≤◌, List, [], ◌∷◌, ◌++◌, length, map, take, drop, get_or, Some, refl, sym, ◌∙◌, ap, arith}
-use Rattle.std.specs.Prelude.{slice_get}
+use Rattle.std.proofs.Common.{◌≡◌, ℕ, zero, suc, ◌+◌, ◌≤◌, List, [], ◌∷◌, ◌++◌, length, map, take, drop, get_or, refl, sym, ◌∙◌, ap, arith}
 use Rattle.std.proofs.lemmas.List.{length-map, length-take, map_more, take-map, take_all}
 use Rattle.std.proofs.lemmas.Option.{slice_get-get_or}
 use Rattle.pj_ll.specs.declared.grammar.Symbol.{Symbol}
 use Rattle.pj_ll.specs.declared.grammar.Symbol.TheVariants.{Terminal, Rule, LeftOut, Close}
 use Rattle.pj_ll.specs.declared.parser.Step.{Step}
-use Rattle.pj_ll.specs.Grammar.{Line}
 use Rattle.pj_ll.specs.Leads.{Leads, stay, take_terminal, close, expand}
 use Rattle.pj_ll.specs.Steps.{ArePlaced, productions_in}
 use Rattle.pj_xtokens.specs.First.{behind_first}

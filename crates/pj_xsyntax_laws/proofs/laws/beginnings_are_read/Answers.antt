@@ -1,4 +1,4 @@
-use Rattle.std.proofs.Common.{ℕ, ◌≤◌, ◌≡◌, List, ◌++◌, drop, length, sym, subst, arith, length-append}
+use Rattle.std.proofs.Common.{◌≤◌, List, ◌++◌, length, sym, subst, arith, length-append}
 use Rattle.std.proofs.Math.Seq.{drop-append_seam}
 use Rattle.pj_xtokens.specs.Tokens.{Lexed}
 use Rattle.pj_xgrammar.specs.declared.rule.Rule.TheVariants as r
