@@ -4,7 +4,7 @@ use crate::values::Case::{Bool, Document, Element, Int, Nothing, Owned, Str};
 use pj_base::{NoMemory, Text};
 use pj_tree::Node;
 use pj_xexpressions::Compare;
-use pj_xvalue::Compare::{Equal, Greater, GreaterOrEqual, Less, LessOrEqual, NotEqual};
+use pj_xexpressions::Compare::{Equal, Greater, GreaterOrEqual, Less, LessOrEqual, NotEqual};
 use pj_xvalue::{Item, Sequence, XCode, boolean_value, compare, have_no_attribute};
 use std::alloc::Global;
 use std::test::Fail;
