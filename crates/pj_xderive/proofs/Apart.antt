@@ -9,7 +9,7 @@ use Rattle.pj_xtokens.specs.Answer.{lexed_of}
 use Rattle.pj_xtokens.specs.Size.{size}
 use Rattle.pj_xtokens.specs.Tokens.{Lexed}
 use Rattle.pj_xtokens.specs.declared.token.Token.{Token}
-use Rattle.pj_xderive.specs.Expressions.{are_apart, stands_apart}
+use Rattle.pj_xgrammar.specs.Standing.{are_apart, stands_apart}
 use Rattle.pj_xderive.proofs.Outcomes.{mapped_at, no_token_there}
 
 -- a token does not stand behind itself

@@ -1,8 +1,9 @@
 -- Tokens that begin an expression, and productions that lead behind their terminals.
-use Rattle.std.proofs.Common.{◌≡◌, ℕ, List, [], ◌∷◌, ◌++◌, length, take, sym, ap, subst, ◌∙◌, append_assoc}
+use Rattle.std.proofs.Common.{◌≡◌, ℕ, List, [], ◌∷◌, ◌++◌, length, take, refl, sym, ap, subst, ◌∙◌, append_assoc}
 use Rattle.std.proofs.Math.Seq.{take-append_seam}
 use Rattle.pj_ll.specs.declared.grammar.Symbol.{Symbol}
 use Rattle.pj_ll.specs.declared.grammar.Symbol.TheVariants.{Terminal}
+use Rattle.pj_ll.specs.Leads as leads
 use Rattle.pj_ll.specs.Leads.{Leads, stay, take_terminal, close, expand, at_start, behind, start}
 use Rattle.pj_ll.specs.Composing.{behind_leads}
 use Rattle.pj_ll.specs.Outcome.{LeadBehind}
@@ -40,6 +41,27 @@ up_to before t more (close d) is =
 up_to before t more (expand n p line at rule d) is =
     let e = up_to before t more d is in
     record { productions = p ∷ e.productions; rest = e.rest; leads = expand n p line at rule e.leads }
+
+-- ---- terminals
+
+-- a list that is not empty has a last member
+last_of : (t : ℕ) (ts : List ℕ) → (before : List ℕ) × ((end : ℕ) × (t ∷ ts ≡ before ++ end ∷ []))
+last_of t [] = ([], (t, refl))
+last_of t (u ∷ us) = let (before, (end, e)) = last_of u us in (t ∷ before, (end, ap (λ l. t ∷ l) e))
+
+-- what begins a sentence has productions that are used up to its last terminal
+pub terminals_lead : (ts : List ℕ) → leads.CanGoOn xpath_grammar ts → (productions : List ℕ) × LeadBehind xpath_grammar ts productions
+terminals_lead [] goes = ([], (start, at_start))
+terminals_lead (x ∷ xs) (more, (ps, derives)) =
+    let (before, (t, e)) = last_of x xs in
+    let u = up_to before t more derives (ap (λ l. l ++ more) e ∙ append_assoc before (t ∷ []) more) in
+    (u.productions, (u.rest, behind before t e u.leads))
+
+-- and what has such productions begins one
+pub lead_on : (ts productions : List ℕ) → LeadBehind xpath_grammar ts productions → leads.CanGoOn xpath_grammar ts
+lead_on ts productions (ss, way) = reached ts productions ss (behind_leads xpath_grammar way)
+
+-- ---- tokens
 
 -- the terminals of tokens before others are the first of all
 first_numbers : (tokens more : List Lexed) → take (length tokens) (numbers (tokens ++ more)) ≡ numbers_before (first_behind b.End more) tokens

@@ -14,7 +14,8 @@ use Rattle.pj_xtokens.specs.declared.token.TokenKind.TheVariants as kinds
 use Rattle.pj_xgrammar.specs.declared.terminal.Behind.{Behind}
 use Rattle.pj_xgrammar.specs.Terminals.{kind_terminal, terminal_number}
 use Rattle.pj_xgrammar.specs.XPath.{xpath, rules, xpath_grammar}
-use Rattle.pj_xderive.specs.Expressions.{CanGoOn, IsExpression, is_left_out_kind, is_left_out_token}
+use Rattle.pj_xgrammar.specs.Standing.{is_left_out_kind, is_left_out_token}
+use Rattle.pj_xderive.specs.Expressions.{CanGoOn, IsExpression}
 use Rattle.pj_xderive.proofs.Outcomes.{read_at}
 use Rattle.pj_xderive.proofs.Reading.{number}
 use Rattle.pj_xderive.proofs.Standing.{test_at}

@@ -12,6 +12,7 @@ pub mod Reading
 pub mod RuleFacts
 pub mod RunsFirst
 pub mod SameTable
+pub mod SomeRun
 pub mod Standing
 pub mod Tried
 pub mod Widening

@@ -12,7 +12,8 @@ use Rattle.pj_xtokens.specs.Tokens.{Lexed}
 use Rattle.pj_xgrammar.specs.declared.terminal.Behind.TheVariants as b
 use Rattle.pj_xgrammar.specs.Terminals.{numbers}
 use Rattle.pj_xgrammar.specs.XPath.{xpath_grammar}
-use Rattle.pj_xderive.specs.Expressions.{IsExpression, CanGoOn, IsLeftOut, IsTooDeep, IsWhole, CannotFollow, IsLeftOutFirst, IsTooDeepFirst, IsOutcome, is_left_out_kind, is_left_out_token, stands_apart}
+use Rattle.pj_xgrammar.specs.Standing.{is_left_out_kind, is_left_out_token, stands_apart}
+use Rattle.pj_xderive.specs.Expressions.{IsExpression, CanGoOn, IsLeftOut, IsTooDeep, IsWhole, CannotFollow, IsLeftOutFirst, IsTooDeepFirst, IsOutcome}
 use Rattle.pj_xderive.specs.Following.{is_past, is_too_deep, terminals_with_last}
 use Rattle.pj_xderive.proofs.Deeper.{deep, not_deep}
 use Rattle.pj_xderive.proofs.LeftOutNumbers.{none_before, none_within, token_there}

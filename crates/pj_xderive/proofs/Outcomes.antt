@@ -18,7 +18,8 @@ use Rattle.pj_xgrammar.specs.declared.terminal.Behind.{Behind}
 use Rattle.pj_xgrammar.specs.declared.terminal.Behind.TheVariants as b
 use Rattle.pj_xgrammar.specs.Terminals.{begins_step, first_behind, behind_of, kind_behind, numbers_before, numbers}
 use Rattle.pj_xgrammar.specs.XPath.{xpath_grammar}
-use Rattle.pj_xderive.specs.Expressions.{CanGoOn, IsWhole, CannotFollow, IsLeftOutFirst, IsTooDeepFirst, IsLeftOut, IsTooDeep, AreClear, is_left_out_kind, is_left_out_token, stands_apart, IsOutcome, LeadTo}
+use Rattle.pj_xgrammar.specs.Standing.{is_left_out_kind, is_left_out_token, stands_apart}
+use Rattle.pj_xderive.specs.Expressions.{CanGoOn, IsWhole, CannotFollow, IsLeftOutFirst, IsTooDeepFirst, IsLeftOut, IsTooDeep, AreClear, IsOutcome, LeadTo}
 use Rattle.pj_xderive.specs.Following.{IsReadAt, CouldFollow, HasOutcome}
 use Rattle.pj_xderive.proofs.Reading.{number, numbers_append, is_calm, keep, keeps}
 use Rattle.pj_xderive.proofs.Widening.{reached}

@@ -9,7 +9,8 @@ use Rattle.pj_ll.specs.Outcome as ll
 use Rattle.pj_xtokens.specs.Tokens.{Lexed}
 use Rattle.pj_xgrammar.specs.Terminals.{numbers}
 use Rattle.pj_xgrammar.specs.XPath.{xpath_grammar}
-use Rattle.pj_xderive.specs.Expressions.{IsOutcome, is_left_out_kind, is_left_out_token, place_of, stands_apart}
+use Rattle.pj_xgrammar.specs.Standing.{is_left_out_kind, is_left_out_token, stands_apart}
+use Rattle.pj_xderive.specs.Expressions.{IsOutcome, place_of}
 use Rattle.pj_xderive.specs.Following.{CouldFollow}
 use Rattle.pj_xderive.proofs.Outcomes.{whole, too_deep, number_where_deep, number_where_stopped, stops_at_end, stopped_here, stopped_behind}
 use Rattle.pj_xderive.proofs.OneOutcome.{one_outcome, left_out_or_deep}

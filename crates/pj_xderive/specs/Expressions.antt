@@ -1,16 +1,14 @@
 -- Which tokens are an expression, which can begin one, and the first fault of those that are none.
 --
 -- A place is a number of tokens, from 0: that of the token there, and the number of all tokens for the end.
-use Rattle.std.specs.Prelude.{◌≡◌, ℕ, zero, suc, ◌+◌, ◌<◌, ◌≤◌, ◌⊎◌, Bool, true, false, nat_lt, List, ◌++◌, length, take, Option, Some, None, slice_get}
+use Rattle.std.specs.Prelude.{◌≡◌, ℕ, ◌+◌, ◌<◌, ◌≤◌, ◌⊎◌, true, false, List, ◌++◌, length, take, slice_get}
 use Rattle.pj_ll.specs.Leads.{Derives, IsSentence}
 use Rattle.pj_ll.specs.Outcome as terminals
 use Rattle.pj_ll.specs.Outcome.{IsLeftOutAt, IsTooDeepAt, AreClearBelow, LeadBehind}
 use Rattle.pj_ll.specs.declared.parser.End.{End}
 use Rattle.pj_ll.specs.declared.parser.End.TheVariants as ends
-use Rattle.pj_xtokens.specs.Size.{size}
 use Rattle.pj_xtokens.specs.Tokens.{Lexed}
-use Rattle.pj_xtokens.specs.declared.token.TokenKind.{TokenKind}
-use Rattle.pj_xtokens.specs.declared.token.TokenKind.TheVariants as kind
+use Rattle.pj_xgrammar.specs.Standing.{is_left_out_token, stands_apart}
 use Rattle.pj_xgrammar.specs.Terminals.{numbers}
 use Rattle.pj_xgrammar.specs.XPath.{greatest_nesting, xpath_grammar}
 
@@ -25,17 +23,6 @@ IsExpression tokens = IsSentence xpath_grammar (numbers tokens)
 abbrev pub CanGoOn : List Lexed → Type 0
 CanGoOn tokens = (more : List Lexed) × IsExpression (tokens ++ more)
 
--- decimal and double numbers
-abbrev pub is_left_out_kind : TokenKind → Bool
-is_left_out_kind kind.Decimal = true
-is_left_out_kind kind.Double = true
-is_left_out_kind _ = false
-
--- whether the token, if there is one, is such a number
-abbrev pub is_left_out_token : Option Lexed → Bool
-is_left_out_token None = false
-is_left_out_token (Some x) = is_left_out_kind x.kind
-
 -- A construct that is left out begins at the place: one that the grammar has there, or a decimal or double number, wherever it stands.
 abbrev pub IsLeftOut : List Lexed → ℕ → Type 0
 IsLeftOut tokens i = IsLeftOutAt xpath_grammar (numbers tokens) i ⊎ (is_left_out_token (slice_get tokens i) ≡ true)
@@ -47,17 +34,6 @@ IsTooDeep tokens i = IsTooDeepAt xpath_grammar (numbers tokens) greatest_nesting
 -- at each place below, nothing that the grammar has there is left out, and not too much is open
 abbrev pub AreClear : List Lexed → ℕ → Type 0
 AreClear tokens i = AreClearBelow xpath_grammar (numbers tokens) greatest_nesting i
-
--- whether white space or comments stand between the two, where both are there
-abbrev pub are_apart : Option Lexed → Option Lexed → Bool
-are_apart before None = false
-are_apart None (Some y) = false
-are_apart (Some x) (Some y) = nat_lt (x.from + size x.text) y.from
-
--- whether they stand before the token at the place, behind another one
-abbrev pub stands_apart : List Lexed → ℕ → Bool
-stands_apart tokens zero = false
-stands_apart tokens (suc i) = are_apart (slice_get tokens i) (slice_get tokens (suc i))
 
 -- the tokens are an expression
 pub record IsWhole (tokens : List Lexed) : Type 0 where

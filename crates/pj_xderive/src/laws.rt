@@ -3,7 +3,9 @@
 ghost use Rattle.std.specs.Prelude.{◌++◌, ◌≡◌, ◌≤◌, ℕ, List, length};
 ghost use Rattle.pj_ll.specs.declared.parser.End.{End};
 ghost use Rattle.pj_ll.specs.Grammar.{Entry, grammar_of};
+ghost use Rattle.pj_ll.specs.Leads as leads;
 ghost use Rattle.pj_ll.specs.Outcome as terminals;
+ghost use Rattle.pj_ll.specs.Outcome.{LeadBehind};
 ghost use Rattle.pj_ll.specs.Predictive.{RuleFacts, IsPredictive};
 ghost use Rattle.pj_xtokens.specs.Tokens.{Lexed};
 ghost use Rattle.pj_xgrammar.specs.Terminals.{numbers};
@@ -31,7 +33,8 @@ pub fn one_derivation()
 
 /// The tokens have one list of productions that derive them as far as their terminals go.
 pub fn one_run()
-    ensures { (tokens : List Lexed) (ps qs : List ℕ) → IsRun tokens ps → IsRun tokens qs → ps ≡ qs }
+    ensures some { (tokens : List Lexed) → (productions : List ℕ) × IsRun tokens productions }
+    ensures at_most { (tokens : List Lexed) (ps qs : List ℕ) → IsRun tokens ps → IsRun tokens qs → ps ≡ qs }
 {
     grammar_is_predictive();
     pj_ll::one_derivation();
@@ -47,10 +50,13 @@ pub fn runs_end_before_faults()
     one_end();
 }
 
-/// Tokens begin an expression exactly where productions lead behind their terminals, as these are before some other tokens.
+/// Tokens begin an expression exactly where productions lead behind their terminals, as these are before some other tokens; and terminals begin one exactly
+/// where productions lead behind them.
 pub fn beginnings_lead()
     ensures led { (tokens : List Lexed) → CanGoOn tokens → (more : List Lexed) × ((productions : List ℕ) × LeadBehindFirst (tokens ++ more) (length tokens) productions) }
     ensures begun { (tokens more : List Lexed) (productions : List ℕ) → LeadBehindFirst (tokens ++ more) (length tokens) productions → CanGoOn tokens }
+    ensures terminals_led { (before : List ℕ) → leads.CanGoOn xpath_grammar before → (productions : List ℕ) × LeadBehind xpath_grammar before productions }
+    ensures terminals_begun { (before productions : List ℕ) → LeadBehind xpath_grammar before productions → leads.CanGoOn xpath_grammar before }
 {}
 
 /// The grammar is LL(1): with some select sets its predictive parser is exact.

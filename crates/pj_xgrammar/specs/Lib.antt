@@ -4,3 +4,4 @@ pub mod Terminals
 pub mod Notation
 pub mod XPath
 pub mod Predictive
+pub mod Standing

@@ -1,5 +1,5 @@
 -- How many terminals tokens have, and how many things symbols close.
-use Rattle.std.proofs.Common.{◌≡◌, ℕ, suc, ◌+◌, ◌≤◌, List, [], ◌∷◌, ◌++◌, length, refl, ap, subst, arith}
+use Rattle.std.proofs.Common.{◌≡◌, ℕ, suc, ◌+◌, ◌<◌, ◌≤◌, List, [], ◌∷◌, ◌++◌, length, refl, ap, subst, arith, Some, slice_get}
 use Rattle.std.proofs.lemmas.Option.{slice_get_within}
 use Rattle.pj_ll.specs.declared.grammar.Symbol.{Symbol}
 use Rattle.pj_ll.specs.declared.grammar.Symbol.TheVariants.{Terminal, Rule, LeftOut, Close}
@@ -25,12 +25,16 @@ length_numbers end (x ∷ xs) = ap suc (length_numbers end xs)
 pub within_tokens : (tokens : List Lexed) (i : ℕ) → i ≤ length (numbers tokens) → i ≤ length tokens
 within_tokens tokens i le = subst (λ n. i ≤ n) (length_numbers b.End tokens) le
 
+-- the place of a terminal is that of a token
+pub token_within : (tokens : List Lexed) (i t : ℕ) → slice_get (numbers tokens) i ≡ Some t → i < length tokens
+token_within tokens i t at = subst (λ n. i < n) (length_numbers b.End tokens) (slice_get_within (numbers tokens) i t at)
+
 -- the place at which something is left out is one of a token
 pub left_out_within : (tokens : List Lexed) (i : ℕ) → IsEnd xpath_grammar (numbers tokens) greatest_nesting (LeftOutAt i) → i ≤ length tokens
 left_out_within tokens i it =
     let (t, there, leads) = it.left_out in
-    let w = slice_get_within (numbers tokens) i t there in
-    within_tokens tokens i (omega (arith, w))
+    let w = token_within tokens i t there in
+    omega (arith, w)
 
 -- symbols behind others close what both close
 pub closes-append : (xs ys : List Symbol) → closes (xs ++ ys) ≡ closes xs + closes ys

@@ -1,5 +1,5 @@
 -- What is derived is what the rules read.
-use Rattle.std.proofs.Common.{◌≡◌, ℕ, zero, suc, ◌+◌, List, [], ◌∷◌, ◌++◌, map, Option, Some, None, refl, sym, ◌∙◌, ap, subst, arith, append_assoc}
+use Rattle.std.proofs.Common.{◌≡◌, ℕ, zero, suc, ◌+◌, List, [], ◌∷◌, ◌++◌, drop, map, take, Option, Some, None, refl, sym, ◌∙◌, ap, subst, arith, append_assoc}
 use Rattle.std.specs.Prelude.{slice_get, ⊤}
 use Rattle.std.proofs.lemmas.List.{append-nil}
 use Rattle.std.proofs.lemmas.Option.{same_Some}
@@ -13,36 +13,36 @@ use Rattle.pj_xgrammar.specs.declared.rule.Rule.{Rule}
 use Rattle.pj_xgrammar.specs.declared.rule.Rule.TheVariants as r
 use Rattle.pj_xgrammar.specs.Notation.{t, rule_number}
 use Rattle.pj_xgrammar.specs.XPath.{xpath, rules, line, lines_of, xpath_grammar}
-use Rattle.pj_xmeaning.specs.Actions.{actions_of, actions_by, actions, action_in, action_of}
+use Rattle.pj_xmeaning.specs.Actions.{actions_of, actions_by, actions, action_in, action_of, left_out}
 use Rattle.pj_xmeaning.specs.Parts.{RuleValue, Missing, operand, word, held}
 use Rattle.pj_xmeaning.specs.Values.{top, made, up_to, variable_named}
 use Rattle.pj_xmeaning.specs.declared.action.Action.{Action}
 use Rattle.pj_xmeaning.specs.declared.action.Action.TheVariants as action
 use Rattle.pj_xmeaning.specs.declared.action.Leaf.TheVariants as leaf
-use Rattle.pj_xreadings.specs.Operands.{Operand, Arguments, Next}
-use Rattle.pj_xmeaning.specs.Reach.{Reach, All, UpTo, IsCut, IsBefore, Within}
+use Rattle.pj_xreadings.specs.Operands.{Operand, Arguments, Next, nothing}
+use Rattle.pj_xmeaning.specs.Reach.{Ending, Reach, All, UpTo, IsBehindLeftOut, IsCut, IsBefore, Within}
 use Rattle.pj_xmeaning.proofs.Derived as d
 use Rattle.pj_xmeaning.proofs.Derived.{Derived, Fill}
 use Rattle.pj_xmeaning.specs.Reads as reads
-use Rattle.pj_xmeaning.specs.Reads.{Takes, token, IsAmong, here, further, Reads, by, Produces, expr, expr_more, expr_end, for_expr, let_expr, some_expr, every_expr, if_expr, single_or, in_binding, in_more, in_end, let_binding, let_more, let_end, in_clause, assign_clause, return_clause, satisfies_clause, test_clause, then_clause, else_clause, or_expr, or_more, or_end, and_expr, and_more, and_end, comparison_expr, equal, not_equal, less, less_or_equal, greater, greater_or_equal, not_compared, concatenation_expr, concatenation_more, concatenation_end, range_expr, up_to_cut, no_range, additive_expr, plus, minus, additive_end, multiplicative_expr, times, integer_divide, modulo, multiplicative_end, union_expr, union_more, bar_more, union_end, set_expr, intersect, except, set_end, negative, positive, no_sign, map_expr, map_more, map_end, no_left_out, root, from_root, from_descendants, relative, path_steps, next_step, next_descendants, steps_end, context_item, primary, parent, attribute, axis_name, any_name, node_name, element_name, plain_step, axis_test, axis_call, axis_predicates, name_call, name_predicates, name_test, axis_name_test, any_name_test, node_test, element_test, kind_parentheses, no_parentheses, predicate, no_predicate, integer_expr, string_expr, variable_expr, variable_cut, parenthesized, inside, empty, some_arguments, no_arguments, more_arguments, arguments_end, variable_name, axis_variable, node_variable, element_variable, plain_name}
+use Rattle.pj_xmeaning.specs.Reads.{Takes, token, IsAmong, IsNumbered, here, further, Reads, by, Produces, left_out_operator, left_out_step, expr, expr_more, expr_end, for_expr, let_expr, some_expr, every_expr, if_expr, single_or, in_binding, in_more, in_end, let_binding, let_more, let_end, in_clause, assign_clause, return_clause, satisfies_clause, test_clause, then_clause, else_clause, or_expr, or_more, or_end, and_expr, and_more, and_end, comparison_expr, equal, not_equal, less, less_or_equal, greater, greater_or_equal, not_compared, concatenation_expr, concatenation_more, concatenation_end, range_expr, up_to_cut, no_range, additive_expr, plus, minus, additive_end, multiplicative_expr, times, integer_divide, modulo, multiplicative_end, union_expr, union_more, bar_more, union_end, set_expr, intersect, except, set_end, negative, positive, no_sign, map_expr, map_more, map_end, no_left_out, root, from_root, from_descendants, relative, path_steps, next_step, next_descendants, steps_end, context_item, primary, parent, attribute, axis_name, any_name, node_name, element_name, plain_step, axis_test, axis_call, axis_predicates, name_call, name_predicates, name_test, axis_name_test, any_name_test, node_test, element_test, kind_parentheses, no_parentheses, predicate, no_predicate, integer_expr, string_expr, variable_expr, variable_cut, parenthesized, inside, empty, some_arguments, no_arguments, more_arguments, arguments_end, variable_name, axis_variable, node_variable, element_variable, plain_name}
 use Rattle.pj_xmeaning.proofs.Made.{IsThere, made_there, up_to_there, variable_there, made_padded, missing_is}
 use Rattle.pj_xmeaning.proofs.Places.{number_at, one_rule}
 use Rattle.pj_xmeaning.proofs.Splitting.{behind_is}
-use Rattle.pj_xmeaning.proofs.Taking.{behind_taken}
+use Rattle.pj_xmeaning.proofs.Taking.{begins_before, behind_taken, cut_behind}
 
 -- ---- productions with rules in the place of their numbers
 
 data Item : Type 0 where
   Token : ℕ → Item
   Of : Option Rule → Item
-  Left : Item
+  Left : ℕ → Item
   Close : Item
 
 items : List Symbol → List Item
 items [] = []
 items (symbol.Terminal n ∷ ss) = Token n ∷ items ss
 items (symbol.Rule n ∷ ss) = Of (slice_get rules n) ∷ items ss
-items (symbol.LeftOut n ∷ ss) = Left ∷ items ss
+items (symbol.LeftOut n ∷ ss) = Left n ∷ items ss
 items (symbol.Close ∷ ss) = Close ∷ items ss
 
 -- how many things are open before items at whose ends so many are
@@ -50,7 +50,7 @@ abbrev opened : ℕ → List Item → ℕ
 opened depth [] = depth
 opened depth (Token n ∷ is) = opened depth is
 opened depth (Of rule ∷ is) = opened depth is
-opened depth (Left ∷ is) = opened depth is
+opened depth (Left n ∷ is) = opened depth is
 opened depth (Close ∷ is) = suc (opened depth is)
 
 opened_is : (depth : ℕ) (ss : List Symbol) → opened depth (items ss) ≡ depth + closes ss
@@ -76,6 +76,14 @@ record Made (reach : Reach) (rule : Rule) (depth : ℕ) (xs ys : List Lexed) (v 
 record Taken (reach : Reach) (depth n : ℕ) (xs : List Lexed) : Type 0 where
   to : List Lexed
   takes : Takes reach depth (symbol.Terminal n) xs to
+
+-- a construct that is left out begins with the first token
+record Begun (reach : Reach) (n : ℕ) (xs : List Lexed) : Type 0 where
+  token : Lexed
+  to : List Lexed
+  are : xs ≡ token ∷ to
+  read : IsNumbered token to n
+  is : IsBehindLeftOut reach to
 
 record Part (reach : Reach) (rule : Rule) (depth : ℕ) (xs : List Lexed) : Type 0 where
   to : List Lexed
@@ -104,21 +112,28 @@ next_made : {reach : Reach} {depth : ℕ} {xs ys zs us : List Lexed} {next : Ope
 next_made {reach} {depth} {xs} {us = us} {next} {more} b k a m =
     subst (λ l. Reads reach r.ArgumentsTail depth xs us (Next (first_from l) next more)) (sym (behind_taken b k)) (by b (more_arguments k a m))
 
--- From parts that the items read one behind the other. A construct that is left out is none where the tokens are cut off.
+-- From parts that the items read one behind the other. Where a construct is left out, the tokens are not cut off.
 abbrev Step : Reach → Rule → Action → ℕ → List Lexed → List Lexed → List Item → List RuleValue → Type 0
 Step reach rule a depth xs ys [] vs = Reads reach rule depth xs ys (held rule (made a xs vs))
 Step reach rule a depth xs ys (Token n ∷ is) vs = (k : Taken reach (opened depth is) n ys) → Step reach rule a depth xs k.to is vs
 Step reach rule a depth xs ys (Of None ∷ is) vs = ⊥
 Step reach rule a depth xs ys (Of (Some part) ∷ is) vs = (p : Part reach part (opened depth is) ys) → Step reach rule a depth xs p.to is (vs ++ p.v ∷ [])
-Step reach rule a depth xs ys (Left ∷ is) vs = IsBefore reach ys
+Step reach rule a depth xs ys (Left n ∷ is) vs = IsBefore reach ys × ((k : Begun reach n ys) → Step reach rule a depth xs k.to is vs)
 Step reach rule a depth xs ys (Close ∷ is) vs = Step reach rule a depth xs ys is vs
 
 abbrev StepFor : Reach → Rule → Action → List Symbol → Type 0
 StepFor reach rule a ss = (depth : ℕ) (xs : List Lexed) → IsBefore reach xs → Step reach rule a depth xs xs (items ss) []
 
--- nothing else is owed for a construct that is left out
-left_out : (reach : Reach) (depth : ℕ) (xs : List Lexed) → IsBefore reach xs → IsBefore reach xs
-left_out reach depth xs b = b
+-- a construct that is left out where an operator can stand, and one where a step can begin
+operator_left_out : (reach : Reach) (n : ℕ) → IsAmong (symbol.LeftOut n) (xpath r.LeftOutOperator) → StepFor reach r.LeftOutOperator left_out (symbol.LeftOut n ∷ [])
+unfolding items
+operator_left_out reach n among depth xs b =
+    (b, λ k. subst (λ l. Reads reach r.LeftOutOperator depth l k.to tt) (sym k.are) (by (begins_before reach k.token k.to k.is) (left_out_operator among k.read k.is)))
+
+step_left_out : (reach : Reach) (n : ℕ) → IsAmong (symbol.LeftOut n) (xpath r.StepExpr) → StepFor reach r.StepExpr left_out (symbol.LeftOut n ∷ [])
+unfolding items
+step_left_out reach n among depth xs b =
+    (b, λ k. subst (λ l. Reads reach r.StepExpr depth l k.to nothing) (sym k.are) (by (begins_before reach k.token k.to k.is) (left_out_step among k.read k.is)))
 
 infixr 5 ◌&◌
 -- each production of the rule has its constructor
@@ -126,6 +141,26 @@ data AreSteps (reach : Reach) (rule : Rule) : List (List Symbol) → List Action
   none : AreSteps reach rule [] []
   ◌&◌ : {ss : List Symbol} {sss : List (List Symbol)} {a : Action} {more : List Action} → StepFor reach rule a ss → AreSteps reach rule sss more →
       AreSteps reach rule (ss ∷ sss) (a ∷ more)
+
+-- each of the productions is a construct that is left out
+abbrev AreLeftOut : List (List Symbol) → List Action → Type 0
+AreLeftOut [] [] = ⊤
+AreLeftOut ((symbol.LeftOut n ∷ []) ∷ sss) (action.Leaf leaf.LeftOut ∷ more) = AreLeftOut sss more
+AreLeftOut _ _ = ⊥
+
+-- before others
+outsides : (reach : Reach) (rule : Rule) (sss rest : List (List Symbol)) (acts others : List Action) → AreLeftOut sss acts →
+    ((n : ℕ) → IsAmong (symbol.LeftOut n) sss → StepFor reach rule left_out (symbol.LeftOut n ∷ [])) → AreSteps reach rule rest others → AreSteps reach rule (sss ++ rest) (acts ++ others)
+outsides reach rule [] rest [] others are step last = last
+outsides reach rule ((symbol.LeftOut n ∷ []) ∷ sss) rest (action.Leaf leaf.LeftOut ∷ more) others are step last =
+    step n here & outsides reach rule sss rest more others are (λ m later. step m (further later)) last
+outsides reach rule _ rest _ others are step last = absurd are
+
+-- what is among the first productions is among all
+among_all : {s : Symbol} (sss rest : List (List Symbol)) → IsAmong s sss → IsAmong s (sss ++ rest)
+among_all [] rest among = elim among [ ]
+among_all (_ ∷ sss) rest here = here
+among_all (_ ∷ sss) rest (further later) = further (among_all sss rest later)
 
 -- each of the symbols alone makes a word
 abbrev AreWords : List (List Symbol) → List Action → Type 0
@@ -211,9 +246,10 @@ steps reach r.SimpleMapExpr = (λ depth xs b a0 a1. by b (map_expr a0.reads a1.r
 steps reach r.SimpleMapTail = (λ depth xs b k0 a1 a2. by b (map_more k0.takes a1.reads a2.reads)) & (λ depth xs b. by b map_end) & none
 steps reach r.Operand = (λ depth xs b a0 a1. by b (reads.Produces.operand a0.reads a1.reads)) & none
 steps reach r.LeftOutOperator =
-    left_out reach & left_out reach & left_out reach & left_out reach & left_out reach & left_out reach & left_out reach & left_out reach & left_out reach
-    & left_out reach & left_out reach & left_out reach & left_out reach & left_out reach & left_out reach & left_out reach & left_out reach & left_out reach
-    & (λ depth xs b. by b no_left_out) & none
+    let operators = take 18 (xpath r.LeftOutOperator) in
+    outsides reach r.LeftOutOperator operators (drop 18 (xpath r.LeftOutOperator)) (take 18 (actions_of r.LeftOutOperator)) (drop 18 (actions_of r.LeftOutOperator)) tt
+    (λ n among. operator_left_out reach n (among_all operators (drop 18 (xpath r.LeftOutOperator)) among))
+    ((λ depth xs b. by b no_left_out) & none)
 steps reach r.PathExpr =
     (λ depth xs b k0. by b (root k0.takes))
     & (λ depth xs b k0 a1. by b (from_root k0.takes a1.reads))
@@ -234,7 +270,8 @@ steps reach r.StepExpr =
     & (λ depth xs b k0 a1 a2. by b (node_name k0.takes a1.reads a2.reads))
     & (λ depth xs b k0 a1 a2. by b (element_name k0.takes a1.reads a2.reads))
     & (λ depth xs b a0 a1. by b (plain_step a0.reads a1.reads))
-    & left_out reach & left_out reach & left_out reach & left_out reach & left_out reach & left_out reach & left_out reach & none
+    & outsides reach r.StepExpr (drop 9 (xpath r.StepExpr)) [] (drop 9 (actions_of r.StepExpr)) [] tt
+    (λ n among. step_left_out reach n (further (further (further (further (further (further (further (further (further among)))))))))) none
 steps reach r.AxisTail =
     (λ depth xs b k0 a1 a2. by b (axis_test k0.takes a1.reads a2.reads))
     & (λ depth xs b k0 a1 k2 a3. by b (axis_call k0.takes a1.reads k2.takes a3.reads))
@@ -304,7 +341,7 @@ cut_made rule a depth xs ys (Of None ∷ is) vs c s = absurd s
 cut_made {reach} rule a depth xs ys (Of (Some part) ∷ is) vs c s =
     subst (λ v. Reads reach rule depth xs ys (held rule v)) (made_padded a xs vs)
     (cut_made rule a depth xs ys is (vs ++ Missing ∷ []) c (s (record { to = ys; v = Missing; reads = cut_off part (opened depth is) ys c; stands = cut c })))
-cut_made rule a depth xs ys (Left ∷ is) vs c s = absurd (s c)
+cut_made rule a depth xs ys (Left n ∷ is) vs c s = absurd (s.0 c)
 cut_made rule a depth xs ys (Close ∷ is) vs c s = cut_made rule a depth xs ys is vs c s
 
 -- ---- what a step is at each symbol
@@ -324,6 +361,11 @@ rule_step : {reach : Reach} (rule : Rule) (a : Action) (depth : ℕ) (xs ys zs :
     Step reach rule a depth xs zs (items ss) (vs ++ v ∷ [])
 unfolding items
 rule_step rule a depth xs ys zs vs v ss n s f = with_rule rule a depth n xs ys zs (items ss) vs v (slice_get rules n) refl f s
+
+left_out_step_at : {reach : Reach} (rule : Rule) (a : Action) (depth : ℕ) (xs ys : List Lexed) (vs : List RuleValue) (ss : List Symbol) (n : ℕ) →
+    Step reach rule a depth xs ys (items (symbol.LeftOut n ∷ ss)) vs → (k : Begun reach n ys) → Step reach rule a depth xs k.to (items ss) vs
+unfolding items
+left_out_step_at rule a depth xs ys vs ss n s k = s.1 k
 
 close_step : (reach : Reach) (rule : Rule) (a : Action) (depth : ℕ) (xs ys : List Lexed) (vs : List RuleValue) (ss : List Symbol) →
     Step reach rule a depth xs ys (items (symbol.Close ∷ ss)) vs → Step reach rule a depth xs ys (items ss) vs
@@ -373,6 +415,10 @@ module _ (rule_at : (rule : Rule) → slice_get rules (rule_number rule) ≡ Som
         let next = rule_step rule a depth xs (ts ++ (ts' ++ behind)) (ts' ++ behind) us v ss n here
         (λ part e. subst (λ k. Made reach part k (ts ++ (ts' ++ behind)) (ts' ++ behind) v) (sym (opened_is depth ss)) (derived_reads h part e)) in
         subst (λ l. Reads reach rule depth xs behind (held rule (made a xs l))) (append_assoc us (v ∷ []) vs) (fill_reads f rule a xs (us ++ v ∷ []) next)
+    fill_reads {reach} {depth} {behind} (d.left_out {ss = ss} x n read is) rule a xs us s =
+        none_behind rule a depth xs behind us
+        (cut_made rule a depth xs behind (items ss) us (cut_behind reach behind is)
+        (left_out_step_at rule a depth xs (x ∷ behind) us ss n s (record { token = x; to = behind; are = refl; read = read; is = is })))
     fill_reads {reach} {depth} {behind} (d.close {ts = ts} {ss = ss} f) rule a xs us s = fill_reads f rule a xs us (close_step reach rule a depth xs (ts ++ behind) us ss s)
     fill_reads {depth = depth} {behind} (d.cut {ss = ss} c) rule a xs us s = none_behind rule a depth xs behind us (cut_made rule a depth xs behind (items ss) us c s)
 
@@ -382,11 +428,12 @@ module _ (rule_at : (rule : Rule) → slice_get rules (rule_number rule) ≡ Som
   whole_reads {tokens} {v = v} h = subst (λ l. Reads All r.Expr 0 l [] (operand v)) (append-nil tokens) (derived_reads h r.Expr refl).reads
 
   -- a rule reads the first tokens, behind which none are derived
-  alone : {left all : List Lexed} (ts : List Lexed) {v : RuleValue} → all ≡ ts ++ [] → Made (UpTo left) r.Expr 0 (ts ++ left) left v → Reads (UpTo left) r.Expr 0 (all ++ left) left (operand v)
-  alone {left} {all} ts {v} are m = subst (λ l. Reads (UpTo left) r.Expr 0 l left (operand v)) (sym (behind_is left all ts [] are)) m.reads
+  alone : {ending : Ending} {left all : List Lexed} (ts : List Lexed) {v : RuleValue} → all ≡ ts ++ [] → Made (UpTo ending left) r.Expr 0 (ts ++ left) left v →
+      Reads (UpTo ending left) r.Expr 0 (all ++ left) left (operand v)
+  alone {ending} {left} {all} ts {v} are m = subst (λ l. Reads (UpTo ending left) r.Expr 0 l left (operand v)) (sym (behind_is left all ts [] are)) m.reads
 
-  pub beginning_reads : {left first : List Lexed} {ps : List ℕ} {vs : List RuleValue} → Fill (UpTo left) 0 left start first ps vs →
-      Reads (UpTo left) r.Expr 0 (first ++ left) left (operand (top vs))
+  pub beginning_reads : {ending : Ending} {left first : List Lexed} {ps : List ℕ} {vs : List RuleValue} → Fill (UpTo ending left) 0 left start first ps vs →
+      Reads (UpTo ending left) r.Expr 0 (first ++ left) left (operand (top vs))
   beginning_reads (d.rule {ts = ts} h d.none ts_are ps_are) = alone ts ts_are (derived_reads h r.Expr refl)
   beginning_reads (d.rule {ts = ts} h (d.cut c) ts_are ps_are) = alone ts ts_are (derived_reads h r.Expr refl)
   beginning_reads (d.cut c) = reads.Reads.cut c

@@ -10,7 +10,7 @@ use Rattle.pj_xgrammar.specs.Terminals.{numbers}
 use Rattle.pj_xgrammar.specs.XPath.{xpath_grammar}
 use Rattle.pj_xmeaning.specs.Parts.{RuleValue}
 use Rattle.pj_xmeaning.specs.Reach.{All}
-use Rattle.pj_xmeaning.proofs.Derived.{Derived, by, Fill, none, token, rule, close, cut}
+use Rattle.pj_xmeaning.proofs.Derived.{Derived, by, Fill, none, token, rule, left_out, close, cut}
 use Rattle.pj_xmeaning.proofs.Splitting.{behind_is}
 
 -- the symbols derive the tokens up to the end by these productions
@@ -34,6 +34,7 @@ mutual
       subst (λ l. Lead (Rule n ∷ (ss ++ rest)) (all ++ behind) (l ++ more)) (sym ps_are)
       (subst (λ l. Lead (Rule n ∷ (ss ++ rest)) (all ++ behind) l) (sym (append_assoc ps qs more))
       (subst (λ l. Lead (Rule n ∷ (ss ++ rest)) l (ps ++ (qs ++ more))) (sym (behind_is behind all ts us ts_are)) here))
+  fill_leads rest more (left_out x t read is) on = absurd is
   fill_leads rest more (close f) on = leads.close (fill_leads rest more f on)
   fill_leads rest more (cut c) on = absurd c
 

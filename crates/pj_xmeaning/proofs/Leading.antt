@@ -17,8 +17,9 @@ use Rattle.pj_xmeaning.specs.Actions.{action_of}
 use Rattle.pj_xmeaning.specs.Parts.{RuleValue}
 use Rattle.pj_xmeaning.specs.Values.{made}
 use Rattle.pj_xmeaning.specs.Reach.{All}
+use Rattle.pj_xmeaning.specs.Reads.{IsNumbered}
 use Rattle.pj_xmeaning.proofs.Derived as derived
-use Rattle.pj_xmeaning.proofs.Derived.{IsRead, Derived, Fill}
+use Rattle.pj_xmeaning.proofs.Derived.{Derived, Fill}
 use Rattle.pj_xmeaning.proofs.Counts.{number}
 use Rattle.pj_xmeaning.proofs.Splitting.{split}
 
@@ -34,7 +35,7 @@ filled_token : {ss : List Symbol} {xs : List Lexed} {ps : List ℕ} (x : Lexed) 
     Filled ss xs ps → Filled (Terminal t ∷ ss) (x ∷ xs) ps
 filled_token {ss} {xs} x t is few f = record {
   values = f.values;
-  fill = derived.token x t (subst (λ l. IsRead x l t) (sym (append-nil xs)) (sym is)) (omega arith) f.fill;
+  fill = derived.token x t (subst (λ l. IsNumbered x l t) (sym (append-nil xs)) (sym is)) (omega arith) f.fill;
 }
 
 filled_close : {ss : List Symbol} {tokens : List Lexed} {ps : List ℕ} → Filled ss tokens ps → Filled (Close ∷ ss) tokens ps

@@ -3,6 +3,7 @@ pub mod SameTables
 pub mod Tables
 pub mod Values
 pub mod Beginnings
+pub mod Begun
 pub mod Clear
 pub mod Counts
 pub mod DerivedReads

@@ -1,5 +1,5 @@
 -- What the rules read is derived, as far as the tokens are read.
-use Rattle.std.proofs.Common.{◌≡◌, ℕ, suc, ◌+◌, List, [], ◌∷◌, ◌++◌, Some, refl, sym, ◌∙◌, ap, subst, arith, append_assoc}
+use Rattle.std.proofs.Common.{◌≡◌, ℕ, suc, ◌+◌, Bool, true, false, List, [], ◌∷◌, ◌++◌, Some, refl, sym, ◌∙◌, ap, subst, arith, append_assoc}
 use Rattle.std.specs.Prelude.{slice_get, ⊤}
 use Rattle.std.proofs.lemmas.List.{append-nil}
 use Rattle.pj_ll.specs.declared.grammar.Symbol.{Symbol}
@@ -31,13 +31,13 @@ use Rattle.pj_xmeaning.specs.Parts as part
 use Rattle.pj_xmeaning.specs.Parts.{RuleValue, Missing, held}
 use Rattle.pj_xmeaning.specs.Values as fold
 use Rattle.pj_xmeaning.specs.Values.{made, top, variable_named}
-use Rattle.pj_xmeaning.specs.Reach.{Reach, All, UpTo, IsBefore, IsCut, Within}
+use Rattle.pj_xmeaning.specs.Reach.{Ending, Reach, All, UpTo, IsBefore, IsBehindLeftOut, IsCut, Within}
 use Rattle.pj_xmeaning.proofs.Derived as d
-use Rattle.pj_xmeaning.proofs.Derived.{Derived, Fill, IsRead}
-use Rattle.pj_xmeaning.specs.Reads.{Takes, token, IsAmong, here, further, Reads, by, expr, expr_more, expr_end, for_expr, let_expr, some_expr, every_expr, if_expr, single_or, in_binding, in_more, in_end, let_binding, let_more, let_end, in_clause, assign_clause, return_clause, satisfies_clause, test_clause, then_clause, else_clause, or_expr, or_more, or_end, and_expr, and_more, and_end, comparison_expr, equal, not_equal, less, less_or_equal, greater, greater_or_equal, not_compared, concatenation_expr, concatenation_more, concatenation_end, range_expr, up_to, up_to_cut, no_range, additive_expr, plus, minus, additive_end, multiplicative_expr, times, integer_divide, modulo, multiplicative_end, union_expr, union_more, bar_more, union_end, set_expr, intersect, except, set_end, negative, positive, no_sign, map_expr, map_more, map_end, operand, no_left_out, root, from_root, from_descendants, relative, path_steps, next_step, next_descendants, steps_end, context_item, primary, parent, attribute, axis_name, any_name, node_name, element_name, plain_step, axis_test, axis_call, axis_predicates, name_call, name_predicates, name_test, axis_name_test, any_name_test, node_test, element_test, kind_parentheses, no_parentheses, predicate, no_predicate, integer_expr, string_expr, variable_expr, variable_cut, parenthesized, inside, empty, some_arguments, no_arguments, more_arguments, arguments_end, variable_name, axis_variable, node_variable, element_variable, plain_name}
+use Rattle.pj_xmeaning.proofs.Derived.{Derived, Fill}
+use Rattle.pj_xmeaning.specs.Reads.{IsNumbered, Takes, token, IsAmong, left_out_operator, left_out_step, here, further, Reads, by, expr, expr_more, expr_end, for_expr, let_expr, some_expr, every_expr, if_expr, single_or, in_binding, in_more, in_end, let_binding, let_more, let_end, in_clause, assign_clause, return_clause, satisfies_clause, test_clause, then_clause, else_clause, or_expr, or_more, or_end, and_expr, and_more, and_end, comparison_expr, equal, not_equal, less, less_or_equal, greater, greater_or_equal, not_compared, concatenation_expr, concatenation_more, concatenation_end, range_expr, up_to, up_to_cut, no_range, additive_expr, plus, minus, additive_end, multiplicative_expr, times, integer_divide, modulo, multiplicative_end, union_expr, union_more, bar_more, union_end, set_expr, intersect, except, set_end, negative, positive, no_sign, map_expr, map_more, map_end, operand, no_left_out, root, from_root, from_descendants, relative, path_steps, next_step, next_descendants, steps_end, context_item, primary, parent, attribute, axis_name, any_name, node_name, element_name, plain_step, axis_test, axis_call, axis_predicates, name_call, name_predicates, name_test, axis_name_test, any_name_test, node_test, element_test, kind_parentheses, no_parentheses, predicate, no_predicate, integer_expr, string_expr, variable_expr, variable_cut, parenthesized, inside, empty, some_arguments, no_arguments, more_arguments, arguments_end, variable_name, axis_variable, node_variable, element_variable, plain_name}
 use Rattle.pj_xmeaning.proofs.Made.{IsThere, made_there, up_to_there, variable_there, made_padded, missing_is}
 use Rattle.pj_xmeaning.proofs.Places.{place}
-use Rattle.pj_xmeaning.proofs.Taking.{before_cut, behind_taken}
+use Rattle.pj_xmeaning.proofs.Taking.{before_cut, begins_before, behind_taken}
 
 -- ---- depths
 
@@ -147,7 +147,7 @@ tok {reach} {depth} {n} {zs = zs} {ss} (token {x} {xs} read within) f = record {
   productions = f.productions;
   values = f.values;
   are = ap (λ l. x ∷ l) f.are;
-  fill = d.token x n (subst (λ l. IsRead x l n) f.are read)
+  fill = d.token x n (subst (λ l. IsNumbered x l n) f.are read)
       (subst (λ k. Within reach k (x ∷ (f.tokens ++ zs))) (opened_is depth ss) (subst (λ l. Within reach (opened depth ss) (x ∷ l)) f.are within)) f.fill;
   values_are = f.values_are;
   cut_off = λ e. absurd (before_cut reach (opened depth ss) (x ∷ xs) within e);
@@ -169,6 +169,17 @@ rul rule {reach} {depth} {zs = zs} {ss} (derived value before is there e) f = re
   cut_off = λ c. absurd (before c);
 }
 rul rule (cut e) f = let none = f.cut_off e in nowhere e (record { same = none.same; no_values = padded_none none.no_values })
+
+out : {reach : Reach} {depth n : ℕ} {x : Lexed} {xs : List Lexed} → IsNumbered x xs n → IsBehindLeftOut reach xs → Filled reach depth (x ∷ xs) xs (symbol.LeftOut n ∷ []) []
+out {reach} {n = n} {x} {xs} read is = record {
+  tokens = x ∷ [];
+  productions = [];
+  values = [];
+  are = refl;
+  fill = d.left_out x n read is;
+  values_are = alike;
+  cut_off = λ e. absurd (begins_before reach x xs is e);
+}
 
 clo : {reach : Reach} {depth : ℕ} {xs ys : List Lexed} {ss : List Symbol} {vs : List RuleValue} → Filled reach depth xs ys ss vs → Filled reach depth xs ys (symbol.Close ∷ ss) vs
 clo f = record {
@@ -206,6 +217,41 @@ word_at s (ss ∷ sss) [] w among = absurd w
 word_at s (ss ∷ sss) (a ∷ given) w here = record { at = 0; line_there = refl; action_there = ap Some w.0 }
 word_at s (ss ∷ sss) (a ∷ given) w (further more) =
     let h = word_at s sss given w.1 more in
+    record { at = suc h.at; line_there = h.line_there; action_there = h.action_there }
+
+-- ---- what is left out
+
+-- a production that is a construct that is left out alone
+is_left_out : List Symbol → Bool
+is_left_out (symbol.LeftOut n ∷ []) = true
+is_left_out _ = false
+
+-- each of these has the action of one
+AreLeftOut : List (List Symbol) → List Action → Type 0
+AreLeftOut [] given = ⊤
+AreLeftOut (ss ∷ sss) [] = ⊥
+AreLeftOut (ss ∷ sss) (a ∷ more) = (is_left_out ss ≡ true → a ≡ action.left_out) × AreLeftOut sss more
+
+operators_left_out : AreLeftOut (xpath r.LeftOutOperator) (actions_of r.LeftOutOperator)
+unfolding AreLeftOut xpath actions_of
+operators_left_out = (λ e. refl, (λ e. refl, (λ e. refl, (λ e. refl, (λ e. refl, (λ e. refl, (λ e. refl, (λ e. refl, (λ e. refl, (λ e. refl, (λ e. refl, (λ e. refl, (λ e. refl, (λ e. refl, (λ e. refl, (λ e. refl, (λ e. refl, (λ e. refl, (λ e. refl, tt)))))))))))))))))))
+
+steps_left_out : AreLeftOut (xpath r.StepExpr) (actions_of r.StepExpr)
+unfolding AreLeftOut is_left_out xpath actions_of
+steps_left_out = (λ e. absurd (let z = e in cc), (λ e. absurd (let z = e in cc), (λ e. absurd (let z = e in cc), (λ e. absurd (let z = e in cc), (λ e. absurd (let z = e in cc), (λ e. absurd (let z = e in cc), (λ e. absurd (let z = e in cc), (λ e. absurd (let z = e in cc), (λ e. absurd (let z = e in cc), (λ e. refl, (λ e. refl, (λ e. refl, (λ e. refl, (λ e. refl, (λ e. refl, (λ e. refl, tt))))))))))))))))
+
+record LeftOutAt (n : ℕ) (sss : List (List Symbol)) (acts : List Action) : Type 0 where
+  at : ℕ
+  line_there : slice_get sss at ≡ Some (symbol.LeftOut n ∷ [])
+  action_there : slice_get acts at ≡ Some action.left_out
+
+left_out_at : (n : ℕ) (sss : List (List Symbol)) (given : List Action) → AreLeftOut sss given → IsAmong (symbol.LeftOut n) sss → LeftOutAt n sss given
+unfolding AreLeftOut is_left_out
+left_out_at n [] given w among = elim among [ ]
+left_out_at n (ss ∷ sss) [] w among = absurd w
+left_out_at n (_ ∷ sss) (a ∷ given) w here = record { at = 0; line_there = refl; action_there = ap Some (w.0 refl) }
+left_out_at n (_ ∷ sss) (a ∷ given) w (further more) =
+    let h = left_out_at n sss given w.1 more in
     record { at = suc h.at; line_there = h.line_there; action_there = h.action_there }
 
 -- ---- values of the relation
@@ -394,6 +440,9 @@ module _ (rule_at : (rule : Rule) → slice_get rules (rule_number rule) ≡ Som
   reads_derive (by b (operand a0 a1)) =
       let g0 = reads_derive a0 in let g1 = reads_derive a1 in
       got b r.Operand 0 refl refl (rul r.PathExpr g0 (rul r.LeftOutOperator g1 end)) (held_is g0)
+  reads_derive (by b (left_out_operator {number = n} among read is)) =
+      let h = left_out_at n (xpath r.LeftOutOperator) (actions_of r.LeftOutOperator) operators_left_out among in
+      got b r.LeftOutOperator h.at h.line_there h.action_there (out read is) refl
   reads_derive (by b no_left_out) = got b r.LeftOutOperator 18 refl refl end refl
   reads_derive (by b (root k0)) = got b r.PathExpr 0 refl refl (tok k0 end) refl
   reads_derive (by b (from_root k0 a1)) = let g = reads_derive a1 in got b r.PathExpr 1 refl refl (tok k0 (rul r.RelativePathExpr g end)) (ap rooted (held_is g))
@@ -428,6 +477,9 @@ module _ (rule_at : (rule : Rule) → slice_get rules (rule_number rule) ≡ Som
   reads_derive (by b (plain_step {xs = xs} a0 a1)) =
       let g0 = reads_derive a0 in let g1 = reads_derive a1 in
       got b r.StepExpr 8 refl refl (rul r.PlainName g0 (rul r.NameTail g1 end)) (ap2 (named xs) (held_is g0) (held_is g1))
+  reads_derive (by b (left_out_step {number = n} among read is)) =
+      let h = left_out_at n (xpath r.StepExpr) (actions_of r.StepExpr) steps_left_out among in
+      got b r.StepExpr h.at h.line_there h.action_there (out read is) refl
   reads_derive (by b (axis_test k0 a1 a2)) =
       let g1 = reads_derive a1 in let g2 = reads_derive a2 in
       got b r.AxisTail 0 refl refl (tok k0 (rul r.NodeTest g1 (rul r.PredicateList g2 end))) (ap2 Test (held_is g1) (held_is g2))
@@ -491,20 +543,20 @@ module _ (rule_at : (rule : Rule) → slice_get rules (rule_number rule) ≡ Som
   read_derives tokens h = got_whole tokens (reads_derive h)
 
   -- the tokens before those that are left, derived from the start, with a value that says this
-  pub record Begins (left xs : List Lexed) (a : Operand) : Type 0 where
+  pub record Begins (ending : Ending) (left xs : List Lexed) (a : Operand) : Type 0 where
     pub tokens : List Lexed
     pub productions : List ℕ
     pub values : List RuleValue
     pub are : xs ≡ tokens ++ left
-    pub fill : Fill (UpTo left) 0 left start tokens productions values
+    pub fill : Fill (UpTo ending left) 0 left start tokens productions values
     pub says : part.operand (top values) ≡ a
 
-  start_fills : {left xs : List Lexed} {a : Operand} → Got (UpTo left) r.Expr 0 xs left a → Begins left xs a
+  start_fills : {ending : Ending} {left xs : List Lexed} {a : Operand} → Got (UpTo ending left) r.Expr 0 xs left a → Begins ending left xs a
   unfolding rul
   start_fills (derived value before is there e) =
       let f = rul r.Expr (derived value before is there e) end in
       record { tokens = f.tokens; productions = f.productions; values = f.values; are = f.are; fill = f.fill; says = e }
   start_fills (cut e) = record { tokens = []; productions = []; values = []; are = refl; fill = d.Fill.cut e; says = refl }
 
-  pub said_fills : {left xs : List Lexed} {a : Operand} → Reads (UpTo left) r.Expr 0 xs left a → Begins left xs a
+  pub said_fills : {ending : Ending} {left xs : List Lexed} {a : Operand} → Reads (UpTo ending left) r.Expr 0 xs left a → Begins ending left xs a
   said_fills h = start_fills (reads_derive h)

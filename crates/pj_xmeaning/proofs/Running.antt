@@ -10,7 +10,7 @@ use Rattle.pj_xgrammar.specs.declared.rule.Rule.TheVariants as r
 use Rattle.pj_xgrammar.specs.Notation.{rule_number}
 use Rattle.pj_xgrammar.specs.Terminals.{numbers}
 use Rattle.pj_xgrammar.specs.XPath.{greatest_nesting, rules, xpath_grammar}
-use Rattle.pj_xmeaning.specs.Reach.{All, UpTo}
+use Rattle.pj_xmeaning.specs.Reach.{Ending, All, Plain, UpTo}
 use Rattle.pj_xmeaning.specs.Reads.{Reads}
 use Rattle.pj_xmeaning.specs.SoFar.{SayUpTo}
 use Rattle.pj_xmeaning.specs.Parts.{operand}
@@ -26,12 +26,12 @@ use Rattle.pj_xmeaning.proofs.Valuing.{fill_said, tree_said}
 module _ (rule_at : (rule : Rule) → slice_get rules (rule_number rule) ≡ Some rule) where
   -- the tokens before a place, which the productions lead behind
   pub beginning_said : (tokens : List Lexed) (i : ℕ) (productions : List ℕ) → i ≤ length tokens → LeadBehind xpath_grammar (take i (numbers tokens)) productions →
-      Reads (UpTo (drop i tokens)) r.Expr 0 tokens (drop i tokens) (said productions tokens)
+      Reads (UpTo Plain (drop i tokens)) r.Expr 0 tokens (drop i tokens) (said productions tokens)
   beginning_said tokens i productions within leads =
       let f = leads_fill tokens i productions within leads in
       let left = drop i tokens in
-      subst (λ a. Reads (UpTo left) r.Expr 0 tokens left a) (sym (ap (said productions) f.are ∙ fill_said actions_fit f.fill))
-      (subst (λ l. Reads (UpTo left) r.Expr 0 l left (operand (top f.values))) (sym f.are) (beginning_reads rule_at f.fill))
+      subst (λ a. Reads (UpTo Plain left) r.Expr 0 tokens left a) (sym (ap (said productions) f.are ∙ fill_said actions_fit f.fill))
+      (subst (λ l. Reads (UpTo Plain left) r.Expr 0 l left (operand (top f.values))) (sym f.are) (beginning_reads rule_at f.fill))
 
   pub made_said : (end : End) (tokens : List Lexed) (productions : List ℕ) → IsEnd xpath_grammar (numbers tokens) greatest_nesting end →
       LeadTo xpath_grammar (numbers tokens) productions end → SayUpTo end tokens (said productions tokens)

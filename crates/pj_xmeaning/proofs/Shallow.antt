@@ -13,8 +13,9 @@ use Rattle.pj_xgrammar.specs.Terminals.{numbers}
 use Rattle.pj_xgrammar.specs.XPath.{xpath_grammar}
 use Rattle.pj_xmeaning.specs.Parts.{RuleValue}
 use Rattle.pj_xmeaning.specs.Reach.{All}
+use Rattle.pj_xmeaning.specs.Reads.{IsNumbered}
 use Rattle.pj_xmeaning.proofs.Derived as derived
-use Rattle.pj_xmeaning.proofs.Derived.{Derived, by, Fill, none, token, rule, cut}
+use Rattle.pj_xmeaning.proofs.Derived.{Derived, by, Fill, none, token, rule, left_out, cut}
 use Rattle.pj_xmeaning.proofs.Splitting.{behind_is}
 use Rattle.pj_xmeaning.proofs.Counts.{closes-append}
 
@@ -34,7 +35,7 @@ AreFlat before (t ∷ ts) = IsFlat (before ++ t ∷ []) × AreFlat (before ++ t 
 abbrev StayFlat : List Symbol → List Lexed → Type 0
 StayFlat rest tokens = (before ps : List ℕ) → Leads xpath_grammar start before ps rest → AreFlat before (numbers tokens)
 
-flat_token : (tokens : List Lexed) (ss : List Symbol) (x : Lexed) (t : ℕ) → derived.IsRead x tokens t → closes ss ≤ 200 → StayFlat ss tokens → StayFlat (Terminal t ∷ ss) (x ∷ tokens)
+flat_token : (tokens : List Lexed) (ss : List Symbol) (x : Lexed) (t : ℕ) → IsNumbered x tokens t → closes ss ≤ 200 → StayFlat ss tokens → StayFlat (Terminal t ∷ ss) (x ∷ tokens)
 flat_token tokens ss x t read few on before ps way =
     subst (λ k. AreFlat before (k ∷ numbers tokens)) (sym read) (
       record { productions = ps; stack = ss; there = leads.behind before t refl way; few = few },
@@ -64,6 +65,7 @@ mutual
       let sum = closes-append ss rest in
       subst (λ l. StayFlat (Rule n ∷ (ss ++ rest)) l) (sym (behind_is behind all ts us ts_are))
       (rule_flat (ss ++ rest) (omega arith) d (fill_flat rest room f on))
+  fill_flat rest room (left_out x t read is) on = absurd is
   fill_flat rest room (derived.close {behind = behind} {ts} {ss} f) on = flat_close (ts ++ behind) (ss ++ rest) (fill_flat rest room f on)
   fill_flat rest room (cut c) on = absurd c
 

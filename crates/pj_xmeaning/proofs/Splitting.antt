@@ -5,9 +5,11 @@ use Rattle.pj_ll.specs.declared.grammar.Symbol.TheVariants.{Terminal, Rule, Left
 use Rattle.pj_ll.specs.Grammar.{closes}
 use Rattle.pj_xtokens.specs.Tokens.{Lexed}
 use Rattle.pj_xmeaning.specs.Parts.{RuleValue}
-use Rattle.pj_xmeaning.specs.Reach.{Reach, Within, IsCut}
-use Rattle.pj_xmeaning.proofs.Derived.{IsRead, Derived, Fill, none, token, rule, close, cut}
+use Rattle.pj_xmeaning.specs.Reach.{Reach, Within, IsBehindLeftOut, IsCut}
+use Rattle.pj_xmeaning.specs.Reads.{IsNumbered}
+use Rattle.pj_xmeaning.proofs.Derived.{Derived, Fill, none, token, rule, left_out, close, cut}
 use Rattle.pj_xmeaning.proofs.Counts.{closes-append}
+use Rattle.pj_xmeaning.proofs.Taking.{cut_behind}
 
 -- the tokens, productions and values of the first symbols, and those of the others behind them
 pub record Parts (reach : Reach) (around : ℕ) (behind : List Lexed) (xs ys : List Symbol) (tokens : List Lexed) (productions : List ℕ) : Type 0 where
@@ -30,7 +32,7 @@ pub behind_is : (behind tokens first other : List Lexed) → tokens ≡ first ++
 behind_is behind tokens first other is = ap (λ l. l ++ behind) is ∙ append_assoc first other behind
 
 module _ {reach : Reach} {around : ℕ} {behind : List Lexed} (ys : List Symbol) where
-  with_token : {tokens : List Lexed} {ps : List ℕ} (xs : List Symbol) (x : Lexed) (t : ℕ) → IsRead x (tokens ++ behind) t →
+  with_token : {tokens : List Lexed} {ps : List ℕ} (xs : List Symbol) (x : Lexed) (t : ℕ) → IsNumbered x (tokens ++ behind) t →
       Within reach (around + closes (xs ++ ys)) (x ∷ (tokens ++ behind)) → Parts reach around behind xs ys tokens ps → Parts reach around behind (Terminal t ∷ xs) ys (x ∷ tokens) ps
   with_token {tokens} xs x t read within parts = record {
     first_tokens = x ∷ parts.first_tokens;
@@ -42,7 +44,7 @@ module _ {reach : Reach} {around : ℕ} {behind : List Lexed} (ys : List Symbol)
     tokens_are = ap (λ l. x ∷ l) parts.tokens_are;
     productions_are = parts.productions_are;
     first = token x t
-        (subst (λ l. IsRead x l t) (behind_is behind tokens parts.first_tokens parts.other_tokens parts.tokens_are) read)
+        (subst (λ l. IsNumbered x l t) (behind_is behind tokens parts.first_tokens parts.other_tokens parts.tokens_are) read)
         (subst (λ l. Within reach ((around + closes ys) + closes xs) (x ∷ l)) (behind_is behind tokens parts.first_tokens parts.other_tokens parts.tokens_are)
         (subst (λ k. Within reach k (x ∷ (tokens ++ behind))) (open_is around xs ys) within))
         parts.first;
@@ -82,6 +84,20 @@ module _ {reach : Reach} {around : ℕ} {behind : List Lexed} (ys : List Symbol)
     other = parts.other;
   }
 
+  with_left_out : (xs : List Symbol) (x : Lexed) (t : ℕ) → IsNumbered x behind t → IsBehindLeftOut reach behind → Parts reach around behind (LeftOut t ∷ xs) ys (x ∷ []) []
+  with_left_out xs x t read is = record {
+    first_tokens = x ∷ [];
+    other_tokens = [];
+    first_productions = [];
+    other_productions = [];
+    first_values = [];
+    other_values = [];
+    tokens_are = refl;
+    productions_are = refl;
+    first = left_out x t read is;
+    other = cut (cut_behind reach behind is);
+  }
+
   -- where the tokens are cut off, neither part derives any
   both_cut : (xs : List Symbol) → IsCut reach behind → Parts reach around behind xs ys [] []
   both_cut xs c = record {
@@ -116,5 +132,6 @@ module _ {reach : Reach} {around : ℕ} {behind : List Lexed} (ys : List Symbol)
   split (Rule n ∷ xs) (cut c) = both_cut (Rule n ∷ xs) c
   split (Rule n ∷ xs) (rule d fill tokens_are productions_are) = with_rule xs d (split xs fill) tokens_are productions_are
   split (LeftOut t ∷ xs) (cut c) = both_cut (LeftOut t ∷ xs) c
+  split (LeftOut t ∷ xs) (left_out x u read is) = with_left_out xs x t read is
   split (Close ∷ xs) (cut c) = both_cut (Close ∷ xs) c
   split (Close ∷ xs) (close fill) = with_close xs (split xs fill)

@@ -18,10 +18,10 @@ use Rattle.pj_xmeaning.specs.Parts.{RuleValue, operand}
 use Rattle.pj_xmeaning.specs.Values.{top, made, acted, values, said}
 use Rattle.pj_xmeaning.specs.declared.action.Action.{Action}
 use Rattle.pj_xmeaning.specs.declared.action.Action.TheVariants as action
-use Rattle.pj_xmeaning.specs.Reach.{Reach, All, UpTo, IsCut}
-use Rattle.pj_xmeaning.proofs.Derived.{Derived, by, Fill, none, token, rule, close, cut}
+use Rattle.pj_xmeaning.specs.Reach.{Reach, All, UpTo, Plain, IsCut}
+use Rattle.pj_xmeaning.proofs.Derived.{Derived, by, Fill, none, token, rule, left_out, close, cut}
 use Rattle.pj_xmeaning.proofs.Splitting.{behind_is}
-use Rattle.pj_xmeaning.proofs.Taking.{before_cut}
+use Rattle.pj_xmeaning.proofs.Taking.{before_cut, begins_before, cut_behind}
 
 -- ---- an action takes the values of its production
 
@@ -66,6 +66,7 @@ nothing_derived none c = (refl, refl)
 nothing_derived {reach} (token {behind = behind} {ts} x t read within f) c = absurd (before_cut reach _ (x ∷ (ts ++ behind)) within c)
 nothing_derived {reach} (rule {behind = behind} {ts} {us} {all} (by p line before at n_is g qs_are v_is) f ts_are ps_are) c =
     absurd (before (subst (λ l. IsCut reach l) (behind_is behind all ts us ts_are) c))
+nothing_derived {reach} (left_out {behind = behind} x t read is) c = absurd (begins_before reach x behind is c)
 nothing_derived (close f) c = nothing_derived f c
 nothing_derived (cut _) c = (refl, refl)
 
@@ -83,6 +84,7 @@ values_count none = inl refl
 values_count (token x t read within f) = values_count f
 values_count (rule d f ts_are ps_are) =
     ⊎_elim (λ e. inl (omega arith)) (λ s. let le = s.fewer in inr (record { cut_off = s.cut_off; fewer = omega arith })) (values_count f)
+values_count {reach} (left_out {behind = behind} x t read is) = inr (record { cut_off = cut_behind reach behind is; fewer = omega arith })
 values_count (close f) = values_count f
 values_count (cut c) = inr (record { cut_off = c; fewer = omega arith })
 
@@ -175,6 +177,9 @@ module _ (actions_fit : ActionsFit) {reach : Reach} where
         ∙ ap (λ l. values (beginnings (ps ++ (qs ++ more)) (slot.Rule ∷ (slots ss ++ next)) l) []) (behind_is behind all ts us ts_are)
         ∙ rule_value (qs ++ more) (slots ss ++ next) later d
         ∙ ap (λ l. v ∷ l) (fill_values more next end f)
+    fill_values more next end (left_out {behind = behind} {ss} x t read is) =
+        let none_more = end (cut_behind reach behind is) in
+        ap (λ l. values (beginnings l (slots ss ++ next) (x ∷ behind)) []) none_more ∙ ap (λ l. values (beginnings l next behind) []) (sym none_more)
     fill_values more next end (close f) = fill_values more next end f
     fill_values {behind = behind} {ss = ss} more next end (cut c) =
         let none_more = end c in
@@ -189,7 +194,7 @@ tree_said actions_fit tokens ps v d =
     ∙ ap (λ l. operand (top l)) (rule_value actions_fit [] [] (λ c. refl) d)
 
 -- and those of the beginning of one
-pub fill_said : ActionsFit → {left first : List Lexed} {ps : List ℕ} {vs : List RuleValue} → Fill (UpTo left) 0 left start first ps vs → said ps (first ++ left) ≡ operand (top vs)
+pub fill_said : ActionsFit → {left first : List Lexed} {ps : List ℕ} {vs : List RuleValue} → Fill (UpTo Plain left) 0 left start first ps vs → said ps (first ++ left) ≡ operand (top vs)
 unfolding said
 fill_said actions_fit {left} {first} {ps} {vs} f =
     ap (λ l. operand (top (values (beginnings l (slot.Rule ∷ []) (first ++ left)) []))) (sym (append-nil ps))

@@ -2,6 +2,7 @@
 pub mod RuleMeanings
 pub mod Reach
 pub mod Reads
+pub mod Begun
 pub mod SoFar
 -- for private clauses: what productions make, and where they begin
 pub mod Actions

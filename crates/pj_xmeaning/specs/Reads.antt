@@ -1,13 +1,13 @@
 -- What the tokens of an expression, or of the beginning of one, say: the tree that they spell, and the functions and variables that they
 -- name. Read whole, they also nest no deeper than may be. One constructor a production, in the order of the grammar (`XPath` of pj_xgrammar),
--- with its notation; but `to` and `$` have one more, for tokens that are cut off behind them, the words that are names have one for all, and
--- what is left out has none.
+-- with its notation; but `to` and `$` have one more, for tokens that are cut off behind them, and one for all have the words that are names, what is
+-- left out where an operator can stand, and what is left out where a step can begin.
 --
 -- `Reads reach r.X depth xs ys v`: at the front of the tokens xs stands what rule X spells, ys are the tokens behind it, and v is what it
 -- says. So many things that nest are open there. Where the tokens are cut off, no symbol takes a token, and a rule says the least.
 use Rattle.std.specs.Prelude.{◌≡◌, ℕ, suc, Bool, true, false, List, [], ◌∷◌, Option, Some, None}
 use Rattle.pj_ll.specs.declared.grammar.Symbol.{Symbol}
-use Rattle.pj_ll.specs.declared.grammar.Symbol.TheVariants.{Terminal}
+use Rattle.pj_ll.specs.declared.grammar.Symbol.TheVariants.{Terminal, LeftOut}
 use Rattle.pj_xexpressions.specs.declared.axis.Axis.TheVariants as axes
 use Rattle.pj_xexpressions.specs.declared.operator.Compare.{Compare}
 use Rattle.pj_xexpressions.specs.declared.operator.Compare.TheVariants as compare
@@ -32,14 +32,17 @@ use Rattle.pj_xtokens.specs.First.{first_text, first_from}
 use Rattle.pj_xreadings.specs.Steps.{empty_sequence}
 use Rattle.pj_xexpressions.specs.Trees as tree
 use Rattle.pj_xexpressions.specs.Trees.{alone}
-use Rattle.pj_xreadings.specs.Operands.{Operand, Binding, Arguments, Closed, Next, Behind, Test, Called, Predicates, other, chain, mixed, compared, ranging, signed, bound, chosen, variable, cut_variable, integer_literal, string_literal, rooted, descendants, path, step, child_step, attribute_step, filtered, kind_test, named}
+use Rattle.pj_xreadings.specs.Operands.{Operand, Binding, Arguments, Closed, Next, Behind, Test, Called, Predicates, other, chain, mixed, compared, ranging, signed, bound, chosen, variable, cut_variable, integer_literal, string_literal, rooted, descendants, path, step, child_step, attribute_step, filtered, kind_test, named, nothing}
 use Rattle.pj_xmeaning.specs.RuleMeanings.{Value, absent}
-use Rattle.pj_xmeaning.specs.Reach.{Reach, All, Within, IsBefore, IsCut}
+use Rattle.pj_xmeaning.specs.Reach.{Reach, All, Within, IsBefore, IsCut, IsBehindLeftOut}
+
+-- the token has this terminal's number, where these tokens stand behind it
+abbrev pub IsNumbered : Lexed → List Lexed → ℕ → Type 0
+IsNumbered x behind number = terminal_number (terminal_of x (first_behind b.End behind)) ≡ number
 
 -- The first token is read as the terminal, and the others stand behind it; or the tokens are cut off, so that none is taken.
 pub data Takes (reach : Reach) (depth : ℕ) : Symbol → List Lexed → List Lexed → Type 0 where
-  token : {x : Lexed} {xs : List Lexed} {number : ℕ} → terminal_number (terminal_of x (first_behind b.End xs)) ≡ number → Within reach depth (x ∷ xs) →
-      Takes reach depth (Terminal number) (x ∷ xs) xs
+  token : {x : Lexed} {xs : List Lexed} {number : ℕ} → IsNumbered x xs number → Within reach depth (x ∷ xs) → Takes reach depth (Terminal number) (x ∷ xs) xs
   cut : {s : Symbol} {xs : List Lexed} → IsCut reach xs → Takes reach depth s xs xs
 
 -- the symbol alone is among the productions of a rule
@@ -204,9 +207,11 @@ mutual
         Takes reach d (t "!") xs ys → Reads reach r.Operand d ys zs next → Reads reach r.SimpleMapTail d zs us more → Produces reach r.SimpleMapTail d xs us (next ∷ more)
     map_end : {d : ℕ} {xs : List Lexed} →
         Produces reach r.SimpleMapTail d xs xs []
-    -- What is left out has no constructor: a run over the terminals ends before it.
     operand : {d : ℕ} {xs ys zs : List Lexed} {a : Operand} →
         Reads reach r.PathExpr d xs ys a → Reads reach r.LeftOutOperator d ys zs tt → Produces reach r.Operand d xs zs a
+    -- what is left out where an operator can stand: with its first token ends the beginning of an expression that ends so
+    left_out_operator : {d number : ℕ} {x : Lexed} {xs : List Lexed} →
+        IsAmong (LeftOut number) (xpath r.LeftOutOperator) → IsNumbered x xs number → IsBehindLeftOut reach xs → Produces reach r.LeftOutOperator d (x ∷ xs) xs tt
     no_left_out : {d : ℕ} {xs : List Lexed} →
         Produces reach r.LeftOutOperator d xs xs tt
     -- 25: PathExpr
@@ -246,6 +251,9 @@ mutual
         Takes reach d (t "element") xs ys → Reads reach r.KindTail d ys zs parentheses → Reads reach r.PredicateList d zs us predicates → Produces reach r.StepExpr d xs us (child_step (kind_test AnyElement (first_text xs) parentheses) predicates)
     plain_step : {d : ℕ} {xs ys zs : List Lexed} {word : List ℕ} {tail : Behind} →
         Reads reach r.PlainName d xs ys word → Reads reach r.NameTail d ys zs tail → Produces reach r.StepExpr d xs zs (named xs word tail)
+    -- what is left out where a step can begin, in the same way
+    left_out_step : {d number : ℕ} {x : Lexed} {xs : List Lexed} →
+        IsAmong (LeftOut number) (xpath r.StepExpr) → IsNumbered x xs number → IsBehindLeftOut reach xs → Produces reach r.StepExpr d (x ∷ xs) xs nothing
     axis_test : {d : ℕ} {xs ys zs us : List Lexed} {test : NodeTest} {predicates : List Operand} →
         Takes reach d (t "::") xs ys → Reads reach r.NodeTest d ys zs test → Reads reach r.PredicateList d zs us predicates → Produces reach r.AxisTail d xs us (Test test predicates)
     axis_call : {d : ℕ} {xs ys zs us vs : List Lexed} {arguments : Arguments} {predicates : List Operand} →

@@ -1,16 +1,16 @@
 //! What the productions of derivations say, and what tokens say, are the same. The functions do nothing, and their contracts are the laws.
 
-ghost use Rattle.std.specs.Prelude.{◌≡◌, ◌≤◌, ℕ, List, drop, length, take};
-ghost use Rattle.pj_ll.specs.Outcome.{IsEnd, IsWhole, LeadBehind, LeadTo};
+ghost use Rattle.std.specs.Prelude.{◌≡◌, ◌≤◌, ℕ, List, length, take};
+ghost use Rattle.pj_ll.specs.Outcome.{IsEnd, IsLeftOutAt, IsTooDeepAt, IsWhole, LeadBehind, LeadTo};
 ghost use Rattle.pj_ll.specs.declared.parser.End.{End};
 ghost use Rattle.pj_xtokens.specs.Tokens.{Lexed};
 ghost use Rattle.pj_xgrammar.specs.Predictive.{IsPredictiveXPath};
 ghost use Rattle.pj_xgrammar.specs.Terminals.{numbers};
 ghost use Rattle.pj_xgrammar.specs.XPath.{greatest_nesting, xpath_grammar};
 ghost use Rattle.pj_xreadings.specs.Operands.{Operand};
-ghost use Rattle.pj_xgrammar.specs.declared.rule.Rule.TheVariants as r;
-ghost use Rattle.pj_xmeaning.specs.Reach.{UpTo};
-ghost use Rattle.pj_xmeaning.specs.Reads.{AreRead, Reads};
+ghost use Rattle.pj_xmeaning.specs.Begun.{BeginsLeftOut, NestsTooDeep, SayTo};
+ghost use Rattle.pj_xmeaning.specs.Reach.{Plain};
+ghost use Rattle.pj_xmeaning.specs.Reads.{AreRead};
 ghost use Rattle.pj_xmeaning.specs.SoFar.{SayUpTo};
 ghost use Rattle.pj_xmeaning.specs.Values.{said};
 
@@ -45,9 +45,25 @@ pub fn sayings_are_runs()
 /// read so.
 pub fn beginnings_are_read()
     ensures read { (tokens : List Lexed) (i : ℕ) (productions : List ℕ) → i ≤ length tokens → LeadBehind xpath_grammar (take i (numbers tokens)) productions →
-        (a : Operand) × Reads (UpTo (drop i tokens)) r.Expr 0 tokens (drop i tokens) a }
-    ensures led { (tokens : List Lexed) (i : ℕ) (a : Operand) → i ≤ length tokens → Reads (UpTo (drop i tokens)) r.Expr 0 tokens (drop i tokens) a →
+        (a : Operand) × SayTo Plain tokens i a }
+    ensures led { (tokens : List Lexed) (i : ℕ) (a : Operand) → i ≤ length tokens → SayTo Plain tokens i a →
         (productions : List ℕ) × LeadBehind xpath_grammar (take i (numbers tokens)) productions }
+{
+    rules_have_their_numbers();
+}
+
+/// Where more is open behind the terminals of tokens than may be, it is read so, and where it is read so, more is open.
+pub fn depths_are_read()
+    ensures read { (tokens : List Lexed) (i : ℕ) → i ≤ length tokens → IsTooDeepAt xpath_grammar (numbers tokens) greatest_nesting i → NestsTooDeep tokens i }
+    ensures led { (tokens : List Lexed) (i : ℕ) → i ≤ length tokens → NestsTooDeep tokens i → IsTooDeepAt xpath_grammar (numbers tokens) greatest_nesting i }
+{
+    rules_have_their_numbers();
+}
+
+/// Where productions lead to a construct that is left out, its first token is read so, and where it is read so, productions lead to it.
+pub fn what_is_left_out_is_read()
+    ensures read { (tokens : List Lexed) (i : ℕ) → IsLeftOutAt xpath_grammar (numbers tokens) i → BeginsLeftOut tokens i }
+    ensures led { (tokens : List Lexed) (i : ℕ) → BeginsLeftOut tokens i → IsLeftOutAt xpath_grammar (numbers tokens) i }
 {
     rules_have_their_numbers();
 }

@@ -17,9 +17,10 @@ pub mod ReadSpelling
 pub mod TextTokens
 pub mod Expressions
 pub mod Runs
+pub mod Outcomes
+pub mod SoFar
 pub mod OneAnswer
 pub mod Parsed
 pub mod Sizes
 pub mod SomeAnswer
-pub mod SomeRun
 pub mod TokenFacts

@@ -1,20 +1,18 @@
 -- A text spells one expression at most, or has one first fault at most, and not both.
-use Rattle.std.proofs.Common.{◌≡◌, ℕ, ◌+◌, List, length, Some, None, sym, ap, ◌∙◌, subst}
+use Rattle.std.proofs.Common.{◌≡◌, ℕ, List, Some, None, sym, ap, ◌∙◌, subst}
 use Rattle.pj_ll.specs.declared.parser.End.{End}
 use Rattle.pj_ll.specs.declared.parser.End.TheVariants as outcome
 use Rattle.pj_xtokens.specs.Size.{size}
 use Rattle.pj_xtokens.specs.Tokens.{Lexed, Tokens}
 use Rattle.pj_xtokens.specs.declared.token.End as token
 use Rattle.pj_xexpressions.specs.Trees.{Tree}
-use Rattle.pj_xderive.specs.Expressions.{AreDerived, AreClear, IsOutcome}
 use Rattle.pj_xreadings.specs.Operands.{Operand}
 use Rattle.pj_xmeaning.specs.Reads.{AreRead}
-use Rattle.pj_xmeaning.specs.SoFar.{SaySoFar}
 use Rattle.pj_xparse.specs.NameFaults.{first_fault}
 use Rattle.pj_xparse.specs.Spells.{Spells}
 use Rattle.pj_xparse.specs.Faults.{IsFault, named_first, syntax_fault}
+use Rattle.pj_xparse.specs.Outcomes.{IsOutcome, SaySoFar, whole}
 use Rattle.pj_xparse.specs.declared.fault.XSyntax.{XSyntax}
-use Rattle.pj_xparse.proofs.Runs.{whole_run}
 
 -- where the tokens of a text and their end are one
 module _ (one_tokens : (text : List ℕ) (xs ys : List Lexed) (e f : token.End) → Tokens (size text) text xs e → Tokens (size text) text ys f → (xs ≡ ys) × (e ≡ f)) where
@@ -26,21 +24,15 @@ module _ (one_tokens : (text : List ℕ) (xs ys : List Lexed) (e f : token.End) 
       let said : s.said ≡ t.said = one_reading t.tokens s.said t.said (subst (λ ts. AreRead ts s.said) tokens s.says) t.says in
       s.means ∙ ap (λ (o : Operand). o.tree) said ∙ sym t.means
 
-  -- where they have one outcome, and say one thing as far as their terminals go
+  -- where they have one outcome, and say one thing as far as they are read
   module _ (one_outcome : (tokens : List Lexed) (a b : End) → IsOutcome tokens a → IsOutcome tokens b → a ≡ b)
       (one_saying : (tokens : List Lexed) (a b : Operand) → SaySoFar tokens a → SaySoFar tokens b → a ≡ b) where
-    -- what is read is derived
-    pub not_both : ((tokens : List Lexed) (a : Operand) → AreRead tokens a → (productions : List ℕ) × AreDerived tokens productions × AreClear tokens (length tokens + 1))
-        → (variables : List (List ℕ)) (text : List ℕ) (tree : Tree) (fault : XSyntax) → Spells variables text tree → IsFault variables text fault → ⊥
-    not_both derives variables text tree fault s f =
+    pub not_both : (variables : List (List ℕ)) (text : List ℕ) (tree : Tree) (fault : XSyntax) → Spells variables text tree → IsFault variables text fault → ⊥
+    not_both variables text tree fault s f =
         let same = one_tokens text f.tokens s.tokens _ _ f.read s.read in
-        let (productions, derived, clear) = derives s.tokens s.said s.says in
         let outcomes : f.outcome ≡ outcome.Whole =
-        one_outcome s.tokens f.outcome outcome.Whole (subst (λ ts. IsOutcome ts f.outcome) same.0 f.is_outcome)
-        (record { expression = (productions, derived); clear = clear }) in
-        let said : f.said ≡ s.said =
-        one_saying s.tokens f.said s.said (subst (λ ts. SaySoFar ts f.said) same.0 f.say)
-        (record { run = outcome.Whole; ends = whole_run s.tokens productions derived clear; reads = s.says }) in
+        one_outcome s.tokens f.outcome outcome.Whole (subst (λ ts. IsOutcome ts f.outcome) same.0 f.is_outcome) (s.said, s.says) in
+        let said : f.said ≡ s.said = one_saying s.tokens f.said s.said (subst (λ ts. SaySoFar ts f.said) same.0 f.say) (whole s.says) in
         let named : first_fault variables f.said.names ≡ None = ap (λ (o : Operand). first_fault variables o.names) said ∙ s.named in
         let syntax : syntax_fault f.tokens f.end f.outcome ≡ None =
         ap (λ o. syntax_fault f.tokens f.end o) outcomes ∙ ap (λ e. syntax_fault f.tokens e outcome.Whole) same.1 in

@@ -22,8 +22,9 @@ use Rattle.pj_xgrammar.specs.XPath.{greatest_nesting, xpath_grammar}
 use Rattle.pj_xderive.specs.Expressions.{IsOutcome, IsRun, LeadTo}
 use Rattle.pj_xreadings.specs.Operands.{Operand}
 use Rattle.pj_xmeaning.specs.Reads.{AreRead}
-use Rattle.pj_xmeaning.specs.SoFar.{SaySoFar, SayUpTo}
+use Rattle.pj_xmeaning.specs.SoFar.{SayUpTo}
 use Rattle.pj_xparse.specs.Faults.{syntax_fault}
+use Rattle.pj_xparse.specs.Outcomes.{SaySoFar}
 use Rattle.pj_xparse.specs.NameFaults.{first_fault}
 use Rattle.pj_xparse.specs.Spells.{Spells}
 use Rattle.pj_xparse.proofs.Runs.{whole_run}
@@ -63,9 +64,10 @@ module _ {tokens : List Lexed} {steps all : List Step} {said : Operand} (same : 
   say_run run ends leads =
       say run ends (subst (λ s. terminals.LeadTo xpath_grammar (numbers tokens) (productions_in s) run) (sym same) leads) (subst (ArePlaced xpath_grammar (numbers tokens)) (sym same) placed)
 
-  -- they say it so far, where the productions are those of their run
-  pub say_so_far : IsRun tokens (productions_in all) → SaySoFar tokens said
-  say_so_far run = record { run = run.end; ends = run.ends; reads = say_run run.end run.ends run.leads }
+  -- They say it so far, where the productions are those of their run, and where they are read as far as it goes.
+  pub say_so_far : ((tokens : List Lexed) (run : End) (a : Operand) → IsEnd xpath_grammar (numbers tokens) greatest_nesting run → SayUpTo run tokens a → SaySoFar tokens a) →
+      IsRun tokens (productions_in all) → SaySoFar tokens said
+  say_so_far read run = read tokens run.end said run.ends (say_run run.end run.ends run.leads)
 
   -- and where they have no fault, all of them are read as it
   pub all_read : (end : token.End) (o : End) → IsOutcome tokens o → LeadTo tokens (productions_in all) o → syntax_fault tokens end o ≡ None → AreRead tokens said

@@ -26,7 +26,7 @@ use Rattle.pj_xshape.specs.Nodes.{part_of_node}
 use Rattle.pj_xreadings.specs.Operands.{Operand, Binding, Behind, Test, Called, Predicates, operations, other, chain, mixed, compared, ranging, signed, chosen, integer_literal, string_literal, variable, rooted, descendants, path, step, child_step, attribute_step, filtered, kind_test, named}
 use Rattle.pj_xmeaning.specs.RuleMeanings.{Value}
 use Rattle.pj_xmeaning.specs.Reach.{All}
-use Rattle.pj_xmeaning.specs.Reads.{Reads, by, Produces, AreRead, expr, expr_more, expr_end, for_expr, let_expr, some_expr, every_expr, if_expr, single_or, in_binding, in_more, in_end, let_binding, let_more, let_end, in_clause, assign_clause, return_clause, satisfies_clause, test_clause, then_clause, else_clause, or_expr, or_more, or_end, and_expr, and_more, and_end, comparison_expr, equal, not_equal, less, less_or_equal, greater, greater_or_equal, not_compared, concatenation_expr, concatenation_more, concatenation_end, range_expr, up_to, up_to_cut, no_range, additive_expr, plus, minus, additive_end, multiplicative_expr, times, integer_divide, modulo, multiplicative_end, union_expr, union_more, bar_more, union_end, set_expr, intersect, except, set_end, negative, positive, no_sign, map_expr, map_more, map_end, operand, no_left_out, root, from_root, from_descendants, relative, path_steps, next_step, next_descendants, steps_end, context_item, primary, parent, attribute, axis_name, any_name, node_name, element_name, plain_step, axis_test, axis_call, axis_predicates, name_call, name_predicates, name_test, axis_name_test, any_name_test, node_test, element_test, kind_parentheses, no_parentheses, predicate, no_predicate, integer_expr, string_expr, variable_expr, variable_cut, parenthesized, inside, empty, some_arguments, no_arguments, more_arguments, arguments_end, variable_name, axis_variable, node_variable, element_variable, plain_name}
+use Rattle.pj_xmeaning.specs.Reads.{Reads, by, Produces, AreRead, expr, expr_more, expr_end, for_expr, let_expr, some_expr, every_expr, if_expr, single_or, in_binding, in_more, in_end, let_binding, let_more, let_end, in_clause, assign_clause, return_clause, satisfies_clause, test_clause, then_clause, else_clause, or_expr, or_more, or_end, and_expr, and_more, and_end, comparison_expr, equal, not_equal, less, less_or_equal, greater, greater_or_equal, not_compared, concatenation_expr, concatenation_more, concatenation_end, range_expr, up_to, up_to_cut, no_range, additive_expr, plus, minus, additive_end, multiplicative_expr, times, integer_divide, modulo, multiplicative_end, union_expr, union_more, bar_more, union_end, set_expr, intersect, except, set_end, negative, positive, no_sign, map_expr, map_more, map_end, operand, left_out_operator, no_left_out, root, from_root, from_descendants, relative, path_steps, next_step, next_descendants, steps_end, context_item, primary, parent, attribute, axis_name, any_name, node_name, element_name, plain_step, left_out_step, axis_test, axis_call, axis_predicates, name_call, name_predicates, name_test, axis_name_test, any_name_test, node_test, element_test, kind_parentheses, no_parentheses, predicate, no_predicate, integer_expr, string_expr, variable_expr, variable_cut, parenthesized, inside, empty, some_arguments, no_arguments, more_arguments, arguments_end, variable_name, axis_variable, node_variable, element_variable, plain_name}
 use Rattle.pj_xparse.proofs.Faultless.{none_balanced, one_balanced, first_none}
 use Rattle.pj_xparse.proofs.Fit.{IsFit, AreFit, none_fit, more_fit, last_fit, node_fit, fit_behind, IsChain, or_chain, and_chain, concatenation_chain, union_chain, simple_map_chain, path_chain, filter_chain, comma_chain, chain_fit, alone_fit, operated_by}
 use Rattle.pj_xparse.proofs.FitValues.{Fits, AllFit, FitBehind, FitsBehind, FitsIfAny, StepsFit, AllBoundFit, SomeBoundFit, BehindFits, ValueFits}
@@ -234,6 +234,7 @@ mutual
   produces_fit (map_more k0 a1 a2) = more_fit (reads_fit a1) (reads_fit a2)
   produces_fit map_end = none_fit
   produces_fit (operand a0 a1) = reads_fit a0
+  produces_fit (left_out_operator among read is) = absurd is
   produces_fit no_left_out = tt
   produces_fit (root k0) = root_fits
   produces_fit (from_root {steps = steps} k0 a1) = rooted_fits steps (reads_fit a1)
@@ -252,6 +253,7 @@ mutual
   produces_fit (node_name {xs = xs} {parentheses = p} {predicates = ps} k0 a1 a2) = child_fits (kind_test tests.AnyNode (first_text xs) p) ps (reads_fit a2)
   produces_fit (element_name {xs = xs} {parentheses = p} {predicates = ps} k0 a1 a2) = child_fits (kind_test tests.AnyElement (first_text xs) p) ps (reads_fit a2)
   produces_fit (plain_step {xs = xs} {word = name} {tail = b} a0 a1) = named_fits xs name b (reads_fit a1)
+  produces_fit (left_out_step among read is) = absurd is
   produces_fit (axis_test k0 a1 a2) = reads_fit a2
   produces_fit (axis_call k0 a1 k2 a3) = (reads_fit a1, reads_fit a3)
   produces_fit (axis_predicates a0) = reads_fit a0

@@ -20,7 +20,7 @@ use Rattle.pj_xshape.specs.Nesting.{test_nesting, nesting_of_tree}
 use Rattle.pj_xreadings.specs.Operands.{Operand, other, trees_of, kind_test, arguments_in}
 use Rattle.pj_xmeaning.specs.RuleMeanings.{Value}
 use Rattle.pj_xmeaning.specs.Reach.{All}
-use Rattle.pj_xmeaning.specs.Reads.{Takes, token, Reads, Produces, AreRead, by, cut, expr, expr_more, expr_end, for_expr, let_expr, some_expr, every_expr, if_expr, single_or, in_binding, in_more, in_end, let_binding, let_more, let_end, in_clause, assign_clause, return_clause, satisfies_clause, test_clause, then_clause, else_clause, or_expr, or_more, or_end, and_expr, and_more, and_end, comparison_expr, equal, not_equal, less, less_or_equal, greater, greater_or_equal, not_compared, concatenation_expr, concatenation_more, concatenation_end, range_expr, up_to, up_to_cut, no_range, additive_expr, plus, minus, additive_end, multiplicative_expr, times, integer_divide, modulo, multiplicative_end, union_expr, union_more, bar_more, union_end, set_expr, intersect, except, set_end, negative, positive, no_sign, map_expr, map_more, map_end, operand, no_left_out, root, from_root, from_descendants, relative, path_steps, next_step, next_descendants, steps_end, context_item, primary, parent, attribute, axis_name, any_name, node_name, element_name, plain_step, axis_test, axis_call, axis_predicates, name_call, name_predicates, name_test, axis_name_test, any_name_test, node_test, element_test, kind_parentheses, no_parentheses, predicate, no_predicate, integer_expr, string_expr, variable_expr, variable_cut, parenthesized, inside, empty, some_arguments, no_arguments, more_arguments, arguments_end, variable_name, axis_variable, node_variable, element_variable, plain_name}
+use Rattle.pj_xmeaning.specs.Reads.{Takes, token, Reads, Produces, AreRead, by, cut, expr, expr_more, expr_end, for_expr, let_expr, some_expr, every_expr, if_expr, single_or, in_binding, in_more, in_end, let_binding, let_more, let_end, in_clause, assign_clause, return_clause, satisfies_clause, test_clause, then_clause, else_clause, or_expr, or_more, or_end, and_expr, and_more, and_end, comparison_expr, equal, not_equal, less, less_or_equal, greater, greater_or_equal, not_compared, concatenation_expr, concatenation_more, concatenation_end, range_expr, up_to, up_to_cut, no_range, additive_expr, plus, minus, additive_end, multiplicative_expr, times, integer_divide, modulo, multiplicative_end, union_expr, union_more, bar_more, union_end, set_expr, intersect, except, set_end, negative, positive, no_sign, map_expr, map_more, map_end, operand, left_out_operator, no_left_out, root, from_root, from_descendants, relative, path_steps, next_step, next_descendants, steps_end, context_item, primary, parent, attribute, axis_name, any_name, node_name, element_name, plain_step, left_out_step, axis_test, axis_call, axis_predicates, name_call, name_predicates, name_test, axis_name_test, any_name_test, node_test, element_test, kind_parentheses, no_parentheses, predicate, no_predicate, integer_expr, string_expr, variable_expr, variable_cut, parenthesized, inside, empty, some_arguments, no_arguments, more_arguments, arguments_end, variable_name, axis_variable, node_variable, element_variable, plain_name}
 use Rattle.pj_xparse.proofs.Read.{is_marked, marked_read, alone_read}
 use Rattle.pj_xparse.proofs.NestedParts.{flag, Stands, IsInside, is_inside, lower, alone_stands, Further, none_further, behind_word, behind_sign, commas, ors, ands, concatenations, sums, products, unions, sets, maps, chain_stands, trees_behind, mixed_stands, tree_compared, comparison_stands, tree_last, range_stands, signed_stands, AreBound, FurtherBound, none_bound, more_bound, for_binds, let_binds, quantifier_binds, bound_stands, chosen_stands}
 use Rattle.pj_xparse.proofs.NestedSteps.{AreSteps, steps, FurtherSteps, no_steps, one_step, descendants_step, rooted_stands, rooted_descendants_stand, path_stands, AreInside, none_inside, predicates_within, one_inside, filtered_stands, step_stands, attribute_stands, AreArguments, none_within, some_within, IsBehindName, a_test, predicates_alone, called_behind, named_stands, IsParenthesized, expression_inside, nothing_inside, parenthesized_stands}
@@ -184,8 +184,10 @@ mutual
   produced (map_expr {first = a} {more = us} x y) = chain_stands maps a us (nested x) (nested y)
   produced (map_more {next = a} {more = us} k x y) = behind_sign a.tree (trees_of us) (nested x) (nested y)
   produced map_end = none_further
+  produced (operand x (by b (left_out_operator among read is))) = absurd is
   produced (operand x (by b no_left_out)) = nested x
   produced (operand x (cut c)) = absurd c
+  produced (left_out_operator among read is) = absurd is
   produced no_left_out = tt
   produced (root k) = alone_stands tree.Root (omega arith) (ap (λ (z : Bool). cond z 1 0) (alone_before k)) (few k)
   produced (from_root k x) = rooted_stands (nested x)
@@ -206,6 +208,7 @@ mutual
   produced (element_name {xs = xs} {parentheses = p} {predicates = ps} k x y) =
       step_stands axes.Child (kind_test AnyElement (first_text xs) p) (trees_of ps) (kind_within AnyElement (first_text xs) p (omega arith) (few k) (nested x)) (predicates_within (few k) (nested y))
   produced (plain_step {xs = xs} {word = name} x y) = named_stands xs name (nested x) (nested y)
+  produced (left_out_step among read is) = absurd is
   produced (axis_test k x y) = a_test (nested x) (predicates_within (few k) (nested y))
   produced (axis_call k x l y) = called_behind (few k) (few l) (nested x) (nested y)
   produced (axis_predicates x) = predicates_alone (nested x)

@@ -19,7 +19,7 @@ use Rattle.pj_xshape.specs.Spelled.{IsText, IsName, IsSpelled}
 use Rattle.pj_xreadings.specs.Operands.{Operand, other, descendants, kind_test}
 use Rattle.pj_xmeaning.specs.RuleMeanings.{Value}
 use Rattle.pj_xmeaning.specs.Reach.{All}
-use Rattle.pj_xmeaning.specs.Reads.{AreRead, Reads, by, Takes, token, IsAmong, here, further, expr, expr_more, expr_end, for_expr, let_expr, some_expr, every_expr, if_expr, single_or, in_binding, in_more, in_end, let_binding, let_more, let_end, in_clause, assign_clause, return_clause, satisfies_clause, test_clause, then_clause, else_clause, or_expr, or_more, or_end, and_expr, and_more, and_end, comparison_expr, equal, not_equal, less, less_or_equal, greater, greater_or_equal, not_compared, concatenation_expr, concatenation_more, concatenation_end, range_expr, up_to, up_to_cut, no_range, additive_expr, plus, minus, additive_end, multiplicative_expr, times, integer_divide, modulo, multiplicative_end, union_expr, union_more, bar_more, union_end, set_expr, intersect, except, set_end, negative, positive, no_sign, map_expr, map_more, map_end, operand, no_left_out, root, from_root, from_descendants, relative, path_steps, next_step, next_descendants, steps_end, context_item, primary, parent, attribute, axis_name, any_name, node_name, element_name, plain_step, axis_test, axis_call, axis_predicates, name_call, name_predicates, name_test, axis_name_test, any_name_test, node_test, element_test, kind_parentheses, no_parentheses, predicate, no_predicate, integer_expr, string_expr, variable_expr, variable_cut, parenthesized, inside, empty, some_arguments, no_arguments, more_arguments, arguments_end, variable_name, axis_variable, node_variable, element_variable, plain_name}
+use Rattle.pj_xmeaning.specs.Reads.{AreRead, Reads, by, Takes, token, IsAmong, here, further, expr, expr_more, expr_end, for_expr, let_expr, some_expr, every_expr, if_expr, single_or, in_binding, in_more, in_end, let_binding, let_more, let_end, in_clause, assign_clause, return_clause, satisfies_clause, test_clause, then_clause, else_clause, or_expr, or_more, or_end, and_expr, and_more, and_end, comparison_expr, equal, not_equal, less, less_or_equal, greater, greater_or_equal, not_compared, concatenation_expr, concatenation_more, concatenation_end, range_expr, up_to, up_to_cut, no_range, additive_expr, plus, minus, additive_end, multiplicative_expr, times, integer_divide, modulo, multiplicative_end, union_expr, union_more, bar_more, union_end, set_expr, intersect, except, set_end, negative, positive, no_sign, map_expr, map_more, map_end, operand, left_out_operator, no_left_out, root, from_root, from_descendants, relative, path_steps, next_step, next_descendants, steps_end, context_item, primary, parent, attribute, axis_name, any_name, node_name, element_name, plain_step, left_out_step, axis_test, axis_call, axis_predicates, name_call, name_predicates, name_test, axis_name_test, any_name_test, node_test, element_test, kind_parentheses, no_parentheses, predicate, no_predicate, integer_expr, string_expr, variable_expr, variable_cut, parenthesized, inside, empty, some_arguments, no_arguments, more_arguments, arguments_end, variable_name, axis_variable, node_variable, element_variable, plain_name}
 use Rattle.pj_xparse.specs.WellSpelled.{AreWellSpelled}
 use Rattle.pj_xparse.proofs.Read.{is_name, name_read}
 use Rattle.pj_xparse.proofs.SpelledTokens.{name_of, string_text, integer_spelled}
@@ -138,6 +138,7 @@ read_said (by b (map_expr {first = first} {more = more} a0 a1)) h = let (p, i) =
 read_said (by b (map_more k0 a1 a2)) h = let (p, i) = read_said a1 (taken k0 h) in let (q, j) = read_said a2 i in ((p, q), j)
 read_said (by b map_end) h = (tt, h)
 read_said (by b (operand a0 a1)) h = let (p, i) = read_said a0 h in let (q, j) = read_said a1 i in (p, j)
+read_said (by b (left_out_operator among read is)) h = absurd is
 read_said (by b no_left_out) h = (tt, h)
 read_said (by b (root k0)) h = (alone_spelled tree.Root tt, taken k0 h)
 read_said (by b (from_root {steps = steps} k0 a1)) h = let (p, i) = read_said a1 (taken k0 h) in (rooted_spelled steps p, i)
@@ -156,6 +157,7 @@ read_said (by b (any_name {predicates = predicates} k0 a1)) h = let (p, i) = rea
 read_said (by b (node_name {xs = xs} {parentheses = parentheses} {predicates = predicates} k0 a1 a2)) h = let (p, i) = read_said a1 (taken k0 h) in let (q, j) = read_said a2 i in (step_spelled axes.Child (kind_test AnyNode (first_text xs) parentheses) predicates (kind_test_spelled AnyNode (first_text xs) parentheses tt (name_taken k0 refl h)) q, j)
 read_said (by b (element_name {xs = xs} {parentheses = parentheses} {predicates = predicates} k0 a1 a2)) h = let (p, i) = read_said a1 (taken k0 h) in let (q, j) = read_said a2 i in (step_spelled axes.Child (kind_test AnyElement (first_text xs) parentheses) predicates (kind_test_spelled AnyElement (first_text xs) parentheses tt (name_taken k0 refl h)) q, j)
 read_said (by b (plain_step {xs = xs} {word = word} {tail = tail} a0 a1)) h = let (p, i) = read_said a0 h in let (q, j) = read_said a1 i in (named_spelled xs word tail p q, j)
+read_said (by b (left_out_step among read is)) h = absurd is
 read_said (by b (axis_test k0 a1 a2)) h = let (p, i) = read_said a1 (taken k0 h) in let (q, j) = read_said a2 i in ((p, q), j)
 read_said (by b (axis_call k0 a1 k2 a3)) h = let (p, i) = read_said a1 (taken k0 h) in let (q, j) = read_said a3 (taken k2 i) in ((p, q), j)
 read_said (by b (axis_predicates a0)) h = read_said a0 h

@@ -10,7 +10,7 @@ use Rattle.pj_xgrammar.specs.XPath.{greatest_nesting, xpath_grammar}
 use Rattle.pj_xderive.specs.Expressions.{AreClear, AreDerived}
 
 -- each token has a terminal
-length_numbers : (end : Behind) (xs : List Lexed) → length (numbers_before end xs) ≡ length xs
+pub length_numbers : (end : Behind) (xs : List Lexed) → length (numbers_before end xs) ≡ length xs
 length_numbers end [] = refl
 length_numbers end (x ∷ xs) = ap suc (length_numbers end xs)
 

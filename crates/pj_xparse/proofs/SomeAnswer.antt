@@ -1,29 +1,25 @@
 -- Each text spells an expression or has a first fault.
-use Rattle.std.proofs.Common.{◌≡◌, ℕ, ◌+◌, List, length, Option, Some, None, ◌⊎◌, inl, inr, sym, refl, ap, ◌∙◌}
+use Rattle.std.proofs.Common.{◌≡◌, ℕ, List, Option, Some, None, ◌⊎◌, inl, inr, sym, refl, ap, ◌∙◌}
 use Rattle.pj_ll.specs.declared.parser.End.{End}
 use Rattle.pj_ll.specs.declared.parser.End.TheVariants as outcome
 use Rattle.pj_xtokens.specs.Size.{size}
 use Rattle.pj_xtokens.specs.Tokens.{Lexed, Tokens}
 use Rattle.pj_xtokens.specs.declared.token.End as token
 use Rattle.pj_xexpressions.specs.Trees.{Tree}
-use Rattle.pj_xderive.specs.Expressions.{AreClear, AreDerived, IsOutcome, IsRun}
 use Rattle.pj_xreadings.specs.Operands.{Operand}
 use Rattle.pj_xmeaning.specs.Reads.{AreRead}
-use Rattle.pj_xmeaning.specs.SoFar.{SaySoFar}
 use Rattle.pj_xparse.specs.NameFaults.{Fault, first_fault}
 use Rattle.pj_xparse.specs.Spells.{Spells}
 use Rattle.pj_xparse.specs.Faults.{IsFault, named_first, syntax_fault, named_fault}
+use Rattle.pj_xparse.specs.Outcomes.{IsOutcome, SaySoFar, whole}
 use Rattle.pj_xparse.specs.declared.fault.XSyntax.{XSyntax}
 use Rattle.pj_xparse.proofs.Parsed.{spelled}
-use Rattle.pj_xparse.proofs.Runs.{whole_run}
 
 abbrev Answer : List (List ℕ) → List ℕ → Type 0
 Answer variables text = ((tree : Tree) × Spells variables text tree) ⊎ ((fault : XSyntax) × IsFault variables text fault)
 
--- where what is derived is read, a run says something, and each list of tokens has one
-module _ (reads : (tokens : List Lexed) (productions : List ℕ) → AreDerived tokens productions → AreClear tokens (length tokens + 1) → (a : Operand) × AreRead tokens a)
-    (say : (tokens : List Lexed) (productions : List ℕ) → IsRun tokens productions → (a : Operand) × SaySoFar tokens a)
-    (some_run : (tokens : List Lexed) → (productions : List ℕ) × IsRun tokens productions) where
+-- where each list of tokens says something as far as it is read
+module _ (say : (tokens : List Lexed) → (a : Operand) × SaySoFar tokens a) where
   module _ (variables : List (List ℕ)) (text : List ℕ) (tokens : List Lexed) (end : token.End) (read : Tokens (size text) text tokens end) where
     module _ (o : End) (is : IsOutcome tokens o) (said : Operand) (so_far : SaySoFar tokens said) where
       faulty : (fault : XSyntax) → Some fault ≡ named_first (first_fault variables said.names) (syntax_fault tokens end o) → Answer variables text
@@ -32,19 +28,16 @@ module _ (reads : (tokens : List Lexed) (productions : List ℕ) → AreDerived 
       -- a fault of what is named, of the tokens, or none
       by_faults : (named : Option Fault) (later : Option XSyntax) → first_fault variables said.names ≡ named → syntax_fault tokens end o ≡ later
           → (later ≡ None → AreRead tokens said) → Answer variables text
-      by_faults (Some fault) later n s whole = faulty (named_fault fault) (ap (λ (f : Option Fault). named_first f (syntax_fault tokens end o)) (sym n))
-      by_faults None (Some fault) n s whole = faulty fault (sym s ∙ ap (λ (f : Option Fault). named_first f (syntax_fault tokens end o)) (sym n))
-      by_faults None None n s whole = inl (said.tree, spelled variables text tokens said end o read s (whole refl) n)
+      by_faults (Some fault) later n s read_whole = faulty (named_fault fault) (ap (λ (f : Option Fault). named_first f (syntax_fault tokens end o)) (sym n))
+      by_faults None (Some fault) n s read_whole = faulty fault (sym s ∙ ap (λ (f : Option Fault). named_first f (syntax_fault tokens end o)) (sym n))
+      by_faults None None n s read_whole = inl (said.tree, spelled variables text tokens said end o read s (read_whole refl) n)
 
-    -- what the tokens say as far as some run goes
+    -- what the tokens say as far as they are read
     so_far : (a : Operand) × SaySoFar tokens a
-    so_far = let (productions, run) = some_run tokens in say tokens productions run
+    so_far = say tokens
 
     by_outcome : (o : End) → IsOutcome tokens o → Answer variables text
-    by_outcome outcome.Whole is =
-        let (productions, derived) = is.expression in
-        let (said, whole) = reads tokens productions derived is.clear in
-        by_faults outcome.Whole is said (record { run = outcome.Whole; ends = whole_run tokens productions derived is.clear; reads = whole }) _ _ refl refl (λ _. whole)
+    by_outcome outcome.Whole is = by_faults outcome.Whole is is.0 (whole is.1) _ _ refl refl (λ _. is.1)
     by_outcome (outcome.Stops i) is = by_faults (outcome.Stops i) is so_far.0 so_far.1 _ _ refl refl (λ e. absurd (let z = e in cc))
     by_outcome (outcome.LeftOut i) is = by_faults (outcome.LeftOut i) is so_far.0 so_far.1 _ _ refl refl (λ e. absurd (let z = e in cc))
     by_outcome (outcome.TooDeep i) is = by_faults (outcome.TooDeep i) is so_far.0 so_far.1 _ _ refl refl (λ e. absurd (let z = e in cc))

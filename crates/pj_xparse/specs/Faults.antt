@@ -7,11 +7,10 @@ use Rattle.pj_xtokens.specs.Tokens.{Lexed, Tokens}
 use Rattle.pj_xtokens.specs.declared.token.End as token
 use Rattle.pj_xtokens.specs.declared.token.End.TheVariants as ends
 use Rattle.pj_xgrammar.specs.XPath.{greatest_nesting}
-use Rattle.pj_xderive.specs.Expressions.{IsOutcome}
 use Rattle.pj_xreadings.specs.Operands.{Operand}
-use Rattle.pj_xmeaning.specs.SoFar.{SaySoFar}
 use Rattle.pj_xparse.specs.NameFaults as named
 use Rattle.pj_xparse.specs.NameFaults.{Fault, first_fault}
+use Rattle.pj_xparse.specs.Outcomes.{IsOutcome, SaySoFar}
 use Rattle.pj_xparse.specs.declared.fault.XSyntax.{XSyntax}
 use Rattle.pj_xparse.specs.declared.fault.XSyntax.TheVariants.{Token, Expected, UnknownFunction, UnknownVariable, Outside, Deep}
 
@@ -48,9 +47,9 @@ abbrev pub named_first : Option Fault → Option XSyntax → Option XSyntax
 named_first (Some fault) later = Some (named_fault fault)
 named_first None later = later
 
--- The first fault of the text, in characters, where the rule set gives these variables. What is named is what the tokens name before
--- the place of their fault. The run may end one token before it (`$for $x`, `$y/`), which is then a word or a `/` that names no more than a
--- variable behind a `$`.
+-- The first fault of the text, in characters, where the rule set gives these variables. What is named is what the tokens name as far as they are
+-- read: all of them, where they are an expression; else before the place of their fault, or before the token in front of it (`$for $x`, `$y/`), which is then
+-- a word or a `/` that names no more than a variable behind a `$`.
 pub record IsFault (variables : List (List ℕ)) (text : List ℕ) (fault : XSyntax) : Type 0 where
   pub tokens : List Lexed
   pub end : token.End

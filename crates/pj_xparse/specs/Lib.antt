@@ -1,6 +1,7 @@
 -- definitions
 pub mod NameFaults
 pub mod Spells
+pub mod Outcomes
 pub mod Faults
 -- for laws
 pub mod WellSpelled

@@ -10,7 +10,7 @@ ghost use Rattle.pj_xparse.specs.Spells.{Spells};
 ghost use Rattle.pj_xparse.specs.declared.fault.XSyntax.TheVariants.{Memory};
 
 use crate::fault::XSyntax;
-use crate::laws::readings_are_expressions;
+use crate::laws::{outcomes_are_read, readings_are_expressions, sayings_end_with_runs};
 use crate::named::{NameFault, first_fault};
 use crate::syntax::syntax_fault;
 use pj_base::{Names, NoMemory, Text};
@@ -63,6 +63,8 @@ pub fn parse_with(
     tokens_are_not_empty();
     let run = derivation(alloc, parser, tokens)?;
     let read = reading(alloc, run.steps.as_slice(), tokens)?;
+    outcomes_are_read();
+    sayings_end_with_runs();
     if let Some(fault) = first_fault(alloc, read.names, variables)? {
         return Err(named_fault(alloc, fault)?);
     }

@@ -8,22 +8,29 @@ ghost use Rattle.pj_xtokens.specs.declared.token.End.{End};
 ghost use Rattle.pj_xexpressions.specs.Expressions.{IsExpression};
 ghost use Rattle.pj_xexpressions.specs.Trees.{Tree, tree_of};
 ghost use Rattle.pj_xexpressions.specs.declared.expr.Expr.{Expr};
-ghost use Rattle.pj_xderive.specs.Expressions.{AreClear, AreDerived, IsRun};
+ghost use Rattle.pj_ll.specs.Outcome.{IsEnd};
+ghost use Rattle.pj_ll.specs.declared.parser.End as outcome;
+ghost use Rattle.pj_xgrammar.specs.Terminals.{numbers};
+ghost use Rattle.pj_xgrammar.specs.XPath.{greatest_nesting, xpath_grammar};
+ghost use Rattle.pj_xderive.specs.Expressions as derived;
+ghost use Rattle.pj_xderive.specs.Expressions.{AreClear, AreDerived, CanGoOn, IsRun};
 ghost use Rattle.pj_xreadings.specs.Operands.{Operand};
+ghost use Rattle.pj_xmeaning.specs.Begun.{AreBegun};
 ghost use Rattle.pj_xmeaning.specs.Reads.{AreRead};
-ghost use Rattle.pj_xmeaning.specs.SoFar.{SaySoFar};
+ghost use Rattle.pj_xmeaning.specs.SoFar.{SayUpTo};
 ghost use Rattle.pj_xshape.specs.Nesting.{nesting_of_tree};
 ghost use Rattle.pj_xshape.specs.Shapes.{part_of_tree};
 ghost use Rattle.pj_xshape.specs.Spelled.{IsSpelled};
 ghost use Rattle.pj_xparse.specs.Faults.{IsFault};
 ghost use Rattle.pj_xparse.specs.NameFaults.{first_fault};
+ghost use Rattle.pj_xparse.specs.Outcomes.{IsOutcome, IsWhole, SaySoFar};
 ghost use Rattle.pj_xparse.specs.Spells.{Spells};
 ghost use Rattle.pj_xparse.specs.WellSpelled.{AreWellSpelled};
 ghost use Rattle.pj_xparse.specs.declared.fault.XSyntax.{XSyntax};
 
-use pj_ll::one_end;
-use pj_xderive::{grammar_is_predictive, one_outcome};
-use pj_xmeaning::readings_are_whole;
+use pj_ll::{derived_is_not_left_out, one_end};
+use pj_xderive::{beginnings_lead, grammar_is_predictive, one_outcome, one_run};
+use pj_xmeaning::{depths_are_read, readings_are_whole, what_is_left_out_is_read};
 use pj_xshape::{expressions_have_shapes, nesting_is_least};
 use pj_xtokens::{each_text_has_tokens, gaps_stand_in_front, tokens_are_one};
 
@@ -39,11 +46,10 @@ pub fn one_expression()
 pub fn some_answer()
     ensures { (variables : List (List ℕ)) (text : List ℕ) → ((tree : Tree) × Spells variables text tree) ⊎ ((fault : XSyntax) × IsFault variables text fault) }
 {
-    derivations_are_readings();
     each_text_has_tokens();
-    grammar_is_predictive();
-    one_end();
     one_outcome();
+    one_run();
+    outcomes_are_read();
     runs_say();
 }
 
@@ -54,7 +60,7 @@ pub fn one_answer()
 {
     one_outcome();
     one_saying();
-    readings_are_derivations();
+    outcomes_are_read();
     tokens_are_one();
 }
 
@@ -73,19 +79,63 @@ pub fn derivations_are_readings()
     pj_xmeaning::runs_say();
 }
 
+/// Tokens begin an expression by the grammar exactly where they are read as the beginning of one; and they are one that nests no deeper than it may
+/// exactly where they are read as one.
+pub fn beginnings_are_read()
+    ensures read { (tokens : List Lexed) → CanGoOn tokens → AreBegun tokens }
+    ensures begun { (tokens : List Lexed) → AreBegun tokens → CanGoOn tokens }
+    ensures whole { (tokens : List Lexed) → derived.IsWhole tokens → IsWhole tokens }
+    ensures expression { (tokens : List Lexed) → IsWhole tokens → derived.IsWhole tokens }
+{
+    beginnings_lead();
+    derivations_are_readings();
+    pj_xmeaning::beginnings_are_read();
+    readings_are_derivations();
+}
+
+/// The outcome of tokens by what is read of them is the one that they have by the grammar: all of them are an expression; or the same token, or the end,
+/// cannot follow, begins a construct that is left out, or stands where too much is open.
+pub fn outcomes_are_read()
+    ensures read { (tokens : List Lexed) (end : outcome.End) → derived.IsOutcome tokens end → IsOutcome tokens end }
+    ensures led { (tokens : List Lexed) (end : outcome.End) → IsOutcome tokens end → derived.IsOutcome tokens end }
+{
+    beginnings_are_read();
+    depths_are_read();
+    derivations_are_readings();
+    readings_are_derivations();
+    what_is_left_out_is_read();
+}
+
+/// As far as tokens are read a run over their terminals goes, and they say the same so far.
+pub fn sayings_end_with_runs()
+    ensures led { (tokens : List Lexed) (a : Operand) → SaySoFar tokens a → (end : outcome.End) × IsEnd xpath_grammar (numbers tokens) greatest_nesting end × SayUpTo end tokens a }
+    ensures say { (tokens : List Lexed) (end : outcome.End) (a : Operand) → IsEnd xpath_grammar (numbers tokens) greatest_nesting end → SayUpTo end tokens a → SaySoFar tokens a }
+{
+    beginnings_lead();
+    depths_are_read();
+    derived_is_not_left_out();
+    grammar_is_predictive();
+    one_end();
+    pj_xmeaning::beginnings_are_read();
+    pj_xmeaning::runs_say();
+    readings_are_whole();
+}
+
 /// Where productions derive tokens as far as their terminals go, all of them or those before the first one that cannot follow, is left out or
 /// stands where too much is open, the tokens say something so far.
 pub fn runs_say()
     ensures { (tokens : List Lexed) (productions : List ℕ) → IsRun tokens productions → (a : Operand) × SaySoFar tokens a }
 {
     pj_xmeaning::runs_say();
+    sayings_end_with_runs();
 }
 
-/// What tokens say as far as their terminals go is derived by productions so far.
+/// What tokens say as far as they are read is derived by productions so far.
 pub fn sayings_are_runs()
     ensures { (tokens : List Lexed) (a : Operand) → SaySoFar tokens a → (productions : List ℕ) × IsRun tokens productions }
 {
     pj_xmeaning::sayings_are_runs();
+    sayings_end_with_runs();
 }
 
 /// Tokens are read as one thing at most.
@@ -97,13 +147,14 @@ pub fn one_reading()
     readings_are_whole();
 }
 
-/// As far as their terminals go tokens say one thing at most.
+/// As far as they are read tokens say one thing at most.
 pub fn one_saying()
     ensures { (tokens : List Lexed) (a b : Operand) → SaySoFar tokens a → SaySoFar tokens b → a ≡ b }
 {
     grammar_is_predictive();
     one_end();
     pj_xmeaning::one_saying();
+    sayings_end_with_runs();
 }
 
 /// An expression that is read, whose names have no fault, may be evaluated where the rule set gives these variables; each one nests no deeper

@@ -32,7 +32,7 @@ use Rattle.pj_xparse.specs.NameFaults.{first_fault}
 use Rattle.pj_xreadings.specs.Operands.{Operand, Behind, Test, other, rooted, descendants, step, attribute_step, kind_test, named}
 use Rattle.pj_xmeaning.specs.RuleMeanings.{Value}
 use Rattle.pj_xmeaning.specs.Reach.{All}
-use Rattle.pj_xmeaning.specs.Reads.{Takes, token, cut, IsAmong, here, Reads, Produces, AreRead, by, expr, expr_more, expr_end, for_expr, let_expr, some_expr, every_expr, if_expr, single_or, in_binding, in_more, in_end, let_binding, let_more, let_end, in_clause, assign_clause, return_clause, satisfies_clause, test_clause, then_clause, else_clause, or_expr, or_more, or_end, and_expr, and_more, and_end, comparison_expr, equal, not_equal, less, less_or_equal, greater, greater_or_equal, not_compared, concatenation_expr, concatenation_more, concatenation_end, range_expr, up_to, up_to_cut, no_range, additive_expr, plus, minus, additive_end, multiplicative_expr, times, integer_divide, modulo, multiplicative_end, union_expr, union_more, bar_more, union_end, set_expr, intersect, except, set_end, negative, positive, no_sign, map_expr, map_more, map_end, operand, no_left_out, root, from_root, from_descendants, relative, path_steps, next_step, next_descendants, steps_end, context_item, primary, parent, attribute, axis_name, any_name, node_name, element_name, plain_step, axis_test, axis_call, axis_predicates, name_call, name_predicates, name_test, axis_name_test, any_name_test, node_test, element_test, kind_parentheses, no_parentheses, predicate, no_predicate, integer_expr, string_expr, variable_expr, variable_cut, parenthesized, inside, empty, some_arguments, no_arguments, more_arguments, arguments_end, variable_name, axis_variable, node_variable, element_variable, plain_name}
+use Rattle.pj_xmeaning.specs.Reads.{Takes, token, cut, IsAmong, here, Reads, Produces, AreRead, by, expr, expr_more, expr_end, for_expr, let_expr, some_expr, every_expr, if_expr, single_or, in_binding, in_more, in_end, let_binding, let_more, let_end, in_clause, assign_clause, return_clause, satisfies_clause, test_clause, then_clause, else_clause, or_expr, or_more, or_end, and_expr, and_more, and_end, comparison_expr, equal, not_equal, less, less_or_equal, greater, greater_or_equal, not_compared, concatenation_expr, concatenation_more, concatenation_end, range_expr, up_to, up_to_cut, no_range, additive_expr, plus, minus, additive_end, multiplicative_expr, times, integer_divide, modulo, multiplicative_end, union_expr, union_more, bar_more, union_end, set_expr, intersect, except, set_end, negative, positive, no_sign, map_expr, map_more, map_end, operand, left_out_operator, no_left_out, root, from_root, from_descendants, relative, path_steps, next_step, next_descendants, steps_end, context_item, primary, parent, attribute, axis_name, any_name, node_name, element_name, plain_step, left_out_step, axis_test, axis_call, axis_predicates, name_call, name_predicates, name_test, axis_name_test, any_name_test, node_test, element_test, kind_parentheses, no_parentheses, predicate, no_predicate, integer_expr, string_expr, variable_expr, variable_cut, parenthesized, inside, empty, some_arguments, no_arguments, more_arguments, arguments_end, variable_name, axis_variable, node_variable, element_variable, plain_name}
 use Rattle.pj_xparse.specs.Spells.{Spells}
 use Rattle.pj_xsyntax_laws.specs.Abbreviations.{sign, word, WrittenOut, done}
 use Rattle.pj_xsyntax_laws.proofs.Looks.{HasRoom, flat, one_more, deeper, on, stays_or_name, OnName, name_kept, as_function, on_name, Slashes, slashes_kept, as_steps, on_slashes, At, at_kept, as_axis, on_at, Dots, dots_kept, as_parent, on_dots, Bar, bar_kept, as_union, on_bar, on_string, LooksEnd, at_end, before_parenthesis, begins, takes_begin, AreEach, among_is}
@@ -98,6 +98,7 @@ step_begins (by b (any_name k a)) = takes_begin k refl
 step_begins (by b (node_name k a c)) = takes_begin k refl
 step_begins (by b (element_name k a c)) = takes_begin k refl
 step_begins (by b (plain_step a c)) = plain_begins a
+step_begins (by b (left_out_step among read is)) = absurd is
 step_begins (cut c) = absurd c
 
 -- ---- what is written out is read as what it stands for
@@ -221,8 +222,10 @@ mutual
   produced q (map_expr {first = first} {more = more} a0 a1) f p w = let p0 = expanded q a0 (reads_none a1 refl f) p w in let p1 = expanded q a1 f p p0.more in got (map_expr p0.reads p1.reads) p1.more (chain_agree tree.SimpleMap first p0.value more p1.value p0.agrees p1.agrees)
   produced q (map_more {next = next} {more = more} k0 a1 a2) f p w = let o0 = on q k0 p refl w in let p1 = expanded q a1 (reads_none a2 refl f) p o0.more in let p2 = expanded q a2 f p p1.more in got (map_more o0.takes p1.reads p2.reads) p2.more (cons_agree bare next p1.value more p2.value p1.agrees p2.agrees)
   produced q map_end f p w = got map_end w refl
+  produced q (operand a0 (by b (left_out_operator among read is))) f p w = absurd is
   produced q (operand a0 (by b no_left_out)) f p w = let p0 = expanded q a0 f p w in got (operand p0.reads (reading no_left_out)) p0.more p0.agrees
   produced q (operand a0 (cut c)) f p w = absurd c
+  produced q (left_out_operator among read is) f p w = absurd is
   produced q no_left_out f p w = got no_left_out w refl
   produced q (root k0) f p w = let o0 = on q k0 p refl w in got (root o0.takes) o0.more refl
   produced q (from_root {steps = steps} k0 a1) f p w = let o0 = on q k0 p refl w in let p1 = expanded q a1 f p o0.more in got (from_root o0.takes p1.reads) p1.more (rooted_agree steps p1.value p1.agrees)
@@ -242,6 +245,7 @@ mutual
   produced q (element_name {xs = xs} {parentheses = parentheses} {predicates = predicates} k0 a1 a2) f p {out = out} w = let o0 = on q k0 p refl w in let p1 = expanded q a1 (reads_none a2 refl f) p o0.more in let p2 = expanded q a2 f p p1.more in got (element_name o0.takes p1.reads p2.reads) p2.more (child_agree (kind_test AnyElement (first_text xs) parentheses) (kind_test AnyElement (first_text out) p1.value) predicates p2.value (kind_agree AnyElement (first_text xs) (first_text out) parentheses p1.value o0.text p1.agrees) p2.agrees)
   produced q (plain_step (by b (plain_name among k)) a1) f p w = step_of_name q a1 f p among (name_of q among k p w)
   produced q (plain_step (cut c) a1) f p w = absurd c
+  produced q (left_out_step among read is) f p w = absurd is
   produced q (axis_test {test = test} {predicates = predicates} k0 a1 a2) f p w = let o0 = on q k0 p refl w in let p1 = expanded q a1 (reads_none a2 refl f) p o0.more in let p2 = expanded q a2 f p p1.more in got (axis_test o0.takes p1.reads p2.reads) p2.more (test_agree test p1.value predicates p2.value p1.agrees p2.agrees)
   produced q (axis_call {arguments = arguments} {predicates = predicates} k0 a1 k2 a3) f p w = let o0 = on q k0 (deeper p) refl w in let p1 = expanded q a1 (takes_none k2 refl) (deeper p) o0.more in let o2 = on q k2 p refl p1.more in let p3 = expanded q a3 f p o2.more in got (axis_call o0.takes p1.reads o2.takes p3.reads) p3.more (called_agree arguments p1.value predicates p3.value p1.agrees p3.agrees)
   produced q (axis_predicates {predicates = predicates} a0) f p w = let p0 = expanded q a0 f p w in got (axis_predicates p0.reads) p0.more (predicates_agree predicates p0.value p0.agrees)

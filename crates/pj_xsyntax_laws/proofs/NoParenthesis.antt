@@ -17,7 +17,7 @@ use Rattle.pj_xgrammar.specs.declared.terminal.Behind.{Behind}
 use Rattle.pj_xgrammar.specs.declared.terminal.Behind.TheVariants as b
 use Rattle.pj_xmeaning.specs.RuleMeanings.{Value}
 use Rattle.pj_xmeaning.specs.Reach.{All}
-use Rattle.pj_xmeaning.specs.Reads.{Takes, token, cut, Reads, Produces, by, expr_more, in_more, let_more, in_clause, assign_clause, return_clause, satisfies_clause, then_clause, else_clause, or_more, and_more, equal, not_equal, less, less_or_equal, greater, greater_or_equal, concatenation_more, up_to, up_to_cut, plus, minus, times, integer_divide, modulo, union_more, bar_more, intersect, except, map_more, next_step, next_descendants, predicate, more_arguments, expr_end, in_end, let_end, or_end, and_end, not_compared, concatenation_end, no_range, additive_end, multiplicative_end, union_end, set_end, map_end, no_left_out, steps_end, no_predicate, arguments_end}
+use Rattle.pj_xmeaning.specs.Reads.{Takes, token, cut, Reads, Produces, by, expr_more, in_more, let_more, in_clause, assign_clause, return_clause, satisfies_clause, then_clause, else_clause, or_more, and_more, equal, not_equal, less, less_or_equal, greater, greater_or_equal, concatenation_more, up_to, up_to_cut, plus, minus, times, integer_divide, modulo, union_more, bar_more, intersect, except, map_more, next_step, next_descendants, predicate, more_arguments, expr_end, in_end, let_end, or_end, and_end, not_compared, concatenation_end, no_range, additive_end, multiplicative_end, union_end, set_end, map_end, left_out_operator, no_left_out, steps_end, no_predicate, arguments_end}
 use Rattle.pj_xsyntax_laws.proofs.Looks.{symbol_is}
 
 -- no `(` stands first
@@ -111,6 +111,7 @@ before r.IntersectExceptTail (except k a b) h f = takes_none k refl
 before r.IntersectExceptTail set_end h f = f
 before r.SimpleMapTail (map_more k a b) h f = takes_none k refl
 before r.SimpleMapTail map_end h f = f
+before r.LeftOutOperator (left_out_operator among read is) h f = absurd is
 before r.LeftOutOperator no_left_out h f = f
 before r.RelativePathTail (next_step k a b) h f = takes_none k refl
 before r.RelativePathTail (next_descendants k a b) h f = takes_none k refl

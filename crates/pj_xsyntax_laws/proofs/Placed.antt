@@ -104,11 +104,14 @@ module _ {end : ℕ} {reach : Reach} where
   pub none_left : {grade : Grade} {xs : List Lexed} → IsCut reach xs → Row end reach grade xs xs []
   none_left c = record { read = none.read; begun = λ h is before. absurd (before c) }
 
-  pub takes : {d : ℕ} {s : Symbol} {xs ys : List Lexed} → Takes reach d s xs ys → Row end reach Solid xs ys []
-  takes (token {x = x} {xs = xs} e within) = record {
+  pub one_token : {x : Lexed} {xs : List Lexed} → Row end reach Solid (x ∷ xs) xs []
+  one_token {x} {xs} = record {
     read = λ h. let gap = h.0 in record { others = h.1; within = omega arith; names = none_in_order (2 * x.from + 1) (at end xs) };
     begun = λ h is before. record { here = refl; gap = h.0 };
   }
+
+  pub takes : {d : ℕ} {s : Symbol} {xs ys : List Lexed} → Takes reach d s xs ys → Row end reach Solid xs ys []
+  takes (token e within) = one_token
   takes (cut c) = none_left c
 
   pub both : {grade other : Grade} {xs ys zs : List Lexed} {ms ns : List Mention} → Row end reach grade xs ys ms → Row end reach other ys zs ns → Row end reach grade xs zs (ms ++ ns)

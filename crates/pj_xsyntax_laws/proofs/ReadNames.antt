@@ -10,8 +10,8 @@ use Rattle.pj_xreadings.specs.Mentions.{Mention, scoped}
 use Rattle.pj_xreadings.specs.Operands.{Operand, Binding, Arguments, Next, names_of, names_behind, scopes_of, in_roles, other}
 use Rattle.pj_xmeaning.specs.RuleMeanings.{Value, absent}
 use Rattle.pj_xmeaning.specs.Reach.{Reach, IsBefore, IsCut}
-use Rattle.pj_xmeaning.specs.Reads.{Reads, by, cut, Produces, expr, expr_more, expr_end, for_expr, let_expr, some_expr, every_expr, if_expr, single_or, in_binding, in_more, in_end, let_binding, let_more, let_end, in_clause, assign_clause, return_clause, satisfies_clause, test_clause, then_clause, else_clause, or_expr, or_more, or_end, and_expr, and_more, and_end, comparison_expr, equal, not_equal, less, less_or_equal, greater, greater_or_equal, not_compared, concatenation_expr, concatenation_more, concatenation_end, range_expr, up_to, up_to_cut, no_range, additive_expr, plus, minus, additive_end, multiplicative_expr, times, integer_divide, modulo, multiplicative_end, union_expr, union_more, bar_more, union_end, set_expr, intersect, except, set_end, negative, positive, no_sign, map_expr, map_more, map_end, operand, no_left_out, root, from_root, from_descendants, relative, path_steps, next_step, next_descendants, steps_end, context_item, primary, parent, attribute, axis_name, any_name, node_name, element_name, plain_step, axis_test, axis_call, axis_predicates, name_call, name_predicates, name_test, axis_name_test, any_name_test, node_test, element_test, kind_parentheses, no_parentheses, predicate, no_predicate, integer_expr, string_expr, variable_expr, variable_cut, parenthesized, inside, empty, some_arguments, no_arguments, more_arguments, arguments_end, variable_name, axis_variable, node_variable, element_variable, plain_name}
-use Rattle.pj_xsyntax_laws.proofs.Placed.{Loose, Solid, Row, Early, names_compared, names_last, none, none_left, takes, loose, both, behind, alone, chained, mixing, comparing, in_range, a_path, with_predicates, a_variable, a_cut_variable, binds, ends, early, none_early, following, an_argument, BehindName, a_name}
+use Rattle.pj_xmeaning.specs.Reads.{Reads, by, cut, Produces, expr, expr_more, expr_end, for_expr, let_expr, some_expr, every_expr, if_expr, single_or, in_binding, in_more, in_end, let_binding, let_more, let_end, in_clause, assign_clause, return_clause, satisfies_clause, test_clause, then_clause, else_clause, or_expr, or_more, or_end, and_expr, and_more, and_end, comparison_expr, equal, not_equal, less, less_or_equal, greater, greater_or_equal, not_compared, concatenation_expr, concatenation_more, concatenation_end, range_expr, up_to, up_to_cut, no_range, additive_expr, plus, minus, additive_end, multiplicative_expr, times, integer_divide, modulo, multiplicative_end, union_expr, union_more, bar_more, union_end, set_expr, intersect, except, set_end, negative, positive, no_sign, map_expr, map_more, map_end, operand, left_out_operator, no_left_out, root, from_root, from_descendants, relative, path_steps, next_step, next_descendants, steps_end, context_item, primary, parent, attribute, axis_name, any_name, node_name, element_name, plain_step, left_out_step, axis_test, axis_call, axis_predicates, name_call, name_predicates, name_test, axis_name_test, any_name_test, node_test, element_test, kind_parentheses, no_parentheses, predicate, no_predicate, integer_expr, string_expr, variable_expr, variable_cut, parenthesized, inside, empty, some_arguments, no_arguments, more_arguments, arguments_end, variable_name, axis_variable, node_variable, element_variable, plain_name}
+use Rattle.pj_xsyntax_laws.proofs.Placed.{Loose, Solid, Row, Early, names_compared, names_last, none, none_left, one_token, takes, loose, both, behind, alone, chained, mixing, comparing, in_range, a_path, with_predicates, a_variable, a_cut_variable, binds, ends, early, none_early, following, an_argument, BehindName, a_name}
 
 module _ (end : ℕ) (reach : Reach) where
   -- What bindings name with the body that stands behind them, up to other tokens. So many variables are bound before them.
@@ -158,6 +158,7 @@ module _ (end : ℕ) (reach : Reach) where
     produced before (map_more k x y) = loose (behind k (both (told x) (told y)))
     produced before map_end = none
     produced before (operand x y) = alone (told x) (told y)
+    produced before (left_out_operator among read is) = loose one_token
     produced before no_left_out = none
     produced before (root k) = takes k
     produced before (from_root k x) = behind k (told x)
@@ -176,6 +177,7 @@ module _ (end : ℕ) (reach : Reach) where
     produced before (node_name k x y) = behind k (both (told x) (told y))
     produced before (element_name k x y) = behind k (both (told x) (told y))
     produced before (plain_step {word = word} {tail = tail} x y) = a_name word tail before (told x) (told y)
+    produced before (left_out_step among read is) = one_token
     produced before (axis_test k x y) = loose (behind k (both (told x) (told y)))
     produced before (axis_call k x l y) = λ roles. following (early (takes k)) (following (told x roles) (early (behind l (told y))))
     produced before (axis_predicates x) = told x

@@ -2,7 +2,6 @@
 pub mod Spaced
 pub mod Gapped
 -- tokens that begin an expression
-pub mod Begun
 -- where what a text names stands, and which fault is the first
 pub mod Order
 pub mod Every

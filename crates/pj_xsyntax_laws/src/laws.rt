@@ -15,7 +15,7 @@ ghost use Rattle.pj_xtokens.specs.declared.token.TokenKind.TheVariants as kinds;
 ghost use Rattle.pj_xsyntax_laws.specs.Spaced.{AreSpelled, Word, literal, placed, spaced, words_of};
 ghost use Rattle.pj_ll.specs.declared.parser.End as outcome;
 ghost use Rattle.pj_xtokens.specs.declared.token.End.{End};
-ghost use Rattle.pj_xderive.specs.Expressions.{CanGoOn, IsOutcome, IsWhole, place_of};
+ghost use Rattle.pj_xderive.specs.Expressions.{place_of};
 ghost use Rattle.pj_xparse.specs.NameFaults.{Fault, first_fault};
 ghost use Rattle.pj_xreadings.specs.Mentions.{Mention};
 ghost use Rattle.pj_xsyntax_laws.specs.Every.{HasFault, given, position_of};
@@ -29,24 +29,22 @@ ghost use Rattle.pj_xgrammar.specs.declared.rule.Rule.TheVariants as r;
 ghost use Rattle.pj_xexpressions.specs.Names.{callee_of};
 ghost use Rattle.pj_xexpressions.specs.Trees.{Tree};
 ghost use Rattle.pj_xexpressions.specs.declared.name.Callee.TheVariants as callee;
-ghost use Rattle.pj_xmeaning.specs.SoFar.{SaySoFar};
 ghost use Rattle.pj_xreadings.specs.Operands.{Operand, child_step, other};
 ghost use Rattle.pj_xmeaning.specs.Reach as reach;
 ghost use Rattle.pj_xmeaning.specs.Reads.{AreRead, Reads, Takes};
+ghost use Rattle.pj_xparse.specs.Outcomes.{IsOutcome, SaySoFar};
 ghost use Rattle.pj_xparse.specs.Spells.{Spells};
 ghost use Rattle.pj_xshape.specs.Nesting.{nesting_of_tree};
 ghost use Rattle.pj_xshape.specs.Shapes.{part_of_tree};
 ghost use Rattle.pj_xshape.specs.Spelled.{IsSpelled};
 ghost use Rattle.pj_xsyntax_laws.specs.Abbreviations.{WrittenOut, along_child, sign};
-ghost use Rattle.pj_xsyntax_laws.specs.Begun.{AreBegun};
 ghost use Rattle.pj_xsyntax_laws.specs.Gapped.{ArePieces, IsGap, Piece, gapped, located, moved, words_in};
 ghost use Rattle.pj_xsyntax_laws.specs.Levels.{LevelReads, is_level};
 ghost use Rattle.pj_xsyntax_laws.specs.Printed.{function_name, printed};
 
-use pj_xderive::{beginnings_lead, runs_end_before_faults};
+use pj_xderive::runs_end_before_faults;
 use pj_xparse::{
-    derivations_are_readings, read_expressions_fit, readings_are_derivations,
-    tokens_are_well_spelled,
+    outcomes_are_read, read_expressions_fit, sayings_end_with_runs, tokens_are_well_spelled,
 };
 use pj_xtokens::{
     gaps_stand_in_front, scanner_follows_the_rules, tokens_are_not_empty, tokens_are_one,
@@ -75,12 +73,13 @@ pub fn strings_alone_have_white_space()
     ensures { (kind : TokenKind) (text : List ℕ) → lexical.Spells kind text → kind ≢ kinds.String → All (λ c. is_white c ≡ false) text }
 {}
 
-/// What the tokens of a text name, as far as their terminals go, stands in strictly ascending order: by offset, and at one offset an argument before what
+/// What the tokens of a text name, as far as they are read, stands in strictly ascending order: by offset, and at one offset an argument before what
 /// it names. By these names a fault of the text is told.
 pub fn mentions_ascend()
     ensures { (total : ℕ) (text : List ℕ) (tokens : List Lexed) (end : End) (a : Operand) → Tokens total text tokens end → SaySoFar tokens a → Ascend (positions a.names) }
 {
     gaps_stand_in_front();
+    sayings_end_with_runs();
     tokens_are_not_empty();
 }
 
@@ -94,7 +93,9 @@ pub fn names_come_first()
         (position_of named).from < offset_at tokens end (place_of tokens fault) }
 {
     gaps_stand_in_front();
+    outcomes_are_read();
     runs_end_before_faults();
+    sayings_end_with_runs();
     tokens_are_not_empty();
 }
 
@@ -107,6 +108,7 @@ pub fn first_fault_is_first()
         (other ≡ fault) ⊎ IsBefore (position_of fault) (position_of other) }
 {
     gaps_stand_in_front();
+    sayings_end_with_runs();
     tokens_are_not_empty();
 }
 
@@ -192,17 +194,3 @@ pub fn parentheses_leave_no_trace()
         Tokens (size text) text (sign s.LeftParenthesis "(" from ∷ others) (ends.Text (size text)) → WrittenOut false (sign s.RightParenthesis ")" to ∷ []) tokens others →
         Reads reach.All r.Expr 1 tokens [] a → first_fault variables a.names ≡ None → Spells variables text a.tree }
 {}
-
-/// Tokens begin an expression by the grammar, as the definition of a first fault has it, exactly where they are read as the beginning of one; and they are one
-/// that nests no deeper than it may exactly where they are read as one.
-pub fn beginnings_are_read()
-    ensures read { (tokens : List Lexed) → CanGoOn tokens → AreBegun tokens }
-    ensures begun { (tokens : List Lexed) → AreBegun tokens → CanGoOn tokens }
-    ensures whole { (tokens : List Lexed) → IsWhole tokens → (a : Operand) × AreRead tokens a }
-    ensures expression { (tokens : List Lexed) (a : Operand) → AreRead tokens a → IsWhole tokens }
-{
-    beginnings_lead();
-    derivations_are_readings();
-    pj_xmeaning::beginnings_are_read();
-    readings_are_derivations();
-}

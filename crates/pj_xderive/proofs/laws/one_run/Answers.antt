@@ -1,12 +1,21 @@
 use Rattle.std.proofs.Common.{◌≡◌}
 use Rattle.pj_ll.specs.Leads.{Behind, Derives}
+use Rattle.pj_ll.specs.Outcome.{IsEnd}
+use Rattle.pj_ll.specs.declared.parser.End.{End}
 use Rattle.pj_xgrammar.specs.Predictive.{of_xpath}
 use Rattle.pj_xgrammar.specs.XPath.{xpath_grammar}
 use Rattle.pj_xderive.proofs.OneRun as lemma
+use Rattle.pj_xderive.proofs.SomeRun.{some_run}
 use Rattle.pj_xderive.proofs.laws.one_run.Goals as goal
 
-pub returns : goal.returns
-returns c =
+pub returns-clause-some : goal.returns-clause-some
+returns-clause-some c =
+    some_run
+    (λ terminals. of_xpath c.grammar_is_predictive.ensures (λ g. (end : End) × IsEnd g terminals 200 end)
+    (λ facts entries ok. c.one_end.ensures.some facts entries terminals 200 ok))
+
+pub returns-clause-at_most : goal.returns-clause-at_most
+returns-clause-at_most c =
     let predictive = c.grammar_is_predictive.ensures in
     let one = c.one_derivation.ensures in
     lemma.one_run

@@ -25,8 +25,8 @@ returns-in-Some-clause-fault c = λ _.
       outcome = c.in_ok-run.run'.end;
       said = seen_reading c.in_ok-read.read;
       read = read_slice _ _ _ _ c.as_slice-tokens.ensures c.in_ok-found.ensures;
-      is_outcome = c.in_ok-run.ensures.outcome;
-      say = say_so_far c.as_slice.ensures.value c.in_ok-run.ensures.places c.in_ok-read.ensures c.in_ok-run.ensures.run;
+      is_outcome = c.outcomes_are_read.ensures.read (map lexed_of c.as_slice-tokens.result.now) c.in_ok-run.run'.end c.in_ok-run.ensures.outcome;
+      say = say_so_far c.as_slice.ensures.value c.in_ok-run.ensures.places c.in_ok-read.ensures c.sayings_end_with_runs.ensures.say c.in_ok-run.ensures.run;
       is = ap Some c.in_ok-named_fault.ensures ∙ ap (λ (f : Option Fault). named_first f later) (sym first);
     }
 
@@ -40,8 +40,8 @@ returns-in-Some-syntax_fault-clause-fault c = λ _.
       outcome = c.in_ok-run.run'.end;
       said = seen_reading c.in_ok-read.read;
       read = read_slice _ _ _ _ c.as_slice-tokens.ensures c.in_ok-found.ensures;
-      is_outcome = c.in_ok-run.ensures.outcome;
-      say = say_so_far c.as_slice.ensures.value c.in_ok-run.ensures.places c.in_ok-read.ensures c.in_ok-run.ensures.run;
+      is_outcome = c.outcomes_are_read.ensures.read (map lexed_of c.as_slice-tokens.result.now) c.in_ok-run.run'.end c.in_ok-run.ensures.outcome;
+      say = say_so_far c.as_slice.ensures.value c.in_ok-run.ensures.places c.in_ok-read.ensures c.sayings_end_with_runs.ensures.say c.in_ok-run.ensures.run;
       is = c.in-Some-syntax_fault.ensures ∙ ap (λ (f : Option Fault). named_first f later) (sym none);
     }
 

@@ -6,5 +6,7 @@ use Rattle.pj_xparse.proofs.laws.one_saying.Goals as goal
 
 pub returns : goal.returns
 returns c = λ tokens a b first second.
-    let same : first.run ≡ second.run = c.one_end.ensures.at_most xpath_grammar (numbers tokens) greatest_nesting first.run second.run first.ends second.ends in
-    c.one_saying.ensures second.run tokens a b c.grammar_is_predictive.ensures second.ends (subst (λ e. SayUpTo e tokens a) same first.reads) second.reads
+    let (end, ends, reads) = c.sayings_end_with_runs.ensures.led tokens a first in
+    let (other, others, also) = c.sayings_end_with_runs.ensures.led tokens b second in
+    let same : end ≡ other = c.one_end.ensures.at_most xpath_grammar (numbers tokens) greatest_nesting end other ends others in
+    c.one_saying.ensures other tokens a b c.grammar_is_predictive.ensures others (subst (λ e. SayUpTo e tokens a) same reads) also

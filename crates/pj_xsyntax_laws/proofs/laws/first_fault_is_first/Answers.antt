@@ -11,4 +11,5 @@ returns-clause-none c = λ variables. has_none (given variables)
 
 pub returns-clause-first : goal.returns-clause-first
 returns-clause-first c = λ total text tokens end a variables fault other read say.
-    first_before (given variables) a.names fault other (names_ascend c.gaps_stand_in_front.ensures c.tokens_are_not_empty.ensures total text tokens end a read say)
+    let (run, ends, reads) = c.sayings_end_with_runs.ensures.led tokens a say in
+    first_before (given variables) a.names fault other (names_ascend c.gaps_stand_in_front.ensures c.tokens_are_not_empty.ensures total text tokens end a read run ends reads)
