@@ -1,5 +1,5 @@
 -- Where too much is open, and where a construct is left out, by leftmost derivations and by what is read.
-use Rattle.std.proofs.Common.{◌≡◌, ℕ, zero, suc, ◌<◌, ◌≤◌, List, [], ◌∷◌, ◌++◌, length, drop, Some, slice_get, refl, sym, ◌∙◌, ap, subst, arith, length-append, length-drop}
+use Rattle.std.proofs.Common.{◌≡◌, ℕ, zero, suc, ◌≤◌, List, [], ◌∷◌, ◌++◌, length, drop, Some, slice_get, refl, sym, ◌∙◌, ap, subst, arith, length-append, length-drop}
 use Rattle.pj_ll.specs.declared.grammar.Symbol.{Symbol}
 use Rattle.pj_ll.specs.Grammar.{closes}
 use Rattle.pj_ll.specs.Leads.{Behind, at_start, behind, IsDeeper}
@@ -12,7 +12,7 @@ use Rattle.pj_xgrammar.specs.Terminals.{numbers}
 use Rattle.pj_xgrammar.specs.XPath.{greatest_nesting, rules, xpath_grammar}
 use Rattle.pj_xmeaning.specs.Begun.{BeginsLeftOut, NestsTooDeep, SayTo}
 use Rattle.pj_xmeaning.specs.Parts.{operand}
-use Rattle.pj_xmeaning.specs.Reach.{Ending, Deep, Outside, UpTo}
+use Rattle.pj_xmeaning.specs.Reach.{Ending, UpTo}
 use Rattle.pj_xmeaning.specs.Reads.{Reads}
 use Rattle.pj_xmeaning.specs.Values.{top}
 use Rattle.pj_xmeaning.proofs.Beginnings.{Filled, deep_fill, left_out_fill}

@@ -14,7 +14,7 @@ use Rattle.pj_xgrammar.specs.declared.terminal.Behind.TheVariants as b
 use Rattle.pj_xgrammar.specs.Terminals.{numbers}
 use Rattle.pj_xgrammar.specs.XPath.{greatest_nesting, xpath_grammar}
 use Rattle.pj_xmeaning.specs.Parts.{RuleValue}
-use Rattle.pj_xmeaning.specs.Reach.{Ending, Plain, Deep, Outside, UpTo, IsBefore, IsBehindLeftOut, MayEnd, Within}
+use Rattle.pj_xmeaning.specs.Reach.{Ending, Plain, Deep, Outside, UpTo, IsBefore, IsBehindLeftOut, MayEnd}
 use Rattle.pj_xmeaning.specs.Reads.{IsNumbered}
 use Rattle.pj_xmeaning.proofs.Derived as derived
 use Rattle.pj_xmeaning.proofs.Derived.{Derived, Fill}
@@ -151,9 +151,11 @@ module _ (tokens : List Lexed) where
       let count = length_numbers b.End tokens in
       let cut : before ++ t ∷ [] ≡ take (suc i) ts =
       append_cancel_right (before ++ t ∷ []) (take (suc i) ts) (numbers (drop (suc i) tokens)) (sym is ∙ first_numbers tokens xs (suc i) (omega arith) are) in
-      let (front, last) = last_same before (take i ts) t (get_or ts i 0) (cut ∙ take-suc ts i 0 (omega arith)) in
-      (t, slice_get-get_or ts i 0 (omega arith) ∙ ap Some (sym last),
-        (ps, (after, subst (λ l. Leads xpath_grammar start l ps (LeftOut t ∷ after)) front d)))
+      let (front, last) = last_same before (take i ts) t (get_or ts i 0) (cut ∙ take-suc ts i 0 (omega arith)) in (
+        t,
+        slice_get-get_or ts i 0 (omega arith) ∙ ap Some (sym last),
+        (ps, (after, subst (λ l. Leads xpath_grammar start l ps (LeftOut t ∷ after)) front d)),
+      )
 
   pub fill_left_out : {first : List Lexed} {productions : List ℕ} {values : List RuleValue} (i : ℕ) → i < length tokens → Fill (UpTo Outside (drop (suc i) tokens)) 0 (drop (suc i) tokens) start first productions values →
       tokens ≡ first ++ drop (suc i) tokens → IsLeftOutAt xpath_grammar (numbers tokens) i

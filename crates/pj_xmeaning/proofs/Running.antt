@@ -10,7 +10,7 @@ use Rattle.pj_xgrammar.specs.declared.rule.Rule.TheVariants as r
 use Rattle.pj_xgrammar.specs.Notation.{rule_number}
 use Rattle.pj_xgrammar.specs.Terminals.{numbers}
 use Rattle.pj_xgrammar.specs.XPath.{greatest_nesting, rules, xpath_grammar}
-use Rattle.pj_xmeaning.specs.Reach.{Ending, All, Plain, UpTo}
+use Rattle.pj_xmeaning.specs.Reach.{All, Plain, UpTo}
 use Rattle.pj_xmeaning.specs.Reads.{Reads}
 use Rattle.pj_xmeaning.specs.SoFar.{SayUpTo}
 use Rattle.pj_xmeaning.specs.Parts.{operand}

@@ -1,5 +1,5 @@
 -- Tokens that are taken are not cut off.
-use Rattle.std.proofs.Common.{◌≡◌, ℕ, List, [], ◌∷◌, length, refl, sym, ◌∙◌, ap, arith}
+use Rattle.std.proofs.Common.{◌≡◌, ℕ, List, ◌∷◌, length, refl, sym, ◌∙◌, ap, arith}
 use Rattle.pj_ll.specs.declared.grammar.Symbol.{Symbol}
 use Rattle.pj_xtokens.specs.First.{behind_first}
 use Rattle.pj_xtokens.specs.Tokens.{Lexed}

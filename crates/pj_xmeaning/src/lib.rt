@@ -22,6 +22,6 @@ mod step;
 
 pub use fold::reading;
 pub use laws::{
-    beginnings_are_read, depths_are_read, one_saying, readings_are_whole, runs_say, sayings_are_runs,
-    what_is_left_out_is_read,
+    beginnings_are_read, depths_are_read, one_saying, readings_are_whole, runs_say,
+    sayings_are_runs, what_is_left_out_is_read,
 };

@@ -1,5 +1,5 @@
 -- What tokens say as far as they are read is what they say as far as a run over their terminals goes.
-use Rattle.std.proofs.Common.{◌≡◌, ◌≢◌, ℕ, zero, suc, ◌+◌, ◌<◌, ◌≤◌, ◌⊎◌, List, [], ◌∷◌, ◌++◌, length, take, drop, Some, slice_get, refl, sym, ◌∙◌, ap, subst, arith, ⊎_elim, append_assoc, length-append, length-take-le, take-append-drop}
+use Rattle.std.proofs.Common.{◌≡◌, ◌≢◌, ℕ, zero, suc, ◌+◌, ◌<◌, ◌≤◌, List, [], ◌∷◌, ◌++◌, length, take, drop, Some, slice_get, refl, sym, ◌∙◌, ap, subst, arith, ⊎_elim, append_assoc, length-append, length-take-le, take-append-drop}
 use Rattle.std.proofs.Math.Seq.{get_or-append_seam, take-append_seam, take-suc}
 use Rattle.std.proofs.lemmas.Bool.{cases_order}
 use Rattle.std.proofs.lemmas.Option.{get_or_from_slice_get, slice_get_within, slice_get-get_or}
@@ -45,9 +45,11 @@ left_out_before ts more i (t, at, leads) =
     let sum = length-append us (t ∷ more) in
     let there : slice_get (us ++ t ∷ more) (length us) ≡ Some t = slice_get-get_or (us ++ t ∷ more) (length us) 0 (omega arith) ∙ ap Some (get_or-append_seam us t more 0) in
     let before : take (length us) (us ++ t ∷ more) ≡ us = take-append_seam us (t ∷ more) in
-    subst (λ l. IsLeftOutAt xpath_grammar l i) (sym all)
-    (t, subst (λ n. slice_get (us ++ t ∷ more) n ≡ Some t) count there,
-      subst (λ l. IsLeftOut xpath_grammar l t) (sym (subst (λ n. take n (us ++ t ∷ more) ≡ us) count before)) leads)
+    subst (λ l. IsLeftOutAt xpath_grammar l i) (sym all) (
+      t,
+      subst (λ n. slice_get (us ++ t ∷ more) n ≡ Some t) count there,
+      subst (λ l. IsLeftOut xpath_grammar l t) (sym (subst (λ n. take n (us ++ t ∷ more) ≡ us) count before)) leads,
+    )
 
 -- where productions lead behind the terminals before a place just where these begin a sentence, and where something is said up to there; where too much is
 -- open just where that is read, and nothing is left out of what is derived; where tokens are read whole just where their run is; and where a run has one end

@@ -13,8 +13,8 @@ mod laws;
 
 pub use laws::{
     abbreviations_stand_for_longer_forms, comments_change_nothing, first_fault_is_first,
-    mentions_ascend, names_come_first, parentheses_leave_no_trace,
-    prefix_of_functions_is_optional, printed_expressions_are_read, signs_and_literals_spell,
-    spaced_words_are_tokens, spelled_expressions_are_printed, steps_without_axis_are_children,
+    mentions_ascend, names_come_first, parentheses_leave_no_trace, prefix_of_functions_is_optional,
+    printed_expressions_are_read, signs_and_literals_spell, spaced_words_are_tokens,
+    spelled_expressions_are_printed, steps_without_axis_are_children,
     strings_alone_have_white_space,
 };

@@ -1,4 +1,3 @@
-use Rattle.pj_xparse.specs.Outcomes.{IsOutcome}
 use Rattle.pj_xparse.proofs.OneAnswer as lemma
 use Rattle.pj_xparse.proofs.laws.one_answer.Goals as goal
 

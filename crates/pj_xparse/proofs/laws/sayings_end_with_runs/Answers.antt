@@ -1,10 +1,8 @@
-use Rattle.std.proofs.Common.{ℕ}
 use Rattle.pj_ll.specs.Leads.{Derives}
 use Rattle.pj_ll.specs.Outcome.{IsEnd, IsLeftOutAt}
 use Rattle.pj_ll.specs.declared.parser.End.{End}
 use Rattle.pj_ll.specs.declared.parser.End.TheVariants.{Whole}
 use Rattle.pj_xgrammar.specs.Predictive.{of_xpath}
-use Rattle.pj_xgrammar.specs.Terminals.{numbers}
 use Rattle.pj_xgrammar.specs.XPath.{greatest_nesting, xpath_grammar}
 use Rattle.pj_xparse.proofs.SoFar as lemma
 use Rattle.pj_xparse.proofs.laws.sayings_end_with_runs.Goals as goal
