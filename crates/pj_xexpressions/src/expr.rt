@@ -13,7 +13,7 @@ use pj_base::Text;
 /// bounded by the nesting of its text, whatever the length of its chains. A list of operands has at least two and a list
 /// of variables at least one, where nothing else is said; of predicates there may be none. Parentheses leave no trace
 /// but the nesting that they make, and comments none at all.
-#[derive(Debug, Drop)]
+#[derive(Drop)]
 pub enum Expr {
     /// `a, b, ..`: the items of each in turn; `()` is the empty list (3.3.1).
     Comma(Vec<Expr>),
@@ -75,7 +75,7 @@ pub enum Expr {
 }
 
 /// Which nodes of an axis a step takes (3.2.1.2).
-#[derive(Debug, Drop)]
+#[derive(Drop)]
 pub enum NodeTest {
     /// `name`: elements of the name on an axis of nodes, attributes of the name on the attribute axis. A name that no
     /// node has finds nothing.
