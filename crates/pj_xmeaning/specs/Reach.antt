@@ -16,7 +16,7 @@ pub data Ending : Type 0 where
 pub data Reach : Type 0 where
   -- all of them are, as an expression that nests no deeper than may be
   All : Reach
-  -- Those before these are, as the beginning of an expression that ends so, and these are left. It may nest as deep as it does; `Deep` alone asks
+  -- Those before these are, as the beginning of an expression that ends so, and these are left. No bound is put on how deep it nests; `Deep` alone asks
   -- something of its last token.
   UpTo : Ending → List Lexed → Reach
 
