@@ -1,4 +1,4 @@
--- Which tokens are an expression, which can begin one, and the first fault of those that are none.
+-- Which tokens are an expression by the grammar's leftmost derivations, which can begin one, and the first fault of those that are none.
 --
 -- A place is a number of tokens, from 0: that of the token there, and the number of all tokens for the end.
 use Rattle.std.specs.Prelude.{◌≡◌, ℕ, ◌+◌, ◌<◌, ◌≤◌, ◌⊎◌, true, false, List, ◌++◌, length, take, slice_get}

@@ -1,4 +1,5 @@
--- What a fault of tokens goes by, whatever they mean: which are left out wherever they stand, and where white space or a comment stands between two.
+-- What a fault of tokens goes by beside what is read of them: which of them the language leaves out wherever they stand, and where white space or a
+-- comment stands between two.
 use Rattle.std.specs.Prelude.{ℕ, zero, suc, ◌+◌, Bool, true, false, nat_lt, List, Option, Some, None, slice_get}
 use Rattle.pj_xtokens.specs.Size.{size}
 use Rattle.pj_xtokens.specs.Tokens.{Lexed}

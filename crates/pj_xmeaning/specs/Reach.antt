@@ -16,8 +16,8 @@ pub data Ending : Type 0 where
 pub data Reach : Type 0 where
   -- all of them are, as an expression that nests no deeper than may be
   All : Reach
-  -- Those before these are, as the beginning of an expression that ends so, and these are left. No bound is put on how deep it nests; `Deep` alone asks
-  -- something of its last token.
+  -- Those before these are, as the beginning of an expression that ends so, and these are left. No bound is put on how deep it nests; of depths `Deep`
+  -- alone asks something, behind the last token.
   UpTo : Ending → List Lexed → Reach
 
 -- from these tokens on nothing is read: they are those that are left

@@ -1,6 +1,6 @@
 -- What the tokens of an expression, or of the beginning of one, say: the tree that they spell, and the functions and variables that they
 -- name. Read whole, they also nest no deeper than may be. One constructor a production, in the order of the grammar (`XPath` of pj_xgrammar),
--- with its notation; but `to` and `$` have one more, for tokens that are cut off behind them, and one for all have the words that are names, what is
+-- with its notation; but `to` and `$` have one more, for tokens that are cut off behind them; the words that are names share one, and so does what is
 -- left out where an operator can stand, and what is left out where a step can begin.
 --
 -- `Reads reach r.X depth xs ys v`: at the front of the tokens xs stands what rule X spells, ys are the tokens behind it, and v is what it
@@ -209,7 +209,7 @@ mutual
         Produces reach r.SimpleMapTail d xs xs []
     operand : {d : ℕ} {xs ys zs : List Lexed} {a : Operand} →
         Reads reach r.PathExpr d xs ys a → Reads reach r.LeftOutOperator d ys zs tt → Produces reach r.Operand d xs zs a
-    -- what is left out where an operator can stand: with its first token ends the beginning of an expression that ends so
+    -- what is left out where an operator can stand: its first token is the last one of a beginning that ends so
     left_out_operator : {d number : ℕ} {x : Lexed} {xs : List Lexed} →
         IsAmong (LeftOut number) (xpath r.LeftOutOperator) → IsNumbered x xs number → IsBehindLeftOut reach xs → Produces reach r.LeftOutOperator d (x ∷ xs) xs tt
     no_left_out : {d : ℕ} {xs : List Lexed} →

@@ -60,7 +60,7 @@ IsOutcome tokens (TooDeep i) = IsTooDeepFirst tokens i
 
 -- ---- as far as they are read
 
--- No place before this one nests too deep; and this is the end, or too much is open here, or the tokens up to the one here, and with it, are not read as
+-- No place before this one nests too deep; and this is the end, or too much is open here, or the tokens up to and including the one here are not read as
 -- the beginning of an expression.
 pub record ReadingEnds (tokens : List Lexed) (i : ℕ) : Type 0 where
   pub within : i ≤ length tokens

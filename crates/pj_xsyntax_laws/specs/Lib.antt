@@ -1,7 +1,6 @@
 -- texts of words with a space behind each, and with white space and comments
 pub mod Spaced
 pub mod Gapped
--- tokens that begin an expression
 -- where what a text names stands, and which fault is the first
 pub mod Order
 pub mod Every

@@ -8,6 +8,7 @@ use crate::fixtures::{Table, expect};
 use crate::name_fault_rows::{
     ARGUMENTS, BEGINNINGS, FUNCTIONS_1, FUNCTIONS_2, VARIABLES_1, VARIABLES_2, WORDS,
 };
+use crate::printed::print_expr;
 use pj_base::{Names, NoMemory, Text};
 use pj_xparse::{XSyntax, parse};
 use std::alloc::{AllocError, Global};
@@ -21,7 +22,7 @@ pub fn variables(alloc: Global) -> Result<Names, NoMemory> {
     Ok(variables)
 }
 
-/// The expression of the text in the words of the code, or its fault.
+/// The expression of the text as a text (`printed`), or its fault.
 fn write_read(
     out: &mut String,
     alloc: Global,
@@ -29,7 +30,7 @@ fn write_read(
     text: &str,
 ) -> Result<(), AllocError> {
     match parse(alloc, text, variables) {
-        Ok(expr) => write!(out, "{expr:?}"),
+        Ok(expr) => print_expr(out, alloc, &expr),
         Err(XSyntax::UnknownFunction(name, from)) => {
             write!(out, "Unknown {} {from}", name.as_str())
         }
@@ -38,7 +39,7 @@ fn write_read(
     }
 }
 
-/// Whether the text has this expression in the words of the code, or this fault.
+/// Whether the text has this expression, as a text, or this fault.
 pub fn is_read(
     alloc: Global,
     variables: &Names,
@@ -76,76 +77,46 @@ fn check_all(alloc: Global, tables: &[Table]) -> Result<(), Fail> {
     check_each(alloc, &variables, tables)
 }
 
-/// The expression that the text spells, with each operator in the words of the code.
+/// The expression that the text spells, with the parentheses of each operator.
 static EXPRESSIONS_1: [(&str, &str); 17] = [
-    ("1", "Integer(Some(1))"),
-    (" 9223372036854775808 ", "Integer(None)"),
-    (".", "ContextItem"),
-    ("/", "Root"),
-    ("()", "Comma([])"),
-    ("(((1)))", "Integer(Some(1))"),
-    ("1, 2", "Comma([Integer(Some(1)), Integer(Some(2))])"),
-    ("-1", "Unary(Minus, Integer(Some(1)))"),
-    (
-        "1 - 2 + 3",
-        "Additive(Integer(Some(1)), [(Minus, Integer(Some(2))), (Plus, Integer(Some(3)))])",
-    ),
-    (
-        "1 idiv 2",
-        "Multiplicative(Integer(Some(1)), [(IntegerDivide, Integer(Some(2)))])",
-    ),
-    ("1 to 2", "Range(Integer(Some(1)), Integer(Some(2)))"),
-    (
-        "1 != 2",
-        "Comparison(NotEqual, Integer(Some(1)), Integer(Some(2)))",
-    ),
-    (
-        "1 or 2 and 3",
-        "Or([Integer(Some(1)), And([Integer(Some(2)), Integer(Some(3))])])",
-    ),
-    (
-        "1 || 2",
-        "Concatenation([Integer(Some(1)), Integer(Some(2))])",
-    ),
-    (
-        "* | ..",
-        "Union([Step(Child, AnyName, []), Step(Parent, AnyNode, [])])",
-    ),
-    (
-        "1 except 2",
-        "IntersectExcept(Integer(Some(1)), [(Except, Integer(Some(2)))])",
-    ),
-    ("1 ! .", "SimpleMap([Integer(Some(1)), ContextItem])"),
+    ("1", "1"),
+    (" 9223372036854775808 ", "large"),
+    (".", "."),
+    ("/", "^"),
+    ("()", "()"),
+    ("(((1)))", "1"),
+    ("1, 2", "(1, 2)"),
+    ("-1", "(-1)"),
+    ("1 - 2 + 3", "(1 - 2 + 3)"),
+    ("1 idiv 2", "(1 idiv 2)"),
+    ("1 to 2", "(1 to 2)"),
+    ("1 != 2", "(1 != 2)"),
+    ("1 or 2 and 3", "(1 or (2 and 3))"),
+    ("1 || 2", "(1 || 2)"),
+    ("* | ..", "(* union Parent::node())"),
+    ("1 except 2", "(1 except 2)"),
+    ("1 ! .", "(1 ! .)"),
 ];
 
 static EXPRESSIONS_2: [(&str, &str); 7] = [
-    (
-        "/*//@*",
-        "Path([Root, Step(Child, AnyName, []), Step(DescendantOrSelf, AnyNode, []), AttributeStep(AnyName, [])])",
-    ),
-    (
-        "self::element()[1][2]",
-        "Step(SelfNode, AnyElement, [Integer(Some(1)), Integer(Some(2))])",
-    ),
-    ("1[2]", "Filter(Integer(Some(1)), [Integer(Some(2))])"),
-    (
-        "if (1) then 2 else 3",
-        "If(Integer(Some(1)), Integer(Some(2)), Integer(Some(3)))",
-    ),
-    ("fn:count(.)", "Call(Count, [ContextItem])"),
-    ("pmd:fileName()", "PmdCall(FileName, [])"),
-    ("(: \u{fc} :) last()", "Call(Last, [])"),
+    ("/*//@*", "(^/*/DescendantOrSelf::node()/@*)"),
+    ("self::element()[1][2]", "SelfNode::element()[1][2]"),
+    ("1[2]", "1[2]"),
+    ("if (1) then 2 else 3", "(if 1 then 2 else 3)"),
+    ("fn:count(.)", "Count(.)"),
+    ("pmd:fileName()", "pmd FileName()"),
+    ("(: \u{fc} :) last()", "Last()"),
 ];
 
 /// Comments may stand in each gap between two tokens, and before and behind all of them.
 static COMMENTS: [(&str, &str); 2] = [
     (
         "(::)if(::)((::)1(::))(::)then(::)-(::)2(::)[(::)3(::)](::)else(::)concat(::)((::)4(::),(::).(::))(::)",
-        "If(Integer(Some(1)), Unary(Minus, Filter(Integer(Some(2)), [Integer(Some(3))])), Call(Concat, [Integer(Some(4)), ContextItem]))",
+        "(if 1 then (-2[3]) else Concat(4, .))",
     ),
     (
         "(:(::):)/(::)self(::)::(::)*(::)/(::)@(::)*(::)",
-        "Path([Root, Step(SelfNode, AnyName, []), AttributeStep(AnyName, [])])",
+        "(^/SelfNode::*/@*)",
     ),
 ];
 

@@ -37,14 +37,14 @@ fn print_piece<'e>(
     }
 }
 
-fn print_expr(out: &mut String, alloc: Global, expr: &Expr) -> Result<(), AllocError> {
+/// Prints the expression: chains in parentheses, `child::` left out, other axes and functions by their names in the code, the root as `^`.
+pub fn print_expr(out: &mut String, alloc: Global, expr: &Expr) -> Result<(), AllocError> {
     let mut left = Vec::new(alloc);
     left.push(Piece::Expr(expr))?;
     print_all(out, &mut left)
 }
 
-/// Whether this is the expression as a text: chains in parentheses, `child::` left out, other axes and functions by their
-/// names in the code.
+/// Whether this is the expression as a text (`print_expr`).
 pub fn is_printed(alloc: Global, expr: &Expr, wanted: &str) -> Result<bool, NoMemory> {
     let mut out = String::new(alloc);
     print_expr(&mut out, alloc, expr)?;
