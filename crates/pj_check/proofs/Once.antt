@@ -2,7 +2,7 @@
 use Rattle.std.proofs.Common.{◌≡◌, ◌∙◌, List, [], ◌∷◌, map, sym, subst}
 use Rattle.std.specs.List.{AllZip}
 use Rattle.pj_names.specs.Asking.{Asking}
-use Rattle.pj_names.specs.Meaning.{Done, Means, whole}
+use Rattle.pj_names.specs.Meaning.{Gives, Means, whole}
 use Rattle.pj_names.specs.declared.answer.Answer.TheVariants.{Absent}
 use Rattle.pj_outside.specs.Files.{Bytes, Files}
 use Rattle.pj_reports.specs.declared.report.Report.{Report}
@@ -47,7 +47,7 @@ module _ (texts : ListsAreTexts) (xs ys : List Rule) (are : AreAlike xs ys) wher
     record {
       path = h.0.path;
       names = h.0.names;
-      comes = subst (λ (m : Asking FileRows). Means (whole no_classes) m (Done r.1 h.0.names)) (texts no_types f.0 f.1 xs ys are) h.0.comes;
+      comes = subst (λ (m : Asking FileRows). Means (whole no_classes) m (Gives r.1 h.0.names)) (texts no_types f.0 f.1 xs ys are) h.0.comes;
     },
     other_rows fs rs h.1,
   )

@@ -1,5 +1,6 @@
 pub mod Lists
 pub mod NameSets
+pub mod NameLists
 pub mod Oracles
 pub mod Parts
 pub mod MeaningLaws

@@ -16,6 +16,7 @@ use Rattle.pj_names.specs.ClassName.{Name, NameSet}
 use Rattle.pj_names.specs.Asking.{Asking, Return, Ask, Unbounded, ask, names_of}
 use Rattle.pj_names.specs.Told.{World, Worlds, Told, with_names, asked_after, IsWithin, Asks}
 use Rattle.pj_names.proofs.AskingLaws.{with_names-append, within-self, within-insert}
+use Rattle.pj_names.proofs.NameLists.{same_names}
 use Rattle.pj_names.specs.Noting.{both, noting_world, tells_noting, Notes}
 
 -- a name that is there is put there once more
@@ -88,9 +89,6 @@ contains-both s t q =
     ∙ ap (λ b. side (λ n. list_any (eq_by_cmp (slice_cmp nat_cmp) n) (set.items s)) (λ n. false) q || b) (contains-from_list nat_list_cmp_total (map (λ name. 1 ∷ name) (set.items t)) q ∙ ones (set.items t) q)
     ∙ sides _ _ q
     ∙ side-alike _ _ _ _ (λ n. sym (contains-items s n)) (λ n. sym (contains-items t n)) q
-
-pub same_names : (s t : NameSet) → ((q : Name) → set.contains s q ≡ set.contains t q) → s ≡ t
-same_names s t is = same_set nat_list_cmp_total (slice_cmp-IsAntisymmetric nat_cmp-IsAntisymmetric) s t is
 
 -- one name more beneath, and one name more noted
 

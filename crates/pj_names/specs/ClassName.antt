@@ -13,6 +13,10 @@ Name = List ℕ
 abbrev pub NameSet : Type 0
 NameSet = set.FinSet (slice_cmp nat_cmp)
 
+-- the set of some names
+abbrev pub name_set : List Name → NameSet
+name_set names = set.from_list names
+
 -- puts a byte in front of the first part
 abbrev pub in_first_part : ℕ → List (List ℕ) → List (List ℕ)
 in_first_part b [] = (b ∷ []) ∷ []

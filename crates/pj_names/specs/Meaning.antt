@@ -1,9 +1,10 @@
 -- What a meaning comes to over a source of answers.
-use Rattle.std.specs.Prelude.{◌≡◌, ◌≤◌, ℕ, Bool, true, false, List, [], ◌∷◌, Option, Some, None, nat_eq, if◌then◌else◌, All}
+use Rattle.std.specs.Prelude.{◌≡◌, ◌≤◌, ℕ, Bool, true, false, List, [], ◌∷◌, IsTrue, Option, Some, None, nat_eq, if◌then◌else◌}
 use Rattle.std.specs.Cmp.Lexicographic.{pointwise}
+use Rattle.std.specs.FinSet as set
 use Rattle.pj_names.specs.declared.answer.Answer.{Answer}
 use Rattle.pj_names.specs.declared.answer.Answer.TheVariants.{Absent}
-use Rattle.pj_names.specs.ClassName.{Name}
+use Rattle.pj_names.specs.ClassName.{Name, NameSet, name_set}
 use Rattle.pj_names.specs.Asking.{Asking, Return, Ask, Unbounded}
 
 -- A source: its answer for a name, if it has one.
@@ -47,10 +48,20 @@ over depth source (Return value) = Done value []
 over depth source (Ask name rest) = answered name (source name) (λ answer. over depth source (rest answer))
 over depth source (Unbounded recursion) = over depth source (recursion depth)
 
--- What a meaning comes to over a source: from some depth on it is that, however deep recursions go.
-pub record Means {A : Type 0} (source : Source) (meaning : Asking A) (outcome : Meaning A) : Type 0 where
+-- What a meaning comes to in the end: its value, with the set of the names that were asked; or a name that the source does
+-- not answer. In which order the names were asked, and how often, is no part of it.
+pub data Outcome (A : Type 0) : Type 0 where
+  Gives : A → NameSet → Outcome A
+  Lacks : Name → Outcome A
+
+abbrev pub outcome_of : {A : Type 0} → Meaning A → Outcome A
+outcome_of (Done value names) = Gives value (name_set names)
+outcome_of (Need name) = Lacks name
+
+-- What a meaning comes to over a source: from some depth on that is its outcome, however deep recursions go.
+pub record Means {A : Type 0} (source : Source) (meaning : Asking A) (outcome : Outcome A) : Type 0 where
   pub least : ℕ
-  pub is : (depth : ℕ) → least ≤ depth → over depth source meaning ≡ outcome
+  pub is : (depth : ℕ) → least ≤ depth → outcome_of (over depth source meaning) ≡ outcome
 
 -- what is done, with some names asked before it
 abbrev pub in_front : {A : Type 0} → List Name → Meaning A → Meaning A
@@ -66,8 +77,16 @@ after (Need needed) next = Need needed
 abbrev pub whole : (Name → Answer) → Source
 whole world name = Some (world name)
 
--- Agreement of a meaning over two sources: where it is done over the first, and the second answers the names that
--- were asked alike, it is done over the second, with the same value and names.
+-- The second source answers the names of the set as the first one does.
+abbrev pub AnswersAlike : Source → Source → NameSet → Type 0
+AnswersAlike first second names = (name : Name) → IsTrue (set.contains names name) → second name ≡ first name
+
+-- Agreement of a meaning over two sources: what it gives over the first one, it gives over the second one, if that answers
+-- alike the names that were asked.
 abbrev pub Agrees : {A : Type 0} → Source → Source → Asking A → Type 0
-Agrees {A} first second meaning =
-    (value : A) (names : List Name) → Means first meaning (Done value names) → All (λ name. second name ≡ first name) names → Means second meaning (Done value names)
+Agrees {A} first second meaning = (value : A) (names : NameSet) → Means first meaning (Gives value names) → AnswersAlike first second names → Means second meaning (Gives value names)
+
+-- The same at one depth: with the same names in the same order.
+abbrev pub AgreesAt : {A : Type 0} → ℕ → Source → Source → Asking A → Type 0
+AgreesAt {A} depth first second meaning =
+    (value : A) (names : List Name) → over depth first meaning ≡ Done value names → AnswersAlike first second (name_set names) → over depth second meaning ≡ Done value names

@@ -1,22 +1,36 @@
 //! The laws of meanings that ask, each the contract of a call that does nothing.
-ghost use Rattle.std.specs.Prelude.{◌≡◌, ℕ, List, Some, true};
+ghost use Rattle.std.specs.Prelude.{◌≡◌, ℕ, IsTrue, List, Ok, Some, true};
+ghost use Rattle.std.specs.FinSet as set;
 ghost use Rattle.pj_names.specs.declared.answer.Answer.{Answer};
 ghost use Rattle.pj_names.specs.ClassName.{Name, NameSet};
 ghost use Rattle.pj_names.specs.Asking.{Asking, bind, names_of, value_of};
-ghost use Rattle.pj_names.specs.Meaning.{Meaning, Source, found_in, Done, over, after, whole, source_of, Agrees, Means};
-ghost use Rattle.pj_names.specs.Told.{World, with_names, asked_after};
+ghost use Rattle.pj_names.specs.Held.{AreOne, IsHeld, NeedThemselves};
+ghost use Rattle.pj_names.specs.Meaning.{Outcome, Source, found_in, Done, Gives, over, after, whole, source_of, Agrees, AgreesAt, Means};
+ghost use Rattle.pj_names.specs.Noting.{Notes};
+ghost use Rattle.pj_names.specs.Told.{Asks, Told, World, Worlds, with_names, asked_after};
 ghost use Rattle.pj_names.specs.Told.{all_needs};
 ghost use Rattle.pj_names.specs.AnswerList.{or_absent};
 
-/// Agreement: what a meaning is done as over one source, it is done as over every source that answers alike the names
-/// that were asked.
+/// Agreement: what a meaning gives over one source, it gives over every source that answers alike the names that were
+/// asked; and so at each depth, with the names in the same order.
 pub fn agreement<T>()
-    ensures { (first second : Source) (meaning : Asking T) → Agrees first second meaning }
+    ensures outcome { (first second : Source) (meaning : Asking T) → Agrees first second meaning }
+    ensures depth { (depth : ℕ) (first second : Source) (meaning : Asking T) → AgreesAt depth first second meaning }
 {}
 
 /// Over a source a meaning comes to one outcome at most.
 pub fn one_outcome<T>()
-    ensures { (source : Source) (meaning : Asking T) (first second : Meaning T) → Means source meaning first → Means source meaning second → first ≡ second }
+    ensures { (source : Source) (meaning : Asking T) (first second : Outcome T) → Means source meaning first → Means source meaning second → first ≡ second }
+{}
+
+/// What a call answers over an oracle that tells its world is what its meaning gives there: with the names that were noted
+/// apart, and with those that were asked of an oracle of which none was asked before, where each name needs just itself.
+/// Where the worlds of the oracle are one, that is what the meaning comes to over this world.
+pub fn answers_are_meant<T, K>()
+    ensures noted { (meaning : Asking T) (old new : Told K) (value : T) (names : NameSet) → IsTrue old.is_told → Asks meaning old new (Ok value) → Notes meaning old.is_told old.world set.empty names (Ok value)
+        → IsHeld old.world meaning value names }
+    ensures asked { (meaning : Asking T) (old new : Told K) (value : T) → IsTrue old.is_told → NeedThemselves old.world → old.asked ≡ set.empty → Asks meaning old new (Ok value) → IsHeld old.world meaning value new.asked }
+    ensures meant { (worlds : Worlds) (world : Name → Answer) (meaning : Asking T) (value : T) (names : NameSet) → AreOne worlds world → IsHeld worlds meaning value names → Means (whole world) meaning (Gives value names) }
 {}
 
 /// Over a source that answers every name every meaning is done at each depth, with its value and its names.

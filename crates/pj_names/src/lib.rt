@@ -18,7 +18,9 @@ pub use answers::Answers;
 pub use asking::{ClassNames, look_up};
 pub use class_name::ClassName;
 pub use class_name_set::ClassNameSet;
-pub use laws::{agreement, asked_are_needs, one_outcome, sequence_unites, whole_is_done};
+pub use laws::{
+    agreement, answers_are_meant, asked_are_needs, one_outcome, sequence_unites, whole_is_done,
+};
 pub use map_oracle::MapOracle;
 pub use oracle::{AskFault, Oracle};
 pub use recorder::Recorder;

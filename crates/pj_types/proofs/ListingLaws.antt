@@ -7,11 +7,11 @@ use Rattle.std.specs.Cmp.Lexicographic.{pointwise, nat_list_eq_equiv}
 use Rattle.std.proofs.lemmas.List.{length-map, map-append}
 use Rattle.std.proofs.lemmas.Map.Keys.{IsDistinct-push}
 use Rattle.pj_names.specs.declared.answer.Answer.{Answer}
-use Rattle.pj_names.specs.ClassName.{Name, is_object}
+use Rattle.pj_names.specs.ClassName.{Name, NameSet, is_object, name_set}
 use Rattle.pj_names.specs.JavaType.{JavaType}
 use Rattle.pj_names.specs.Asking.{Asking, Return, bind, walk, value_of, names_of, has_name, unvisited}
 use Rattle.pj_names.specs.Asking as asking
-use Rattle.pj_names.specs.Meaning.{Meaning, Done, over, Means, whole, also, in_front, after}
+use Rattle.pj_names.specs.Meaning.{Meaning, Done, Gives, over, outcome_of, Means, whole, also, in_front, after}
 use Rattle.pj_names.proofs.MeaningLaws.{value_of-bind, over-bind, over-whole, over-whole-bind}
 use Rattle.pj_types.specs.Supertypes.{Listed, first_listed, given_type, name_of, on_listed, direct, search_within, no_hit, supertypes_within, supertype_list, class_name, begin, of_known}
 use Rattle.pj_types.proofs.WalkLaws.{onward, as_types, search-onward}
@@ -127,11 +127,11 @@ module _ (d : ℕ) (w : Name → Answer) where
       (list_of most [] (first_listed name ∷ []), walk-leads most [] (first_listed name ∷ []) (omega (arith, shorter)), sym is)
 
 -- What is meant is the list of the recursion.
-pub meant-are : (w : Name → Answer) (name : Name) (types : List JavaType) (names : List Name) → Means (whole w) (supertype_list name) (Done types names) → AreSupertypes w name types
+pub meant-are : (w : Name → Answer) (name : Name) (types : List JavaType) (names : NameSet) → Means (whole w) (supertype_list name) (Gives types names) → AreSupertypes w name types
 meant-are w name types names means =
     let most : ℕ = suc (length types) + means.least in
-    let done : Done (value_of most w (supertypes_within most name)) (names_of most w (supertypes_within most name)) ≡ Done types names
-    = sym (over-whole most w (supertypes_within most name)) ∙ means.is most (omega arith) in
+    let gives : Gives (value_of most w (supertypes_within most name)) (name_set (names_of most w (supertypes_within most name))) ≡ Gives types names
+    = ap (λ r. outcome_of r) (sym (over-whole most w (supertypes_within most name))) ∙ means.is most (omega arith) in
     let is : value_of most w (supertypes_within most name) ≡ types = cc in
     subst (λ l. AreSupertypes w name l) is (supertypes-are most w name most (subst (λ (l : List JavaType). length l < most) (sym is) (omega arith)))
 
@@ -245,10 +245,11 @@ module _ (d : ℕ) (w : Name → Answer) where
       ∙ ap (λ l. Done (map given_type list) l) (append-nil (asked_of list ++ []) ∙ append-nil (asked_of list))
 
 -- The list means that, and its classes but `java.lang.Object` are asked.
-pub list-meant : (w : Name → Answer) (name : Name) (types : List JavaType) → AreSupertypes w name types → Means (whole w) (supertype_list name) (Done types (asked_names (map class_name types)))
-list-meant w name types are = record {
-  least = length are.0;
-  is = λ depth enough. list-within depth w name are.0 depth are.1 enough
-      ∙ (λ i. Done (are.2 i) (asked_names (sym (names-given are.0) i)))
-      ∙ ap (λ (l : List JavaType). Done types (asked_names (map class_name l))) are.2;
-}
+pub list-order : (w : Name → Answer) (name : Name) (types : List JavaType) (depth : ℕ) → AreSupertypes w name types → length types ≤ depth → over depth (whole w) (supertype_list name) ≡ Done types (asked_names (map class_name types))
+list-order w name types depth are enough =
+    list-within depth w name are.0 depth are.1 (omega (arith, enough, length-map are.0 given_type, ap (λ (l : List JavaType). length l) are.2))
+    ∙ (λ i. Done (are.2 i) (asked_names (sym (names-given are.0) i)))
+    ∙ ap (λ (l : List JavaType). Done types (asked_names (map class_name l))) are.2
+
+pub list-meant : (w : Name → Answer) (name : Name) (types : List JavaType) → AreSupertypes w name types → Means (whole w) (supertype_list name) (Gives types (name_set (asked_names (map class_name types))))
+list-meant w name types are = record { least = length types; is = λ depth enough. ap (λ r. outcome_of r) (list-order w name types depth are enough) }

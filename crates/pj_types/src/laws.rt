@@ -1,13 +1,13 @@
 //! Laws of supertypes and subtyping, each the contract of a call that does nothing.
-ghost use Rattle.std.specs.Prelude.{◌≡◌, ◌<◌, ◌≤◌, [], ℕ, List, Option, map, nat_eq, take};
+ghost use Rattle.std.specs.Prelude.{◌≡◌, ◌<◌, ◌≤◌, [], ℕ, List, Option, length, map, nat_eq, take};
 ghost use Rattle.std.specs.Cmp.Lexicographic.{pointwise};
 ghost use Rattle.std.specs.List.{IsDistinct};
 ghost use Rattle.pj_names.specs.declared.answer.Answer.{Answer};
 ghost use Rattle.pj_names.specs.AnswerList.{list_world};
 ghost use Rattle.pj_names.specs.Asking.{Asking, has_name, names_of, value_of};
-ghost use Rattle.pj_names.specs.ClassName.{Name};
+ghost use Rattle.pj_names.specs.ClassName.{Name, NameSet, name_set};
 ghost use Rattle.pj_names.specs.JavaType.{Arguments, Class, JavaType};
-ghost use Rattle.pj_names.specs.Meaning.{Done, Means, Source, whole, Agrees};
+ghost use Rattle.pj_names.specs.Meaning.{Done, Gives, Means, Source, over, whole, Agrees};
 ghost use Rattle.pj_types.specs.Listing.{AreSupertypes, asked_names};
 ghost use Rattle.pj_types.specs.Substitution.{erased, substituted};
 ghost use Rattle.pj_types.specs.Subtyping.{is_under};
@@ -30,11 +30,12 @@ pub fn sources_agree<T>()
 {}
 
 /// What the list of supertypes means is the list that the recursion leads to; where it leads to one, that is meant, and its
-/// classes but `java.lang.Object` are asked in their order. In a world that names finitely many classes there is one for each
+/// classes but `java.lang.Object` are asked: at each depth from its length on in their order. In a world that names finitely many classes there is one for each
 /// class, and nowhere are there two. Each class stands there once.
 pub fn lists_are_the_recursion()
-    ensures recursion { (world : Name → Answer) (name : Name) (types : List JavaType) (names : List Name) → Means (whole world) (supertype_list name) (Done types names) → AreSupertypes world name types }
-    ensures meant { (world : Name → Answer) (name : Name) (types : List JavaType) → AreSupertypes world name types → Means (whole world) (supertype_list name) (Done types (asked_names (map class_name types))) }
+    ensures recursion { (world : Name → Answer) (name : Name) (types : List JavaType) (names : NameSet) → Means (whole world) (supertype_list name) (Gives types names) → AreSupertypes world name types }
+    ensures meant { (world : Name → Answer) (name : Name) (types : List JavaType) → AreSupertypes world name types → Means (whole world) (supertype_list name) (Gives types (name_set (asked_names (map class_name types)))) }
+    ensures order { (world : Name → Answer) (name : Name) (types : List JavaType) (depth : ℕ) → AreSupertypes world name types → length types ≤ depth → over depth (whole world) (supertype_list name) ≡ Done types (asked_names (map class_name types)) }
     ensures there { (answers : List (Name × Answer)) (name : Name) → (types : List JavaType) × AreSupertypes (list_world answers).answer name types }
     ensures one { (world : Name → Answer) (name : Name) (first second : List JavaType) → AreSupertypes world name first → AreSupertypes world name second → first ≡ second }
     ensures once { (world : Name → Answer) (name : Name) (types : List JavaType) → AreSupertypes world name types → IsDistinct (pointwise nat_eq) (map class_name types) }

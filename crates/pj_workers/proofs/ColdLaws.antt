@@ -1,8 +1,8 @@
 -- There is one cold report at most.
 use Rattle.std.proofs.Common.{◌≡◌, ◌∙◌, List, [], ◌∷◌, arith, max, refl, sym}
 use Rattle.std.specs.List.{AllZip}
-use Rattle.pj_names.specs.ClassName.{Name}
-use Rattle.pj_names.specs.Meaning.{Done, Means, Source}
+use Rattle.pj_names.specs.ClassName.{NameSet}
+use Rattle.pj_names.specs.Meaning.{Gives, Means, Source}
 use Rattle.pj_names.specs.Asking.{Asking}
 use Rattle.pj_outside.specs.Files.{Files}
 use Rattle.pj_reports.specs.declared.report.Report.{Report}
@@ -12,10 +12,10 @@ use Rattle.pj_workers.specs.Cold.{AreRowsOf, IsCold, World}
 use Rattle.pj_workers.specs.FileMeaning.{Bytes, Replies}
 use Rattle.pj_workers.specs.Rules.{Rule}
 
-one_value : {A : Type 0} (v w : A) (m n : List Name) → Done v m ≡ Done w n → v ≡ w
+one_value : {A : Type 0} (v w : A) (m n : NameSet) → Gives v m ≡ Gives w n → v ≡ w
 one_value v w m n e = cc
 
-one_outcome : {A : Type 0} (source : Source) (meaning : Asking A) (v w : A) (m n : List Name) → Means source meaning (Done v m) → Means source meaning (Done w n) → v ≡ w
+one_outcome : {A : Type 0} (source : Source) (meaning : Asking A) (v w : A) (m n : NameSet) → Means source meaning (Gives v m) → Means source meaning (Gives w n) → v ≡ w
 one_outcome source meaning v w m n a b =
     let depth = max a.least b.least in
     one_value v w m n (sym (a.is depth (omega arith)) ∙ b.is depth (omega arith))

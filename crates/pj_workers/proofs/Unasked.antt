@@ -9,8 +9,8 @@ use Rattle.std.specs.FinSet.{contains-empty, contains-insert}
 use Rattle.pj_names.specs.Asking.{Asking, Return, Ask, Unbounded, bind, names_of, value_of}
 use Rattle.pj_names.specs.Told.{all_needs}
 use Rattle.pj_names.proofs.AskingLaws.{asked_after-names, within-names, within-self}
-use Rattle.pj_names.specs.ClassName.{Name, NameSet}
-use Rattle.pj_names.specs.Meaning.{Done, Means, whole}
+use Rattle.pj_names.specs.ClassName.{Name, NameSet, name_set}
+use Rattle.pj_names.specs.Meaning.{Gives, Means, outcome_of, whole}
 use Rattle.pj_names.proofs.MeaningLaws.{names_of-bind, over-whole, value_of-bind}
 use Rattle.pj_names.specs.Told.{Asks, longest, with_names}
 use Rattle.pj_workers.specs.Cold.{World}
@@ -63,5 +63,5 @@ then_without m a k b first second = record {
 }
 
 -- what a meaning is over a world
-pub means_there : {A : Type 0} (m : Asking A) (a : A) (world : World) → IsWithoutAsking m a → Means (whole world) m (Done a [])
-means_there m a world h = record { least = longest; is = λ d far. over-whole d world m ∙ (λ i. Done (h.value_is world d far i) (h.names_are world d far i)) }
+pub means_there : {A : Type 0} (m : Asking A) (a : A) (world : World) → IsWithoutAsking m a → Means (whole world) m (Gives a set.empty)
+means_there m a world h = record { least = longest; is = λ d far. ap (λ r. outcome_of r) (over-whole d world m) ∙ (λ i. Gives (h.value_is world d far i) (name_set (h.names_are world d far i))) }

@@ -2,8 +2,8 @@
 use Rattle.std.specs.Prelude.{◌≡◌, List, map}
 use Rattle.std.specs.List.{AllZip}
 use Rattle.pj_names.specs.declared.answer.Answer.{Answer}
-use Rattle.pj_names.specs.ClassName.{Name}
-use Rattle.pj_names.specs.Meaning.{Done, Means, whole}
+use Rattle.pj_names.specs.ClassName.{Name, NameSet}
+use Rattle.pj_names.specs.Meaning.{Gives, Means, whole}
 use Rattle.pj_outside.specs.Files.{Files}
 use Rattle.pj_reports.specs.declared.report.Report.{Report}
 use Rattle.pj_reports.specs.declared.rows.FileRows.{FileRows}
@@ -15,15 +15,15 @@ use Rattle.pj_workers.specs.Rules.{Rule}
 abbrev pub World : Type 0
 World = Name → Answer
 
--- The meaning of the rules at the file comes to these rows, with these names asked. A meaning has no depth: this is what it is
--- from some depth of recursions on.
-abbrev pub ComesTo : Replies → World → List Rule → Bytes → Bytes → FileRows → List Name → Type 0
-ComesTo replies world rules path bytes rows names = Means (whole world) (file_meaning replies path bytes rules) (Done rows names)
+-- The meaning of the rules at the file comes to these rows, with the names of this set asked. A meaning has no depth: this is
+-- what it is from some depth of recursions on.
+abbrev pub ComesTo : Replies → World → List Rule → Bytes → Bytes → FileRows → NameSet → Type 0
+ComesTo replies world rules path bytes rows names = Means (whole world) (file_meaning replies path bytes rules) (Gives rows names)
 
 -- the rows of a file of a path
 pub record AreRowsOf (replies : Replies) (world : World) (rules : List Rule) (file : Bytes × Bytes) (rows : Bytes × FileRows) : Type 0 where
   pub path : rows.0 ≡ file.0
-  pub names : List Name
+  pub names : NameSet
   pub comes : ComesTo replies world rules file.0 file.1 rows.1 names
 
 -- The cold report of rules and configuration errors over files: the row of each rule, and the rows of each file, in their order.

@@ -1,5 +1,6 @@
 //! What the rules of a set find in a file.
 ghost use Rattle.std.specs.Prelude.{◌≡◌, ◌≤◌, ◌++◌, ◌∷◌, [], List, Ok, Err, IfOk, OnOk, OnErr, length};
+ghost use Rattle.std.specs.FinSet as set;
 ghost use Rattle.std.specs.List.{AllByRecursion, AllZip};
 ghost use Rattle.std.specs.Str.{IsUtf8};
 ghost use Rattle.pj_findings.specs.Merged.{only_error};
@@ -226,7 +227,7 @@ pub fn analyse_file(
     requires grammar { forms_of grammar.now ≡ java_17_forms }
     // The rows are those of the file's meaning, by the rules that the texts of the set spell, over every world of classes. None
     // of these is asked for.
-    ensures rows { IfOk result (λ result. (world : World) (meant : List MeantRule) → AreRulesOf rules.now meant → ComesTo no_types world meant path.now bytes.now result.rows []) }
+    ensures rows { IfOk result (λ result. (world : World) (meant : List MeantRule) → AreRulesOf rules.now meant → ComesTo no_types world meant path.now bytes.now result.rows set.empty) }
     ensures names { IfOk result (λ result. result.names ≡ []) }
     ensures analysed { OnOk result (work.new.analysed ≡ work.old.analysed ++ path.now ∷ []) }
     ensures reused { work.new.reused ≡ work.old.reused }

@@ -23,9 +23,9 @@ use Rattle.pj_xdenotes.specs.Denotes.{denotes}
 abbrev pub Reply : Type 0
 Reply = PmdFunction → Option Node → List (List ItemValue) → Means (List ItemValue)
 
--- what an expression comes to over a source of answers for classes: a sequence or a code, with the classes that were asked, or a class without an answer
+-- what an expression comes to over a source of answers for classes: a sequence or a code, with the set of the classes that were asked, or a class without an answer
 abbrev pub Outcome : Type 0
-Outcome = names.Meaning (Result (List ItemValue) XCode)
+Outcome = names.Outcome (Result (List ItemValue) XCode)
 
 -- An expression denotes one thing: in one context, with the same variables and over one source, it comes to one outcome at most.
 abbrev pub DenotesOne : Type 0
