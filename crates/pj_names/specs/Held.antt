@@ -6,7 +6,8 @@ use Rattle.pj_names.specs.Asking.{Asking, Return, ask, bind, names_of, value_of}
 use Rattle.pj_names.specs.Told.{Worlds, longest}
 
 -- What a meaning gives in the worlds of an oracle, at each depth that a call does not reach: this value, and it asks just the
--- names of this set.
+-- names of this set. A table of held answers keeps this, since its worlds may be those of an oracle over another one. `Means`
+-- is for one world, as reports and caches have it.
 pub record IsHeld {A : Type 0} (worlds : Worlds) (meaning : Asking A) (value : A) (names : NameSet) : Type 0 where
   pub value_is : (depth : ℕ) → longest ≤ depth → value_of depth (worlds depth).answer meaning ≡ value
   pub names_are : (depth : ℕ) → longest ≤ depth → name_set (names_of depth (worlds depth).answer meaning) ≡ names

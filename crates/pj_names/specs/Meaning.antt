@@ -48,8 +48,9 @@ over depth source (Return value) = Done value []
 over depth source (Ask name rest) = answered name (source name) (λ answer. over depth source (rest answer))
 over depth source (Unbounded recursion) = over depth source (recursion depth)
 
--- What a meaning comes to in the end: its value, with the set of the names that were asked; or a name that the source does
--- not answer. In which order the names were asked, and how often, is no part of it.
+-- What a meaning comes to in the end: its value, with the set of the names that were asked; or the first name that the source
+-- does not answer, which at small depths may be another one. In which order the names were asked, and how often, is no part
+-- of it. A finite source that is not whole, `source_of answers false`, gives what rests on just these answers.
 pub data Outcome (A : Type 0) : Type 0 where
   Gives : A → NameSet → Outcome A
   Lacks : Name → Outcome A
