@@ -1,15 +1,12 @@
 //! Types that nest as deep as a hostile class path wants.
-use pj_base::{Copied, NoMemory, Text};
-use pj_names::{Answer, AskFault, ClassInfo, ClassName, Members, Oracle};
+use crate::fixtures::{class, name};
+use pj_base::{NoMemory, Text};
+use pj_names::{Answer, AskFault, ClassName, Oracle};
 use pj_signatures::{class_signature, field_signature};
 use pj_types::{Walk, supertypes};
 use std::alloc::Global;
 use std::sync::Arc;
 use std::test::Fail;
-
-fn name(alloc: Global, text: &str) -> Result<ClassName, Fail> {
-    Ok(ClassName::of(alloc, text)?.ok_or("no class name")?)
-}
 
 /// A text some times, one behind the other.
 fn push_often(text: &mut Text, part: &str, times: u32) -> Result<(), NoMemory> {
@@ -61,13 +58,10 @@ fn nest(alloc: Global, classes: u32, depth: u32, name: &ClassName) -> Result<Ans
         return Ok(Answer::Absent);
     };
     match digits.parse::<u32>() {
-        Ok(number) if number < classes => Ok(Answer::Found(ClassInfo {
-            name: name.copied()?,
-            flags: 33,
-            signature: generic(alloc, number.saturating_add(1), depth)?,
-            fields: Members::new(alloc),
-            methods: Members::new(alloc),
-        })),
+        Ok(number) if number < classes => {
+            let signature = generic(alloc, number.saturating_add(1), depth)?;
+            Ok(Answer::Found(class(alloc, name, signature)?))
+        }
         _ => Ok(Answer::Absent),
     }
 }
