@@ -1,6 +1,6 @@
 //! Bytes of class files, with the class that is read of them or its first fault.
 use crate::classes::class_name;
-use crate::row_fault::{RowFault, told};
+use crate::row_fault::{RowFault, answer_text};
 use crate::shown::text_of;
 use pj_base::{Bytes, NoMemory, Text};
 use pj_classfile::{ClassRefused, answer_of, parse};
@@ -18,7 +18,7 @@ impl Table for ClassFiles {
     }
 
     fn answer(&self, alloc: Global, section: &Section, row: &Row) -> Result<String, NoMemory> {
-        told(alloc, answer(alloc, section, row.given.as_str()))
+        answer_text(alloc, answer(alloc, section, row.given.as_str()))
     }
 }
 

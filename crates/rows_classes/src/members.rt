@@ -1,6 +1,6 @@
 //! Fields and methods of a name along the supertypes of a class.
 use crate::classes::{class_name, oracle_of};
-use crate::row_fault::{RowFault, told};
+use crate::row_fault::{RowFault, answer_text};
 use crate::shown::{put_asked, put_type, put_types};
 use pj_base::{NoMemory, Text};
 use pj_members::{find_field, methods_named};
@@ -18,7 +18,7 @@ impl Table for MembersOfClasses {
     }
 
     fn answer(&self, alloc: Global, section: &Section, row: &Row) -> Result<String, NoMemory> {
-        told(alloc, answer(alloc, section, row.given.as_str()))
+        answer_text(alloc, answer(alloc, section, row.given.as_str()))
     }
 }
 

@@ -1,7 +1,7 @@
 //! The choice among methods for a call.
 use crate::classes::{class_name, put_class};
 use crate::java_types::type_of;
-use crate::row_fault::{RowFault, told};
+use crate::row_fault::{RowFault, answer_text};
 use pj_base::{NoMemory, Numbers, Text};
 use pj_names::{Answers, Bindings, MapOracle, Ty, TyList};
 use pj_overload::{Choice, choose};
@@ -19,7 +19,7 @@ pub struct Overloads {
 
 impl Table for Overloads {
     fn answer(&self, alloc: Global, _section: &Section, row: &Row) -> Result<String, NoMemory> {
-        told(
+        answer_text(
             alloc,
             answer(alloc, self.classes.as_str(), row.given.as_str()),
         )
@@ -36,7 +36,7 @@ fn answer(alloc: Global, classes: &str, given: &str) -> Result<String, RowFault>
     let (types, functions) = arguments_of(alloc, classes, arguments)?;
     let mut oracle = oracle_of(alloc, classes)?;
     let choice = choose(alloc, &mut oracle, &methods, &types, &functions)?;
-    shown(alloc, choice, &oracle)
+    choice_answer(alloc, choice, &oracle)
 }
 
 /// The classes of lines.
@@ -152,7 +152,7 @@ fn choice_text(alloc: Global, choice: Choice) -> Result<Text, NoMemory> {
 }
 
 /// A choice, with the simple names that were asked in the order of the bytes of the whole names.
-fn shown(alloc: Global, choice: Choice, oracle: &MapOracle) -> Result<String, RowFault> {
+fn choice_answer(alloc: Global, choice: Choice, oracle: &MapOracle) -> Result<String, RowFault> {
     let mut text = choice_text(alloc, choice)?;
     for (place, name) in oracle.asked().names(alloc)?.as_slice().iter().enumerate() {
         let Some((_, simple)) = name.as_str().rsplit_once('.') else {

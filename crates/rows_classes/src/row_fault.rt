@@ -40,7 +40,7 @@ impl From<AskFault> for RowFault {
 }
 
 /// The answer of a row, or what is wrong with the row as a refusal.
-pub fn told(alloc: Global, answer: Result<String, RowFault>) -> Result<String, NoMemory> {
+pub fn answer_text(alloc: Global, answer: Result<String, RowFault>) -> Result<String, NoMemory> {
     match answer {
         Ok(text) => Ok(text),
         Err(RowFault::Unread(what)) => Ok(format!(in alloc; "! the row is not read: {what}")?),

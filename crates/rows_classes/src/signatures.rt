@@ -1,6 +1,6 @@
 //! Descriptors and signatures, with what is read of them.
 use crate::classes::class_name;
-use crate::row_fault::{RowFault, told};
+use crate::row_fault::{RowFault, answer_text};
 use crate::shown::{text_of, type_text};
 use pj_base::{NoMemory, Text};
 use pj_names::{Bindings, Ty, Types};
@@ -21,17 +21,17 @@ impl Table for Signatures {
 
     fn answer(&self, alloc: Global, section: &Section, row: &Row) -> Result<String, NoMemory> {
         let reads = section.setting("reads").unwrap_or("");
-        told(alloc, answer(alloc, reads, row.given.as_str()))
+        answer_text(alloc, answer(alloc, reads, row.given.as_str()))
     }
 }
 
 fn answer(alloc: Global, reads: &str, given: &str) -> Result<String, RowFault> {
     match reads {
-        "descriptor" => shown(alloc, descriptor(alloc, given)?),
-        "field" => shown(alloc, field_signature(alloc, given)?),
-        "superclass" => shown(alloc, superclass(alloc, given)?),
-        "result" => shown(alloc, result_within(alloc, given)?),
-        "long" => judged(alloc, long_text(alloc, given)?.as_str()),
+        "descriptor" => type_answer(alloc, descriptor(alloc, given)?),
+        "field" => type_answer(alloc, field_signature(alloc, given)?),
+        "superclass" => type_answer(alloc, superclass(alloc, given)?),
+        "result" => type_answer(alloc, result_within(alloc, given)?),
+        "long" => kinds_of(alloc, long_text(alloc, given)?.as_str()),
         "class" => parts_of_class(alloc, class_signature(alloc, given)?),
         "method" => parts_of_method(alloc, method_signature(alloc, given)?),
         "method descriptor" => parts_of_method(alloc, method_descriptor(alloc, given)?),
@@ -40,7 +40,7 @@ fn answer(alloc: Global, reads: &str, given: &str) -> Result<String, RowFault> {
 }
 
 /// A type, where there is one.
-fn shown(alloc: Global, ty: Option<Ty>) -> Result<String, RowFault> {
+fn type_answer(alloc: Global, ty: Option<Ty>) -> Result<String, RowFault> {
     match ty {
         Some(ty) => Ok(type_text(alloc, &ty)?.into_string()),
         None => Ok(text_of(alloc, "! none")?),
@@ -56,7 +56,7 @@ fn superclass(alloc: Global, text: &str) -> Result<Option<Ty>, NoMemory> {
 }
 
 /// The variable `T` with the bound `p.Run`.
-fn around(alloc: Global) -> Result<Bindings, RowFault> {
+fn variable_around(alloc: Global) -> Result<Bindings, RowFault> {
     let bound = Ty::Class(class_name(alloc, "p.Run")?, Types::End);
     let mut around = Bindings::new(alloc);
     around.push((Text::from_str(alloc, "T")?, bound))?;
@@ -65,7 +65,7 @@ fn around(alloc: Global) -> Result<Bindings, RowFault> {
 
 /// The result of a signature of a method within a class with that variable.
 fn result_within(alloc: Global, text: &str) -> Result<Option<Ty>, RowFault> {
-    let around = around(alloc)?;
+    let around = variable_around(alloc)?;
     match method_signature_in(alloc, &around, text)? {
         Some(method) => Ok(Some(method.result)),
         None => Ok(None),
@@ -96,7 +96,7 @@ fn long_text(alloc: Global, words: &str) -> Result<String, RowFault> {
 }
 
 /// Whether a text is a descriptor and a signature of a field.
-fn judged(alloc: Global, text: &str) -> Result<String, RowFault> {
+fn kinds_of(alloc: Global, text: &str) -> Result<String, RowFault> {
     let is_descriptor = descriptor(alloc, text)?.is_some();
     let is_signature = field_signature(alloc, text)?.is_some();
     let shown = match (is_descriptor, is_signature) {

@@ -1,6 +1,6 @@
 //! Substitution, erasure, supertypes and subtyping.
 use crate::classes::{class_name, oracle_of};
-use crate::row_fault::{RowFault, told};
+use crate::row_fault::{RowFault, answer_text};
 use crate::shown::{put_asked, put_type, text_of, type_text};
 use pj_base::{NoMemory, Text};
 use pj_names::{Bindings, MapOracle, Ty};
@@ -21,14 +21,14 @@ impl Table for Supertypes {
     }
 
     fn answer(&self, alloc: Global, section: &Section, row: &Row) -> Result<String, NoMemory> {
-        told(alloc, answer(alloc, section, row.given.as_str()))
+        answer_text(alloc, answer(alloc, section, row.given.as_str()))
     }
 }
 
 fn answer(alloc: Global, section: &Section, given: &str) -> Result<String, RowFault> {
     match section.setting("shows").unwrap_or("") {
-        "substituted" => substituted(alloc, section, given),
-        "erased" => erased(alloc, given),
+        "substituted" => substituted_type(alloc, section, given),
+        "erased" => erased_type(alloc, given),
         "supertypes" => all_supertypes(alloc, oracle_of(alloc, section)?, given),
         "walk" => walk(alloc, oracle_of(alloc, section)?, given),
         "asking walk" => asking_walk(alloc, oracle_of(alloc, section)?, given),
@@ -74,14 +74,14 @@ fn bindings_of(alloc: Global, section: &Section) -> Result<Bindings, RowFault> {
     Ok(bindings)
 }
 
-fn substituted(alloc: Global, section: &Section, given: &str) -> Result<String, RowFault> {
+fn substituted_type(alloc: Global, section: &Section, given: &str) -> Result<String, RowFault> {
     let bindings = bindings_of(alloc, section)?;
     let ty = type_of(alloc, given)?;
     let ty = substitute(alloc, &ty, &bindings)?;
     Ok(type_text(alloc, &ty)?.into_string())
 }
 
-fn erased(alloc: Global, given: &str) -> Result<String, RowFault> {
+fn erased_type(alloc: Global, given: &str) -> Result<String, RowFault> {
     let ty = type_of(alloc, given)?;
     let ty = erase(alloc, &ty)?;
     Ok(type_text(alloc, &ty)?.into_string())
