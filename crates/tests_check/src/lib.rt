@@ -1,19 +1,7 @@
-//! Tests of whole runs: words, files and rulesets in memory, with the outcome, the note and the report, as rows by hand.
+//! Tests of runs that no row says: the lines of notes, and how many files a run may have.
 #![tactic(auto)]
 
 #[cfg(test)]
-mod failing;
-#[cfg(test)]
-mod formats;
-#[cfg(test)]
 mod limits;
 #[cfg(test)]
-mod paths;
-#[cfg(test)]
-mod queries;
-#[cfg(test)]
-mod refusals;
-#[cfg(test)]
-mod rulesets;
-#[cfg(test)]
-mod runs;
+mod notes;

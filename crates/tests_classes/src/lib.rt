@@ -1,13 +1,12 @@
-//! Tests of the crates of classes and their types, through what they show: worked rows in tables, each with one loop.
+//! Tests of signatures and supertypes that no row says: copies, a long chain of classes, and hierarchies and signatures that were
+//! made to do harm.
 #![tactic(auto)]
 
 #[cfg(test)]
-mod class_bodies;
+mod chain;
 #[cfg(test)]
-mod classfile;
+mod copies;
+#[cfg(test)]
+mod deep;
 #[cfg(test)]
 mod fixtures;
-#[cfg(test)]
-mod signatures;
-#[cfg(test)]
-mod types;
