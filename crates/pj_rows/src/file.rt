@@ -1,4 +1,6 @@
 //! What a file of rows holds.
+use pj_base::NoMemory;
+use std::alloc::Global;
 
 /// A setting of a section, as `@name value`.
 #[derive(Debug, Drop)]
@@ -49,5 +51,15 @@ impl Section {
     /// Whether some setting has this name.
     pub fn has(&self, name: &str) -> bool {
         self.setting(name).is_some()
+    }
+
+    /// The text in the place of the dots of the setting `frame`, as `class A { .. }`; the text alone where there is no frame.
+    pub fn framed(&self, alloc: Global, text: &str) -> Result<String, NoMemory> {
+        let frame = self.setting("frame").unwrap_or("..");
+        let (before, behind) = frame.split_once("..").unwrap_or((frame, ""));
+        let mut framed = String::from_str(alloc, before)?;
+        framed.push_str(text)?;
+        framed.push_str(behind)?;
+        Ok(framed)
     }
 }

@@ -1,5 +1,13 @@
-//! Files of rows, each of which says what is given and what is wanted of it, and the running of the tables that answer
-//! them. `docs/ROWS.md` says how such a file is written.
+//! Files of rows, each of which says what is given and what is wanted of it, and the running of tables that answer them.
+//!
+//! - `## ..` heads a section, in which rows stand; `# ..`, or `#` alone, is a comment.
+//! - `@name value` is a setting of the section. It stands under the heading, before the rows.
+//! - `given => wanted` is a row of one line; the last ` => ` parts it, and spaces around both do not count.
+//! - A row of several lines has those of what is given, and then one that begins with `=>`, which is, with those below it up
+//!   to an empty line, what is wanted. Spaces at the end of a line do not count.
+//! - `\{n}`, `\{t}`, `\{r}`, `\{s}` (a space), `\{}` (nothing) and `\{HEX}` (a character by its number) are escapes, and every
+//!   other backslash is itself.
+//! - What is wanted of a refusal begins with `! `.
 #![tactic(auto)]
 
 mod escapes;

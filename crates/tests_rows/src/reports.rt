@@ -1,4 +1,4 @@
-//! What is told of files, found by hand from `docs/ROWS.md`.
+//! What is told of files, found by hand.
 use pj_base::NoMemory;
 use pj_rows::{Row, Section, Table, report_on};
 use std::alloc::Global;
