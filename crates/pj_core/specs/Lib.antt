@@ -1,0 +1,4 @@
+-- definitions
+pub mod Events
+-- laws
+pub mod Lawful
