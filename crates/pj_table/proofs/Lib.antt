@@ -1,0 +1,10 @@
+pub mod Readings
+pub mod Books
+pub mod Parts
+pub mod Allowed
+pub mod Claims
+pub mod Seats
+pub mod Ends
+pub mod Worlds
+pub mod Places
+pub mod Lies

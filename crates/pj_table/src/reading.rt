@@ -1,0 +1,36 @@
+//! What a door has for a name.
+ghost use Rattle.std.specs.Prelude.{◌≡◌, IfOk};
+ghost use Rattle.pj_outside.specs.Faults.{next_count};
+ghost use Rattle.pj_table.specs.Worlds.{CountsFaults, IsAnswer};
+
+use pj_base::NoMemory;
+use pj_classfile::answer_of;
+use pj_names::{Answer, AskFault, ClassName};
+use pj_outside::{ClassDoor, Refused};
+use std::alloc::Global;
+
+/// The most bytes of a class file that are read.
+const CLASS_BYTES: u64 = 4_194_304;
+
+/// The answer that the folders of the door have for a name, by one find.
+#[tactic(auto, using(crate::proofs::Readings::short_enough, crate::proofs::Readings::is_answer))]
+pub(crate) fn read_answer<D: ClassDoor>(
+    alloc: Global,
+    door: &mut D,
+    name: &ClassName,
+) -> Result<Answer, AskFault>
+    ensures same_folders { D.holds door.new ≡ D.holds door.old }
+    ensures finds { D.finds door.new ≡ next_count (D.finds door.old) }
+    ensures faults { CountsFaults (D.faults door.old) (D.faults door.new) result }
+    ensures answer { IfOk result (λ answer. IsAnswer (D.holds door.old) name.now answer) }
+{
+    let reading = match door.find(name, CLASS_BYTES) {
+        Ok(reading) => reading,
+        Err(Refused::Failed) => return Err(AskFault::Failed),
+        Err(Refused::Memory) => return Err(AskFault::Memory),
+    };
+    match answer_of(alloc, name, &reading) {
+        Ok(answer) => Ok(answer),
+        Err(NoMemory) => Err(AskFault::Memory),
+    }
+}
