@@ -1,4 +1,0 @@
--- definitions
-pub mod Table
--- laws
-pub mod TableLaws
