@@ -77,20 +77,24 @@ fn times(word: &str) -> Option<u32> {
     word.strip_prefix("x")?.parse::<u32>().ok()
 }
 
+/// Puts a word some times.
+fn put_often(text: &mut String, word: &str, times: u32) -> Result<(), NoMemory> {
+    for _time in 0..times {
+        text.push_str(word)?;
+    }
+    Ok(())
+}
+
 /// The words one behind the other; a word `x255` repeats the one before it.
 fn long_text(alloc: Global, words: &str) -> Result<String, RowFault> {
     let mut text = String::new(alloc);
-    let mut before = "";
+    let mut before = String::new(alloc);
     for word in words.split(' ') {
         match times(word) {
-            Some(times) => {
-                for _time in 1..times {
-                    text.push_str(before)?;
-                }
-            }
+            Some(times) => put_often(&mut text, before.as_str(), times.saturating_sub(1))?,
             None => text.push_str(word)?,
         }
-        before = word;
+        before = String::from_str(alloc, word)?;
     }
     Ok(text)
 }
