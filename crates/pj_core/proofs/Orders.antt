@@ -8,9 +8,9 @@ use Rattle.std.specs.FinMap.{get-insert, get-empty, nat_cmp-IsAntisymmetric, sli
 use Rattle.std.specs.Ordering.{eq_by_cmp, nat_cmp}
 use Rattle.std.specs.Cmp.{Equal-is}
 use Rattle.std.specs.Cmp.Lexicographic.{slice_cmp, nat_list_cmp_total}
-use Rattle.pj_names.specs.ClassName.{Name}
+use Rattle.pj_names.specs.ClassName.{Name, NameSet}
 use Rattle.pj_names.specs.Asking.{Asking, Return, Ask, Unbounded}
-use Rattle.pj_names.specs.Meaning.{Source, Meaning, Done, Need, Means, also, answered, over, whole}
+use Rattle.pj_names.specs.Meaning.{Source, Meaning, Done, Need, Outcome, Gives, Lacks, Means, also, answered, outcome_of, over, whole}
 use Rattle.pj_names.specs.declared.answer.Answer.{Answer}
 use Rattle.pj_core.specs.declared.event.Event.{Event}
 use Rattle.pj_core.specs.declared.event.Event.TheVariants.{Claim, Look, Finish}
@@ -35,12 +35,12 @@ truthful depth source world (Ask n rest) true_source =
       ]
     ] (true_source n)
 
-not_both : {T : Type 0} (rows : T) (names : List Name) (n : Name) → Done rows names ≡ Need n → ⊥
-not_both {T} rows names n e = subst (λ (m : Meaning T). is_done m) e tt
+not_both : {T : Type 0} (rows : T) (names : NameSet) (n : Name) → Gives rows names ≡ Lacks n → ⊥
+not_both {T} rows names n e = subst (λ (o : Outcome T). is_given o) e tt
   where
-    is_done : Meaning T → Type 0
-    is_done (Done r ns) = Unit {0}
-    is_done (Need q) = ⊥
+    is_given : Outcome T → Type 0
+    is_given (Gives r ns) = Unit {0}
+    is_given (Lacks q) = ⊥
 
 -- what is done over a truthful source is done so over the world
 pub truly_done : {T : Type 0} (source : Source) (world : Name → Answer) (meaning : Asking T) (rows : T) → ((n : Name) → IsNoOther (source n) (world n)) → HasRows source meaning rows → HasRows (whole world) meaning rows
@@ -49,8 +49,8 @@ truly_done source world meaning rows true_source has = (
   record {
     least = has.1.least;
     is = λ depth enough. elim (truthful depth source world meaning true_source) [
-      | inl same ↦ sym same ∙ has.1.is depth enough
-      | inr needs ↦ absurd (not_both rows has.0 needs.0 (sym (has.1.is depth enough) ∙ needs.1))
+      | inl same ↦ ap (λ m. outcome_of m) (sym same) ∙ has.1.is depth enough
+      | inr needs ↦ absurd (not_both rows has.0 needs.0 (sym (has.1.is depth enough) ∙ ap (λ m. outcome_of m) needs.1))
     ];
   },
 )

@@ -10,9 +10,9 @@
 -- kept from another run, as long as the table has what shows that its rows are right.
 use Rattle.std.specs.Prelude.{◌≡◌, ◌<◌, ◌+◌, ℕ, zero, suc, List, [], ◌∷◌, ◌++◌, length, Option, Some, None}
 use Rattle.std.specs.FinMap as finmap
-use Rattle.pj_names.specs.ClassName.{Name}
+use Rattle.pj_names.specs.ClassName.{Name, NameSet}
 use Rattle.pj_names.specs.Asking.{Asking}
-use Rattle.pj_names.specs.Meaning.{Source, Means, Done, whole}
+use Rattle.pj_names.specs.Meaning.{Source, Means, Gives, whole}
 use Rattle.pj_names.specs.declared.answer.Answer.{Answer}
 use Rattle.pj_core.specs.declared.event.Event.{Event}
 use Rattle.pj_core.specs.declared.event.Event.TheVariants.{Claim, Look, Finish}
@@ -26,7 +26,7 @@ source_of_table table name = finmap.get table name
 
 -- The file means these rows over the source, whatever names it asks.
 abbrev pub HasRows : {T : Type 0} → Source → Asking T → T → Type 0
-HasRows source meaning rows = (names : List Name) × Means source meaning (Done rows names)
+HasRows source meaning rows = (names : NameSet) × Means source meaning (Gives rows names)
 
 module _ {R T : Type 0} (rows_of : R → T) (meaning : ℕ → Asking T) (world : Name → Answer) where
   -- An event is lawful in a state where it may happen, where a look has the world's answer, and where a finish has the rows
