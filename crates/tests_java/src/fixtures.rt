@@ -1,8 +1,5 @@
-//! Tables of rows, and how a row fails.
+//! How a row fails.
 use std::test::Fail;
-
-/// Texts, each with what is wanted of it.
-pub type Table = &'static [(&'static str, &'static str)];
 
 /// Fails with the name of a row where what it says does not hold.
 pub fn expect(holds: bool, row: &'static str) -> Result<(), Fail> {

@@ -1,4 +1,4 @@
-//! Trees and the places of texts. The values were found by hand.
+//! Trees that are built by hand. The values were found by hand.
 
 ghost use Rattle.std.specs.Prelude.{◌≡◌, ◌<◌, [], IfOk, length};
 ghost use Rattle.std.specs.List.{fold};
@@ -8,58 +8,10 @@ ghost use Rattle.pj_tree.specs.declared.kind.Kind.TheVariants.{CompilationUnit};
 
 use crate::fixtures::expect;
 use pj_base::NoMemory;
-use pj_tree::{Builder, Kind, LineMap, Node, ShapeFault, Span, SyntaxTree};
+use pj_tree::{Builder, Kind, Node, ShapeFault, Span, SyntaxTree};
 use std::alloc::{AllocError, Global};
 use std::fmt::Write;
 use std::test::Fail;
-
-/// Whether these are the places of all offsets of a text, the end included.
-fn are_places(alloc: Global, text: &str, wanted: &[(u32, u32)]) -> Result<bool, NoMemory> {
-    if text.len() > 100 || wanted.len() != text.len() + 1 {
-        return Ok(false);
-    }
-    let map = LineMap::new(alloc, text)?;
-    for offset in 0..wanted.len() {
-        let place = map.place(offset as u32);
-        if wanted[offset] != (place.line, place.column) {
-            return Ok(false);
-        }
-    }
-    Ok(true)
-}
-
-/// Texts with the places of their offsets.
-static PLACES: [(&str, &[(u32, u32)]); 8] = [
-    ("", &[(1, 1)]),
-    ("ab", &[(1, 1), (1, 2), (1, 3)]),
-    ("a\r\nb", &[(1, 1), (1, 2), (1, 3), (2, 1), (2, 2)]),
-    ("\r\r\n\n", &[(1, 1), (2, 1), (2, 2), (3, 1), (4, 1)]),
-    ("\n\r", &[(1, 1), (2, 1), (3, 1)]),
-    ("\u{e9}\tx", &[(1, 1), (1, 1), (1, 2), (1, 3), (1, 4)]),
-    ("\u{feff}a", &[(1, 1), (1, 1), (1, 1), (1, 2), (1, 3)]),
-    (
-        "a\u{2028}\u{1f600}",
-        &[
-            (1, 1),
-            (1, 2),
-            (1, 2),
-            (1, 2),
-            (1, 3),
-            (1, 3),
-            (1, 3),
-            (1, 3),
-            (1, 4),
-        ],
-    ),
-];
-
-#[test]
-fn places_of_texts(rt: HostRuntime) -> Result<(), Fail> {
-    for (text, wanted) in &PLACES {
-        expect(are_places(rt.alloc(), text, wanted)?, text)?;
-    }
-    Ok(())
-}
 
 /// Opens and closes nodes, each in the one before.
 fn nest(builder: &mut Builder<'_>, depth: u32) -> Result<(), NoMemory>
