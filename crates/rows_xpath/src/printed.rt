@@ -1,6 +1,6 @@
 //! Expressions as texts in which each operator has its parentheses.
 
-use pj_base::{NoMemory, Text};
+use pj_base::Text;
 use pj_xexpressions::{
     Additive, Axis, Compare, Expr, Function, Multiplicative, NodeTest, PmdFunction, Quantifier,
     SetOperator, Sign,
@@ -42,13 +42,6 @@ pub fn print_expr(out: &mut String, alloc: Global, expr: &Expr) -> Result<(), Al
     let mut left = Vec::new(alloc);
     left.push(Piece::Expr(expr))?;
     print_all(out, &mut left)
-}
-
-/// Whether this is the expression as a text (`print_expr`).
-pub fn is_printed(alloc: Global, expr: &Expr, wanted: &str) -> Result<bool, NoMemory> {
-    let mut out = String::new(alloc);
-    print_expr(&mut out, alloc, expr)?;
-    Ok(out.as_str() == wanted)
 }
 
 /// Prints what stands before the parts of an expression, and keeps what is left.

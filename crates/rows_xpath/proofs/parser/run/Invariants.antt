@@ -1,6 +1,6 @@
 use Rattle.std.proofs.Common.{true, false, List, [], ◌∷◌}
 use Rattle.pj_ll.specs.Predictive.{RuleFacts}
-use Rattle.tests_syntax.proofs.ll.gives.Given as goal
+use Rattle.rows_xpath.proofs.parser.run.Given as goal
 
 -- a sum, what follows its first operand, and an operand
 abbrev pub sums_facts : List RuleFacts
