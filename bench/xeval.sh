@@ -13,11 +13,11 @@ set -euo pipefail
 libraries='pj_attrs pj_base pj_names pj_parse pj_source pj_symbols pj_tree pj_xdenotes pj_xeval pj_xexpressions pj_xfuncs pj_xparse pj_xvalue'
 scratch_repository xeval_bench "$libraries" $(with_lower_crates $libraries)
 trees_of_chains
-for part in $(cd "$here/crates/tests_xeval" && find src/replies.rt src/facts.rt specs proofs/facts -type f ! -name Lib.antt); do
+for part in $(cd "$here/crates/rows_evaluation" && find src/replies.rt src/facts.rt specs proofs/facts -type f ! -name Lib.antt); do
     mkdir -p "$(dirname "$bench/$part")"
-    sed 's/tests_xeval/xeval_bench/g' "$here/crates/tests_xeval/$part" > "$bench/$part"
+    sed 's/rows_evaluation/xeval_bench/g' "$here/crates/rows_evaluation/$part" > "$bench/$part"
 done
-cat "$here/crates/tests_xeval/specs/Lib.antt" >> "$bench/specs/Lib.antt"
+cat "$here/crates/rows_evaluation/specs/Lib.antt" >> "$bench/specs/Lib.antt"
 mkdir -p "$bench/proofs/items_of"
 cat > "$bench/proofs/items_of/Answers.antt" <<'ANTT'
 use Rattle.std.specs.Prelude.{length}
