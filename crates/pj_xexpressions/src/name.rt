@@ -1,11 +1,13 @@
 //! The names of functions and axes.
 
 ghost use Rattle.std.specs.Prelude.{◌≡◌};
-ghost use Rattle.pj_xexpressions.specs.Names.{functions, pmd_functions, found_in, unprefixed, xpath_or_pmd, callee_of, axis_of};
+ghost use Rattle.pj_base.specs.WordTable.{value_in};
+ghost use Rattle.pj_xexpressions.specs.Names.{functions, pmd_functions, unprefixed, xpath_or_pmd, callee_of, axis_of};
 
 use crate::axis::Axis;
 use crate::function::Function;
 use crate::pmd_function::PmdFunction;
+use pj_base::value_in;
 
 /// A function that a name calls.
 #[derive(Clone, Copy)]
@@ -16,93 +18,99 @@ pub enum Callee {
     Pmd(PmdFunction),
 }
 
+/// The functions of XPath by their names.
+static FUNCTIONS: [(&str, Function); 38] = [
+    ("position", Function::Position),
+    ("last", Function::Last),
+    ("count", Function::Count),
+    ("exists", Function::Exists),
+    ("empty", Function::Empty),
+    ("not", Function::Not),
+    ("true", Function::True),
+    ("false", Function::False),
+    ("boolean", Function::Boolean),
+    ("string", Function::String),
+    ("data", Function::Data),
+    ("concat", Function::Concat),
+    ("string-join", Function::StringJoin),
+    ("contains", Function::Contains),
+    ("starts-with", Function::StartsWith),
+    ("ends-with", Function::EndsWith),
+    ("substring", Function::Substring),
+    ("substring-before", Function::SubstringBefore),
+    ("substring-after", Function::SubstringAfter),
+    ("string-length", Function::StringLength),
+    ("normalize-space", Function::NormalizeSpace),
+    ("upper-case", Function::UpperCase),
+    ("lower-case", Function::LowerCase),
+    ("translate", Function::Translate),
+    ("matches", Function::Matches),
+    ("replace", Function::Replace),
+    ("tokenize", Function::Tokenize),
+    ("name", Function::Name),
+    ("local-name", Function::LocalName),
+    ("distinct-values", Function::DistinctValues),
+    ("sum", Function::Sum),
+    ("min", Function::Min),
+    ("max", Function::Max),
+    ("abs", Function::Abs),
+    ("reverse", Function::Reverse),
+    ("index-of", Function::IndexOf),
+    ("subsequence", Function::Subsequence),
+    ("root", Function::Root),
+];
+
 /// The function of XPath that the name calls, without the prefix `fn:`.
 pub fn xpath_function(name: &str) -> Option<Function>
-    ensures { result ≡ found_in functions name.now }
+    ensures { result ≡ value_in functions name.now }
 {
-    match name {
-        "position" => Some(Function::Position),
-        "last" => Some(Function::Last),
-        "count" => Some(Function::Count),
-        "exists" => Some(Function::Exists),
-        "empty" => Some(Function::Empty),
-        "not" => Some(Function::Not),
-        "true" => Some(Function::True),
-        "false" => Some(Function::False),
-        "boolean" => Some(Function::Boolean),
-        "string" => Some(Function::String),
-        "data" => Some(Function::Data),
-        "concat" => Some(Function::Concat),
-        "string-join" => Some(Function::StringJoin),
-        "contains" => Some(Function::Contains),
-        "starts-with" => Some(Function::StartsWith),
-        "ends-with" => Some(Function::EndsWith),
-        "substring" => Some(Function::Substring),
-        "substring-before" => Some(Function::SubstringBefore),
-        "substring-after" => Some(Function::SubstringAfter),
-        "string-length" => Some(Function::StringLength),
-        "normalize-space" => Some(Function::NormalizeSpace),
-        "upper-case" => Some(Function::UpperCase),
-        "lower-case" => Some(Function::LowerCase),
-        "translate" => Some(Function::Translate),
-        "matches" => Some(Function::Matches),
-        "replace" => Some(Function::Replace),
-        "tokenize" => Some(Function::Tokenize),
-        "name" => Some(Function::Name),
-        "local-name" => Some(Function::LocalName),
-        "distinct-values" => Some(Function::DistinctValues),
-        "sum" => Some(Function::Sum),
-        "min" => Some(Function::Min),
-        "max" => Some(Function::Max),
-        "abs" => Some(Function::Abs),
-        "reverse" => Some(Function::Reverse),
-        "index-of" => Some(Function::IndexOf),
-        "subsequence" => Some(Function::Subsequence),
-        "root" => Some(Function::Root),
-        _ => None,
-    }
+    value_in(&FUNCTIONS, name)
 }
+
+/// The functions of PMD by their names.
+static PMD_FUNCTIONS: [(&str, PmdFunction); 12] = [
+    ("pmd:fileName", PmdFunction::FileName),
+    ("pmd:startLine", PmdFunction::StartLine),
+    ("pmd:startColumn", PmdFunction::StartColumn),
+    ("pmd:endLine", PmdFunction::EndLine),
+    ("pmd:endColumn", PmdFunction::EndColumn),
+    ("pmd-java:typeIs", PmdFunction::TypeIs),
+    ("pmd-java:typeIsExactly", PmdFunction::TypeIsExactly),
+    ("pmd-java:hasAnnotation", PmdFunction::HasAnnotation),
+    ("pmd-java:matchesSig", PmdFunction::MatchesSig),
+    ("pmd-java:nodeIs", PmdFunction::NodeIs),
+    ("pmd-java:modifiers", PmdFunction::Modifiers),
+    ("pmd-java:explicitModifiers", PmdFunction::ExplicitModifiers),
+];
 
 /// The function of PMD that the name calls.
 pub fn pmd_function(name: &str) -> Option<PmdFunction>
-    ensures { result ≡ found_in pmd_functions name.now }
+    ensures { result ≡ value_in pmd_functions name.now }
 {
-    match name {
-        "pmd:fileName" => Some(PmdFunction::FileName),
-        "pmd:startLine" => Some(PmdFunction::StartLine),
-        "pmd:startColumn" => Some(PmdFunction::StartColumn),
-        "pmd:endLine" => Some(PmdFunction::EndLine),
-        "pmd:endColumn" => Some(PmdFunction::EndColumn),
-        "pmd-java:typeIs" => Some(PmdFunction::TypeIs),
-        "pmd-java:typeIsExactly" => Some(PmdFunction::TypeIsExactly),
-        "pmd-java:hasAnnotation" => Some(PmdFunction::HasAnnotation),
-        "pmd-java:matchesSig" => Some(PmdFunction::MatchesSig),
-        "pmd-java:nodeIs" => Some(PmdFunction::NodeIs),
-        "pmd-java:modifiers" => Some(PmdFunction::Modifiers),
-        "pmd-java:explicitModifiers" => Some(PmdFunction::ExplicitModifiers),
-        _ => None,
-    }
+    value_in(&PMD_FUNCTIONS, name)
 }
+
+/// The axes of nodes by their names.
+static AXES: [(&str, Axis); 11] = [
+    ("child", Axis::Child),
+    ("descendant", Axis::Descendant),
+    ("self", Axis::SelfNode),
+    ("descendant-or-self", Axis::DescendantOrSelf),
+    ("following-sibling", Axis::FollowingSibling),
+    ("following", Axis::Following),
+    ("parent", Axis::Parent),
+    ("ancestor", Axis::Ancestor),
+    ("preceding-sibling", Axis::PrecedingSibling),
+    ("preceding", Axis::Preceding),
+    ("ancestor-or-self", Axis::AncestorOrSelf),
+];
 
 /// The axis of nodes with the name (XPath 2.0, 3.2.1.1), which `attribute` is not.
 #[tactic(auto, unfolding(crate::specs::Names::axis_of))]
 pub fn axis_named(name: &str) -> Option<Axis>
     ensures { result ≡ axis_of name.now }
 {
-    match name {
-        "child" => Some(Axis::Child),
-        "descendant" => Some(Axis::Descendant),
-        "self" => Some(Axis::SelfNode),
-        "descendant-or-self" => Some(Axis::DescendantOrSelf),
-        "following-sibling" => Some(Axis::FollowingSibling),
-        "following" => Some(Axis::Following),
-        "parent" => Some(Axis::Parent),
-        "ancestor" => Some(Axis::Ancestor),
-        "preceding-sibling" => Some(Axis::PrecedingSibling),
-        "preceding" => Some(Axis::Preceding),
-        "ancestor-or-self" => Some(Axis::AncestorOrSelf),
-        _ => None,
-    }
+    value_in(&AXES, name)
 }
 
 /// The name without the prefix `fn:`.

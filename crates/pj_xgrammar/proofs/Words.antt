@@ -5,11 +5,13 @@ use Rattle.std.specs.Str.{chars, IsUtf8, IsAscii}
 use Rattle.std.proofs.lemmas.Bool.{false≢true, both_ways, and_parts, and_from, cases_Bool, eq-eqb, eqb-true, ltb-true}
 use Rattle.std.proofs.lemmas.Str.{encodes-chars, encodes-IsAscii, chars-IsAscii}
 use Rattle.std.proofs.lemmas.Str.Ascii.{IsAscii-nil, IsAscii-cons}
+use Rattle.std.specs.Prelude.{map}
+use Rattle.pj_xgrammar.specs.declared.word.Word.{Word}
 use lib.Dec.{ltb}
 use lib.Utf8.{encodes}
 use Rattle.pj_xgrammar.specs.Terminals.{name_behind}
 use Rattle.pj_xgrammar.specs.declared.terminal.Behind.TheVariants as b
-use Rattle.pj_xgrammar.specs.Words.{WordEntry, same, words, word_in, word_of}
+use Rattle.pj_xgrammar.specs.Words.{same}
 
 same_is : (t w : List ℕ) → same t w ≡ true → t ≡ w
 same_is [] [] h = refl
@@ -23,15 +25,6 @@ same_self (c ∷ cs) = and_from _ _ (eq-eqb c c refl) (same_self cs)
 
 pub same_false : (t w : List ℕ) → (w ≡ t → ⊥) → same t w ≡ false
 same_false t w ne = ⊎_elim (λ (h : same t w ≡ true). absurd (ne (sym (same_is t w h)))) (λ (h : same t w ≡ false). h) (cases_Bool (same t w))
-
--- a word that is none of a table
-pub data IsNone (w : List ℕ) : List WordEntry → Type 0 where
-  none : IsNone w []
-  other : (e : WordEntry) (es : List WordEntry) → same e.text w ≡ false → IsNone w es → IsNone w (e ∷ es)
-
-absent : (w : List ℕ) (es : List WordEntry) → IsNone w es → word_in es w ≡ None
-absent w _ none = refl
-absent w _ (other e es h n) = ap (λ b. cond b (Some e.word) (word_in es w)) h ∙ absent w es n
 
 -- ---- characters and bytes
 
@@ -50,21 +43,9 @@ same_chars t w small u =
     (λ (h : same t w ≡ false). same_false t (chars w) (λ e. both_ways (same t w) h (ap (same t) (sym (encodes-chars w u) ∙ ap encodes e ∙ encodes-IsAscii t ascii) ∙ same_self t)) ∙ sym h)
     (cases_Bool (same t w))
 
-word_in_chars : (es : List WordEntry) (w : List ℕ) → list_all (λ e. is_small e.text) es ≡ true → IsUtf8 w → word_in es (chars w) ≡ word_in es w
-word_in_chars [] w h u = refl
-word_in_chars (e ∷ es) w h u =
-    let a = and_parts _ _ h in
-    λ i. cond (same_chars e.text w a.0 u i) (Some e.word) (word_in_chars es w a.1 u i)
-
-word_of_chars : (w : List ℕ) → IsUtf8 w → word_of (chars w) ≡ word_of w
-word_of_chars w u = word_in_chars words w refl u
-
--- the word of a text that is one of them, and of one that is none
-pub word_is : (w t : List ℕ) → IsUtf8 w → w ≡ t → word_of t ≡ word_of (chars w)
-word_is w t u is = ap word_of (sym is) ∙ sym (word_of_chars w u)
-
-pub no_word : (w : List ℕ) → IsUtf8 w → IsNone w words → None ≡ word_of (chars w)
-no_word w u n = sym (word_of_chars w u ∙ absent w words n)
+pub row_chars : (rows : List (List ℕ × Word)) → list_all (λ r. is_small r.0) rows ≡ true → map (λ r. (chars r.0, r.1)) rows ≡ rows
+row_chars [] h = refl
+row_chars (r ∷ rs) h = let a = and_parts _ _ h in λ i. (chars-IsAscii r.0 (ascii_from_small r.0 a.0) i, r.1) ∷ row_chars rs a.1 i
 
 -- ---- what a name is for the token before it
 

@@ -1,7 +1,7 @@
 //! The rules of the grammar.
 
 /// A rule of the grammar. The productions stand in `specs/XPath.antt`. A rule's number is its place here, counted from 0.
-#[derive(Clone, Copy, Debug, PartialEq, Eq)]
+#[derive(Clone, Copy, PartialEq, Eq)]
 pub enum Rule {
     /// expressions with commas between them (XPath 2.0, A.1, 2: Expr)
     Expr,

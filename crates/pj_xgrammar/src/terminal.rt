@@ -10,7 +10,7 @@ use crate::word::{Keyword, Phrase, Word, word_of};
 use pj_xtokens::{Sign, Token, TokenKind};
 
 /// What stands behind a token, as far as the token's terminal depends on it.
-#[derive(Clone, Copy, Debug, PartialEq, Eq)]
+#[derive(Clone, Copy, PartialEq, Eq)]
 pub enum Behind {
     /// The end of the text.
     End,
@@ -27,7 +27,7 @@ pub enum Behind {
 }
 
 /// What a token is for the grammar.
-#[derive(Clone, Copy, Debug, PartialEq, Eq)]
+#[derive(Clone, Copy, PartialEq, Eq)]
 pub enum Terminal {
     /// A name that has no meaning here, or only that of a name.
     Name,

@@ -4,9 +4,11 @@ ghost use Rattle.std.specs.Prelude.{◌≡◌};
 ghost use Rattle.std.specs.Str.{chars};
 ghost use Rattle.pj_xgrammar.specs.Words.{word_of};
 
+use pj_base::value_in;
+
 /// A word that is a terminal of its own whatever stands behind it (XPath 2.0, A.2.2), and the names of the axes, which are
 /// one. Where the grammar wants a name, each of them is one.
-#[derive(Clone, Copy, Debug, PartialEq, Eq)]
+#[derive(Clone, Copy, PartialEq, Eq)]
 pub enum Keyword {
     /// `and`
     And,
@@ -59,7 +61,7 @@ pub enum Keyword {
 }
 
 /// A word that is a terminal of its own before a certain token alone, and a plain name before every other.
-#[derive(Clone, Copy, Debug, PartialEq, Eq)]
+#[derive(Clone, Copy, PartialEq, Eq)]
 pub enum Phrase {
     /// `array` before `{`
     Array,
@@ -88,7 +90,7 @@ pub enum Phrase {
 }
 
 /// What a name is for the grammar, where it is no plain name.
-#[derive(Clone, Copy, Debug, PartialEq, Eq)]
+#[derive(Clone, Copy, PartialEq, Eq)]
 pub enum Word {
     /// A word with a meaning whatever stands behind it.
     Keyword(Keyword),
@@ -96,58 +98,60 @@ pub enum Word {
     Phrase(Phrase),
 }
 
+/// The words that have a meaning, by their texts.
+static WORDS: [(&str, Word); 47] = [
+    ("ancestor", Word::Keyword(Keyword::Axis)),
+    ("ancestor-or-self", Word::Keyword(Keyword::Axis)),
+    ("and", Word::Keyword(Keyword::And)),
+    ("array", Word::Phrase(Phrase::Array)),
+    ("attribute", Word::Keyword(Keyword::Axis)),
+    ("cast", Word::Phrase(Phrase::CastAs)),
+    ("castable", Word::Phrase(Phrase::CastableAs)),
+    ("child", Word::Keyword(Keyword::Axis)),
+    ("descendant", Word::Keyword(Keyword::Axis)),
+    ("descendant-or-self", Word::Keyword(Keyword::Axis)),
+    ("div", Word::Keyword(Keyword::Div)),
+    ("element", Word::Keyword(Keyword::Element)),
+    ("else", Word::Keyword(Keyword::Else)),
+    ("eq", Word::Keyword(Keyword::Eq)),
+    ("every", Word::Phrase(Phrase::Every)),
+    ("except", Word::Keyword(Keyword::Except)),
+    ("following", Word::Keyword(Keyword::Axis)),
+    ("following-sibling", Word::Keyword(Keyword::Axis)),
+    ("for", Word::Phrase(Phrase::For)),
+    ("function", Word::Phrase(Phrase::Function)),
+    ("ge", Word::Keyword(Keyword::Ge)),
+    ("gt", Word::Keyword(Keyword::Gt)),
+    ("idiv", Word::Keyword(Keyword::Idiv)),
+    ("if", Word::Phrase(Phrase::If)),
+    ("in", Word::Keyword(Keyword::In)),
+    ("instance", Word::Phrase(Phrase::InstanceOf)),
+    ("intersect", Word::Keyword(Keyword::Intersect)),
+    ("is", Word::Keyword(Keyword::Is)),
+    ("le", Word::Keyword(Keyword::Le)),
+    ("let", Word::Phrase(Phrase::Let)),
+    ("lt", Word::Keyword(Keyword::Lt)),
+    ("map", Word::Phrase(Phrase::Map)),
+    ("mod", Word::Keyword(Keyword::Mod)),
+    ("ne", Word::Keyword(Keyword::Ne)),
+    ("node", Word::Keyword(Keyword::Node)),
+    ("or", Word::Keyword(Keyword::Or)),
+    ("parent", Word::Keyword(Keyword::Axis)),
+    ("preceding", Word::Keyword(Keyword::Axis)),
+    ("preceding-sibling", Word::Keyword(Keyword::Axis)),
+    ("return", Word::Keyword(Keyword::Return)),
+    ("satisfies", Word::Keyword(Keyword::Satisfies)),
+    ("self", Word::Keyword(Keyword::Axis)),
+    ("some", Word::Phrase(Phrase::Some)),
+    ("then", Word::Keyword(Keyword::Then)),
+    ("to", Word::Keyword(Keyword::To)),
+    ("treat", Word::Phrase(Phrase::TreatAs)),
+    ("union", Word::Keyword(Keyword::Union)),
+];
+
 /// The word of a name.
 pub fn word_of(name: &str) -> Option<Word>
     ensures { result ≡ word_of (chars name.now) }
 {
-    match name {
-        "ancestor" => Some(Word::Keyword(Keyword::Axis)),
-        "ancestor-or-self" => Some(Word::Keyword(Keyword::Axis)),
-        "and" => Some(Word::Keyword(Keyword::And)),
-        "array" => Some(Word::Phrase(Phrase::Array)),
-        "attribute" => Some(Word::Keyword(Keyword::Axis)),
-        "cast" => Some(Word::Phrase(Phrase::CastAs)),
-        "castable" => Some(Word::Phrase(Phrase::CastableAs)),
-        "child" => Some(Word::Keyword(Keyword::Axis)),
-        "descendant" => Some(Word::Keyword(Keyword::Axis)),
-        "descendant-or-self" => Some(Word::Keyword(Keyword::Axis)),
-        "div" => Some(Word::Keyword(Keyword::Div)),
-        "element" => Some(Word::Keyword(Keyword::Element)),
-        "else" => Some(Word::Keyword(Keyword::Else)),
-        "eq" => Some(Word::Keyword(Keyword::Eq)),
-        "every" => Some(Word::Phrase(Phrase::Every)),
-        "except" => Some(Word::Keyword(Keyword::Except)),
-        "following" => Some(Word::Keyword(Keyword::Axis)),
-        "following-sibling" => Some(Word::Keyword(Keyword::Axis)),
-        "for" => Some(Word::Phrase(Phrase::For)),
-        "function" => Some(Word::Phrase(Phrase::Function)),
-        "ge" => Some(Word::Keyword(Keyword::Ge)),
-        "gt" => Some(Word::Keyword(Keyword::Gt)),
-        "idiv" => Some(Word::Keyword(Keyword::Idiv)),
-        "if" => Some(Word::Phrase(Phrase::If)),
-        "in" => Some(Word::Keyword(Keyword::In)),
-        "instance" => Some(Word::Phrase(Phrase::InstanceOf)),
-        "intersect" => Some(Word::Keyword(Keyword::Intersect)),
-        "is" => Some(Word::Keyword(Keyword::Is)),
-        "le" => Some(Word::Keyword(Keyword::Le)),
-        "let" => Some(Word::Phrase(Phrase::Let)),
-        "lt" => Some(Word::Keyword(Keyword::Lt)),
-        "map" => Some(Word::Phrase(Phrase::Map)),
-        "mod" => Some(Word::Keyword(Keyword::Mod)),
-        "ne" => Some(Word::Keyword(Keyword::Ne)),
-        "node" => Some(Word::Keyword(Keyword::Node)),
-        "or" => Some(Word::Keyword(Keyword::Or)),
-        "parent" => Some(Word::Keyword(Keyword::Axis)),
-        "preceding" => Some(Word::Keyword(Keyword::Axis)),
-        "preceding-sibling" => Some(Word::Keyword(Keyword::Axis)),
-        "return" => Some(Word::Keyword(Keyword::Return)),
-        "satisfies" => Some(Word::Keyword(Keyword::Satisfies)),
-        "self" => Some(Word::Keyword(Keyword::Axis)),
-        "some" => Some(Word::Phrase(Phrase::Some)),
-        "then" => Some(Word::Keyword(Keyword::Then)),
-        "to" => Some(Word::Keyword(Keyword::To)),
-        "treat" => Some(Word::Phrase(Phrase::TreatAs)),
-        "union" => Some(Word::Keyword(Keyword::Union)),
-        _ => None,
-    }
+    value_in(&WORDS, name)
 }

@@ -1,10 +1,14 @@
 -- The names of functions are no words of the grammar, and neither `as` nor `of`.
 use Rattle.std.proofs.Common.{◌≡◌, ℕ, Bool, true, false, List, [], ◌∷◌, Option, Some, None, codes, cond, refl, sym, ◌∙◌, ap}
 use Rattle.std.specs.Str.{encode_utf8_all}
+use Rattle.std.specs.Prelude.{nat_eq}
+use Rattle.std.specs.Cmp.Lexicographic.{pointwise}
 use Rattle.std.proofs.lemmas.Bool.{false≢true, and_parts, eqb-true}
+use Rattle.std.proofs.lemmas.Slice.Eq.{bytes_eq-Decides}
 use lib.Utf8.{encode}
 use Rattle.pj_xtokens.specs.declared.token.TokenKind.TheVariants as kind
-use Rattle.pj_xgrammar.specs.Words.{WordEntry, same, words, word_in}
+use Rattle.pj_base.specs.WordTable.{value_in}
+use Rattle.pj_xgrammar.specs.Words.{same, words}
 use Rattle.pj_xgrammar.specs.Terminals.{name_behind, word_terminal, kind_terminal, terminal_number}
 use Rattle.pj_xgrammar.specs.declared.terminal.Behind.{Behind}
 use Rattle.pj_xgrammar.specs.declared.terminal.Behind.TheVariants as b
@@ -30,9 +34,9 @@ is_some (Some called) = true
 differs : (v w : List ℕ) (called : Callee) → CallsNone v → callee_of (encode_utf8_all w) ≡ Some called → same v w ≡ true → ⊥
 differs v w called f e h = false≢true (ap is_some (sym f ∙ ap (λ l. callee_of (encode_utf8_all l)) (same_is v w h) ∙ e))
 
-abbrev EachCallsNone : List WordEntry → Type 0
+abbrev EachCallsNone : List (List ℕ × Word) → Type 0
 EachCallsNone [] = Unit {0}
-EachCallsNone (x ∷ xs) = CallsNone x.text × EachCallsNone xs
+EachCallsNone (x ∷ xs) = CallsNone x.0 × EachCallsNone xs
 
 words_call_none : EachCallsNone words
 unfolding callee_of encode
@@ -42,9 +46,9 @@ next_word : (is : Bool) (word : Word) (more : Option Word) → (is ≡ true → 
 next_word true word more h e = absurd (h refl)
 next_word false word more h e = e
 
-not_in : (xs : List WordEntry) → EachCallsNone xs → (v : List ℕ) (called : Callee) → callee_of (encode_utf8_all v) ≡ Some called → word_in xs v ≡ None
+not_in : (xs : List (List ℕ × Word)) → EachCallsNone xs → (v : List ℕ) (called : Callee) → callee_of (encode_utf8_all v) ≡ Some called → value_in xs v ≡ None
 not_in [] f v called e = refl
-not_in (x ∷ xs) f v called e = next_word (same x.text v) x.word (word_in xs v) (differs x.text v called f.0 e) (not_in xs f.1 v called e)
+not_in (x ∷ xs) f v called e = next_word (pointwise nat_eq x.0 v) x.1 (value_in xs v) (λ h. absurd (false≢true (ap is_some (sym f.0 ∙ ap (λ l. callee_of (encode_utf8_all l)) ((bytes_eq-Decides x.0 v).0 h) ∙ e)))) (not_in xs f.1 v called e)
 
 -- a name of a function is the terminal of names
 pub name_of_function : (v : List ℕ) (called : Callee) (behind : Behind) → callee_of (encode_utf8_all v) ≡ Some called → terminal_number (kind_terminal kind.Name v behind) ≡ 0

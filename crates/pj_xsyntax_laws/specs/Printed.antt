@@ -32,7 +32,7 @@ use Rattle.pj_xtokens.specs.declared.token.Sign as token
 use Rattle.pj_xtokens.specs.declared.token.Sign.TheVariants as s
 use Rattle.pj_xtokens.specs.declared.token.TokenKind.TheVariants as kind
 use Rattle.pj_xsyntax_laws.specs.Spaced.{Word, word, spaced, literal}
-use Rattle.pj_xexpressions.specs.Names.{Entry, functions, pmd_functions, axes}
+use Rattle.pj_xexpressions.specs.Names.{functions, pmd_functions, axes}
 use Rattle.pj_xexpressions.specs.Trees as tree
 use Rattle.pj_xexpressions.specs.Trees.{Tree, Trees, Construct, Node, NoMore, More}
 use Rattle.pj_xshape.specs.Nesting.{is_descendants_by}
@@ -85,9 +85,9 @@ abbrev pub enclosed : List Word → List Word
 enclosed words = left ∷ (words ++ right ∷ [])
 
 -- the first name of a table that means this, where the number tells the meanings apart
-abbrev pub name_in : {A : Type 0} → (A → ℕ) → List (Entry A) → A → List ℕ
+abbrev pub name_in : {A : Type 0} → (A → ℕ) → List (List ℕ × A) → A → List ℕ
 name_in number [] means = []
-name_in number (e ∷ es) means = if nat_eq (number e.means) (number means) then e.name else name_in number es means
+name_in number (row ∷ rows) means = if nat_eq (number row.1) (number means) then row.0 else name_in number rows means
 
 -- the name of a function of XPath, without a prefix
 abbrev pub function_name : Function → List ℕ
