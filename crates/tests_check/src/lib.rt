@@ -1,7 +1,19 @@
-//! Tests of runs that no row says: the lines of notes, and how many files a run may have.
+//! Tests of whole runs: words, files and rulesets in memory, with the outcome, the note and the report, as rows by hand.
 #![tactic(auto)]
 
 #[cfg(test)]
+mod failing;
+#[cfg(test)]
+mod formats;
+#[cfg(test)]
 mod limits;
 #[cfg(test)]
-mod notes;
+mod paths;
+#[cfg(test)]
+mod queries;
+#[cfg(test)]
+mod refusals;
+#[cfg(test)]
+mod rulesets;
+#[cfg(test)]
+mod runs;
