@@ -10,8 +10,8 @@ use Rattle.pj_xaxes.specs.Order.{has_item}
 use Rattle.pj_xvalue.specs.Items.{ItemValue, Element}
 use Rattle.pj_findings.specs.Denoted.{denoted}
 use Rattle.pj_findings.specs.Merged.{by_node, finding_of, findings_from, found_by}
-use Rattle.pj_findings.specs.declared.found.Found.{Found}
-use Rattle.pj_findings.specs.declared.found.RuleResult.{RuleResult}
+use Rattle.pj_reports.specs.declared.ruled.Spot.{Spot}
+use Rattle.pj_reports.specs.declared.ruled.Ruled.{Ruled}
 
 -- ---- the nodes of a query
 
@@ -26,8 +26,8 @@ NodesAreItems = (items : List ItemValue) (nodes : List Node) (n : Node) → deno
 -- ---- the findings of a file
 
 -- the nodes of a rule's findings ascend
-abbrev pub IsAscending : RuleResult → Type 0
-IsAscending result = IsStrictlySortedBy nat_cmp (map (λ (found : Found). found.node) (found_by result))
+abbrev pub IsAscending : Ruled → Type 0
+IsAscending result = IsStrictlySortedBy nat_cmp (map (λ (found : Spot). found.node) (found_by result))
 
 -- the order of findings: that of their nodes, and at one node that of the rules
 abbrev pub finding_order : Finding → Finding → Ordering
@@ -35,9 +35,9 @@ finding_order = then_cmp (on (λ (finding : Finding). finding.node) nat_cmp) (on
 
 -- The findings of rules each of whose own ascend, ascend: no rule finds a node twice.
 abbrev pub FindingsAscend : Type 0
-FindingsAscend = (results : List RuleResult) → AllByRecursion IsAscending results → IsStrictlySortedBy finding_order (by_node (findings_from 0 results))
+FindingsAscend = (results : List Ruled) → AllByRecursion IsAscending results → IsStrictlySortedBy finding_order (by_node (findings_from 0 results))
 
 -- Of each rule just its own findings are among them, in their order.
 abbrev pub FindingsAreKept : Type 0
-FindingsAreKept = (results : List RuleResult) (rule : ℕ) (result : RuleResult) → AllByRecursion IsAscending results → slice_get results rule ≡ Some result
+FindingsAreKept = (results : List Ruled) (rule : ℕ) (result : Ruled) → AllByRecursion IsAscending results → slice_get results rule ≡ Some result
     → filter (λ finding. finding.rule == rule) (by_node (findings_from 0 results)) ≡ map (finding_of rule) (found_by result)

@@ -1,8 +1,8 @@
 -- Where rules mean nothing.
 use Rattle.std.proofs.Common.{◌≡◌, ◌∙◌, false, cond, List, [], ◌∷◌, Result, Ok, Err, ap, refl}
 use Rattle.pj_findings.specs.Merged.{only_error}
-use Rattle.pj_findings.specs.declared.found.RuleResult.{RuleResult}
-use Rattle.pj_findings.specs.declared.found.RuleResult.TheVariants.{Findings}
+use Rattle.pj_reports.specs.declared.ruled.Ruled.{Ruled}
+use Rattle.pj_reports.specs.declared.ruled.Ruled.TheVariants.{Spots}
 use Rattle.pj_names.specs.Asking.{Return, bind, each}
 use Rattle.pj_parse.specs.FileOutcome.{outcome_of}
 use Rattle.pj_parse.specs.JavaFile.{JavaFile}
@@ -20,11 +20,11 @@ pub inactive : (replies : Replies) (path bytes : Bytes) (rule : Rule) → is_act
 inactive replies path bytes rule h = inactive_at replies path rule (outcome_of bytes) h
 
 -- rules over a file without a tree
-all_nothing : (replies : Replies) (path : Bytes) (fault : FileFault) (rules : List Rule) → (results : List RuleResult) × (each (rule_at replies path (Err fault)) rules ≡ Return results)
+all_nothing : (replies : Replies) (path : Bytes) (fault : FileFault) (rules : List Rule) → (results : List Ruled) × (each (rule_at replies path (Err fault)) rules ≡ Return results)
 all_nothing replies path fault [] = ([], refl)
 all_nothing replies path fault (rule ∷ rules) =
     let rest = all_nothing replies path fault rules in
-    (Findings [] ∷ rest.0, ap (λ m. bind m (λ results. Return (Findings [] ∷ results))) rest.1)
+    (Spots [] ∷ rest.0, ap (λ m. bind m (λ results. Return (Spots [] ∷ results))) rest.1)
 
 -- the rules together
 pub one_error : (replies : Replies) (path : Bytes) (rules : List Rule) (fault : FileFault) → file_at replies path (Err fault) rules ≡ Return (only_error (fault_message fault))

@@ -6,7 +6,7 @@ use Rattle.std.specs.List.Sorted.{IsNonDecreasing}
 use Rattle.std.specs.Str.{IsUtf8}
 use Rattle.pj_attrs.specs.FileFacts.{FileFacts, facts_of}
 use Rattle.pj_findings.specs.Merged.{merged}
-use Rattle.pj_findings.specs.declared.found.RuleResult.{RuleResult}
+use Rattle.pj_reports.specs.declared.ruled.Ruled.{Ruled}
 use Rattle.pj_grammar.specs.Words.{seen}
 use Rattle.pj_source.specs.SourceText.{SourceText}
 use Rattle.pj_lex.specs.declared.token.Token.{Token}
@@ -43,7 +43,7 @@ if_ok P Q (Err e) weaker h = tt
 -- ---- with a tree
 
 -- the rows of a view, by what the rules of the set came to
-pub view_comes : {E : Type 0} (set : EffectiveRules) (path : Bytes) (view : FileView) (rules : List EffectiveRule) (name : Bytes) (results : List RuleResult) (r : Result FileRows E)
+pub view_comes : {E : Type 0} (set : EffectiveRules) (path : Bytes) (view : FileView) (rules : List EffectiveRule) (name : Bytes) (results : List Ruled) (r : Result FileRows E)
     → rules ≡ set.rules → view.marker.now ≡ set.marker → name ≡ package_name (file_seen view).tree → AllZip (ComesToResult view.marker.now path (file_seen view)) rules results
     → IfOk r (λ rows. rows ≡ merged name results) → IfOk r (ComesToRows set path (Ok (file_seen view)))
 view_comes set path view rules name results r are marker named came made =

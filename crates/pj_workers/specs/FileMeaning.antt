@@ -2,8 +2,8 @@
 -- part is a function of the path, the bytes and one rule, so that what is kept of one rule in one file can be used again.
 use Rattle.std.specs.Prelude.{ℕ, List, [], Result, Ok, Err, if◌then◌else◌}
 use Rattle.pj_findings.specs.Merged.{merged, only_error}
-use Rattle.pj_findings.specs.declared.found.RuleResult.{RuleResult}
-use Rattle.pj_findings.specs.declared.found.RuleResult.TheVariants.{Findings}
+use Rattle.pj_reports.specs.declared.ruled.Ruled.{Ruled}
+use Rattle.pj_reports.specs.declared.ruled.Ruled.TheVariants.{Spots}
 use Rattle.pj_names.specs.Asking.{Asking, Return, bind, each}
 use Rattle.pj_parse.specs.FileOutcome.{outcome_of}
 use Rattle.pj_parse.specs.JavaFile.{JavaFile}
@@ -31,21 +31,21 @@ head_of (Ok file) = HasTree (package_name file.tree)
 head_of (Err fault) = HasNone (fault_message fault)
 
 -- the rows of a file with this head, in which the rules came to this: where there is no tree, one error
-abbrev pub merge : Head → List RuleResult → FileRows
+abbrev pub merge : Head → List Ruled → FileRows
 merge (HasTree name) results = merged name results
 merge (HasNone message) results = only_error message
 
 -- what comes of a rule that is not active, or where there is no tree: nothing, and nothing is asked
-abbrev pub nothing : Asking RuleResult
-nothing = Return (Findings [])
+abbrev pub nothing : Asking Ruled
+nothing = Return (Spots [])
 
 module _ (replies : Replies) where
-  abbrev pub rule_at : Bytes → Result JavaFile FileFault → Rule → Asking RuleResult
+  abbrev pub rule_at : Bytes → Result JavaFile FileFault → Rule → Asking Ruled
   rule_at path (Err fault) rule = nothing
   rule_at path (Ok file) rule = if is_active rule.source path then rule_in_file (replies path file) file rule else nothing
 
   -- what a rule means at a file of these bytes
-  abbrev pub rule_meaning : Bytes → Bytes → Rule → Asking RuleResult
+  abbrev pub rule_meaning : Bytes → Bytes → Rule → Asking Ruled
   rule_meaning path bytes rule = rule_at path (outcome_of bytes) rule
 
   -- what rules mean together at a file with this outcome

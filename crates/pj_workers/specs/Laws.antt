@@ -8,8 +8,8 @@ use Rattle.pj_suppress.specs.Marks as marks
 use Rattle.pj_suppress.specs.Words.{Text}
 use Rattle.pj_findings.specs.Laws.{IsAscending}
 use Rattle.pj_findings.specs.Merged.{found_by, only_error}
-use Rattle.pj_findings.specs.Spots.{spot_of}
-use Rattle.pj_findings.specs.declared.found.Found.{Found}
+use Rattle.pj_findings.specs.Extents.{extent_of}
+use Rattle.pj_reports.specs.declared.ruled.Spot.{Spot}
 use Rattle.pj_names.specs.Asking.{Return, value_of}
 use Rattle.pj_outside.specs.Files.{Files}
 use Rattle.pj_parse.specs.FileOutcome.{outcome_of}
@@ -44,8 +44,8 @@ OneCold = (replies : Replies) (world : World) (files : Files) (rules : List Rule
     → IsCold replies world files rules unusable r → IsCold replies world files rules unusable s → r ≡ s
 
 -- A finding stands where its node does.
-abbrev pub StandsAtNode : JavaFile → Found → Type 0
-StandsAtNode file found = record { begin = found.begin; end = found.end } ≡ spot_of (place_of file) file.tree (record { 0 = found.node })
+abbrev pub StandsAtNode : JavaFile → Spot → Type 0
+StandsAtNode file found = record { begin = found.begin; end = found.end } ≡ extent_of (place_of file) file.tree (record { 0 = found.node })
 
 -- So do all that a rule finds in a file.
 abbrev pub SpotsAreNodes : Type 0

@@ -4,8 +4,8 @@ use Rattle.std.specs.List.{list_any}
 use Rattle.std.specs.List.Sorted.{IsNonDecreasing}
 use Rattle.std.specs.Option.{option_map}
 use Rattle.pj_findings.specs.Merged.{only_error}
-use Rattle.pj_findings.specs.declared.found.Found.{Found}
-use Rattle.pj_findings.specs.declared.found.RuleResult.{RuleResult}
+use Rattle.pj_reports.specs.declared.ruled.Spot.{Spot}
+use Rattle.pj_reports.specs.declared.ruled.Ruled.{Ruled}
 use Rattle.pj_names.specs.Asking.{Asking, names_of, value_of}
 use Rattle.pj_names.specs.Told.{longest}
 use Rattle.pj_parse.specs.JavaFile.{JavaFile, java_file}
@@ -24,7 +24,7 @@ use Rattle.pj_workers.specs.Faults.{fault_message}
 use Rattle.pj_workers.specs.FileMeaning.{Bytes, file_at, rule_at}
 use Rattle.pj_workers.specs.Marked.{is_marked}
 use Rattle.pj_workers.specs.NoTypes.{always_false, no_types}
-use Rattle.pj_workers.specs.RuleMeaning.{Reply, found_of, reason_at, rule_in_file, spot_at}
+use Rattle.pj_workers.specs.RuleMeaning.{Reply, found_of, reason_at, rule_in_file, extent_at}
 use Rattle.pj_workers.specs.Rules.{AreRulesOf, IsRuleOf, Rule, source_of}
 use Rattle.pj_workers.specs.declared.view.FileView.{FileView}
 use Rattle.pj_workers.specs.declared.view.RuleView.{RuleView}
@@ -57,8 +57,8 @@ pub record HasItsPatterns (effective : EffectiveRule) (kept : RuleExpressions) :
   pub suppression : (spelled : Spelled) → kept.suppression ≡ Some spelled → HasPatterns (variables_of (texts_of effective)) spelled
 
 -- what a rule finds at one node
-abbrev pub found_there : Reply → JavaFile → Rule → Node → Means Found
-found_there reply file rule n = reason_at reply file rule n >>= λ why. give (found_of n (spot_at reply file rule n) why)
+abbrev pub found_there : Reply → JavaFile → Rule → Node → Means Spot
+found_there reply file rule n = reason_at reply file rule n >>= λ why. give (found_of n (extent_at reply file rule n) why)
 
 -- ---- what meanings come to, whatever the world answers
 
@@ -68,11 +68,11 @@ pub record IsWithoutAsking {A : Type 0} (meaning : Asking A) (value : A) : Type 
   pub names_are : (world : World) (depth : ℕ) → longest ≤ depth → names_of depth world meaning ≡ []
 
 -- An active rule of a set comes to this in a file, whatever expressions its texts spell.
-pub record ComesInFile (marker : Bytes) (file : JavaFile) (effective : EffectiveRule) (result : RuleResult) : Type 0 where
+pub record ComesInFile (marker : Bytes) (file : JavaFile) (effective : EffectiveRule) (result : Ruled) : Type 0 where
   pub comes : (rule : Rule) → IsRuleOf marker effective rule → IsWithoutAsking (rule_in_file always_false file rule) result
 
 -- The rule of a set comes to this in a file of a path, whatever expressions its texts spell.
-pub record ComesToResult (marker path : Bytes) (file : JavaFile) (effective : EffectiveRule) (result : RuleResult) : Type 0 where
+pub record ComesToResult (marker path : Bytes) (file : JavaFile) (effective : EffectiveRule) (result : Ruled) : Type 0 where
   pub comes : (rule : Rule) → IsRuleOf marker effective rule → IsWithoutAsking (rule_at no_types path (Ok file) rule) result
 
 -- The rules of a set come to these rows.

@@ -25,7 +25,7 @@ use crate::view::FileView;
 use crate::work::Work;
 use pj_attrs::{Facts, tokens_are_in_order};
 use pj_base::{Bytes, Copied, Names, NoMemory, Text};
-use pj_findings::{FoundList, RuleResult, RuleResults, error_rows, file_rows};
+use pj_findings::{Spots, Ruled, RuleRuns, error_rows, file_rows};
 use pj_lex::Token;
 use pj_names::AskFault;
 use pj_parse::{FileFault, FileRefused, Parsed, file_has_one_outcome, parse_file_by, read_file};
@@ -45,7 +45,7 @@ fn active_result<'t>(
     file: &'t FileView<'t>,
     rule: &'t Rule,
     calls: &mut NoTypes,
-) -> Result<RuleResult, NoMemory>
+) -> Result<Ruled, NoMemory>
     requires file { IsOfOneFile file.now }
     requires nodes { calls.old.nodes ≡ length (file_seen file.now).tree.nodes }
     ensures nodes { calls.new.nodes ≡ calls.old.nodes }
@@ -68,7 +68,7 @@ fn result_at<'t>(
     rule: &'t Rule,
     path: &Text,
     calls: &mut NoTypes,
-) -> Result<RuleResult, NoMemory>
+) -> Result<Ruled, NoMemory>
     requires file { IsOfOneFile file.now }
     requires nodes { calls.old.nodes ≡ length (file_seen file.now).tree.nodes }
     ensures nodes { calls.new.nodes ≡ calls.old.nodes }
@@ -77,7 +77,7 @@ fn result_at<'t>(
     if rule.is_active(file.alloc, path.as_str())? {
         return active_result(file, rule, calls);
     }
-    Ok(RuleResult::Findings(FoundList::new(file.alloc)))
+    Ok(Ruled::Spots(Spots::new(file.alloc)))
 }
 
 /// What the rules come to, one after the other.
@@ -86,12 +86,12 @@ fn results_at<'t>(
     rules: &'t [Rule],
     path: &Text,
     calls: &mut NoTypes,
-) -> Result<RuleResults, NoMemory>
+) -> Result<RuleRuns, NoMemory>
     requires file { IsOfOneFile file.now }
     requires nodes { calls.old.nodes ≡ length (file_seen file.now).tree.nodes }
     ensures { IfOk result (λ results. AllZip (ComesToResult file.now.marker.now path.now (file_seen file.now)) rules.now results) }
 {
-    let mut results = RuleResults::new(file.alloc);
+    let mut results = RuleRuns::new(file.alloc);
     for rule in rules {
         let result = result_at(file, rule, path, calls)?;
         results.push(result)?;

@@ -5,7 +5,7 @@ ghost use Rattle.pj_parse.specs.PoolText.{IsPoolOf};
 
 use pj_attrs::{Facts, tokens_are_in_order};
 use pj_base::Text;
-use pj_findings::{plain_reason, spot_of};
+use pj_findings::{plain_reason, extent_of};
 use pj_parse::{Parsed, parse};
 use pj_reports::Reason;
 use pj_source::Source;
@@ -135,7 +135,7 @@ fn spots_in(
     let mut text = String::new(alloc);
     for n in 0..parsed.tree.len() {
         if parsed.tree.kind(Node(n)) == case.kind {
-            let spot = spot_of(&parsed.tree, &facts, Node(n));
+            let spot = extent_of(&parsed.tree, &facts, Node(n));
             let line = spot.begin.line;
             let reason = plain_reason(
                 &parsed.tree,

@@ -2,7 +2,7 @@ use Rattle.std.proofs.Common.{◌≡◌, ◌+◌, ◌++◌, ◌∙◌, List, [],
 use Rattle.std.specs.List.{AllZip}
 use Rattle.std.proofs.lemmas.List.{take_more}
 use Rattle.std.proofs.lemmas.Slice.Zip.{all_zipped_more}
-use Rattle.pj_findings.specs.declared.found.RuleResult.{RuleResult}
+use Rattle.pj_reports.specs.declared.ruled.Ruled.{Ruled}
 use Rattle.pj_rule_sets.specs.Rules.{EffectiveRule}
 use Rattle.pj_workers.specs.Views.{ComesToResult, file_seen}
 use Rattle.pj_workers.proofs.file.results_at.Goals as goal
@@ -17,7 +17,7 @@ loop-rule-preserved c =
     let longer : take i c.args.rules.now ++ rule ∷ [] ≡ take (i + 1) c.args.rules.now = ap (λ (r : EffectiveRule). take i c.args.rules.now ++ r ∷ []) c.rule-item.is ∙ sym (take_more c.args.rules.now i rule c.loop-rule-test.true) in
     record {
       nodes = c.result_at.ensures.nodes ∙ c.loop-rule.invariant.nodes;
-      so_far = subst (λ (l : List RuleResult). AllZip R (take (i + 1) c.args.rules.now) l) grown
+      so_far = subst (λ (l : List Ruled). AllZip R (take (i + 1) c.args.rules.now) l) grown
           (subst (λ (l : List EffectiveRule). AllZip R l (c.loop-rule.results ++ result ∷ [])) longer
           (all_zipped_more R (take i c.args.rules.now) c.loop-rule.results rule result c.loop-rule.invariant.so_far c.in_ok-result.ensures.result));
     }

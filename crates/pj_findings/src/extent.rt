@@ -1,13 +1,13 @@
 //! Where findings stand.
 ghost use Rattle.std.specs.Prelude.{◌≡◌, ◌<◌, length};
-ghost use Rattle.pj_findings.specs.Spots.{last_of, spot_of};
+ghost use Rattle.pj_findings.specs.Extents.{last_of, extent_of};
 
 use pj_tree::{Node, Place, Span, SyntaxTree};
 use pj_xvalue::Attributes;
 
 /// Where a node stands in its file.
 #[derive(Clone, Copy, Debug, PartialEq, Eq)]
-pub struct Spot {
+pub struct Extent {
     /// The place of its first character.
     pub begin: Place,
     /// The place of its last character: of a node without characters, where it begins.
@@ -26,13 +26,13 @@ fn last_of(span: Span) -> u32
 }
 
 /// Where a node stands: the whole span of it, in the file as it is.
-pub fn spot_of<A: Attributes>(tree: &SyntaxTree<'_>, facts: &A, n: Node) -> Spot
+pub fn extent_of<A: Attributes>(tree: &SyntaxTree<'_>, facts: &A, n: Node) -> Extent
     requires inside { n.0 < length tree.now.nodes }
     requires text { A.text_length facts.now ≡ length tree.now.text }
-    ensures { result ≡ spot_of (A.place_of facts.now) tree.now n }
+    ensures { result ≡ extent_of (A.place_of facts.now) tree.now n }
 {
     let span = tree.span(n);
     let begin = facts.place(span.from);
     let end = facts.place(last_of(span));
-    Spot { begin, end }
+    Extent { begin, end }
 }
