@@ -4,9 +4,7 @@ ghost use Rattle.pj_findings.specs.Merged.{by_node, error_by, errors_from, findi
 
 use crate::run::{RuleRun, RuleRuns};
 use pj_base::{Copied, NoMemory, Text};
-use pj_reports::{
-    FileError, FileErrors, FileRows, Finding, Findings, Head, Ruled, Spot,
-};
+use pj_reports::{FileError, FileErrors, FileRows, Finding, Findings, Head, Ruled, Spot};
 use std::alloc::Global;
 
 /// The row of a finding of the rule of a number.
@@ -33,11 +31,7 @@ fn put_found(findings: &mut Vec<Finding>, rule: u32, found: &[Spot]) -> Result<(
 }
 
 /// The same of what a rule comes to, where it finds nodes.
-fn put_findings(
-    findings: &mut Vec<Finding>,
-    rule: u32,
-    came_to: &Ruled,
-) -> Result<(), NoMemory>
+fn put_findings(findings: &mut Vec<Finding>, rule: u32, came_to: &Ruled) -> Result<(), NoMemory>
     ensures { OnOk result (findings.new.items ≡ findings.old.items ++ map (finding_of rule) (found_by came_to.now)) }
 {
     match came_to {

@@ -5,7 +5,7 @@ ghost use Rattle.pj_findings.specs.Extents.{extent_of};
 ghost use Rattle.pj_names.specs.Told.{Asks};
 ghost use Rattle.pj_rule_sets.specs.Expressions.{HasPatterns, variables_of};
 ghost use Rattle.pj_rule_sets.specs.Rules.{texts_of};
-ghost use Rattle.pj_xdenotes.specs.Context.{at};
+ghost use Rattle.pj_xsteps.specs.Context.{at};
 ghost use Rattle.pj_xvalue.specs.Items.{IsOfTree, value_of_item, values_of};
 ghost use Rattle.pj_xvalue.specs.OfTree.{OfTree};
 ghost use Rattle.pj_xvalue.specs.Replies.{outcome};
@@ -17,14 +17,14 @@ ghost use Rattle.pj_workers.specs.Views.{HasItsPatterns, IsOfOneFile, file_seen,
 
 use crate::view::{FileView, RuleView};
 use pj_findings::{
-    Spot, Spots, Ruled, Extent, denoted_nodes, plain_reason, rule_message, extent_of,
+    Extent, Ruled, Spot, Spots, denoted_nodes, extent_of, plain_reason, rule_message,
 };
 use pj_names::AskFault;
 use pj_reports::Reason;
 use pj_rule_sets::{Rule, Spelled};
 use pj_tree::Node;
 use pj_xeval::{Focus, evaluate};
-use pj_xtrees::patterns_are_a_set;
+use pj_xlaws::patterns_are_a_set;
 use pj_xvalue::{Calls, Item, Sequence, XFault, boolean_value};
 
 /// The value of an expression of a rule with an item as its context.

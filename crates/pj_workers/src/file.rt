@@ -25,7 +25,7 @@ use crate::view::FileView;
 use crate::work::Work;
 use pj_attrs::{Facts, tokens_are_in_order};
 use pj_base::{Bytes, Copied, Names, NoMemory, Text};
-use pj_findings::{Spots, Ruled, RuleRuns, error_rows, file_rows};
+use pj_findings::{RuleRuns, Ruled, Spots, error_rows, file_rows};
 use pj_lex::Token;
 use pj_names::AskFault;
 use pj_parse::{FileFault, FileRefused, Parsed, file_has_one_outcome, parse_file_by, read_file};
@@ -35,9 +35,9 @@ use pj_rule_sets::{Rule, RuleSet};
 use pj_source::Source;
 use pj_suppress::marks;
 use pj_symbols::Symbols;
+use pj_xlaws::trees_tell_expressions;
 use pj_xparse::one_expression;
 use pj_xpatterns::trees_tell_patterns;
-use pj_xtrees::trees_tell_expressions;
 use std::alloc::Global;
 
 /// What an active rule comes to in a file.

@@ -1,6 +1,6 @@
 //! What rules come to in a file, with the rows of the file.
 use pj_base::{NoMemory, Text};
-use pj_findings::{Spot, Spots, Ruled, RuleRuns, error_rows, file_rows};
+use pj_findings::{RuleRuns, Ruled, Spot, Spots, error_rows, file_rows};
 use pj_reports::{FileRows, Reason};
 use pj_tree::Place;
 use std::alloc::Global;

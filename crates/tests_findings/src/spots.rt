@@ -5,7 +5,7 @@ ghost use Rattle.pj_parse.specs.PoolText.{IsPoolOf};
 
 use pj_attrs::{Facts, tokens_are_in_order};
 use pj_base::Text;
-use pj_findings::{plain_reason, extent_of};
+use pj_findings::{extent_of, plain_reason};
 use pj_parse::{Parsed, parse};
 use pj_reports::Reason;
 use pj_source::Source;
