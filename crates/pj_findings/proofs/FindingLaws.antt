@@ -1,5 +1,5 @@
 -- The findings of a file are those of its rules, in order.
-use Rattle.std.proofs.Common.{◌≡◌, ◌∙◌, ◌+◌, ◌<◌, ◌≤◌, ◌==◌, ◌++◌, ℕ, zero, suc, Bool, true, false, cond, List, [], ◌∷◌, Some, ap, arith, eqb-true, eq-eqb, flat_map, map, ne_eqb, refl, subst, sym, zero-add}
+use Rattle.std.proofs.Common.{◌≡◌, ◌∙◌, ◌+◌, ◌<◌, ◌≤◌, ◌==◌, ◌++◌, ℕ, zero, suc, Bool, true, false, cond, List, [], ◌∷◌, Some, ap, arith, eqb-true, eq-eqb, flat_map, length, map, ne_eqb, refl, subst, sym, zero-add}
 use Rattle.std.specs.Prelude.{filter, slice_get}
 use Rattle.std.specs.List.{AllByRecursion, range_with_len}
 use Rattle.std.specs.List.Sorted.{IsStrictlySortedBy}
@@ -76,7 +76,7 @@ crossing P Q c (x ∷ xs) ys h p q = (one ys q, crossing P Q c xs ys h p.1 q)
     one [] r = tt
     one (z ∷ zs) r = (h x z p.0 r.0, one zs r.1)
 
-less : (m n : ℕ) → m < n → nat_cmp m n ≡ Less
+pub less : (m n : ℕ) → m < n → nat_cmp m n ≡ Less
 less m n h = sym (nat_cmp_is m n Less h)
 
 equal : (m n : ℕ) → m ≡ n → nat_cmp m n ≡ Equal
@@ -195,7 +195,7 @@ append_nil : {X : Type 0} (xs : List X) → xs ++ [] ≡ xs
 append_nil [] = refl
 append_nil (x ∷ xs) = ap (λ l. x ∷ l) (append_nil xs)
 
-one_result : (a b : Ruled) → Some a ≡ Some b → a ≡ b
+pub one_result : (a b : Ruled) → Some a ≡ Some b → a ≡ b
 one_result a b e = cc
 
 own_findings : (rule first place : ℕ) (results : List Ruled) (result : Ruled) → rule ≡ first + place → slice_get results place ≡ Some result → filter (of_rule rule) (findings_from first results) ≡ map (finding_of rule) (found_by result)
@@ -244,3 +244,22 @@ kept results rule result h there =
     ∙ same_flat_map (λ n. filter (of_rule rule) (at_node all n)) (at_node (filter (of_rule rule) all)) (range_with_len 0 count) (λ n. filter_swap (of_rule rule) (λ x. x.node == n) all)
     ∙ ap (λ l. flat_map (at_node l) (range_with_len 0 count)) own
     ∙ rising (map (finding_of rule) (found_by result)) 0 count (own_rises rule (found_by result) (at_result IsAscending results rule result h there)) between
+
+-- ---- their numbers
+
+below_all : (count : ℕ) (first : ℕ) (results : List Ruled) → first + length results ≡ count → AllByRecursion (λ (x : Finding). x.rule < count) (findings_from first results)
+below_all count first [] is = tt
+below_all count first (r ∷ rs) is = all_append (λ (x : Finding). x.rule < count) (map (finding_of first) (found_by r)) (findings_from (first + 1) rs)
+    (own_below count first (found_by r) (omega (arith, is))) (below_all count (first + 1) rs (omega (arith, is)))
+  where
+    own_below : (count first : ℕ) (found : List Spot) → first < count → AllByRecursion (λ (x : Finding). x.rule < count) (map (finding_of first) found)
+    own_below count first [] below = tt
+    own_below count first (x ∷ xs) below = (below, own_below count first xs below)
+
+each_by_node : (P : Finding → Type 0) (xs : List Finding) (low count : ℕ) → AllByRecursion P xs → AllByRecursion P (flat_map (at_node xs) (range_with_len low count))
+each_by_node P xs low zero h = tt
+each_by_node P xs low (suc count) h =
+    all_append P (at_node xs low) (flat_map (at_node xs) (range_with_len (low + 1) count)) (all_filter P (λ x. x.node == low) xs h) (each_by_node P xs (low + 1) count h)
+
+pub of_rules : (results : List Ruled) → AllByRecursion (λ (x : Finding). x.rule < length results) (by_node (findings_from 0 results))
+of_rules results = each_by_node (λ (x : Finding). x.rule < length results) (findings_from 0 results) 0 (past_nodes (findings_from 0 results)) (below_all (length results) 0 results (zero-add (length results)))

@@ -13,7 +13,7 @@ mod run;
 
 pub use denoted::{Nodes, denoted_nodes};
 pub use extent::{Extent, extent_of};
-pub use laws::{findings_are_the_rules, nodes_are_the_items};
+pub use laws::{errors_are_the_rules, findings_are_the_rules, nodes_are_the_items};
 pub use message::{code_name, rule_message};
 pub use reason::plain_reason;
 pub use rows::file_rows;

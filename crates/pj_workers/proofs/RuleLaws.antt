@@ -25,11 +25,11 @@ use Rattle.pj_workers.specs.RuleMeaning.{Reply, found, found_at, found_of, items
 use Rattle.pj_workers.specs.Rules.{Rule, is_active}
 
 -- what a sequence comes to, by what its first part comes to
-then_value : {A B : Type 0} (d : ℕ) (w : World) (m : Means A) (next : A → Means B) → value_of d w (m >>= next) ≡ value_of d w (after next (value_of d w m))
+pub then_value : {A B : Type 0} (d : ℕ) (w : World) (m : Means A) (next : A → Means B) → value_of d w (m >>= next) ≡ value_of d w (after next (value_of d w m))
 then_value d w m next = value_of-bind d w m (after next)
 
 -- a code, or findings at just these nodes, each where its node stands
-abbrev AreAt : JavaFile → List Node → Result (List Spot) XCode → Type 0
+abbrev pub AreAt : JavaFile → List Node → Result (List Spot) XCode → Type 0
 AreAt file ns (Err code) = Unit {0}
 AreAt file ns (Ok fs) = (map (λ (f : Spot). f.node) fs ≡ map (λ (n : Node). n.0) ns) × AllByRecursion (StandsAtNode file) fs
 
@@ -64,7 +64,7 @@ module _ (d : ℕ) (w : World) (reply : Reply) (file : JavaFile) (rule : Rule) w
       (after_rest n ns why (value_of d w (found_at reply file rule ns)) h)
 
   -- the findings at nodes
-  at_nodes : (ns : List Node) → AreAt file ns (value_of d w (found_at reply file rule ns))
+  pub at_nodes : (ns : List Node) → AreAt file ns (value_of d w (found_at reply file rule ns))
   at_nodes [] = (refl, tt)
   at_nodes (n ∷ ns) =
       subst (λ r. AreAt file (n ∷ ns) r) (sym (then_value d w (reason_at reply file rule n) (λ why. found_at reply file rule ns >>= λ fs. give (found_of n (extent_at reply file rule n) why ∷ fs))))
@@ -83,7 +83,7 @@ module _ (d : ℕ) (w : World) (reply : Reply) (file : JavaFile) (rule : Rule) w
       subst (λ r. IsGood file r) (sym (then_value d w (items reply file rule) (λ values. judged (denoted values) >>= λ ns. found_at reply file rule ns)))
       (after_items ascend (value_of d w (items reply file rule)))
 
-  result_value : value_of d w (rule_in_file reply file rule) ≡ result_of rule (value_of d w (found reply file rule))
+  pub result_value : value_of d w (rule_in_file reply file rule) ≡ result_of rule (value_of d w (found reply file rule))
   result_value = value_of-bind d w (found reply file rule) (λ came_to. Return (result_of rule came_to))
 
 good_ascends : (file : JavaFile) (rule : Rule) (r : Result (List Spot) XCode) → IsGood file r → IsAscending (result_of rule r)
@@ -107,7 +107,7 @@ nothing_ascends : (w : World) (d : ℕ) → IsAscending (value_of d w nothing)
 unfolding IsStrictlySortedBy
 nothing_ascends w d = tt
 
-at_outcome : NodesAscend → (replies : Replies) (w : World) (d : ℕ) (path : Bytes) (rule : Rule) (o : Result JavaFile FileFault) → IsAscending (value_of d w (rule_at replies path o rule))
+pub at_outcome : NodesAscend → (replies : Replies) (w : World) (d : ℕ) (path : Bytes) (rule : Rule) (o : Result JavaFile FileFault) → IsAscending (value_of d w (rule_at replies path o rule))
 at_outcome ascend replies w d path rule (Err fault) = nothing_ascends w d
 at_outcome ascend replies w d path rule (Ok file) = elim (is_active rule.source path) as (λ b. IsAscending (value_of d w (cond b (rule_in_file (replies path file) file rule) nothing))) [
   | true ↦ in_file ascend (replies path file) w d file rule

@@ -1,7 +1,9 @@
 -- What rules mean at a file: the head of the file with the meaning of each rule, one after the other, merged by node and rule. Each
 -- part is a function of the path, the bytes and one rule, so that what is kept of one rule in one file can be used again.
 use Rattle.std.specs.Prelude.{ℕ, List, [], Result, Ok, Err, if◌then◌else◌}
-use Rattle.pj_findings.specs.Merged.{merged, only_error}
+use Rattle.pj_findings.specs.Merged.{merge}
+use Rattle.pj_reports.specs.declared.ruled.Head.{Head}
+use Rattle.pj_reports.specs.declared.ruled.Head.TheVariants.{Package, Message}
 use Rattle.pj_reports.specs.declared.ruled.Ruled.{Ruled}
 use Rattle.pj_reports.specs.declared.ruled.Ruled.TheVariants.{Spots}
 use Rattle.pj_names.specs.Asking.{Asking, Return, bind, each}
@@ -21,19 +23,10 @@ Bytes = List ℕ
 abbrev pub Replies : Type 0
 Replies = Bytes → JavaFile → Reply
 
--- What is said of a file beside its rules: the name of its package, or the message that says why it has no tree.
-pub data Head : Type 0 where
-  HasTree : Bytes → Head
-  HasNone : Bytes → Head
-
+-- what is said of a file beside its rules: the name of its package, or the message that says why it has no tree
 abbrev pub head_of : Result JavaFile FileFault → Head
-head_of (Ok file) = HasTree (package_name file.tree)
-head_of (Err fault) = HasNone (fault_message fault)
-
--- the rows of a file with this head, in which the rules came to this: where there is no tree, one error
-abbrev pub merge : Head → List Ruled → FileRows
-merge (HasTree name) results = merged name results
-merge (HasNone message) results = only_error message
+head_of (Ok file) = Package (package_name file.tree)
+head_of (Err fault) = Message (fault_message fault)
 
 -- what comes of a rule that is not active, or where there is no tree: nothing, and nothing is asked
 abbrev pub nothing : Asking Ruled

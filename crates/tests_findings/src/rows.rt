@@ -66,7 +66,7 @@ fn found_of(n: u32) -> Spot {
     }
 }
 
-fn result_of(alloc: Global, case: &Case) -> Result<Ruled, NoMemory> {
+fn ruled(alloc: Global, case: &Case) -> Result<Ruled, NoMemory> {
     match case {
         Case::Nodes(nodes) => {
             let mut found = Spots::new(alloc);
@@ -80,11 +80,14 @@ fn result_of(alloc: Global, case: &Case) -> Result<Ruled, NoMemory> {
 }
 
 fn rows_of(alloc: Global, cases: &[Case]) -> Result<FileRows, NoMemory> {
-    let mut results = RuleRuns::new(alloc);
+    let mut runs = RuleRuns::new(alloc);
     for case in cases {
-        results.push(result_of(alloc, case)?)?;
+        runs.push(RuleRun {
+            rows: ruled(alloc, case)?,
+            names: ClassNames::new(alloc),
+        })?;
     }
-    file_rows(alloc, Text::from_str(alloc, "p.q")?, &results)
+    file_rows(alloc, Head::Package(Text::from_str(alloc, "p.q")?), &runs)
 }
 
 fn findings_text(alloc: Global, rows: &FileRows) -> Result<String, Fail> {
@@ -121,7 +124,8 @@ fn rows_of_results(rt: HostRuntime) -> Result<(), Fail> {
 #[test]
 fn rows_without_a_tree(rt: HostRuntime) -> Result<(), Fail> {
     let alloc = rt.alloc();
-    let rows = error_rows(alloc, Text::from_str(alloc, "syntax fault")?)?;
+    let head = Head::Message(Text::from_str(alloc, "syntax fault")?);
+    let rows = file_rows(alloc, head, &RuleRuns::new(alloc))?;
     assert_eq!(rt; rows.package.as_str(), "");
     assert_eq!(rt; findings_text(alloc, &rows)?.as_str(), "");
     assert_eq!(rt; errors_text(alloc, &rows)?.as_str(), "-=syntax fault ");
