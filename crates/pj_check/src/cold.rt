@@ -45,8 +45,9 @@ fn rows_of(alloc: Global, found: PathResults) -> Result<PathRows, NoMemory>
     ensures { IfOk result (λ rows. rows ≡ map (λ of_file. (of_file.0, of_file.1.rows)) found) }
 {
     let mut rows = PathRows::new(alloc);
-    for (path, of_file) in found.into_vec() {
-        rows.push((path, of_file.rows))?;
+    for of_file in found.into_vec() {
+        let (path, result) = of_file;
+        rows.push((path, result.rows))?;
     }
     Ok(rows)
 }

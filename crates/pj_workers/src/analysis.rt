@@ -16,11 +16,9 @@ ghost use Rattle.pj_workers.specs.Rules.{IsRuleOf, Rule as MeantRule};
 ghost use Rattle.pj_workers.specs.Views.{HasItsPatterns, IsOfOneFile, file_seen, found_there, rule_seen};
 
 use crate::view::{FileView, RuleView};
-use pj_findings::{
-    Extent, Ruled, Spot, Spots, denoted_nodes, extent_of, plain_reason, rule_message,
-};
+use pj_findings::{Extent, denoted_nodes, extent_of, plain_reason, rule_message};
 use pj_names::AskFault;
-use pj_reports::Reason;
+use pj_reports::{Reason, Ruled, Spot, Spots};
 use pj_rule_sets::{Rule, Spelled};
 use pj_tree::Node;
 use pj_xeval::{Focus, evaluate};

@@ -19,8 +19,9 @@ use pj_findings::{RuleRun, RuleRuns};
 use pj_names::{AskFault, ClassNameSet, Oracle, Recorder};
 use pj_reports::{Ruled, Spots};
 use pj_rule_sets::Rule;
-use pj_xlaws::{trees_tell_expressions, trees_tell_patterns};
+use pj_xlaws::trees_tell_expressions;
 use pj_xparse::one_expression;
+use pj_xpatterns::trees_tell_patterns;
 
 /// What an active rule comes to in a file. As long as there are no functions of PMD, the oracle is not asked.
 fn active_result<'t, O: Oracle>(

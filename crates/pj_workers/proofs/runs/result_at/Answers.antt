@@ -1,10 +1,10 @@
 use Rattle.std.proofs.Common.{rules, subst, sym}
-use Rattle.pj_names.proofs.AskingLaws.{asks-return, asks-stop}
+use Rattle.pj_names.proofs.AskingLaws.{asks-stop}
 use Rattle.pj_names.specs.Asking.{Asking}
 use Rattle.pj_names.specs.Told.{Asks}
 use Rattle.pj_reports.specs.declared.ruled.Ruled.{Ruled}
 use Rattle.pj_workers.specs.Views.{file_seen}
-use Rattle.pj_workers.proofs.Activity.{active_means, inactive_means}
+use Rattle.pj_workers.proofs.Activity.{active_means, inactive_asks}
 use Rattle.pj_workers.proofs.runs.result_at.Goals as goal
 
 pub returns-in_err-is_active-clause-asks : goal.returns-in_err-is_active-clause-asks
@@ -18,7 +18,4 @@ returns-then-branch-clause-asks g c = λ meant is.
 
 pub returns-clause-asks : goal.returns-clause-asks
 returns-clause-asks g c = λ meant is.
-    let t = g.O.Oracle.tells c.args.oracle.now in
-    subst (λ (m : Asking Ruled). Asks m t t _)
-    (sym (inactive_means c.args.file.now.marker.now c.args.path.now (file_seen c.args.file.now) c.args.rule.now meant is (search rules)))
-    (asks-return (search rules))
+    inactive_asks c.args.file.now.marker.now c.args.path.now (file_seen c.args.file.now) c.args.rule.now meant is (search rules) (search rules)
