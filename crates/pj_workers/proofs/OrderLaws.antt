@@ -1,39 +1,35 @@
 -- The rows of a file are those of its rules, in order.
-use Rattle.std.proofs.Common.{◌≡◌, ◌≤◌, ◌<◌, ◌==◌, ◌∙◌, ℕ, zero, suc, List, [], ◌∷◌, Option, Some, Result, Ok, Err, ap, arith, inl, length, map, refl, subst, sym}
-use Rattle.std.specs.Prelude.{◌||◌, filter, slice_get}
+use Rattle.std.proofs.Common.{◌≡◌, ◌<◌, ◌==◌, ◌∙◌, ℕ, zero, suc, List, [], ◌∷◌, Some, Result, Ok, Err, ap, arith, inl, length, map, refl, subst, sym}
+use Rattle.std.specs.Prelude.{◌||◌, slice_get}
 use Rattle.std.specs.List.{AllByRecursion, AllZip, list_any}
 use Rattle.std.specs.List.Sorted.{IsStrictlySortedBy}
 use Rattle.pj_findings.specs.Denoted.{denoted}
 use Rattle.pj_findings.specs.Laws.{ErrorsAreKept, ErrorsAscend, FindingsAreKept, FindingsAreOfRules, FindingsAscend, IsAscending, NodesAreItems, NodesAscend, NoneHasBoth}
-use Rattle.pj_findings.specs.Merged.{by_node, findings_from, merge, merged, only_error}
+use Rattle.pj_findings.specs.Merged.{by_node, findings_from, merge, only_error}
 use Rattle.pj_names.specs.Asking.{Asking, Return, bind, each, value_of}
-use Rattle.pj_names.specs.ClassName.{NameSet, name_set}
+use Rattle.pj_names.specs.ClassName.{NameSet}
 use Rattle.pj_names.specs.Meaning.{Done, Gives, Means, outcome_of as outcome_in, whole}
-use Rattle.pj_names.specs.declared.rule_row.ConfigError.{ConfigError}
 use Rattle.pj_names.proofs.MeaningLaws.{over-whole, value_of-bind}
 use Rattle.pj_outside.specs.Files.{Files}
 use Rattle.pj_parse.specs.FileOutcome.{outcome_of}
 use Rattle.pj_parse.specs.JavaFile.{JavaFile}
 use Rattle.pj_parse.specs.declared.file_fault.FileFault.{FileFault}
-use Rattle.pj_reports.specs.declared.report.Report.{Report}
 use Rattle.pj_reports.specs.declared.rows.FileRows.{FileRows}
 use Rattle.pj_reports.specs.declared.rows.Finding.{Finding}
 use Rattle.pj_reports.specs.declared.ruled.Ruled.{Ruled}
-use Rattle.pj_reports.specs.declared.ruled.Ruled.TheVariants.{Spots, Message}
+use Rattle.pj_reports.specs.declared.ruled.Ruled.TheVariants.{Spots}
 use Rattle.pj_reports.specs.declared.ruled.Spot.{Spot}
-use Rattle.pj_symbols.specs.Names.{package_name}
 use Rattle.pj_tree.specs.declared.node.Node.{Node}
 use Rattle.pj_xaxes.specs.Order.{has_item}
 use Rattle.pj_xsteps.specs.Means.{after, judged, ◌>>=◌}
 use Rattle.pj_xvalue.specs.Items.{ItemValue, Element}
 use Rattle.pj_xvalue.specs.declared.fault.XCode.{XCode}
-use Rattle.pj_workers.specs.Cold.{AreRowsOf, IsCold, World}
+use Rattle.pj_workers.specs.Cold.{AreRowsOf, World}
 use Rattle.pj_workers.specs.Faults.{fault_message}
 use Rattle.pj_workers.specs.FileMeaning.{Bytes, Replies, file_at, file_meaning, head_of, rule_at, rule_meaning}
-use Rattle.pj_workers.specs.Laws.{AreInOrder, AreOfRule, ColdIsInOrder, FilesAreInOrder, FilesAreTheirRules, FindingsHaveRules, FoundAreDenoted, RuleAscends}
-use Rattle.pj_workers.specs.RuleMeaning.{Reply, found, found_at, items, result_of, rule_in_file}
+use Rattle.pj_workers.specs.Laws.{AreInOrder, AreOfRule, ColdIsInOrder, FilesAreInOrder, FilesAreTheirRules, FindingsHaveRules, FoundAreDenoted}
+use Rattle.pj_workers.specs.RuleMeaning.{Reply, found_at, items, result_of}
 use Rattle.pj_workers.specs.Rules.{Rule}
-use Rattle.pj_workers.proofs.FileLaws.{one_error}
 use Rattle.pj_workers.proofs.RuleLaws.{AreAt, at_nodes, at_outcome, result_value, then_value}
 
 -- ---- the rules of a file, one after the other

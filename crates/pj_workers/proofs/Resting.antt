@@ -1,6 +1,6 @@
 -- What rests on names: that of each rule, and that of the file.
-use Rattle.std.proofs.Common.{◌≡◌, ◌≤◌, ◌∙◌, ◌++◌, Bool, ℕ, List, [], ◌∷◌, Result, Ok, Err, ap, append-nil, flat_map, map, refl, subst, sym}
-use Rattle.std.specs.Prelude.{IfOk, IsTrue}
+use Rattle.std.proofs.Common.{◌≡◌, ◌≤◌, ◌∙◌, ◌++◌, ℕ, List, [], ◌∷◌, Ok, ap, append-nil, refl, subst, sym}
+use Rattle.std.specs.Prelude.{IsTrue}
 use Rattle.std.specs.Cmp.Lexicographic.{slice_cmp}
 use Rattle.std.specs.FinSet as set
 use Rattle.std.specs.List.{AllByRecursion, AllZip}
@@ -11,10 +11,10 @@ use Rattle.pj_names.specs.Asking.{Asking, Return, bind, each, names_of, value_of
 use Rattle.pj_names.specs.ClassName.{Name, NameSet, name_set}
 use Rattle.pj_names.specs.Held.{IsHeld}
 use Rattle.pj_names.specs.Noting.{Notes}
-use Rattle.pj_names.specs.Told.{Asks, Told, Worlds, longest, with_names}
+use Rattle.pj_names.specs.Told.{Asks, Told, Worlds, longest}
 use Rattle.pj_names.proofs.Held.{noted-held}
 use Rattle.pj_names.proofs.MeaningLaws.{names_of-bind, value_of-bind}
-use Rattle.pj_names.proofs.NameLists.{name_set-append, with_names-empty}
+use Rattle.pj_names.proofs.NameLists.{name_set-append}
 use Rattle.pj_reports.specs.declared.ruled.Ruled.{Ruled}
 use Rattle.pj_workers.specs.Results.{RestsOn, came_to}
 use Rattle.pj_workers.specs.Rules.{Rule}

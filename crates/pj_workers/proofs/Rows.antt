@@ -38,7 +38,7 @@ use Rattle.pj_workers.specs.Marked.{is_marked}
 use Rattle.pj_workers.specs.NoFunctions.{no_functions}
 use Rattle.pj_workers.specs.Results.{IsResultAt, IsResultOf, RestsOn, came_to, rules_in}
 use Rattle.pj_workers.specs.Rules.{AreRulesOf, IsRuleOf, Rule}
-use Rattle.pj_workers.specs.Views.{AreRunsOf, AsksOf, IsErrorOf, IsOfOneFile, all_names, file_seen, rows_by}
+use Rattle.pj_workers.specs.Views.{AreRunsOf, AsksOf, IsErrorOf, IsOfOneFile, all_names, rows_by}
 use Rattle.pj_workers.specs.declared.result.FileResult.{FileResult}
 use Rattle.pj_workers.specs.declared.result.FileRuns.{FileRuns}
 use Rattle.pj_workers.specs.declared.view.FileView.{FileView}

@@ -1,4 +1,4 @@
-use Rattle.std.proofs.Common.{◌∙◌, Ok, ap, rules, subst, sym}
+use Rattle.std.proofs.Common.{Ok, rules, subst, sym}
 use Rattle.pj_names.specs.Told.{Asks}
 use Rattle.pj_names.proofs.Held.{asks-late}
 use Rattle.pj_reports.specs.declared.rows.FileRows.{FileRows}

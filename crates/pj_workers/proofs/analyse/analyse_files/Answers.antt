@@ -1,10 +1,9 @@
-use Rattle.std.proofs.Common.{◌≡◌, ◌≤◌, ◌+◌, ◌++◌, ◌∙◌, List, [], ◌∷◌, Ok, add-one, ap, append-nil, append_assoc, arith, length, map, refl, rules, subst, suc, sym, take}
+use Rattle.std.proofs.Common.{◌≡◌, ◌++◌, ◌∙◌, List, [], ◌∷◌, add-one, ap, append-nil, append_assoc, arith, map, refl, rules, subst, sym, take}
 use Rattle.std.proofs.lemmas.List.{map-append, take_all}
 use Rattle.std.specs.List.{AllByRecursion, AllZip}
 use Rattle.pj_workers.specs.FileMeaning.{Bytes, file_meaning}
 use Rattle.pj_workers.specs.NoFunctions.{no_functions}
 use Rattle.pj_workers.specs.Results.{IsResultAt}
-use Rattle.pj_workers.specs.Rules.{AreRulesOf, Rule}
 use Rattle.pj_workers.specs.declared.result.FileResult.{FileResult}
 use Rattle.pj_names.proofs.AskingLaws.{asks-stop}
 use Rattle.pj_workers.proofs.Rows.{result_before}

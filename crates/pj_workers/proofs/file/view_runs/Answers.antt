@@ -1,4 +1,4 @@
-use Rattle.std.proofs.Common.{◌∙◌, List, Ok, ap, rules, sym}
+use Rattle.std.proofs.Common.{◌∙◌, List, Ok, ap, rules}
 use Rattle.pj_findings.specs.Merged.{merge}
 use Rattle.pj_names.specs.Asking.{Return}
 use Rattle.pj_names.proofs.AskingLaws.{asks-refused, asks-return, asks-stop, asks-then}

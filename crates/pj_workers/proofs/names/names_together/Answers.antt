@@ -1,5 +1,4 @@
-use Rattle.std.proofs.Common.{◌≡◌, ◌≤◌, ◌∙◌, List, add-one, ap, arith, drop, length, suc, sym}
-use Rattle.std.specs.FinSet as set
+use Rattle.std.proofs.Common.{◌≤◌, ◌∙◌, List, add-one, ap, arith, drop, length, suc, sym}
 use Rattle.pj_findings.specs.declared.run.RuleRun.{RuleRun}
 use Rattle.pj_names.specs.ClassName.{NameSet}
 use Rattle.pj_names.specs.Told.{with_names}

@@ -1,11 +1,8 @@
-use Rattle.std.proofs.Common.{◌≡◌, ◌∙◌, List, [], Ok, ap, rules, subst, sym}
-use Rattle.std.specs.FinSet as set
-use Rattle.pj_names.specs.ClassName.{NameSet, name_set}
+use Rattle.std.proofs.Common.{◌∙◌, [], Ok, rules, subst}
+use Rattle.pj_names.specs.ClassName.{NameSet}
 use Rattle.pj_names.specs.Noting.{Notes}
-use Rattle.pj_names.specs.Told.{Asks}
 use Rattle.pj_names.proofs.Held.{asks-late}
 use Rattle.pj_names.proofs.NameLists.{with_names-empty}
-use Rattle.pj_reports.specs.declared.ruled.Ruled.{Ruled}
 use Rattle.pj_workers.specs.FileMeaning.{rule_at}
 use Rattle.pj_workers.specs.NoFunctions.{no_functions}
 use Rattle.pj_workers.specs.Views.{file_seen}

@@ -1,17 +1,14 @@
-use Rattle.std.proofs.Common.{◌≡◌, ◌≤◌, ◌+◌, ◌++◌, ◌∙◌, List, [], ◌∷◌, Err, Ok, add-one, ap, arith, length, map, refl, rules, subst, sym, take}
+use Rattle.std.proofs.Common.{◌≡◌, ◌≤◌, ◌++◌, ◌∙◌, List, [], ◌∷◌, Ok, add-one, ap, arith, length, refl, rules, subst, sym, take}
 use Rattle.std.proofs.lemmas.List.{map-append, take_all}
-use Rattle.std.proofs.lemmas.Result.{err_from_is_err_and}
-use Rattle.std.specs.List.{AllByRecursion, AllZip}
+use Rattle.std.specs.List.{AllByRecursion}
 use Rattle.pj_findings.specs.declared.run.RuleRun.{RuleRun}
-use Rattle.pj_reports.specs.declared.ruled.Ruled.{Ruled}
-use Rattle.pj_rule_sets.specs.Rules.{EffectiveRule}
 use Rattle.pj_workers.specs.FileMeaning.{rule_at}
 use Rattle.pj_workers.specs.NoFunctions.{no_functions}
 use Rattle.pj_workers.specs.Results.{RestsOn, came_to}
 use Rattle.pj_workers.specs.Rules.{IsRuleOf, Rule}
 use Rattle.pj_workers.specs.Views.{file_seen}
 use Rattle.pj_workers.proofs.Resting.{AreRested, rests_before}
-use Rattle.pj_workers.proofs.Running.{AtTurn, all_last, beside, turn_begin, turn_ends, turn_refused, turn_stops, turn_then, zip_last, zip_length}
+use Rattle.pj_workers.proofs.Running.{all_last, beside, turn_begin, turn_ends, turn_refused, turn_stops, turn_then, zip_last, zip_length}
 use Rattle.pj_workers.proofs.runs.rule_runs.Goals as goal
 
 pub loop-rule-init : goal.loop-rule-init
