@@ -210,5 +210,9 @@ module _ {A : Type 0} where
   pub explains_on : (words : List Bytes) (told : Option Files) (r : Result A Refusal) (e x : Refusal) → r ≡ Err e → e ≡ x → Explains words told x → IfErr r (Explains words told)
   explains_on words told r e x is same h = subst (λ (w : Result A Refusal). IfErr w (Explains words told)) (sym is) (subst (λ (y : Refusal). Explains words told y) (sym same) h)
 
+  -- memory is wanted where no fault was counted
+  pub counts_on : (old new : ℕ) (r : Result A Refusal) (e : Refusal) → r ≡ Err e → e ≡ Memory → new ≡ old → CountsFaults old new r
+  counts_on old new r e is memory same = subst (λ (w : Result A Refusal). CountsFaults old new w) (sym is) (subst (λ (x : Refusal). CountsFaults {A = A} old new (Err x)) (sym memory) same)
+
 pub explains_later : (words : List Bytes) (o p : Option Files) (r : Refusal) → p ≡ o → Explains words p r → Explains words o r
 explains_later words o p r e h = subst (λ (w : Option Files). Explains words w r) e h

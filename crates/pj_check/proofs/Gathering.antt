@@ -11,7 +11,7 @@ use Rattle.pj_rule_sets.specs.Expressions.{AreOf, Both, IsKept, IsSpelledBy, nam
 use Rattle.pj_rule_sets.specs.Patterns.{suppression_of}
 use Rattle.pj_rule_sets.specs.declared.expressions.RuleExpressions.{RuleExpressions}
 use Rattle.pj_rule_sets.specs.declared.spelled.Spelled.{Spelled}
-use Rattle.pj_rule_sets.specs.Rules.{EffectiveRule, EffectiveRules, texts_of}
+use Rattle.pj_rule_sets.specs.Rules.{EffectiveRule, texts_of}
 use Rattle.pj_rule_texts.specs.Values.{Text}
 use Rattle.pj_rule_texts.specs.declared.rule.RuleTexts.{RuleTexts}
 use Rattle.pj_workers.specs.Cold.{AreRowsOf, World}

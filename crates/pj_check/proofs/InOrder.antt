@@ -1,5 +1,5 @@
 -- The report of a run stands in order.
-use Rattle.std.proofs.Common.{◌∙◌, List, map, subst, sym}
+use Rattle.std.proofs.Common.{◌∙◌, List, subst, sym}
 use Rattle.std.specs.List.Sorted.{IsStrictlySortedBy}
 use Rattle.pj_names.specs.declared.answer.Answer.TheVariants.{Absent}
 use Rattle.pj_outside.specs.Files.{Bytes}

@@ -4,7 +4,7 @@ ghost use Rattle.pj_check.specs.Notes.{GetNotes, notes_of, what_name};
 ghost use Rattle.pj_check.specs.NoteText.{note_line};
 
 use crate::outcome::Outcome;
-use crate::{Note, put_note};
+use crate::{Note, put_notes};
 use pj_outside::Sink;
 use pj_rules::RuleWhat;
 

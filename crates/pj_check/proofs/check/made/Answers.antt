@@ -7,7 +7,7 @@ use Rattle.pj_check.specs.Steps.{Explains}
 use Rattle.pj_check.specs.declared.refusal.Refusal.{Refusal}
 use Rattle.pj_check.specs.declared.refusal.Refusal.TheVariants.{Memory}
 use Rattle.pj_sources.specs.Reading.{AreRead}
-use Rattle.pj_check.proofs.Ending.{explains_later, explains_on, is_made, no_memory, told_later}
+use Rattle.pj_check.proofs.Ending.{counts_on, explains_later, explains_on, is_made, no_memory, told_later}
 use Rattle.pj_check.proofs.check.made.Goals as goal
 
 pub returns-in_err-rules-clause-refused : goal.returns-in_err-rules-clause-refused
@@ -54,6 +54,12 @@ returns-in_err-report-clause-refused g c =
     let exit = err_from_is_err_and c.from_residual-in_err-report.result c.from_residual-in_err-report.ensures.1 in
     explains_on words told c.from_residual-in_err-report.result exit.0 c.in_err-report.field-0.0 exit.1 exit.2
     (subst (λ (r : Refusal). Explains words told r) (sym c.in_err-report.ensures.refused) (no_memory words told))
+
+pub returns-in_err-written-clause-counts_faults : goal.returns-in_err-written-clause-counts_faults
+returns-in_err-written-clause-counts_faults g c =
+    let exit = err_from_is_err_and c.from_residual-in_err-written.result c.from_residual-in_err-written.ensures.1 in
+    counts_on (g.T.Tree.faults c.args.tree.now) (g.T.Tree.faults c.sources_of.new.tree) c.from_residual-in_err-written.result exit.0 exit.1 exit.2
+    (c.in_ok-sources.ensures.counts_faults ∙ c.in_ok-rules.ensures.counts_faults ∙ c.in_ok-listing.ensures.counts_faults)
 
 pub returns-clause-of_some : goal.returns-clause-of_some
 returns-clause-of_some g c = record {
