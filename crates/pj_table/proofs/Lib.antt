@@ -8,3 +8,6 @@ pub mod Ends
 pub mod Worlds
 pub mod Places
 pub mod Lies
+pub mod OracleLaws
+pub mod Indexes
+pub mod LooksLaws

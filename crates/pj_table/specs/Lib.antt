@@ -5,5 +5,10 @@ pub mod Book
 pub mod Rule
 pub mod Plays
 pub mod Seats
+pub mod ClassWorld
+pub mod Telling
+pub mod SeatLooks
 -- for private clauses
 pub mod Placed
+pub mod Held
+pub mod Index

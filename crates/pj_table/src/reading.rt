@@ -8,6 +8,7 @@ use pj_classfile::answer_of;
 use pj_names::{Answer, AskFault, ClassName};
 use pj_outside::{ClassDoor, Refused};
 use std::alloc::Global;
+use std::sync::Arc;
 
 /// The most bytes of a class file that are read.
 const CLASS_BYTES: u64 = 4_194_304;
@@ -33,4 +34,19 @@ pub(crate) fn read_answer<D: ClassDoor>(
         Ok(answer) => Ok(answer),
         Err(NoMemory) => Err(AskFault::Memory),
     }
+}
+
+/// The same, shared.
+pub(crate) fn read_shared<D: ClassDoor>(
+    alloc: Global,
+    door: &mut D,
+    name: &ClassName,
+) -> Result<Arc<Answer>, AskFault>
+    ensures same_folders { D.holds door.new ≡ D.holds door.old }
+    ensures finds { D.finds door.new ≡ next_count (D.finds door.old) }
+    ensures faults { CountsFaults (D.faults door.old) (D.faults door.new) result }
+    ensures answer { IfOk result (λ answer. IsAnswer (D.holds door.old) name.now answer.value) }
+{
+    let answer = read_answer(alloc, door, name)?;
+    Ok(Arc::new(alloc, answer)?)
 }
