@@ -33,10 +33,6 @@ pub trait ClassDoor: Send {
         ensures steady { never_fails self.old → never_fails self.new × (result ≢ Err Refused.Failed) }
         ensures within { IfOk result (IsAtMost most) }
         ensures reading { IfSome (holds self.old) (λ folders. IfOk result (λ reading. reading ≡ found_at folders name.now most)) };
-
-    /// How many calls of `find` there were, counted up to the greatest number of 64 bits. It takes no memory.
-    fn count_finds(&self) -> u64
-        ensures { result ≡ finds self.now };
 }
 
 /// A class path: folders by name, and fixed folders, which both calls leave as they are.

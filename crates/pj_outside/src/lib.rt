@@ -4,7 +4,6 @@
 mod class_path;
 mod fault_plan;
 mod files;
-mod gate;
 mod keeper;
 mod laws;
 mod mem_class_path;
@@ -18,7 +17,6 @@ mod tree;
 
 pub use class_path::{ClassDoor, ClassPath};
 pub use files::Files;
-pub use gate::{Gate, OpenGate};
 pub use keeper::Keeper;
 pub use laws::one_name_is_replaced;
 pub use mem_class_path::{Folders, MemClassPath, Pairs};

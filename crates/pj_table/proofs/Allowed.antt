@@ -1,16 +1,16 @@
 -- Each step keeps the rule of the whole table.
-use Rattle.std.proofs.Common.{◌≡◌, ℕ, zero, suc, ◌+◌, ◌*◌, ◌%◌, ◌^◌, ◌<◌, ◌≤◌, ◌≢◌, ◌⊎◌, eqb, ◌==◌, cond, List, [], ◌∷◌, ◌++◌, map, filter, length, get_or, set, sym, refl, ap, ◌∙◌, subst, inl, inr, ⊎_elim, arith, length-set, eq-eqb, ne_eqb, length-append, get_or-set_other, get_or-set_same, Bool, true, false}
+use Rattle.std.proofs.Common.{◌≡◌, ℕ, ◌+◌, ◌*◌, ◌%◌, ◌^◌, ◌<◌, ◌≤◌, ◌≢◌, ◌⊎◌, ◌==◌, cond, List, [], ◌∷◌, ◌++◌, map, length, get_or, set, sym, refl, ap, ◌∙◌, subst, inl, inr, ⊎_elim, arith, length-set, eq-eqb, ne_eqb, get_or-set_other, get_or-set_same, Bool, true, false}
 use lib.Seq.{set-get_or}
 use Rattle.std.proofs.lemmas.List.{map-set, length-map, append-nil}
 use Rattle.std.proofs.lemmas.List.Elements.{filter-append}
 use mathlib.Core.Logic.{dite}
-use mathlib.Core.Option.{Option, none, some, some-injective, some-ne-none}
-use native.Mathlib.Decide.{ℕ_discrete, dec_le}
+use mathlib.Core.Option.{Option, none, some, some-ne-none}
+use native.Mathlib.Decide.{ℕ_discrete}
 use lib.ListN.{get_elem?}
-use Rattle.atomic_table.proofs.Lists.{at_set, set_here, set_else, set_again, at_map}
+use Rattle.atomic_table.proofs.Lists.{set_here, set_else, set_again, at_map}
 use Rattle.atomic_table.specs.Table.{State, Me, step, Act, keeps, takes, gives, Valid, carried_after, stepped, Allows, rest}
-use Rattle.pj_table.specs.Book.{IsSound, IsTold, Grows, looks_of, look_of}
-use Rattle.pj_table.specs.Rule.{Hand, Tale, At, waits, total, tale, masked, hand, PartKept, SeatKept, Kept, ClaimsKept, gone, claimed, line_claims, times, mark, marks, numbers, ticket_word, serving_word, count_word}
+use Rattle.pj_table.specs.Book.{IsSound, Grows}
+use Rattle.pj_table.specs.Rule.{Hand, Tale, At, total, tale, masked, hand, PartKept, SeatKept, Kept, ClaimsKept, gone, claimed, line_claims, times, mark, marks, numbers, ticket_word, serving_word, count_word}
 use Rattle.pj_table.specs.Plays.{drew, loaded, entered, served, waiting, turning, entering, idle, with_asked, Turns}
 use Rattle.pj_table.proofs.Parts.{draws, turns, at_home, ticket_is, serves, enters, at_each, at_below, total_set}
 use Rattle.pj_table.proofs.Books.{at_unmap, one_asked}

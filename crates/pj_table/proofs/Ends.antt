@@ -1,22 +1,21 @@
 -- The first state meets the rule, and what the last one shows.
-use Rattle.std.proofs.Common.{◌≡◌, ℕ, zero, suc, ◌+◌, ◌*◌, ◌%◌, ◌^◌, ◌<◌, ◌≤◌, ◌≢◌, ◌⊎◌, min, eqb, ◌==◌, nat_lt, cond, List, [], ◌∷◌, ◌++◌, map, filter, length, get_or, set, sym, refl, ap, ◌∙◌, subst, inl, inr, ⊎_elim, arith, eq-eqb, ne_eqb, le-ltb, Bool, true, false}
-use Rattle.std.proofs.lemmas.List.{map-set, map-append, length-map}
+use Rattle.std.proofs.Common.{◌≡◌, ℕ, zero, suc, ◌+◌, ◌*◌, ◌^◌, ◌<◌, ◌≤◌, ◌≢◌, min, cond, List, [], ◌∷◌, map, length, get_or, sym, refl, ap, ◌∙◌, subst, inl, ⊎_elim, arith, le-ltb, true, false}
+use Rattle.std.proofs.lemmas.List.{length-map}
 use Rattle.std.specs.Prelude.{None}
 use mathlib.Core.Logic.{dite}
-use mathlib.Core.Option.{Option, none, some, some-injective, some-ne-none}
-use native.Mathlib.Decide.{ℕ_discrete, dec_le}
+use mathlib.Core.Option.{Option, some, some-injective, some-ne-none}
+use native.Mathlib.Decide.{ℕ_discrete}
 use lib.ListN.{get_elem?}
 use Rattle.atomic_table.proofs.Lists.{at_map}
 use Rattle.atomic_table.specs.Table.{State, opening}
-use Rattle.pj_table.specs.Book.{IsSound, IsTold, looks_of, look_of}
-use Rattle.pj_table.specs.Rule.{Hand, Tale, At, waits, total, tale, masked, hand, PartKept, SeatKept, Kept, ClaimsKept, gone, newcomer, opened, claimed, line_claims, times, once_below, mark, marks, numbers, ticket_word, serving_word, count_word, HasAll, Shows}
-use Rattle.pj_table.proofs.Books.{at_unmap, at_there}
+use Rattle.pj_table.specs.Book.{IsSound, IsTold, looks_of}
+use Rattle.pj_table.specs.Rule.{Hand, Tale, At, total, tale, hand, PartKept, SeatKept, Kept, gone, opened, claimed, once_below, marks, ticket_word, serving_word, count_word, HasAll, Shows}
+use Rattle.pj_table.proofs.Books.{at_unmap}
 use Rattle.pj_table.proofs.Parts.{at_below, waits_not}
-use Rattle.pj_table.proofs.Allowed.{Three, hand_away, live_or_gone}
+use Rattle.pj_table.proofs.Allowed.{hand_away, live_or_gone}
 use Rattle.pj_table.specs.Worlds.{World}
 use Rattle.pj_table.specs.declared.view.Entry.{Entry}
 use Rattle.pj_table.specs.declared.view.Look.{Look}
-use Rattle.pj_table.specs.declared.view.Asked.{Asked}
 use Rattle.pj_table.specs.declared.view.Line.{Line}
 use Rattle.pj_table.specs.declared.view.View.{View}
 use Rattle.pj_table.specs.declared.part.Part.{Part}

@@ -10,4 +10,3 @@ pub mod Places
 pub mod Lies
 pub mod OracleLaws
 pub mod Indexes
-pub mod LooksLaws

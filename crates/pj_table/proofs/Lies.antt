@@ -1,11 +1,11 @@
 -- At the end each entry stands in the part of its name.
-use Rattle.std.proofs.Common.{◌≡◌, ℕ, zero, suc, ◌+◌, ◌<◌, ◌≤◌, ◌≢◌, ◌==◌, cond, List, [], ◌∷◌, map, filter, length, sym, refl, ap, ◌∙◌, subst, arith, eq-eqb, eqb-true, Bool, true, false, MatchBool}
+use Rattle.std.proofs.Common.{◌≡◌, ℕ, zero, suc, ◌+◌, ◌<◌, ◌≤◌, ◌==◌, cond, List, [], ◌∷◌, filter, sym, refl, ap, ◌∙◌, arith, eq-eqb, eqb-true, Bool, true, false, MatchBool}
 use mathlib.Core.Logic.{dite}
-use mathlib.Core.Option.{Option, none, some, some-injective, some-ne-none}
+use mathlib.Core.Option.{some-injective, some-ne-none}
 use native.Mathlib.Decide.{ℕ_discrete, dec_le}
 use lib.ListN.{get_elem?}
 use Rattle.pj_table.specs.Names.{part_of}
-use Rattle.pj_table.specs.Book.{IsTold, looks_of, look_of, IsLegal, fills, next, Fits}
+use Rattle.pj_table.specs.Book.{IsTold, look_of, IsLegal, fills}
 use Rattle.pj_table.specs.Rule.{At, tale, HasAll, Shows}
 use Rattle.pj_table.specs.Placed.{AtHome, Placed}
 use Rattle.pj_table.proofs.Books.{at_unmap, same_entry, at_there}

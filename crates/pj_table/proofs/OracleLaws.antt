@@ -1,32 +1,35 @@
 -- How oracles over doors and seats meet the law of oracles.
-use Rattle.std.proofs.Common.{◌≡◌, ◌∙◌, ℕ, ◌+◌, ◌-◌, ◌^◌, ◌≤◌, min, List, [], ◌∷◌, Bool, true, false, cond, Option, Some, None, IsTrue, refl, sym, ap, subst, arith, Ordering}
-use Rattle.std.specs.Prelude.{Result, Ok, Err, IfOk, OnOk, IsErrOf, is_some}
+use Rattle.std.proofs.Common.{◌≡◌, ◌∙◌, ℕ, ◌+◌, ◌-◌, ◌^◌, ◌<◌, ◌≤◌, min, List, [], ◌∷◌, Bool, true, false, cond, Option, Some, None, IsTrue, refl, sym, ap, subst, arith, Ordering}
+use Rattle.std.specs.Prelude.{Result, Ok, Err, IfOk, OnOk, OnErr, IsErrOf, is_some}
+use Rattle.std.specs.Option.{IfSome}
 use Rattle.std.specs.declared.cmp.Ordering.TheVariants.{Less, Equal, Greater}
 use Rattle.std.specs.declared.sync.Arc.{Arc}
 use Rattle.std.specs.declared.alloc.Global.{Global}
-use Rattle.std.specs.List.{AllByRecursion}
 use Rattle.std.specs.Map.{lookup}
 use Rattle.std.specs.BTreeMap.{insert_entry, is_at}
 use Rattle.std.specs.Cmp.{tied_itself}
 use Rattle.std.specs.Cmp.Lexicographic.{nat_list_cmp_total, slice_cmp}
 use Rattle.std.specs.Ordering.{is_eq, match_ordering, nat_cmp}
 use Rattle.std.specs.FinSet as set
-use Rattle.std.specs.FinSet.{contains-insert, len-insert, nat_cmp-IsAntisymmetric, slice_cmp-IsAntisymmetric}
+use Rattle.std.specs.FinSet.{contains-insert, len-empty, len-insert, nat_cmp-IsAntisymmetric, slice_cmp-IsAntisymmetric}
 use Rattle.pj_names.specs.declared.answer.Answer.{Answer}
 use Rattle.pj_names.specs.declared.oracle.AskFault.{AskFault}
 use Rattle.pj_names.specs.declared.oracle.AskFault.TheVariants.{Failed, Memory}
 use Rattle.pj_names.specs.ClassName.{Name, NameSet}
 use Rattle.pj_names.specs.Asking.{ask, value_of}
-use Rattle.pj_names.specs.Told.{Asks, IsWithin, Told, UnlessFailed, asked_after, longest}
+use Rattle.pj_names.specs.Told.{Asks, IsWithin, UnlessFailed, asked_after}
 use Rattle.pj_names.proofs.AskingLaws.{within-names, within-self}
 use Rattle.pj_outside.specs.Files.{Files}
 use Rattle.pj_outside.specs.Doors.{count_and, found_at}
 use Rattle.pj_outside.specs.Faults.{next_count}
+use Rattle.pj_outside.specs.declared.refused.Reading.{Reading}
+use Rattle.pj_classfile.specs.ClassOf.{AnswerOf}
 use Rattle.pj_classfile.proofs.OneLaws.{answer_there, one_answer}
 use Rattle.pj_table.specs.Worlds.{World, IsAnswer, CountsFaults}
 use Rattle.pj_table.specs.ClassWorld.{answer_of_reading, worlds_of}
 use Rattle.pj_table.specs.Held.{AreHeldAnswers, IsHeldAnswer}
 use Rattle.pj_table.specs.Telling.{tells_of}
+use Rattle.pj_table.proofs.Readings.{is_answer}
 
 -- ---- the world
 
@@ -162,6 +165,29 @@ pub within_more : (names : NameSet) (name : Name) → IsWithin names (set.insert
 within_more names name = within-names {t = names} (name ∷ []) (within-self names)
 
 -- one find more for one name more
-pub count_more : {before after finds : ℕ} {asked new : NameSet} {name : Name} → new ≡ set.insert asked name → set.contains asked name ≡ false → before ≡ count_and finds (set.len asked) → after ≡ next_count before → after ≡ count_and finds (set.len new)
-count_more {finds = finds} {asked = asked} {name = name} is absent was more =
+pub count_more : {before after : ℕ} {new : NameSet} (finds : ℕ) (asked : NameSet) (name : Name) → new ≡ set.insert asked name → set.contains asked name ≡ false → before ≡ count_and finds (set.len asked) → after ≡ next_count before → after ≡ count_and finds (set.len new)
+count_more finds asked name is absent was more =
     let n = ap (λ (s : NameSet). set.len s) is ∙ len-insert nat_list_cmp_total asked name ∙ ap (λ (b : Bool). cond b (set.len asked) (set.len asked + 1)) absent in omega (arith, n, was, more)
+
+-- what a door read is the world's answer
+pub read_is : (world : World) (name : Name) (reading : Reading) (answer : Answer) → IfSome world (λ (folders : List Files). reading ≡ found_at folders name 4194304) → AnswerOf name reading answer → IsTrue (is_some world) → answer ≡ (worlds_of world 0).answer name
+read_is world name reading answer read is = told_answer world name answer (is_answer world name reading answer read is)
+
+pub within_put : {old new : NameSet} (name : Name) → new ≡ set.insert old name → IsWithin old new
+within_put {old = old} name is = subst (λ s. IsWithin old s) (sym is) (within_more old name)
+
+-- an answer that is new, by a copy of its name, also where there was no memory for it
+pub held_put : {X E : Type 0} {world : World} {asked : NameSet} (old new : List (Name × Arc Answer Global)) (name key : Name) (copy : Arc Answer Global) (r : Result X E)
+    → key ≡ name → AreHeldAnswers world asked old → IsHeldAnswer world asked name copy.value → OnOk r (new ≡ insert_entry (slice_cmp nat_cmp) old key copy) → OnErr r (new ≡ old) → AreHeldAnswers world asked new
+held_put {world = world} {asked = asked} old new name key copy (Ok x) same held one ok err =
+    subst (λ (l : List (Name × Arc Answer Global)). AreHeldAnswers world asked l) (sym ok) (held_more world asked old key copy held (subst (λ (n : Name). IsHeldAnswer world asked n copy.value) (sym same) one))
+held_put {world = world} {asked = asked} old new name key copy (Err e) same held one ok err = subst (λ (l : List (Name × Arc Answer Global)). AreHeldAnswers world asked l) (sym err) held
+
+pub new_is_held : {world after : World} {new : NameSet} {name : Name} {answer copy : Answer} (asked : NameSet) → after ≡ world → new ≡ set.insert asked name → copy ≡ answer → (IsTrue (is_some world) → answer ≡ (worlds_of world 0).answer name) → IsHeldAnswer after new name copy
+new_is_held {world = world} {after = after} {new = new} {name = name} {answer = answer} {copy = copy} asked same put is right =
+    let one : IsHeldAnswer world new name copy = record { was_asked = subst (λ s. IsTrue (set.contains s name)) (sym put) (there asked name); is = λ told. is ∙ right told } in
+    subst (λ (w : World). IsHeldAnswer w new name copy) (sym same) one
+
+-- no find yet
+pub count_begin : (finds count : ℕ) (asked : NameSet) → count ≡ finds → asked ≡ set.empty → count < 2 ^ 64 → finds ≡ count_and count (set.len asked)
+count_begin finds count asked is none-asked fits = let n = ap (λ (s : NameSet). set.len s) none-asked ∙ len-empty (slice_cmp nat_cmp) in omega (arith, n, is, fits)

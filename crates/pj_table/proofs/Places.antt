@@ -1,5 +1,5 @@
 -- Names stay where they lie.
-use Rattle.std.proofs.Common.{◌≡◌, ℕ, ◌++◌, ◌∷◌, [], List, Bool, sym, ap, ◌∙◌, subst, ⊎_elim, Result, Ok, Err, IfOk, IfErr}
+use Rattle.std.proofs.Common.{◌≡◌, ℕ, ◌∷◌, List, Bool, sym, ap, ◌∙◌, subst, ⊎_elim, Result, Ok, Err, IfOk, IfErr}
 use mathlib.Core.Option.{some}
 use lib.ListN.{get_elem?}
 use Rattle.pj_names.specs.ClassName.{Name}

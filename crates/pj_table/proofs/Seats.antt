@@ -1,23 +1,18 @@
 -- Seats that are split and joined keep the rule.
-use Rattle.std.proofs.Common.{◌≡◌, ℕ, zero, suc, ◌+◌, ◌*◌, ◌%◌, ◌^◌, ◌<◌, ◌≤◌, ◌≢◌, ◌⊎◌, eqb, ◌==◌, cond, List, [], ◌∷◌, ◌++◌, map, filter, length, get_or, set, sym, refl, ap, ◌∙◌, subst, inl, inr, ⊎_elim, arith, length-set, eq-eqb, ne_eqb, length-append, Bool, true, false}
+use Rattle.std.proofs.Common.{◌≡◌, ℕ, zero, suc, ◌+◌, ◌^◌, ◌<◌, ◌≤◌, ◌≢◌, ◌==◌, cond, List, [], ◌∷◌, ◌++◌, map, length, set, sym, refl, ap, ◌∙◌, subst, inl, inr, ⊎_elim, arith, length-set, eq-eqb, ne_eqb, length-append, true, false}
 use Rattle.std.proofs.lemmas.List.{map-set, map-append, length-map}
-use mathlib.Core.Logic.{dite}
-use mathlib.Core.Option.{Option, none, some, some-injective, some-ne-none}
-use native.Mathlib.Decide.{ℕ_discrete, dec_le}
+use mathlib.Core.Option.{Option, some, some-injective, some-ne-none}
 use lib.ListN.{get_elem?}
-use Rattle.atomic_table.proofs.Lists.{at_set, set_here, set_else, set_again, at_map, at_longer}
-use Rattle.atomic_table.specs.Table.{State, Splits, Joins}
-use Rattle.pj_table.specs.Book.{IsSound, IsTold, looks_of, look_of}
-use Rattle.pj_table.specs.Rule.{Hand, Tale, At, waits, total, tale, masked, hand, PartKept, SeatKept, Kept, ClaimsKept, gone, newcomer, claimed, line_claims, times, once_below, mark, marks, numbers, ticket_word, serving_word, count_word}
+use Rattle.atomic_table.proofs.Lists.{set_else, set_again, at_map, at_longer}
+use Rattle.atomic_table.specs.Table.{Splits, Joins}
+use Rattle.pj_table.specs.Book.{IsTold}
+use Rattle.pj_table.specs.Rule.{Hand, Tale, At, waits, tale, hand, PartKept, SeatKept, Kept, gone, claimed, line_claims, mark, marks, numbers}
 use Rattle.pj_table.specs.Plays.{with_number_given, new_view, united}
-use Rattle.pj_table.proofs.Books.{at_snoc_is, at_there}
+use Rattle.pj_table.proofs.Books.{at_snoc_is}
 use Rattle.pj_table.proofs.Parts.{at_each, at_below, total_set, waits_not}
 use Rattle.pj_table.proofs.Claims.{total_append}
 use Rattle.pj_table.proofs.Allowed.{Three, hand_away}
 use Rattle.pj_table.specs.Worlds.{World}
-use Rattle.pj_table.specs.declared.view.Entry.{Entry}
-use Rattle.pj_table.specs.declared.view.Look.{Look}
-use Rattle.pj_table.specs.declared.view.Asked.{Asked}
 use Rattle.pj_table.specs.declared.view.Line.{Line}
 use Rattle.pj_table.specs.declared.view.View.{View}
 use Rattle.pj_table.specs.declared.part.Part.{Part}

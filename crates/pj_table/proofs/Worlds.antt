@@ -1,15 +1,15 @@
 -- The opening seat of a new table tells the rule its world.
-use Rattle.std.proofs.Common.{◌≡◌, ℕ, zero, suc, ◌+◌, ◌*◌, ◌%◌, ◌^◌, ◌<◌, ◌≤◌, ◌≢◌, ◌⊎◌, eqb, ◌==◌, cond, List, [], ◌∷◌, ◌++◌, map, filter, length, get_or, set, sym, refl, ap, ◌∙◌, subst, inl, inr, ⊎_elim, arith, length-set, eq-eqb, ne_eqb, Bool, true, false}
+use Rattle.std.proofs.Common.{◌≡◌, ℕ, ◌<◌, ◌==◌, cond, List, [], ◌∷◌, map, filter, length, set, sym, refl, ap, ◌∙◌, subst, arith, length-set, eq-eqb, Bool, true, false}
 use Rattle.std.proofs.lemmas.List.{map-set, length-map}
 use lib.Seq.{set-get_or}
 use mathlib.Core.Logic.{dite}
-use mathlib.Core.Option.{Option, none, some, some-injective, some-ne-none}
-use native.Mathlib.Decide.{ℕ_discrete, dec_le}
+use mathlib.Core.Option.{Option, some-injective, some-ne-none}
+use native.Mathlib.Decide.{ℕ_discrete}
 use lib.ListN.{get_elem?}
 use Rattle.atomic_table.proofs.Lists.{set_again, at_map}
-use Rattle.atomic_table.specs.Table.{State, Me, step, Act, keeps, Valid, carried_after, stepped, Allows}
-use Rattle.pj_table.specs.Book.{IsSound, IsTold, looks_of, look_of, fills}
-use Rattle.pj_table.specs.Rule.{Hand, Tale, At, total, hand, PartKept, SeatKept, Kept, ClaimsKept, gone, claimed, marks, numbers, ticket_word, serving_word, count_word}
+use Rattle.atomic_table.specs.Table.{Me, keeps, Allows}
+use Rattle.pj_table.specs.Book.{looks_of, look_of, fills}
+use Rattle.pj_table.specs.Rule.{Hand, At, hand, PartKept, SeatKept, Kept, gone, claimed, marks, numbers}
 use Rattle.pj_table.specs.Plays.{with_world}
 use Rattle.pj_table.proofs.Parts.{at_each, at_below, total_set}
 use Rattle.pj_table.proofs.Allowed.{Three}

@@ -1,6 +1,6 @@
 -- One part as plain lists: its entries in the order of their fills, and its history.
-use Rattle.std.specs.Prelude.{◌≡◌, ℕ, ◌+◌, ◌<◌, ◌≤◌, List, [], ◌∷◌, ◌++◌, map, filter, length, cond, ◌==◌, ◌&&◌, Bool, true, false, MatchBool, ◌≢◌}
-use mathlib.Core.Option.{Option, none, some}
+use Rattle.std.specs.Prelude.{◌≡◌, ℕ, ◌+◌, ◌<◌, List, [], ◌∷◌, ◌++◌, map, filter, length, cond, ◌==◌, Bool, MatchBool, ◌≢◌}
+use mathlib.Core.Option.{some}
 use lib.ListN.{get_elem?}
 use Rattle.std.specs.Arc.{arc_value}
 use Rattle.pj_names.specs.ClassName.{Name}

@@ -1,5 +1,5 @@
 -- The world of class folders, as oracles tell it.
-use Rattle.std.specs.Prelude.{ℕ, List, [], ◌∷◌, Option, Some, None}
+use Rattle.std.specs.Prelude.{List, [], ◌∷◌, Some, None}
 use Rattle.pj_names.specs.ClassName.{Name}
 use Rattle.pj_names.specs.Told as told
 use Rattle.pj_names.specs.declared.answer.Answer.{Answer}

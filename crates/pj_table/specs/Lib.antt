@@ -7,7 +7,6 @@ pub mod Plays
 pub mod Seats
 pub mod ClassWorld
 pub mod Telling
-pub mod SeatLooks
 -- for private clauses
 pub mod Placed
 pub mod Held

@@ -1,9 +1,9 @@
 -- The rule of the table. Word 0 is the claim word, and the part p has the words ticket_word p, serving_word p and count_word p, and the slot p.
-use Rattle.std.specs.Prelude.{◌≡◌, ℕ, ◌+◌, ◌*◌, ◌%◌, ◌^◌, ◌<◌, ◌≤◌, List, [], ◌∷◌, ◌++◌, map, filter, length, slice_index, cond, ◌==◌, nat_lt, min, Bool, true, false, ◌⊎◌, ◌≢◌}
+use Rattle.std.specs.Prelude.{◌≡◌, ℕ, ◌+◌, ◌*◌, ◌%◌, ◌^◌, ◌<◌, ◌≤◌, List, [], ◌∷◌, map, filter, length, slice_index, cond, ◌==◌, nat_lt, min, Bool, true, false, ◌⊎◌, ◌≢◌}
 use Rattle.std.specs.Prelude.{None}
-use mathlib.Core.Option.{Option, none, some}
+use mathlib.Core.Option.{Option, some}
 use lib.ListN.{get_elem?}
-use Rattle.atomic_table.specs.Table.{State, Me, Step}
+use Rattle.atomic_table.specs.Table.{State}
 use Rattle.pj_table.specs.Book.{IsSound, IsTold, looks_of}
 use Rattle.pj_table.specs.Worlds.{World}
 use Rattle.pj_table.specs.declared.view.Entry.{Entry}

@@ -1,6 +1,6 @@
 -- What an oracle over a seat leaves as it is, and the looks that it made.
 use Rattle.std.specs.Borrow.{GName}
-use Rattle.std.specs.Prelude.{◌≡◌, ◌-◌, ℕ, Bool, List, map, length, take, drop, count_by}
+use Rattle.std.specs.Prelude.{◌≡◌, ◌-◌, ℕ, Bool, true, List, map, length, take, drop, count_by}
 use Rattle.std.specs.FinSet as set
 use Rattle.std.specs.Coded.{coded_list, coded_ℕ}
 use Rattle.std.proofs.Props.{props}

@@ -1,16 +1,15 @@
 //! An oracle over one door.
-ghost use Rattle.std.specs.Prelude.{◌≡◌, false};
+ghost use Rattle.std.specs.Prelude.{◌≡◌};
 ghost use Rattle.std.specs.FinSet as set;
-ghost use Rattle.pj_names.specs.Asking.{ask};
-ghost use Rattle.pj_names.specs.Told.{Asks, seen, shared_answer};
 ghost use Rattle.pj_outside.specs.Doors.{count_and};
 ghost use Rattle.pj_table.specs.Held.{AreHeldAnswers, all_held_prop};
 ghost use Rattle.pj_table.specs.Telling.{OverDoor, tells_of};
 
-use crate::reading::read_shared;
+use crate::counted_door::CountedDoor;
+use crate::reading::{CLASS_BYTES, shared_answer_of};
 use pj_base::Copied;
 use pj_names::{Answer, AskFault, ClassName, ClassNameSet, Oracle};
-use pj_outside::ClassDoor;
+use pj_outside::Refused;
 use std::alloc::Global;
 use std::collections::BTreeMap;
 use std::sync::Arc;
@@ -20,7 +19,7 @@ use std::sync::Arc;
 /// The door has one find more for each name that was asked. A name whose find gave no answer, since the door failed or
 /// memory ran out, is not found again: each later ask of it wants memory.
 #[derive(Drop)]
-pub struct DoorOracle<'a, D: ClassDoor> {
+pub struct DoorOracle<'a, D: CountedDoor> {
     alloc: Global,
     /// The door.
     pub door: &'a mut D,
@@ -31,7 +30,7 @@ pub struct DoorOracle<'a, D: ClassDoor> {
     ghost counted: { D.finds door.now ≡ count_and finds (set.len asked) },
 }
 
-impl<'a, D: ClassDoor> DoorOracle<'a, D> {
+impl<'a, D: CountedDoor> DoorOracle<'a, D> {
     /// The oracle over a door, of which nothing was asked. It takes no memory.
     pub fn new(alloc: Global, door: &'a mut D) -> DoorOracle<'a, D>
         ensures tells { ⟦<DoorOracle<'a, D> as Oracle>⟧.tells result ≡ tells_of (record { reference = door.entry.ghost_name; finds = D.finds door.old }) (D.holds door.old) set.empty (D.faults door.old) }
@@ -47,18 +46,6 @@ impl<'a, D: ClassDoor> DoorOracle<'a, D> {
         }
     }
 
-    /// The answer for a name that was not asked yet, by one find.
-    fn find(&mut self, name: &ClassName) -> Result<Arc<Answer>, AskFault>
-        requires { set.contains self.old.asked name.now ≡ false }
-        ensures { Asks (ask name.now) (⟦<DoorOracle<'a, D> as Oracle>⟧.tells self.old) (⟦<DoorOracle<'a, D> as Oracle>⟧.tells self.new) (seen shared_answer result) }
-    {
-        let key = name.copied()?;
-        self.asked.insert(name.copied()?)?;
-        let answer = read_shared(self.alloc, self.door, name)?;
-        self.answers.insert(key, answer.clone()?)?;
-        Ok(answer)
-    }
-
     /// The names that were asked. The door has had one find for each of them.
     pub fn asked(&self) -> &ClassNameSet
         ensures asked { result.now ≡ (⟦<DoorOracle<'a, D> as Oracle>⟧.tells self.now).asked }
@@ -68,7 +55,7 @@ impl<'a, D: ClassDoor> DoorOracle<'a, D> {
     }
 }
 
-impl<'a, D: ClassDoor> Oracle for DoorOracle<'a, D> {
+impl<'a, D: CountedDoor> Oracle for DoorOracle<'a, D> {
     ghost Kept = { OverDoor };
 
     ghost tells = { λ oracle. tells_of (record { reference = oracle.door.ghost_name; finds = oracle.finds }) (D.holds oracle.door.now) oracle.asked (D.faults oracle.door.now) };
@@ -80,6 +67,15 @@ impl<'a, D: ClassDoor> Oracle for DoorOracle<'a, D> {
         if self.asked.contains(name) {
             return Err(AskFault::Memory);
         }
-        self.find(name)
+        let key = name.copied()?;
+        self.asked.insert(name.copied()?)?;
+        let reading = match self.door.find(name, CLASS_BYTES) {
+            Ok(reading) => reading,
+            Err(Refused::Failed) => return Err(AskFault::Failed),
+            Err(Refused::Memory) => return Err(AskFault::Memory),
+        };
+        let answer = shared_answer_of(self.alloc, name, &reading)?;
+        self.answers.insert(key, answer.clone()?)?;
+        Ok(answer)
     }
 }

@@ -2,20 +2,20 @@
 //! rule holds between any two steps of any threads.
 #![tactic(auto)]
 
+mod counted_door;
 mod door_oracle;
 mod law;
 mod name_part;
 mod part;
 mod reading;
 mod seat;
-mod seat_oracle;
 mod steps;
 mod type_table;
 mod view;
 
+pub use counted_door::CountedDoor;
 pub use door_oracle::DoorOracle;
 pub use part::Part;
 pub use seat::{TableSeat, TypeTable};
-pub use seat_oracle::SeatOracle;
 pub use type_table::Closed;
 pub use view::{Asked, Entry, Line, Look, View};

@@ -1,5 +1,5 @@
 //! What a slot of the table holds.
-ghost use Rattle.std.specs.Prelude.{◌≡◌, ◌≢◌, ℕ, ◌+◌, ◌<◌, ◌^◌, ◌==◌, List, Bool, true, false, cond, length, IfSome, IfNone, IfOk, IfErr, vec_len, vec_capacity};
+ghost use Rattle.std.specs.Prelude.{◌≡◌, ◌≢◌, ℕ, ◌+◌, ◌<◌, ◌^◌, ◌==◌, [], List, Bool, true, false, cond, length, IfSome, IfNone, IfOk, IfErr, vec_len, vec_capacity};
 ghost use mathlib.Core.Option.{some};
 ghost use lib.ListN.{get_elem?};
 ghost use Rattle.std.specs.Arc.{arc_value};
@@ -127,9 +127,9 @@ impl Part {
             return Err(AskFault::Memory);
         };
         let place = self.entries.len();
-        if self.places.insert(key, place).is_err() {
+        let Ok(_) = self.places.insert(key, place) else {
             return Err(AskFault::Memory);
-        }
+        };
         self.entries.push_reserved(Entry { name: copy, answer });
         self.looks.push_reserved(Look {
             seat,

@@ -8,10 +8,10 @@ ghost use Rattle.pj_table.specs.SeatLooks.{LooksOnce, OverSeat, gained, known, k
 ghost use Rattle.pj_table.specs.Seats.{IsOf, identity_of, view_of, world_of};
 ghost use Rattle.pj_table.specs.Telling.{tells_of};
 
+use crate::counted_door::CountedDoor;
 use crate::seat::{TableSeat, TypeTable};
 use pj_base::Copied;
 use pj_names::{Answer, AskFault, ClassName, ClassNameSet, Oracle};
-use pj_outside::ClassDoor;
 use std::alloc::Global;
 use std::collections::BTreeMap;
 use std::sync::{Arc, Wait};
@@ -19,7 +19,7 @@ use std::sync::{Arc, Wait};
 /// An oracle over one seat and its door, made for each file: it asks the table once a name, and holds the answer. It waits
 /// where the table does.
 #[derive(Drop)]
-pub struct SeatOracle<'a, D: ClassDoor, R: Wait> {
+pub struct SeatOracle<'a, D: CountedDoor, R: Wait> {
     rt: &'a R,
     alloc: Global,
     table: &'a TypeTable,
@@ -38,7 +38,7 @@ pub struct SeatOracle<'a, D: ClassDoor, R: Wait> {
     ghost once: { is_whole ≡ true → LooksOnce (known_before looks (view_of seat.now)) (view_of seat.now) asked finds (D.finds door.now) } by { looks_once_prop (known_before looks (view_of seat.now)) (view_of seat.now) asked finds (D.finds door.now) is_whole },
 }
 
-impl<'a, D: ClassDoor, R: Wait> SeatOracle<'a, D, R> {
+impl<'a, D: CountedDoor, R: Wait> SeatOracle<'a, D, R> {
     /// The oracle over a seat and a door of the seat's world, of which nothing was asked. It takes no memory.
     pub fn new(
         rt: &'a R,
@@ -105,7 +105,7 @@ impl<'a, D: ClassDoor, R: Wait> SeatOracle<'a, D, R> {
     }
 }
 
-impl<'a, D: ClassDoor, R: Wait> Oracle for SeatOracle<'a, D, R> {
+impl<'a, D: CountedDoor, R: Wait> Oracle for SeatOracle<'a, D, R> {
     ghost Kept = { OverSeat };
 
     ghost tells = { λ oracle. tells_of (record { seat = oracle.seat.ghost_name; door = oracle.door.ghost_name; place = identity_of oracle.seat.now; before = known_before oracle.looks (view_of oracle.seat.now); finds = oracle.finds }) (world_of oracle.seat.now) oracle.asked (D.faults oracle.door.now) };

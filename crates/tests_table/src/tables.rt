@@ -6,8 +6,8 @@ ghost use Rattle.tests_table.specs.Seated.{HasGiven, IsSeated};
 
 use crate::fixtures::{Wanted, class_path, expect, is_wanted, name, two_doors};
 use pj_names::{Answer, AskFault, ClassName};
-use pj_outside::{ClassDoor, MemDoor};
-use pj_table::{Closed, Entry, Look, Part, TableSeat, TypeTable};
+use pj_outside::MemDoor;
+use pj_table::{Closed, CountedDoor, Entry, Look, Part, TableSeat, TypeTable};
 use std::alloc::Global;
 use std::sync::{Arc, Wait};
 use std::test::Fail;

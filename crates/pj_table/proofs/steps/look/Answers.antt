@@ -1,11 +1,9 @@
-use Rattle.std.proofs.Common.{rules, ◌≡◌, ℕ, ◌+◌, ◌<◌, ◌^◌, ◌∷◌, [], ap, ◌∙◌, sym, arith, List, subst}
+use Rattle.std.proofs.Common.{◌≡◌, ◌∷◌, ap, ◌∙◌, sym, arith, subst}
 use Rattle.atomic_table.specs.Table.{Me}
 use Rattle.pj_table.specs.Book.{IsSound}
 use Rattle.std.specs.Arc.{arc_value}
 use Rattle.pj_table.specs.Worlds.{IsAnswer}
 use Rattle.pj_table.specs.Plays.{with_asked}
-use Rattle.pj_table.specs.declared.view.Entry.{Entry}
-use Rattle.pj_table.specs.declared.view.Line.{Line}
 use Rattle.pj_table.specs.declared.view.View.{View}
 use Rattle.pj_table.specs.declared.part.Part.{Part}
 use Rattle.pj_table.proofs.steps.look.Goals as goal

@@ -1,4 +1,4 @@
-use Rattle.std.proofs.Common.{◌≡◌, ℕ, ◌+◌, ◌++◌, ◌∷◌, [], List, ap, ◌∙◌, sym, arith, subst, length, length-append, vec_capacity, ⊎_elim}
+use Rattle.std.proofs.Common.{◌≡◌, ℕ, ◌+◌, ◌∷◌, [], List, ap, ◌∙◌, arith, subst, length, length-append, ⊎_elim}
 use Rattle.pj_table.proofs.Books.{at_snoc_is}
 use Rattle.pj_table.specs.declared.part.Part.{Part}
 use mathlib.Core.Option.{some}

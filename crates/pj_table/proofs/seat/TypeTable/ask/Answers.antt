@@ -1,6 +1,5 @@
-use Rattle.std.proofs.Common.{◌≡◌, ℕ, ap, ◌∙◌, sym, subst}
+use Rattle.std.proofs.Common.{ℕ, subst}
 use Rattle.std.specs.Arc.{arc_value}
-use Rattle.pj_table.specs.Names.{part_of}
 use Rattle.pj_table.specs.Worlds.{IsAnswer, CountsFind}
 use Rattle.pj_table.specs.Plays.{AddsLook, AddsNothing}
 use Rattle.pj_table.specs.Placed.{Placed}

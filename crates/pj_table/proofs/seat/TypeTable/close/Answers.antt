@@ -1,6 +1,5 @@
-use Rattle.std.proofs.Common.{◌≡◌, ℕ, ◌∙◌, sym, ap, arith, subst, length, List}
+use Rattle.std.proofs.Common.{◌∙◌, ap, arith, length, List}
 use lib.ListN.{get_elem?}
-use Rattle.pj_table.specs.Rule.{Shows, once_below}
 use Rattle.pj_table.proofs.Lies.{lies}
 use Rattle.pj_table.proofs.Ends.{shows, all_claimed}
 use Rattle.pj_table.specs.declared.part.Part.{Part}

@@ -1,4 +1,4 @@
-use Rattle.std.proofs.Common.{◌≡◌, ◌∙◌, sym, arith}
+use Rattle.std.proofs.Common.{arith}
 use Rattle.pj_table.proofs.Seats.{split_allowed}
 use Rattle.pj_table.proofs.seat.TypeTable.split.Goals as goal
 
