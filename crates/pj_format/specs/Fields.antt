@@ -4,7 +4,7 @@ use Rattle.std.specs.Int.{w16, w32, from_be_bytes}
 use Rattle.pj_format.specs.declared.fault.Fault.{Fault}
 use Rattle.pj_format.specs.declared.fault.Refused.{Refused}
 use Rattle.pj_format.specs.declared.fault.Refused.TheVariants as refused
-use Rattle.pj_format.specs.Format.{Format, Done, Field, Run, ◌>>=◌}
+use Rattle.pj_format.specs.Format.{Format, Done, Field, Run, Sized, ◌>>=◌}
 
 -- a number of one byte that means something, or is at fault
 unfoldable pub u8_as : {B : Type 0} → (ℕ → Result B ℕ) → Format B
@@ -30,6 +30,14 @@ u32 = u32_as (λ n. Ok n)
 -- so many bytes
 unfoldable pub run : ℕ → Format (List ℕ)
 run count = Run count (λ x. Done x)
+
+-- bytes behind their number, which mean something, or are at fault
+unfoldable pub sized_as : {B : Type 0} → (List ℕ → Result B ℕ) → Format B
+sized_as judge = Sized judge (λ x. Done x)
+
+-- bytes behind their number, whatever they are
+unfoldable pub sized : Format (List ℕ)
+sized = sized_as (λ bytes. Ok bytes)
 
 -- so many, one after the other
 unfoldable pub several : {A : Type 0} → Format A → ℕ → Format (List A)
