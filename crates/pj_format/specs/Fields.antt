@@ -55,6 +55,14 @@ several_from item (suc n) s = do
   others ← several_from item n one.1
   Done (one.0 ∷ others)
 
+-- one for each member of a list, one after the other
+unfoldable pub each : {A B : Type 0} → (B → Format A) → List B → Format (List A)
+each item [] = Done []
+each item (x ∷ xs) = do
+  one ← item x
+  others ← each item xs
+  Done (one ∷ others)
+
 -- What a function returns, seen by a view, is what reading gives, but for want of memory.
 
 abbrev pub Fails : {Y : Type 0} → Refused → Result Y Fault → Type 0

@@ -1,0 +1,49 @@
+-- What fields of a cache are to be. A field that breaks a rule, or runs into the seal, has the fault 1 at its first byte.
+use Rattle.std.specs.Prelude.{ℕ, Bool, true, false, ◌&&◌, List, [], ◌∷◌, codes, map, nat_eq, nat_lt, Option, Some, None, Result, Ok, Err, slice_get, unwrap_or, if◌then◌else◌}
+use Rattle.std.specs.Cmp.Lexicographic.{pointwise, slice_cmp}
+use Rattle.std.specs.Ordering.{Ordering, is_lt, nat_cmp}
+use Rattle.std.specs.Str.{is_utf8}
+use Rattle.pj_format.specs.Format.{Format, Done, Field}
+use Rattle.pj_format.specs.Fields.{sized_as}
+
+-- byte strings by their bytes
+abbrev pub byte_order : List ℕ → List ℕ → Ordering
+byte_order = slice_cmp nat_cmp
+
+-- whether it stands behind what is before it, if there is something
+abbrev pub is_behind : {A : Type 0} → (A → A → Ordering) → Option A → A → Bool
+is_behind order None x = true
+is_behind order (Some before) x = is_lt (order before x)
+
+-- a value that passes a test
+abbrev pub passing : {A : Type 0} → (A → Bool) → A → Result A ℕ
+passing test x = if test x then Ok x else Err 1
+
+-- what is at fault whatever the bytes are
+unfoldable pub fault_here : {A : Type 0} → Format A
+fault_here = Field 0 (λ b. Err 1) (λ x. Done x)
+
+-- a value where a test of it is passed, which takes no byte
+unfoldable pub when : {A : Type 0} → Bool → A → Format A
+when true x = Done x
+when false x = fault_here
+
+-- a text
+unfoldable pub text : Format (List ℕ)
+text = sized_as (passing is_utf8)
+
+-- the path of a file behind another one
+abbrev pub is_path_behind : Option (List ℕ) → List ℕ → Bool
+is_path_behind before path = is_utf8 path && is_behind byte_order before path
+
+-- the language of the files
+abbrev pub is_language : List ℕ → Bool
+is_language text = pointwise nat_eq text (codes "java-17")
+
+-- a tag below a number
+abbrev pub is_below : ℕ → ℕ → Bool
+is_below n tag = nat_lt tag n
+
+-- the member at a place, which is empty where there is none
+abbrev pub member_at : List (List ℕ) → ℕ → List ℕ
+member_at list place = unwrap_or (slice_get list place) []

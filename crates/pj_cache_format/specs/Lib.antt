@@ -1,0 +1,3 @@
+-- definitions
+pub mod Judges
+pub mod Answers
