@@ -1,0 +1,3 @@
+-- definitions
+pub mod Places
+pub mod Found

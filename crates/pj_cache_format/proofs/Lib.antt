@@ -1,1 +1,7 @@
 pub mod Texts
+pub mod Order
+pub mod AnswerLaws
+pub mod ResultLaws
+pub mod EntryLaws
+pub mod CacheLaws
+pub mod StoredLaws

@@ -9,7 +9,8 @@ use Rattle.pj_names.specs.declared.answer.Broken.{Broken}
 use Rattle.pj_names.specs.declared.answer.Broken.TheVariants as broken
 use Rattle.pj_names.specs.declared.answer.Member.{Member}
 use Rattle.pj_names.specs.ClassName.{Name, is_class_name}
-use Rattle.pj_cache_format.specs.Judges.{byte_order, is_behind, passing, text, is_below}
+use Rattle.pj_cache.specs.Places.{byte_order}
+use Rattle.pj_cache_format.specs.Judges.{is_behind, passing, text, is_below}
 
 -- a field or a method
 unfoldable pub member : Format Member

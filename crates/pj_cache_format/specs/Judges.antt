@@ -1,14 +1,11 @@
 -- What fields of a cache are to be. A field that breaks a rule, or runs into the seal, has the fault 1 at its first byte.
-use Rattle.std.specs.Prelude.{ℕ, Bool, true, false, ◌&&◌, List, [], ◌∷◌, codes, map, nat_eq, nat_lt, Option, Some, None, Result, Ok, Err, slice_get, unwrap_or, if◌then◌else◌}
-use Rattle.std.specs.Cmp.Lexicographic.{pointwise, slice_cmp}
-use Rattle.std.specs.Ordering.{Ordering, is_lt, nat_cmp}
+use Rattle.std.specs.Prelude.{ℕ, Bool, true, false, ◌&&◌, List, codes, nat_eq, nat_lt, Option, Some, None, Result, Ok, Err, if◌then◌else◌}
+use Rattle.std.specs.Cmp.Lexicographic.{pointwise}
+use Rattle.std.specs.Ordering.{Ordering, is_lt}
+use Rattle.pj_cache.specs.Places.{byte_order}
 use Rattle.std.specs.Str.{is_utf8}
 use Rattle.pj_format.specs.Format.{Format, Done, Field}
 use Rattle.pj_format.specs.Fields.{sized_as}
-
--- byte strings by their bytes
-abbrev pub byte_order : List ℕ → List ℕ → Ordering
-byte_order = slice_cmp nat_cmp
 
 -- whether it stands behind what is before it, if there is something
 abbrev pub is_behind : {A : Type 0} → (A → A → Ordering) → Option A → A → Bool
@@ -43,7 +40,3 @@ is_language text = pointwise nat_eq text (codes "java-17")
 -- a tag below a number
 abbrev pub is_below : ℕ → ℕ → Bool
 is_below n tag = nat_lt tag n
-
--- the member at a place, which is empty where there is none
-abbrev pub member_at : List (List ℕ) → ℕ → List ℕ
-member_at list place = unwrap_or (slice_get list place) []

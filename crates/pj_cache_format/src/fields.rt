@@ -1,17 +1,18 @@
 //! Fields of a cache: texts and byte strings, in their order.
-ghost use Rattle.std.specs.Prelude.{◌≡◌, ◌≤◌, length, true, IfOk, IfErr, MatchResult, Ok, Err};
+ghost use Rattle.std.specs.Prelude.{◌≡◌, ◌≤◌, ◌↔◌, length, nat_eq, true, IsTrue, IfOk, IfErr, MatchResult, Ok, Err};
+ghost use Rattle.std.specs.Cmp.Lexicographic.{pointwise};
 ghost use Rattle.std.specs.Option.{option_copied};
 ghost use Rattle.std.specs.Ordering.{nat_cmp};
 ghost use Rattle.std.specs.Str.{is_utf8};
 ghost use Rattle.pj_format.specs.Format.{fault, first};
 ghost use Rattle.pj_format.specs.Fields.{Gives, sized, sized_as};
 ghost use Rattle.pj_format.specs.declared.fault.Refused.TheVariants as refusals;
-ghost use Rattle.pj_cache_format.specs.Judges.{passing, text, is_behind, byte_order};
+ghost use Rattle.pj_cache.specs.Places.{byte_order};
+ghost use Rattle.pj_cache_format.specs.Judges.{passing, text, is_behind};
 
 use pj_base::{Bytes, NoMemory, Text};
 use pj_format::{Refused, refused, sized_of};
 use std::alloc::Global;
-use std::cmp::Ordering;
 
 /// The refusal of a field that breaks a rule, at its first byte.
 pub(crate) fn wrong(at: u32) -> Refused
@@ -70,12 +71,21 @@ pub(crate) fn is_behind(before: Option<&[u8]>, bytes: &[u8]) -> bool
     ensures { result ≡ is_behind byte_order (option_copied before.entry) bytes.now }
 {
     match before {
-        Some(before) => before.cmp(bytes) == Ordering::Less,
+        Some(before) => before < bytes,
         None => true,
     }
 }
 
+/// Whether bytes are the same.
+pub(crate) fn is_same(bytes: &[u8], others: &[u8]) -> bool
+    ensures exact { IsTrue result ↔ (bytes.now ≡ others.now) }
+    ensures bytes { result ≡ pointwise nat_eq bytes.now others.now }
+{
+    bytes == others
+}
+
 /// Whether a number stands behind the one before it, if there is one.
+#[tactic(auto, using(crate::proofs::Texts::tests))]
 pub(crate) fn is_number_behind(before: Option<u32>, number: u32) -> bool
     ensures { result ≡ is_behind nat_cmp before number }
 {
