@@ -2,7 +2,9 @@
 use Rattle.std.proofs.Common.{◌≡◌, ℕ, zero, suc, ◌+◌, ◌<◌, ◌≤◌, Bool, true, false, cond, List, [], ◌∷◌, length, get_or, Option, Some, None, refl, sym, ap, ◌∙◌, arith}
 use Rattle.std.specs.List.{AllByRecursion}
 use Rattle.std.specs.List.Sorted.{IsStrictlySortedBy}
-use Rattle.std.specs.Ordering.{Ordering, Less, Equal, Greater, is_lt, nat_cmp}
+use Rattle.std.specs.declared.cmp.Ordering.{Ordering}
+use Rattle.std.specs.declared.cmp.Ordering.TheVariants.{Less, Equal, Greater}
+use Rattle.std.specs.Ordering.{is_lt, nat_cmp}
 use Rattle.std.specs.Cmp.{tied_itself}
 use Rattle.std.specs.Cmp.Lexicographic.{nat_list_cmp_total}
 use Rattle.std.proofs.lemmas.List.Elements.{All-from_recursion}
@@ -13,7 +15,7 @@ less Less e = refl
 less Equal e = absurd cc
 less Greater e = absurd cc
 
-before_pub less : (a b c : List ℕ) → byte_order a b ≡ Less → is_lt (byte_order b c) ≡ true → is_lt (byte_order a c) ≡ true
+before_less : (a b c : List ℕ) → byte_order a b ≡ Less → is_lt (byte_order b c) ≡ true → is_lt (byte_order a c) ≡ true
 before_less a b c first second = ap is_lt (nat_list_cmp_total.trans a b c first (less (byte_order b c) second))
 
 -- where a member is below, its place is before

@@ -1,3 +1,2 @@
 -- definitions
 pub mod Places
-pub mod Found

@@ -1,7 +1,8 @@
 -- Lists of byte strings in strict order, and places in them.
 use Rattle.std.specs.Prelude.{ℕ, suc, List, [], ◌∷◌, slice_get, unwrap_or, if◌then◌else◌}
 use Rattle.std.specs.Cmp.Lexicographic.{slice_cmp}
-use Rattle.std.specs.Ordering.{Ordering, is_lt, nat_cmp}
+use Rattle.std.specs.declared.cmp.Ordering.{Ordering}
+use Rattle.std.specs.Ordering.{is_lt, nat_cmp}
 
 -- byte strings by their bytes
 abbrev pub byte_order : List ℕ → List ℕ → Ordering

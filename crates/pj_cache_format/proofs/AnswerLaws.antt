@@ -1,5 +1,5 @@
 -- Laws of the parts that both formats have: their bytes are their text.
-use Rattle.std.proofs.Common.{◌≡◌, ◌≢◌, ℕ, zero, suc, ◌<◌, ◌≤◌, ◌^◌, Bool, true, false, cond, ltb, eqb, List, [], ◌∷◌, ◌++◌, length, map, Option, Some, None, Result, Ok, Err, refl, sym, ap, subst, ◌∙◌, arith}
+use Rattle.std.proofs.Common.{◌≡◌, ◌≢◌, ℕ, zero, suc, ◌<◌, ◌≤◌, ◌^◌, Bool, true, false, ◌&&◌, cond, ltb, eqb, List, [], ◌∷◌, ◌++◌, length, map, Option, Some, None, Result, Ok, Err, refl, sym, ap, subst, ◌∙◌, arith}
 use Rattle.std.specs.List.{flat_map, AllByRecursion}
 use Rattle.std.specs.Int.{w16, w32, to_be_bytes}
 use Rattle.std.specs.Str.{is_utf8}
@@ -22,13 +22,17 @@ use Rattle.pj_cache_format.specs.Whole.{HasRoom, IsTextFor, IsMember, AreMembers
 
 -- ---- fields
 
+abbrev good : {A : Type 0} → A → Result A ℕ
+good x = Ok x
+
+passed_by : {A : Type 0} (test : A → Bool) (x y : A) (b : Bool) → test x ≡ b → cond b (good x) (Err 1) ≡ good y → (x ≡ y) × (test y ≡ true)
+passed_by {A} test x y true is e =
+    let same : x ≡ y = cc in
+    (same, subst (λ (z : A). test z ≡ true) same is)
+passed_by test x y false is e = absurd cc
+
 pub passed : {A : Type 0} (test : A → Bool) (x y : A) → passing test x ≡ Ok y → (x ≡ y) × (test y ≡ true)
-passed {A} test x y e = by_case (test x) refl e where
-  ok : A → Result A ℕ
-  ok z = Ok z
-  by_case : (b : Bool) → test x ≡ b → cond b (ok x) (Err 1) ≡ ok y → (x ≡ y) × (test y ≡ true)
-  by_case true is e' = let same : x ≡ y = cc in (same, subst (λ z. test z ≡ true) same is)
-  by_case false is e' = absurd cc
+passed test x y e = passed_by test x y (test x) refl e
 
 pub passes : {A : Type 0} (test : A → Bool) (x : A) → test x ≡ true → passing test x ≡ Ok x
 passes test x is = rw is refl
@@ -46,7 +50,7 @@ pub text_text : IsText text string IsTextFor
 unfolding text
 text_text = string_text is_utf8
 
-any_read : {A : Type 0} (x y : A) → (let ok : A → Result A ℕ = λ z. Ok z in ok x ≡ ok y) → (x ≡ y) × Unit {0}
+any_read : {A : Type 0} (x y : A) → good x ≡ good y → (x ≡ y) × Unit {0}
 any_read x y e = (cc, tt)
 
 pub u8_law : IsText u8 (λ n. n ∷ []) (λ n. n < 256)
@@ -202,7 +206,7 @@ broken_cases tag false false e g low high =
     let is : tag ≡ 3 = omega (arith, eqb-false tag 1 e, eqb-false tag 2 g, low, high) in
     subst (λ (n : ℕ). IsText (Done broken.TooLong) broken_content (λ y. (broken_tag y ≡ n) × IsBrokenFor y)) (sym is) (done_text broken.TooLong broken_content (λ y. (broken_tag y ≡ 3) × IsBrokenFor y) refl (refl, tt) too_long)
 
-pub both_true : (a b : Bool) → (cond a b false) ≡ true → (a ≡ true) × (b ≡ true)
+pub both_true : (a b : Bool) → (a && b) ≡ true → (a ≡ true) × (b ≡ true)
 both_true true b e = (refl, e)
 both_true false b e = absurd cc
 

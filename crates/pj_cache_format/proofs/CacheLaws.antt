@@ -1,5 +1,5 @@
 -- Laws of whole caches of format 2: their bytes are their text.
-use Rattle.std.proofs.Common.{◌≡◌, ℕ, zero, suc, ◌-◌, ◌+◌, ◌<◌, ◌≤◌, ◌^◌, Bool, true, false, cond, ltb, eqb, List, [], ◌∷◌, ◌++◌, length, take, drop, map, Option, Some, None, Result, Ok, Err, refl, sym, ap, subst, ◌∙◌, append_assoc, arith}
+use Rattle.std.proofs.Common.{◌≡◌, ℕ, zero, suc, ◌-◌, ◌+◌, ◌<◌, ◌≤◌, ◌^◌, Bool, true, false, ◌&&◌, cond, ltb, eqb, List, [], ◌∷◌, ◌++◌, length, take, drop, map, Option, Some, None, Result, Ok, Err, refl, sym, ap, subst, ◌∙◌, append_assoc, arith}
 use Rattle.std.specs.Prelude.{codes, nat_eq}
 use Rattle.std.specs.List.Sorted.{IsStrictlySortedBy}
 use Rattle.std.specs.Cmp.Lexicographic.{pointwise, pointwise_decides, bytes_decides}
@@ -76,10 +76,10 @@ result_list_open keys names h = open_then (u32_as (passing (is_result_count h)))
 entry_open : (keys : List (List ℕ)) (names : List Name) (before : Option (List ℕ)) → IsOpen (entry keys names before)
 unfolding entry
 entry_open keys names before =
-    open_then (sized_as (passing (is_path_behind before))) (λ path. sized >>= λ bytes. head >>= λ h. result_list keys names h >>= λ results. Done (entry_made keys names path bytes h results)) (string_text (is_path_behind before)).is_open
-    (λ path. open_then sized (λ bytes. head >>= λ h. result_list keys names h >>= λ results. Done (entry_made keys names path bytes h results)) sized_law.is_open
-    (λ bytes. open_then head (λ h. result_list keys names h >>= λ results. Done (entry_made keys names path bytes h results)) head_law.is_open
-    (λ h. made_open (result_list keys names h) (entry_made keys names path bytes h) (result_list_open keys names h))))
+    open_then (sized_as (passing (is_path_behind before))) (λ path. sized >>= λ bytes. head >>= λ h. result_list keys names h >>= λ results. Done (entry_made path bytes h results)) (string_text (is_path_behind before)).is_open
+    (λ path. open_then sized (λ bytes. head >>= λ h. result_list keys names h >>= λ results. Done (entry_made path bytes h results)) sized_law.is_open
+    (λ bytes. open_then head (λ h. result_list keys names h >>= λ results. Done (entry_made path bytes h results)) head_law.is_open
+    (λ h. made_open (result_list keys names h) (entry_made path bytes h) (result_list_open keys names h))))
 
 entry_list_open : (keys : List (List ℕ)) (names : List Name) → IsOpen (entry_list keys names)
 unfolding entry_list

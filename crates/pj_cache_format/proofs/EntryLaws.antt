@@ -1,5 +1,5 @@
 -- Laws of results, entries and caches of format 2: their bytes are their text.
-use Rattle.std.proofs.Common.{◌≡◌, ◌≢◌, ℕ, zero, suc, ◌<◌, ◌≤◌, ◌^◌, Bool, true, false, cond, ltb, eqb, List, [], ◌∷◌, ◌++◌, length, map, Option, Some, None, Result, Ok, Err, refl, sym, ap, subst, ◌∙◌, arith}
+use Rattle.std.proofs.Common.{◌≡◌, ◌≢◌, ℕ, zero, suc, ◌<◌, ◌≤◌, ◌^◌, Bool, true, false, ◌&&◌, ◌||◌, cond, ltb, eqb, List, [], ◌∷◌, ◌++◌, length, map, Option, Some, None, Result, Ok, Err, refl, sym, ap, subst, ◌∙◌, arith}
 use Rattle.std.specs.Prelude.{codes, nat_eq}
 use Rattle.std.specs.List.{flat_map, AllByRecursion}
 use Rattle.std.specs.List.Sorted.{IsStrictlySortedBy}
@@ -49,13 +49,13 @@ use Rattle.pj_cache_format.proofs.ResultLaws.{key_list_law, key_places_law, name
 
 -- ---- results
 
-abbrev ResultState : Type 0
+abbrev pub ResultState : Type 0
 ResultState = Option ℕ × List ℕ
 
-abbrev ResultRead : Type 0
+abbrev pub ResultRead : Type 0
 ResultRead = CachedResult × ResultState
 
-abbrev result_made : ResultState → List ℕ → List Name → List KeyRows → ResultRead
+abbrev pub result_made : ResultState → List ℕ → List Name → List KeyRows → ResultRead
 result_made state places asked group = (record { group = group; names = asked }, (first_of places, with_places state.1 places))
 
 -- the keys at some places have these places
@@ -116,18 +116,18 @@ module _ (keys : List (List ℕ)) (names : List Name) (keys_sorted : IsStrictlyS
 -- ---- heads
 
 abbrev head_message_in : Head → List ℕ
-head_message_in (heads.Package package) = []
+head_message_in (heads.Package package_name) = []
 head_message_in (heads.Message message) = message
 
 abbrev Heads : List ℕ → ℕ → Head → Type 0
-Heads package tag y = (head_tag y ≡ tag) × ((package_of y ≡ package) × IsHead y)
+Heads package_name tag y = (head_tag y ≡ tag) × ((package_of y ≡ package_name) × IsHead y)
 
 head_message_from : (y : Head) → IsTextFor (head_message_in y) × (y ≡ heads.Message (head_message_in y)) → Heads [] 1 y × (string (head_message_in y) ≡ head_content y)
-head_message_from (heads.Package package) h = absurd cc
+head_message_from (heads.Package package_name) h = absurd cc
 head_message_from (heads.Message message) h = ((refl, (refl, h.0)), refl)
 
 head_message_to : (y : Head) → Heads [] 1 y → (IsTextFor (head_message_in y) × (y ≡ heads.Message (head_message_in y))) × (string (head_message_in y) ≡ head_content y)
-head_message_to (heads.Package package) h = absurd (omega (arith, h.0))
+head_message_to (heads.Package package_name) h = absurd (omega (arith, h.0))
 head_message_to (heads.Message message) h = ((h.1.1, refl), refl)
 
 head_message_law : IsText head_message head_content (Heads [] 1)
@@ -136,53 +136,53 @@ head_message_law =
     text_as (text >>= λ message. Done (heads.Message message)) (λ y. string (head_message_in y)) head_content (λ y. IsTextFor (head_message_in y) × (y ≡ heads.Message (head_message_in y))) (Heads [] 1)
     (text_made text (λ message. heads.Message message) head_message_in string IsTextFor (λ message g. refl) text_text) head_message_from head_message_to
 
-package_one : (package : List ℕ) (y : Head) → Heads package 0 y → y ≡ heads.Package package
-package_one package (heads.Package p) h = ap (λ (l : List ℕ). heads.Package l) h.1.0
-package_one package (heads.Message message) h = absurd (omega (arith, h.0))
+package_one : (package_name : List ℕ) (y : Head) → Heads package_name 0 y → y ≡ heads.Package package_name
+package_one package_name (heads.Package p) h = ap (λ (l : List ℕ). heads.Package l) h.1.0
+package_one package_name (heads.Message message) h = absurd (omega (arith, h.0))
 
 empty_is : (l : List ℕ) → is_empty l ≡ true → l ≡ []
 empty_is [] e = refl
 empty_is (b ∷ bs) e = absurd cc
 
-or_false : (a b : Bool) → a ≡ false → (cond a true b) ≡ true → b ≡ true
+or_false : (a b : Bool) → a ≡ false → (a || b) ≡ true → b ≡ true
 or_false true b is e = absurd cc
 or_false false b is e = e
 
-head_cases : (package : List ℕ) (tag : ℕ) (a : Bool) → eqb tag 0 ≡ a → tag < 2 → (cond (eqb tag 0) true (is_empty package)) ≡ true → IsTextFor package → IsText (cond a (Done (heads.Package package)) head_message) head_content (Heads package tag)
-head_cases package tag true e high test fits =
-    subst (λ (n : ℕ). IsText (Done (heads.Package package)) head_content (Heads package n)) (sym (eqb-true tag 0 e)) (done_text (heads.Package package) head_content (Heads package 0) refl (refl, (refl, fits)) (package_one package))
-head_cases package tag false e high test fits =
+head_cases : (package_name : List ℕ) (tag : ℕ) (a : Bool) → eqb tag 0 ≡ a → tag < 2 → (eqb tag 0 || is_empty package_name) ≡ true → IsTextFor package_name → IsText (cond a (Done (heads.Package package_name)) head_message) head_content (Heads package_name tag)
+head_cases package_name tag true e high test fits =
+    subst (λ (n : ℕ). IsText (Done (heads.Package package_name)) head_content (Heads package_name n)) (sym (eqb-true tag 0 e)) (done_text (heads.Package package_name) head_content (Heads package_name 0) refl (refl, (refl, fits)) (package_one package_name))
+head_cases package_name tag false e high test fits =
     let is : tag ≡ 1 = omega (arith, eqb-false tag 0 e, high) in
-    let none : package ≡ [] = empty_is package (or_false (eqb tag 0) (is_empty package) e test) in
-    subst (λ (n : ℕ). IsText head_message head_content (Heads package n)) (sym is) (subst (λ (l : List ℕ). IsText head_message head_content (Heads l 1)) (sym none) head_message_law)
+    let none : package_name ≡ [] = empty_is package_name (or_false (eqb tag 0) (is_empty package_name) e test) in
+    subst (λ (n : ℕ). IsText head_message head_content (Heads package_name n)) (sym is) (subst (λ (l : List ℕ). IsText head_message head_content (Heads l 1)) (sym none) head_message_law)
 
-head_behind_law : (package : List ℕ) (tag : ℕ) → is_head_tag package tag ≡ true → IsTextFor package → IsText (head_behind package tag) head_content (Heads package tag)
-head_behind_law package tag test fits =
-    let both = both_true (ltb tag 2) (cond (eqb tag 0) true (is_empty package)) test in
-    head_cases package tag (eqb tag 0) refl (ltb-true tag 2 both.0) both.1 fits
+head_behind_law : (package_name : List ℕ) (tag : ℕ) → is_head_tag package_name tag ≡ true → IsTextFor package_name → IsText (head_behind package_name tag) head_content (Heads package_name tag)
+head_behind_law package_name tag test fits =
+    let both = both_true (ltb tag 2) (eqb tag 0 || is_empty package_name) test in
+    head_cases package_name tag (eqb tag 0) refl (ltb-true tag 2 both.0) both.1 fits
 
-head_behind_open : (package : List ℕ) (tag : ℕ) → IsOpen (head_behind package tag)
+head_behind_open : (package_name : List ℕ) (tag : ℕ) → IsOpen (head_behind package_name tag)
 unfolding IsOpen
-head_behind_open package tag = cond_open (eqb tag 0) (Done (heads.Package package)) head_message tt head_message_law.is_open
+head_behind_open package_name tag = cond_open (eqb tag 0) (Done (heads.Package package_name)) head_message tt head_message_law.is_open
 
 head_fits : (y : Head) → IsHead y → IsTextFor (package_of y) × ((head_tag y < 256) × (is_head_tag (package_of y) (head_tag y) ≡ true))
-head_fits (heads.Package package) h = (h, (omega arith, refl))
+head_fits (heads.Package package_name) h = (h, (omega arith, refl))
 head_fits (heads.Message message) h = ((omega arith, refl), (omega arith, refl))
 
 abbrev Tagged : List ℕ → Head → Type 0
-Tagged package y = ((head_tag y < 256) × (is_head_tag package (head_tag y) ≡ true)) × Heads package (head_tag y) y
+Tagged package_name y = ((head_tag y < 256) × (is_head_tag package_name (head_tag y) ≡ true)) × Heads package_name (head_tag y) y
 
-head_tagged : (package : List ℕ) → IsTextFor package → IsText (u8_as (passing (is_head_tag package)) >>= λ tag. head_behind package tag) (λ y. head_tag y ∷ [] ++ head_content y) (Tagged package)
-head_tagged package fits =
-    text_then (u8_as (passing (is_head_tag package))) (λ tag. head_behind package tag) (λ n. n ∷ []) (λ n. (n < 256) × (is_head_tag package n ≡ true)) head_content (λ tag y. Heads package tag y) head_tag
-    (tag_text (is_head_tag package)) (λ tag p. head_behind_law package tag p.1 fits) (head_behind_open package) (λ tag y g h. h.0)
+head_tagged : (package_name : List ℕ) → IsTextFor package_name → IsText (u8_as (passing (is_head_tag package_name)) >>= λ tag. head_behind package_name tag) (λ y. head_tag y ∷ [] ++ head_content y) (Tagged package_name)
+head_tagged package_name fits =
+    text_then (u8_as (passing (is_head_tag package_name))) (λ tag. head_behind package_name tag) (λ n. n ∷ []) (λ n. (n < 256) × (is_head_tag package_name n ≡ true)) head_content (λ tag y. Heads package_name tag y) head_tag
+    (tag_text (is_head_tag package_name)) (λ tag p. head_behind_law package_name tag p.1 fits) (head_behind_open package_name) (λ tag y g h. h.0)
 
-head_law : IsText head head_text IsHead
+pub head_law : IsText head head_text IsHead
 unfolding head
 head_law =
-    text_as (text >>= λ package. u8_as (passing (is_head_tag package)) >>= λ tag. head_behind package tag) (λ y. string (package_of y) ++ (head_tag y ∷ [] ++ head_content y)) head_text (λ y. IsTextFor (package_of y) × Tagged (package_of y) y) IsHead
-    (text_then text (λ package. u8_as (passing (is_head_tag package)) >>= λ tag. head_behind package tag) string IsTextFor (λ y. head_tag y ∷ [] ++ head_content y) (λ package y. Tagged package y) package_of
-    text_text head_tagged (λ package. open_then (u8_as (passing (is_head_tag package))) (λ tag. head_behind package tag) (tag_text (is_head_tag package)).is_open (head_behind_open package)) (λ package y g h. h.1.1.0))
+    text_as (text >>= λ package_name. u8_as (passing (is_head_tag package_name)) >>= λ tag. head_behind package_name tag) (λ y. string (package_of y) ++ (head_tag y ∷ [] ++ head_content y)) head_text (λ y. IsTextFor (package_of y) × Tagged (package_of y) y) IsHead
+    (text_then text (λ package_name. u8_as (passing (is_head_tag package_name)) >>= λ tag. head_behind package_name tag) string IsTextFor (λ y. head_tag y ∷ [] ++ head_content y) (λ package_name y. Tagged package_name y) package_of
+    text_text head_tagged (λ package_name. open_then (u8_as (passing (is_head_tag package_name))) (λ tag. head_behind package_name tag) (tag_text (is_head_tag package_name)).is_open (head_behind_open package_name)) (λ package_name y g h. h.1.1.0))
     (λ y h. (h.1.1.1.1, refl)) (λ y h. let fits = head_fits y h in ((fits.0, (fits.1, (refl, (refl, h)))), refl))
 
 -- ---- entries
@@ -191,16 +191,22 @@ nothing_counted : (results : List CachedResult) → eqb (length results) 0 ≡ t
 nothing_counted [] e = refl
 nothing_counted (r ∷ rs) e = absurd (omega (arith, eqb-true (length (r ∷ rs)) 0 e))
 
+abbrev pub EntryRead : Type 0
+EntryRead = Entry × Option (List ℕ)
+
+abbrev pub entry_made : List ℕ → List ℕ → Head → List CachedResult → EntryRead
+entry_made path bytes h results = (record { path = path; bytes = bytes; head = h; results = results }, Some path)
+
 module _ (keys : List (List ℕ)) (names : List Name) (keys_sorted : IsStrictlySortedBy byte_order keys) (names_sorted : IsStrictlySortedBy byte_order names) where
   abbrev Listed : Head → List CachedResult → Type 0
   Listed h results = ((length results < 2 ^ 32) × (is_result_count h (length results) ≡ true)) × ((length results ≡ length results) × Chain (IsResultBehind keys names) (result_step keys) (None, []) results)
 
   listed_from : (h : Head) (results : List CachedResult) → Listed h results → AreResults keys names h results
-  listed_from (heads.Package package) results l = (l.0.0, l.1.1)
+  listed_from (heads.Package package_name) results l = (l.0.0, l.1.1)
   listed_from (heads.Message message) results l = nothing_counted results l.0.1
 
   listed_to : (h : Head) (results : List CachedResult) → AreResults keys names h results → Listed h results
-  listed_to (heads.Package package) results l = ((l.0, refl), (refl, l.1))
+  listed_to (heads.Package package_name) results l = ((l.0, refl), (refl, l.1))
   listed_to (heads.Message message) results l = subst (λ (rs : List CachedResult). Listed (heads.Message message) rs) (sym l) ((omega arith, refl), (refl, tt))
 
   result_list_law : (h : Head) → IsText (result_list keys names h) (counted (result_text keys names)) (AreResults keys names h)
@@ -212,12 +218,6 @@ module _ (keys : List (List ℕ)) (names : List Name) (keys_sorted : IsStrictlyS
       (λ n. from_text (result_format keys names) (result_text keys names) (IsResultBehind keys names) (result_step keys) (result_law keys names keys_sorted names_sorted) n (None, []))
       (λ n results g l. l.0))
       (λ results l. (listed_from h results l, refl)) (λ results l. (listed_to h results l, refl))
-
-  abbrev EntryRead : Type 0
-  EntryRead = Entry × Option (List ℕ)
-
-  abbrev entry_made : List ℕ → List ℕ → Head → List CachedResult → EntryRead
-  entry_made path bytes h results = (record { path = path; bytes = bytes; head = h; results = results }, Some path)
 
   results_law : (path bytes : List ℕ) (h : Head) → IsText (result_list keys names h >>= λ results. Done (entry_made path bytes h results)) (λ y. counted (result_text keys names) y.0.results) (λ y. AreResults keys names h y.0.results × (y ≡ entry_made path bytes h y.0.results))
   results_law path bytes h = text_made (result_list keys names h) (entry_made path bytes h) (λ y. y.0.results) (counted (result_text keys names)) (AreResults keys names h) (λ results g. refl) (result_list_law h)

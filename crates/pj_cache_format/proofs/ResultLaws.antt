@@ -1,5 +1,5 @@
 -- Laws of the parts of format 2: their bytes are their text.
-use Rattle.std.proofs.Common.{◌≡◌, ◌≢◌, ℕ, zero, suc, ◌<◌, ◌≤◌, ◌^◌, Bool, true, false, cond, ltb, eqb, List, [], ◌∷◌, ◌++◌, length, map, Option, Some, None, Result, Ok, Err, refl, sym, ap, subst, ◌∙◌, arith}
+use Rattle.std.proofs.Common.{◌≡◌, ◌≢◌, ℕ, zero, suc, ◌<◌, ◌≤◌, ◌^◌, Bool, true, false, ◌&&◌, ◌||◌, cond, ltb, eqb, List, [], ◌∷◌, ◌++◌, length, map, Option, Some, None, Result, Ok, Err, refl, sym, ap, subst, ◌∙◌, arith}
 use Rattle.std.specs.Prelude.{codes, nat_eq}
 use Rattle.std.specs.List.{flat_map, AllByRecursion}
 use Rattle.std.specs.List.Sorted.{IsStrictlySortedBy}
@@ -218,7 +218,7 @@ key_place_law count used before =
     (text_made (u32_as (passing (is_key_place count used before))) placed (λ y. y.0) number (IsKeyPlace count used before) (λ place g. refl) (number_text (is_key_place count used before)))
     (λ y h. ((h.0, ap (λ (z : Placed). z.1) h.1), refl)) (λ y h. ((h.0, ap (λ (o : Option ℕ). let z : Placed = (y.0, o) in z) h.1), refl))
 
-key_places_law : (count : ℕ) (used : List ℕ) (before : Option ℕ) → IsText (key_places count used before) (counted number) (AreKeyPlaces count used before)
+pub key_places_law : (count : ℕ) (used : List ℕ) (before : Option ℕ) → IsText (key_places count used before) (counted number) (AreKeyPlaces count used before)
 unfolding key_places
 key_places_law count used before =
     text_as (u32_as (passing (ltb 0)) >>= λ n. several_from (key_place count used) n before) (counted number) (counted number)
@@ -229,10 +229,10 @@ key_places_law count used before =
     (λ n places g h. h.0))
     (λ places h. ((h.0.0, ltb-true 0 (length places) h.0.1, h.1.1), refl)) (λ places h. (((h.0, lt-ltb 0 (length places) h.1), (refl, h.2)), refl))
 
-abbrev NameRead : Type 0
+abbrev pub NameRead : Type 0
 NameRead = Name × Option ℕ
 
-abbrev name_made : List Name → ℕ → NameRead
+abbrev pub name_made : List Name → ℕ → NameRead
 name_made names place = (member_at names place, Some place)
 
 within : (count : ℕ) (before : Option ℕ) (place : ℕ) → is_name_place count before place ≡ true → place < count
@@ -253,7 +253,7 @@ name_at_law names sorted before =
     (λ place g. place_of_member names place sorted (within (length names) before place g.1)) (number_text (is_name_place (length names) before)))
     (λ y h. (name_from names before y h, refl)) (λ y h. (name_to names before y h, refl))
 
-name_list_law : (names : List Name) → IsStrictlySortedBy byte_order names → IsText (name_list names) (counted (λ n. number (place_in names n))) (AreNames names)
+pub name_list_law : (names : List Name) → IsStrictlySortedBy byte_order names → IsText (name_list names) (counted (λ n. number (place_in names n))) (AreNames names)
 unfolding name_list
 name_list_law names sorted = counted_from (name_at names) (λ n. number (place_in names n)) (IsNameBehind names) (λ before n. Some (place_in names n)) None (name_at_law names sorted)
 
@@ -265,7 +265,7 @@ key_rows_to keys place k h =
     let made : List ℕ → KeyRows = λ bytes. record { key = bytes; rows = k.rows } in
     (h.1, ap made (sym h.0))
 
-key_rows_law : (keys : List (List ℕ)) (place : ℕ) → IsText (key_rows keys place) (λ k. rows_text k.rows) (AreKeyRows keys place)
+pub key_rows_law : (keys : List (List ℕ)) (place : ℕ) → IsText (key_rows keys place) (λ k. rows_text k.rows) (AreKeyRows keys place)
 unfolding key_rows
 key_rows_law keys place =
     text_as (rows >>= λ r. Done (key_rows_made keys place r)) (λ k. rows_text k.rows) (λ k. rows_text k.rows) (λ k. AreRows k.rows × (k ≡ key_rows_made keys place k.rows)) (AreKeyRows keys place)

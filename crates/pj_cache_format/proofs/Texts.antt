@@ -1,6 +1,7 @@
 -- Tests of byte strings, and what code that tests them knows.
 use Rattle.std.proofs.Common.{◌≡◌, ◌+◌, ◌<◌, Bool, true, false, cond, ltb, eqb, List, [], ◌∷◌, ℕ, suc, length, get_or, drop, refl, sym, ◌∙◌, add-one, drop-cons, arith}
-use Rattle.std.specs.Ordering.{is_lt, nat_cmp, Less, Equal, Greater}
+use Rattle.std.specs.declared.cmp.Ordering.TheVariants.{Less, Equal, Greater}
+use Rattle.std.specs.Ordering.{is_lt, nat_cmp}
 use Rattle.std.specs.Str.{IsUtf8, is_utf8}
 use Rattle.std.proofs.lemmas.Bool.{eqb-true}
 use Rattle.pj_cache_format.specs.FormatTwo.{is_empty}

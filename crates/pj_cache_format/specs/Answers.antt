@@ -1,5 +1,5 @@
 -- Answers about classes in a cache, in both formats.
-use Rattle.std.specs.Prelude.{ℕ, Bool, true, false, ◌==◌, ◌&&◌, List, map, Option, Some, None, Result, Ok, Err, nat_lt, if◌then◌else◌}
+use Rattle.std.specs.Prelude.{ℕ, Bool, true, false, ◌==◌, ◌&&◌, List, map, Option, Some, None, Result, Ok, Err, nat_lt, cond}
 use Rattle.std.specs.Str.{is_utf8}
 use Rattle.pj_format.specs.Format.{Format, Done, ◌>>=◌}
 use Rattle.pj_format.specs.Fields.{u8, u8_as, u16, u32, sized_as, several, several_from}
@@ -44,7 +44,7 @@ abbrev pub is_broken_tag : ℕ → Bool
 is_broken_tag tag = nat_lt 0 tag && nat_lt tag 4
 
 abbrev pub broken_behind : ℕ → Format Broken
-broken_behind tag = if tag == 1 then class_fault else if tag == 2 then Done broken.OtherName else Done broken.TooLong
+broken_behind tag = cond (tag == 1) class_fault (cond (tag == 2) (Done broken.OtherName) (Done broken.TooLong))
 
 unfoldable pub broken_class : Format Answer
 broken_class = do
@@ -54,7 +54,7 @@ broken_class = do
 
 -- byte 0, no class; byte 1, a class; byte 2, one that is not readable
 abbrev pub answer_behind : Name → ℕ → Format Answer
-answer_behind name tag = if tag == 0 then Done answers.Absent else if tag == 1 then found name else broken_class
+answer_behind name tag = cond (tag == 0) (Done answers.Absent) (cond (tag == 1) (found name) broken_class)
 
 -- a name behind another one
 abbrev pub is_name_behind : Option Name → Name → Bool

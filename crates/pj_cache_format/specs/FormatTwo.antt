@@ -1,5 +1,5 @@
 -- Format 2 of caches: results by file and rule.
-use Rattle.std.specs.Prelude.{ℕ, Bool, true, false, not, ◌==◌, ◌&&◌, ◌||◌, List, [], ◌∷◌, ◌++◌, length, map, flat_map, nat_eq, nat_lt, Option, Some, None, Result, Ok, Err, slice_get, if◌then◌else◌}
+use Rattle.std.specs.Prelude.{ℕ, Bool, true, false, not, ◌==◌, ◌&&◌, ◌||◌, List, [], ◌∷◌, ◌++◌, length, map, flat_map, nat_eq, nat_lt, Option, Some, None, Result, Ok, Err, slice_get, cond, if◌then◌else◌}
 use Rattle.std.specs.List.{list_any}
 use Rattle.std.specs.BTreeSet.{insert_key}
 use Rattle.std.specs.BTreeMap.{is_at}
@@ -80,7 +80,7 @@ rule_message = do
 
 -- byte 0, the nodes; byte 1, a message
 abbrev pub rows_behind : ℕ → Format Ruled
-rows_behind tag = if tag == 0 then spots else rule_message
+rows_behind tag = cond (tag == 0) spots rule_message
 
 unfoldable pub rows : Format Ruled
 rows = u8_as (passing (is_below 2)) >>= λ tag. rows_behind tag
@@ -148,7 +148,7 @@ is_empty (b ∷ bs) = false
 
 -- byte 0, or byte 1 behind an empty package
 abbrev pub is_head_tag : List ℕ → ℕ → Bool
-is_head_tag package tag = nat_lt tag 2 && (tag == 0 || is_empty package)
+is_head_tag package_name tag = nat_lt tag 2 && (tag == 0 || is_empty package_name)
 
 unfoldable pub head_message : Format Head
 head_message = do
@@ -156,18 +156,18 @@ head_message = do
   Done (heads.Message message)
 
 abbrev pub head_behind : List ℕ → ℕ → Format Head
-head_behind package tag = if tag == 0 then Done (heads.Package package) else head_message
+head_behind package_name tag = cond (tag == 0) (Done (heads.Package package_name)) head_message
 
 -- a package, and where it is empty a message in its place
 unfoldable pub head : Format Head
 head = do
-  package ← text
-  tag ← u8_as (passing (is_head_tag package))
-  head_behind package tag
+  package_name ← text
+  tag ← u8_as (passing (is_head_tag package_name))
+  head_behind package_name tag
 
 -- a file without a tree has no results
 abbrev pub is_result_count : Head → ℕ → Bool
-is_result_count (heads.Package package) count = true
+is_result_count (heads.Package package_name) count = true
 is_result_count (heads.Message message) count = count == 0
 
 unfoldable pub result_list : List (List ℕ) → List Name → Head → Format (List CachedResult)

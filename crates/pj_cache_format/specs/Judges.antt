@@ -1,7 +1,8 @@
 -- What fields of a cache are to be. A field that breaks a rule, or runs into the seal, has the fault 1 at its first byte.
 use Rattle.std.specs.Prelude.{ℕ, Bool, true, false, ◌&&◌, List, codes, nat_eq, nat_lt, Option, Some, None, Result, Ok, Err, if◌then◌else◌}
 use Rattle.std.specs.Cmp.Lexicographic.{pointwise}
-use Rattle.std.specs.Ordering.{Ordering, is_lt}
+use Rattle.std.specs.declared.cmp.Ordering.{Ordering}
+use Rattle.std.specs.Ordering.{is_lt}
 use Rattle.pj_cache.specs.Places.{byte_order}
 use Rattle.std.specs.Str.{is_utf8}
 use Rattle.pj_format.specs.Format.{Format, Done, Field}

@@ -54,15 +54,15 @@ result_text keys names r =
 
 -- what a file is: its package, its tag, and what stands behind it
 abbrev pub package_of : Head → List ℕ
-package_of (heads.Package package) = package
+package_of (heads.Package package_name) = package_name
 package_of (heads.Message message) = []
 
 abbrev pub head_tag : Head → ℕ
-head_tag (heads.Package package) = 0
+head_tag (heads.Package package_name) = 0
 head_tag (heads.Message message) = 1
 
 abbrev pub head_content : Head → List ℕ
-head_content (heads.Package package) = []
+head_content (heads.Package package_name) = []
 head_content (heads.Message message) = string message
 
 abbrev pub head_text : Head → List ℕ

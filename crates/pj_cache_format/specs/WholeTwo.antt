@@ -66,11 +66,11 @@ result_step keys state r = (first_of (places_of keys r), with_places state.1 (pl
 -- Entries.
 
 abbrev pub IsHead : Head → Type 0
-IsHead (heads.Package package) = IsTextFor package
+IsHead (heads.Package package_name) = IsTextFor package_name
 IsHead (heads.Message message) = IsTextFor message
 
 abbrev pub AreResults : List (List ℕ) → List Name → Head → List CachedResult → Type 0
-AreResults keys names (heads.Package package) results = HasRoom results × Chain (IsResultBehind keys names) (result_step keys) (None, []) results
+AreResults keys names (heads.Package package_name) results = HasRoom results × Chain (IsResultBehind keys names) (result_step keys) (None, []) results
 AreResults keys names (heads.Message message) results = results ≡ []
 
 abbrev pub IsEntryBehind : List (List ℕ) → List Name → Option (List ℕ) → Entry → Type 0

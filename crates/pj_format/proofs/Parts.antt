@@ -1,13 +1,13 @@
 -- Laws of formats whose values have one text: bytes spell a value by such a format exactly where they are its text and it fits.
 -- From the laws of parts follows that of what is made of them. Nothing here defines a word of a contract.
-use Rattle.std.proofs.Common.{inl, inr, ◌≡◌, ℕ, zero, suc, ◌+◌, ◌<◌, ◌≤◌, ◌^◌, Bool, true, false, cond, List, [], ◌∷◌, ◌++◌, length, take, drop, get_or, Result, Ok, Err, refl, sym, ap, subst, ◌∙◌, append_assoc, arith}
+use Rattle.std.proofs.Common.{inl, inr, ◌≡◌, ℕ, zero, suc, ◌+◌, ◌<◌, ◌^◌, Bool, true, false, cond, List, [], ◌∷◌, ◌++◌, length, take, drop, get_or, Result, Ok, refl, sym, ap, subst, ◌∙◌, append_assoc, arith}
 use Rattle.std.proofs.lemmas.Bool.{cases_lt}
 use Rattle.std.proofs.lemmas.List.{append-nil, length-append, length-take, get_or-take, get_or-drop, get_or_past, take_at, drop_at, nil_from_length}
 use Rattle.std.proofs.lemmas.Nat.{be_bytes_2, be_bytes_4, from_be_bytes-to_be_bytes_2, from_be_bytes-to_be_bytes_4}
 use Rattle.std.specs.List.{flat_map, AllByRecursion}
 use Rattle.std.proofs.lemmas.List.Concat.{flat_map-cons}
 use Rattle.std.specs.Int.{w16, w32, from_be_bytes, to_be_bytes}
-use Rattle.pj_format.specs.Format.{Format, Done, Field, Run, Sized, End, Splits, Spells, ◌>>=◌}
+use Rattle.pj_format.specs.Format.{Format, Done, Field, Run, Sized, End, Spells, ◌>>=◌}
 use Rattle.pj_format.specs.Fields.{u8_as, u16_as, u32_as, sized_as, several, several_from, each, Chain, Along}
 
 -- ---- bytes
@@ -174,9 +174,10 @@ text_then {A} {B} m f tm Fm tf Ff back first second opens told = record {
       let one = first.takes both.part both.value (bytes_left both.part both.rest whole) both.first_is in
       let other = (second both.value one.0).takes both.rest y (bytes_right both.part both.rest whole) both.second_is in
       let is : back y ≡ both.value = told both.value y one.0 other.0 in
-      let text_is : both.part ++ both.rest ≡ tm both.value ++ tf y = (λ i. one.1 i ++ other.1 i) in
-      ( subst (λ (x : A). Fm x × Ff x y) (sym is) (one.0, other.0)
-      , both.joined ∙ text_is ∙ ap (λ (x : A). tm x ++ tf y) (sym is) );
+      let text_is : both.part ++ both.rest ≡ tm both.value ++ tf y = (λ i. one.1 i ++ other.1 i) in (
+        subst (λ (x : A). Fm x × Ff x y) (sym is) (one.0, other.0),
+        both.joined ∙ text_is ∙ ap (λ (x : A). tm x ++ tf y) (sym is),
+      );
   again = λ y fits. then_spells m f (tm (back y)) (tf y) (back y) y first.is_open (first.again (back y) fits.0) ((second (back y) fits.0).again y fits.1);
 }
 
@@ -226,9 +227,10 @@ text_made {A} {B} m make back tm Fm told first = record {
       let whole : IsBytes (both.part ++ both.rest) = subst IsBytes both.joined fits in
       let one = first.takes both.part both.value (bytes_left both.part both.rest whole) both.first_is in
       let made : y ≡ make both.value = both.second_is.1 in
-      let is : back y ≡ both.value = ap back made ∙ told both.value one.0 in
-      ( (subst Fm (sym is) one.0, made ∙ ap make (sym is))
-      , both.joined ∙ ap (λ (l : List ℕ). both.part ++ l) both.second_is.0 ∙ append-nil both.part ∙ one.1 ∙ ap tm (sym is) );
+      let is : back y ≡ both.value = ap back made ∙ told both.value one.0 in (
+        (subst Fm (sym is) one.0, made ∙ ap make (sym is)),
+        both.joined ∙ ap (λ (l : List ℕ). both.part ++ l) both.second_is.0 ∙ append-nil both.part ∙ one.1 ∙ ap tm (sym is),
+      );
   again = λ y fits.
       let end : Spells (Done (make (back y))) [] y = (refl, fits.1) in
       subst (λ (l : List ℕ). Spells (m >>= λ x. Done (make x)) l y) (append-nil (tm (back y)))
@@ -253,7 +255,7 @@ module _ {B : Type 0} (number : B → ℕ) (Fits : B → Type 0) (judge : ℕ �
         let below : get_or h.part 0 0 < 256 = subst IsBytes same fits 0 in
         subst (λ (y : B). ((number y < 256) × Fits y) × (bytes ≡ number y ∷ [])) (sym is)
         ((subst (λ (n : ℕ). n < 256) from.0 below, from.1), same ∙ one_byte h.part h.count_is ∙ ap (λ (n : ℕ). n ∷ []) from.0);
-    again = λ x fits. record { part = number x ∷ []; rest = []; joined = refl; count_is = refl; holds = (x, again x fits.1, refl, refl) };
+    again = λ x fits. record { part = number x ∷ []; rest = []; joined = refl; count_is = refl; holds = (x, again x fits.1, (refl, refl)) };
   } where
     one_byte : (l : List ℕ) → length l ≡ 1 → l ≡ get_or l 0 0 ∷ []
     one_byte [] e = absurd (omega (arith, e))
@@ -273,7 +275,7 @@ module _ {B : Type 0} (number : B → ℕ) (Fits : B → Type 0) (judge : ℕ �
         let below : from_be_bytes w16 h.part < 2 ^ 16 = omega (arith, is_bytes 0, is_bytes 1) in
         subst (λ (y : B). ((number y < 2 ^ 16) × Fits y) × (bytes ≡ to_be_bytes w16 (number y))) (sym is)
         ((subst (λ (n : ℕ). n < 2 ^ 16) from.0 below, from.1), same ∙ sym (be_bytes_2 h.part (number v) h.count_is is_bytes (sym from.0)));
-    again = λ x fits. record { part = to_be_bytes w16 (number x); rest = []; joined = sym (append-nil (to_be_bytes w16 (number x))); count_is = refl; holds = (x, ap judge (from_be_bytes-to_be_bytes_2 (number x) fits.0) ∙ again x fits.1, refl, refl) };
+    again = λ x fits. record { part = to_be_bytes w16 (number x); rest = []; joined = sym (append-nil (to_be_bytes w16 (number x))); count_is = refl; holds = (x, ap judge (from_be_bytes-to_be_bytes_2 (number x) fits.0) ∙ again x fits.1, (refl, refl)) };
   }
 
   pub u32_text : IsText (u32_as judge) (λ x. to_be_bytes w32 (number x)) (λ x. (number x < 2 ^ 32) × Fits x)
@@ -289,7 +291,7 @@ module _ {B : Type 0} (number : B → ℕ) (Fits : B → Type 0) (judge : ℕ �
         let below : from_be_bytes w32 h.part < 2 ^ 32 = omega (arith, is_bytes 0, is_bytes 1, is_bytes 2, is_bytes 3) in
         subst (λ (y : B). ((number y < 2 ^ 32) × Fits y) × (bytes ≡ to_be_bytes w32 (number y))) (sym is)
         ((subst (λ (n : ℕ). n < 2 ^ 32) from.0 below, from.1), same ∙ sym (be_bytes_4 h.part (number v) h.count_is is_bytes (sym from.0)));
-    again = λ x fits. record { part = to_be_bytes w32 (number x); rest = []; joined = sym (append-nil (to_be_bytes w32 (number x))); count_is = refl; holds = (x, ap judge (from_be_bytes-to_be_bytes_4 (number x) fits.0) ∙ again x fits.1, refl, refl) };
+    again = λ x fits. record { part = to_be_bytes w32 (number x); rest = []; joined = sym (append-nil (to_be_bytes w32 (number x))); count_is = refl; holds = (x, ap judge (from_be_bytes-to_be_bytes_4 (number x) fits.0) ∙ again x fits.1, (refl, refl)) };
   }
 
 module _ {B : Type 0} (bytes_of : B → List ℕ) (Fits : B → Type 0) (judge : List ℕ → Result B ℕ) (reads : (l : List ℕ) (x : B) → judge l ≡ Ok x → (l ≡ bytes_of x) × Fits x) (again : (x : B) → Fits x → judge (bytes_of x) ≡ Ok x) where
@@ -315,7 +317,7 @@ module _ {B : Type 0} (bytes_of : B → List ℕ) (Fits : B → Type 0) (judge :
       rest = bytes_of x;
       joined = refl;
       count_is = refl;
-      holds = record { part = bytes_of x; rest = []; joined = sym (append-nil (bytes_of x)); count_is = sym (from_be_bytes-to_be_bytes_4 (length (bytes_of x)) fits.0); holds = (x, again x fits.1, refl, refl) };
+      holds = record { part = bytes_of x; rest = []; joined = sym (append-nil (bytes_of x)); count_is = sym (from_be_bytes-to_be_bytes_4 (length (bytes_of x)) fits.0); holds = (x, again x fits.1, (refl, refl)) };
     };
   }
 
