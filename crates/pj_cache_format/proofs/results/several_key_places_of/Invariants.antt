@@ -8,6 +8,6 @@ use Rattle.pj_cache_format.proofs.results.several_key_places_of.Given as goal
 
 abbrev pub invariant-loop : goal.invariant-loop
 invariant-loop l = record {
-  read : with_front l.list.items (first (several_from (key_place l.key_count l.used.keys) (l.count - l.counter) l.last) l.bytes l.place) ≡ first (several_from (key_place l.key_count l.used.keys) l.count l.before) l.bytes l.at;
+  read : with_front l.list.items (first (several_from (key_place l.key_count l.used.keys) (l.count - l.counter) l.last) l.bytes l.place) ≡ first (several_from (key_place l.key_count l.used.keys) l.count l.fn.before) l.bytes l.at;
   there : All (λ p. p < l.key_count) l.list.items;
 }
