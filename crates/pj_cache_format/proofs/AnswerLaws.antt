@@ -89,10 +89,10 @@ counted_from item t F step s law =
 pub member_law : IsText member member_text IsMember
 unfolding member
 member_law =
-    text_as ((u16) >>= λ flags. (text) >>= λ name. (text) >>= λ signature. Done (let made : Member = record { flags = flags; name = name; signature = signature } in made)) (λ y. (flags) ((λ (z : Member). z.flags) y) ++ ((string) ((λ (z : Member). z.name) y) ++ ((string) ((λ (z : Member). z.signature) y)))) (member_text) (λ y. ((λ n. n < 2 ^ 16) ((λ (z : Member). z.flags) y)) × ((λ flags. ((IsTextFor) ((λ (z : Member). z.name) y)) × ((λ name. ((IsTextFor) ((λ (z : Member). z.signature) y)) × (y ≡ (λ signature. let made : Member = record { flags = flags; name = name; signature = signature } in made) ((λ (z : Member). z.signature) y))) ((λ (z : Member). z.name) y))) ((λ (z : Member). z.flags) y))) (IsMember)
-    (text_next (u16) (λ flags. (text) >>= λ name. (text) >>= λ signature. Done (let made : Member = record { flags = flags; name = name; signature = signature } in made)) (flags) (λ n. n < 2 ^ 16) (λ y. (string) ((λ (z : Member). z.name) y) ++ ((string) ((λ (z : Member). z.signature) y))) (λ flags y. ((IsTextFor) ((λ (z : Member). z.name) y)) × ((λ name. ((IsTextFor) ((λ (z : Member). z.signature) y)) × (y ≡ (λ signature. let made : Member = record { flags = flags; name = name; signature = signature } in made) ((λ (z : Member). z.signature) y))) ((λ (z : Member). z.name) y))) (λ (z : Member). z.flags)
+    text_as ((u16) >>= λ flags. (text) >>= λ name. (text) >>= λ signature. Done (let made : Member = record { flags = flags; name = name; signature = signature } in made)) (λ y. (flags) ((λ (z : Member). z.flags) y) ++ ((string) ((λ (z : Member). z.name) y) ++ ((string) ((λ (z : Member). z.signature) y)))) (member_text) (λ y. ((λ n. n < 2 ^ 16) ((λ (z : Member). z.flags) y)) × ((λ (flags : ℕ). ((IsTextFor) ((λ (z : Member). z.name) y)) × ((λ (name : List ℕ). ((IsTextFor) ((λ (z : Member). z.signature) y)) × (y ≡ (λ (signature : List ℕ). let made : Member = record { flags = flags; name = name; signature = signature } in made) ((λ (z : Member). z.signature) y))) ((λ (z : Member). z.name) y))) ((λ (z : Member). z.flags) y))) (IsMember)
+    (text_next (u16) (λ flags. (text) >>= λ name. (text) >>= λ signature. Done (let made : Member = record { flags = flags; name = name; signature = signature } in made)) (flags) (λ n. n < 2 ^ 16) (λ y. (string) ((λ (z : Member). z.name) y) ++ ((string) ((λ (z : Member). z.signature) y))) (λ flags y. ((IsTextFor) ((λ (z : Member). z.name) y)) × ((λ (name : List ℕ). ((IsTextFor) ((λ (z : Member). z.signature) y)) × (y ≡ (λ (signature : List ℕ). let made : Member = record { flags = flags; name = name; signature = signature } in made) ((λ (z : Member). z.signature) y))) ((λ (z : Member). z.name) y))) (λ (z : Member). z.flags)
     (u16_law)
-    (λ flags. text_next (text) (λ name. (text) >>= λ signature. Done (let made : Member = record { flags = flags; name = name; signature = signature } in made)) (string) (IsTextFor) (λ y. (string) ((λ (z : Member). z.signature) y)) (λ name y. ((IsTextFor) ((λ (z : Member). z.signature) y)) × (y ≡ (λ signature. let made : Member = record { flags = flags; name = name; signature = signature } in made) ((λ (z : Member). z.signature) y))) (λ (z : Member). z.name)
+    (λ flags. text_next (text) (λ name. (text) >>= λ signature. Done (let made : Member = record { flags = flags; name = name; signature = signature } in made)) (string) (IsTextFor) (λ y. (string) ((λ (z : Member). z.signature) y)) (λ name y. ((IsTextFor) ((λ (z : Member). z.signature) y)) × (y ≡ (λ (signature : List ℕ). let made : Member = record { flags = flags; name = name; signature = signature } in made) ((λ (z : Member). z.signature) y))) (λ (z : Member). z.name)
     (text_text)
     (λ name. text_made (text) (λ signature. let made : Member = record { flags = flags; name = name; signature = signature } in made) (λ (z : Member). z.signature) (string) (IsTextFor) (λ signature g. refl) (text_text))
     (λ name y g h. ap (λ (z : Member). z.name) h.1))
@@ -138,12 +138,12 @@ found_to name (answers.Found class) h =
 pub found_law : (name : Name) → IsText (found name) answer_content (λ a. (answer_tag a ≡ 1) × IsAnswerFor name a)
 unfolding found
 found_law name =
-    text_as ((u16) >>= λ flags. (text) >>= λ signature. (members) >>= λ fields. (members) >>= λ methods. Done (class_made name flags signature fields methods)) (λ y. (flags) ((λ (z : Answer). (class_in z).flags) y) ++ ((string) ((λ (z : Answer). (class_in z).signature) y) ++ ((counted member_text) ((λ (z : Answer). (class_in z).fields) y) ++ ((counted member_text) ((λ (z : Answer). (class_in z).methods) y))))) (answer_content) (λ y. ((λ n. n < 2 ^ 16) ((λ (z : Answer). (class_in z).flags) y)) × ((λ flags. ((IsTextFor) ((λ (z : Answer). (class_in z).signature) y)) × ((λ signature. ((AreMembers) ((λ (z : Answer). (class_in z).fields) y)) × ((λ fields. ((AreMembers) ((λ (z : Answer). (class_in z).methods) y)) × (y ≡ (λ methods. class_made name flags signature fields methods) ((λ (z : Answer). (class_in z).methods) y))) ((λ (z : Answer). (class_in z).fields) y))) ((λ (z : Answer). (class_in z).signature) y))) ((λ (z : Answer). (class_in z).flags) y))) (λ a. (answer_tag a ≡ 1) × IsAnswerFor name a)
-    (text_next (u16) (λ flags. (text) >>= λ signature. (members) >>= λ fields. (members) >>= λ methods. Done (class_made name flags signature fields methods)) (flags) (λ n. n < 2 ^ 16) (λ y. (string) ((λ (z : Answer). (class_in z).signature) y) ++ ((counted member_text) ((λ (z : Answer). (class_in z).fields) y) ++ ((counted member_text) ((λ (z : Answer). (class_in z).methods) y)))) (λ flags y. ((IsTextFor) ((λ (z : Answer). (class_in z).signature) y)) × ((λ signature. ((AreMembers) ((λ (z : Answer). (class_in z).fields) y)) × ((λ fields. ((AreMembers) ((λ (z : Answer). (class_in z).methods) y)) × (y ≡ (λ methods. class_made name flags signature fields methods) ((λ (z : Answer). (class_in z).methods) y))) ((λ (z : Answer). (class_in z).fields) y))) ((λ (z : Answer). (class_in z).signature) y))) (λ (z : Answer). (class_in z).flags)
+    text_as ((u16) >>= λ flags. (text) >>= λ signature. (members) >>= λ fields. (members) >>= λ methods. Done (class_made name flags signature fields methods)) (λ y. (flags) ((λ (z : Answer). (class_in z).flags) y) ++ ((string) ((λ (z : Answer). (class_in z).signature) y) ++ ((counted member_text) ((λ (z : Answer). (class_in z).fields) y) ++ ((counted member_text) ((λ (z : Answer). (class_in z).methods) y))))) (answer_content) (λ y. ((λ n. n < 2 ^ 16) ((λ (z : Answer). (class_in z).flags) y)) × ((λ (flags : ℕ). ((IsTextFor) ((λ (z : Answer). (class_in z).signature) y)) × ((λ (signature : List ℕ). ((AreMembers) ((λ (z : Answer). (class_in z).fields) y)) × ((λ (fields : List Member). ((AreMembers) ((λ (z : Answer). (class_in z).methods) y)) × (y ≡ (λ (methods : List Member). class_made name flags signature fields methods) ((λ (z : Answer). (class_in z).methods) y))) ((λ (z : Answer). (class_in z).fields) y))) ((λ (z : Answer). (class_in z).signature) y))) ((λ (z : Answer). (class_in z).flags) y))) (λ a. (answer_tag a ≡ 1) × IsAnswerFor name a)
+    (text_next (u16) (λ flags. (text) >>= λ signature. (members) >>= λ fields. (members) >>= λ methods. Done (class_made name flags signature fields methods)) (flags) (λ n. n < 2 ^ 16) (λ y. (string) ((λ (z : Answer). (class_in z).signature) y) ++ ((counted member_text) ((λ (z : Answer). (class_in z).fields) y) ++ ((counted member_text) ((λ (z : Answer). (class_in z).methods) y)))) (λ flags y. ((IsTextFor) ((λ (z : Answer). (class_in z).signature) y)) × ((λ (signature : List ℕ). ((AreMembers) ((λ (z : Answer). (class_in z).fields) y)) × ((λ (fields : List Member). ((AreMembers) ((λ (z : Answer). (class_in z).methods) y)) × (y ≡ (λ (methods : List Member). class_made name flags signature fields methods) ((λ (z : Answer). (class_in z).methods) y))) ((λ (z : Answer). (class_in z).fields) y))) ((λ (z : Answer). (class_in z).signature) y))) (λ (z : Answer). (class_in z).flags)
     (u16_law)
-    (λ flags. text_next (text) (λ signature. (members) >>= λ fields. (members) >>= λ methods. Done (class_made name flags signature fields methods)) (string) (IsTextFor) (λ y. (counted member_text) ((λ (z : Answer). (class_in z).fields) y) ++ ((counted member_text) ((λ (z : Answer). (class_in z).methods) y))) (λ signature y. ((AreMembers) ((λ (z : Answer). (class_in z).fields) y)) × ((λ fields. ((AreMembers) ((λ (z : Answer). (class_in z).methods) y)) × (y ≡ (λ methods. class_made name flags signature fields methods) ((λ (z : Answer). (class_in z).methods) y))) ((λ (z : Answer). (class_in z).fields) y))) (λ (z : Answer). (class_in z).signature)
+    (λ flags. text_next (text) (λ signature. (members) >>= λ fields. (members) >>= λ methods. Done (class_made name flags signature fields methods)) (string) (IsTextFor) (λ y. (counted member_text) ((λ (z : Answer). (class_in z).fields) y) ++ ((counted member_text) ((λ (z : Answer). (class_in z).methods) y))) (λ signature y. ((AreMembers) ((λ (z : Answer). (class_in z).fields) y)) × ((λ (fields : List Member). ((AreMembers) ((λ (z : Answer). (class_in z).methods) y)) × (y ≡ (λ (methods : List Member). class_made name flags signature fields methods) ((λ (z : Answer). (class_in z).methods) y))) ((λ (z : Answer). (class_in z).fields) y))) (λ (z : Answer). (class_in z).signature)
     (text_text)
-    (λ signature. text_next (members) (λ fields. (members) >>= λ methods. Done (class_made name flags signature fields methods)) (counted member_text) (AreMembers) (λ y. (counted member_text) ((λ (z : Answer). (class_in z).methods) y)) (λ fields y. ((AreMembers) ((λ (z : Answer). (class_in z).methods) y)) × (y ≡ (λ methods. class_made name flags signature fields methods) ((λ (z : Answer). (class_in z).methods) y))) (λ (z : Answer). (class_in z).fields)
+    (λ signature. text_next (members) (λ fields. (members) >>= λ methods. Done (class_made name flags signature fields methods)) (counted member_text) (AreMembers) (λ y. (counted member_text) ((λ (z : Answer). (class_in z).methods) y)) (λ fields y. ((AreMembers) ((λ (z : Answer). (class_in z).methods) y)) × (y ≡ (λ (methods : List Member). class_made name flags signature fields methods) ((λ (z : Answer). (class_in z).methods) y))) (λ (z : Answer). (class_in z).fields)
     (members_law)
     (λ fields. text_made (members) (λ methods. class_made name flags signature fields methods) (λ (z : Answer). (class_in z).methods) (counted member_text) (AreMembers) (λ methods g. refl) (members_law))
     (λ fields y g h. ap (λ (z : Answer). (class_in z).fields) h.1))
@@ -173,8 +173,8 @@ fault_to broken.TooLong h = absurd (omega (arith, h.0))
 pub class_fault_law : IsText class_fault broken_content (λ b. (broken_tag b ≡ 1) × IsBrokenFor b)
 unfolding class_fault
 class_fault_law =
-    text_as ((u8) >>= λ kind. (u32) >>= λ offset. Done (fault_made kind offset)) (λ y. (λ n. n ∷ []) ((λ (z : Broken). (fault_in z).kind) y) ++ ((number) ((λ (z : Broken). (fault_in z).offset) y))) (broken_content) (λ y. ((λ n. n < 256) ((λ (z : Broken). (fault_in z).kind) y)) × ((λ kind. ((λ n. n < 2 ^ 32) ((λ (z : Broken). (fault_in z).offset) y)) × (y ≡ (λ offset. fault_made kind offset) ((λ (z : Broken). (fault_in z).offset) y))) ((λ (z : Broken). (fault_in z).kind) y))) (λ b. (broken_tag b ≡ 1) × IsBrokenFor b)
-    (text_next (u8) (λ kind. (u32) >>= λ offset. Done (fault_made kind offset)) (λ n. n ∷ []) (λ n. n < 256) (λ y. (number) ((λ (z : Broken). (fault_in z).offset) y)) (λ kind y. ((λ n. n < 2 ^ 32) ((λ (z : Broken). (fault_in z).offset) y)) × (y ≡ (λ offset. fault_made kind offset) ((λ (z : Broken). (fault_in z).offset) y))) (λ (z : Broken). (fault_in z).kind)
+    text_as ((u8) >>= λ kind. (u32) >>= λ offset. Done (fault_made kind offset)) (λ y. (λ n. n ∷ []) ((λ (z : Broken). (fault_in z).kind) y) ++ ((number) ((λ (z : Broken). (fault_in z).offset) y))) (broken_content) (λ y. ((λ n. n < 256) ((λ (z : Broken). (fault_in z).kind) y)) × ((λ (kind : ℕ). ((λ n. n < 2 ^ 32) ((λ (z : Broken). (fault_in z).offset) y)) × (y ≡ (λ (offset : ℕ). fault_made kind offset) ((λ (z : Broken). (fault_in z).offset) y))) ((λ (z : Broken). (fault_in z).kind) y))) (λ b. (broken_tag b ≡ 1) × IsBrokenFor b)
+    (text_next (u8) (λ kind. (u32) >>= λ offset. Done (fault_made kind offset)) (λ n. n ∷ []) (λ n. n < 256) (λ y. (number) ((λ (z : Broken). (fault_in z).offset) y)) (λ kind y. ((λ n. n < 2 ^ 32) ((λ (z : Broken). (fault_in z).offset) y)) × (y ≡ (λ (offset : ℕ). fault_made kind offset) ((λ (z : Broken). (fault_in z).offset) y))) (λ (z : Broken). (fault_in z).kind)
     (u8_law)
     (λ kind. text_made (u32) (λ offset. fault_made kind offset) (λ (z : Broken). (fault_in z).offset) (number) (λ n. n < 2 ^ 32) (λ offset g. refl) (u32_law))
     (λ kind y g h. ap (λ (z : Broken). (fault_in z).kind) h.1))

@@ -5,6 +5,7 @@ use Rattle.std.specs.List.{flat_map, AllByRecursion}
 use Rattle.std.specs.List.Sorted.{IsStrictlySortedBy}
 use Rattle.std.specs.Int.{w16, w32, to_be_bytes}
 use Rattle.std.specs.Str.{is_utf8}
+use Rattle.std.proofs.lemmas.Str.{is_utf8-from_IsUtf8}
 use Rattle.std.specs.Ordering.{nat_cmp}
 use Rattle.std.specs.Cmp.Lexicographic.{pointwise}
 use Rattle.std.proofs.lemmas.Bool.{ltb-true, eqb-true, eqb-false, lt-ltb}
@@ -38,7 +39,6 @@ use Rattle.pj_cache_format.specs.WholeTwo.{IsPlace, IsSpotBehind, AreRows, IsKey
 use Rattle.pj_cache.proofs.Places.{place_of_member}
 use Rattle.pj_cache_format.proofs.AnswerLaws.{passed, passes, tag_text, number_text, string_text, text_text, u8_law, u32_law, sized_law, counted_text, counted_from, both_true}
 
-use Rattle.std.proofs.lemmas.Str.{bytes_eq-is}
 use Rattle.pj_cache_format.specs.FormatTwo.{keys_of, is_same_list, are_named, cache}
 use Rattle.pj_cache_format.specs.TextTwo.{cache_text}
 use Rattle.pj_cache_format.specs.Whole.{AreAnswers}
@@ -71,7 +71,11 @@ placed_keys keys sorted count is used before (p ∷ ps) (k ∷ ks) chain along =
     λ i. one i ∷ others i
 
 counted_places : (keys : List (List ℕ)) (group : List KeyRows) → counted number (map (λ (k : KeyRows). place_in keys k.key) group) ≡ counted (λ (k : KeyRows). number (place_in keys k.key)) group
-counted_places keys group = λ i. number (length-map (λ (k : KeyRows). place_in keys k.key) group i) ++ each_place group i where
+counted_places keys group =
+    let long : length (map (λ (k : KeyRows). place_in keys k.key) group) ≡ length group = length-map (λ (k : KeyRows). place_in keys k.key) group in
+    let texts : flat_map number (map (λ (k : KeyRows). place_in keys k.key) group) ≡ flat_map (λ (k : KeyRows). number (place_in keys k.key)) group = each_place group in
+    λ i. number (long i) ++ texts i
+  where
   each_place : (ks : List KeyRows) → flat_map number (map (λ (k : KeyRows). place_in keys k.key) ks) ≡ flat_map (λ (k : KeyRows). number (place_in keys k.key)) ks
   each_place [] = refl
   each_place (k ∷ ks) = flat_map-cons number (place_in keys k.key) (map (λ (k : KeyRows). place_in keys k.key) ks) ∙ ap (λ (l : List ℕ). number (place_in keys k.key) ++ l) (each_place ks) ∙ sym (flat_map-cons (λ (k : KeyRows). number (place_in keys k.key)) k ks)
@@ -167,7 +171,7 @@ head_behind_open package_name tag = cond_open (eqb tag 0) (Done (heads.Package p
 
 head_fits : (y : Head) → IsHead y → IsTextFor (package_of y) × ((head_tag y < 256) × (is_head_tag (package_of y) (head_tag y) ≡ true))
 head_fits (heads.Package package_name) h = (h, (omega arith, refl))
-head_fits (heads.Message message) h = ((omega arith, refl), (omega arith, refl))
+head_fits (heads.Message message) h = ((omega arith, is_utf8-from_IsUtf8 [] ([], (refl, refl))), (omega arith, refl))
 
 abbrev Tagged : List ℕ → Head → Type 0
 Tagged package_name y = ((head_tag y < 256) × (is_head_tag package_name (head_tag y) ≡ true)) × Heads package_name (head_tag y) y

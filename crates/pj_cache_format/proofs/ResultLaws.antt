@@ -86,8 +86,8 @@ reason_law = u8_text reason_byte (λ r. Unit {0}) reason_of reason_read reason_a
 pub place_law : IsText place place_text IsPlace
 unfolding place
 place_law =
-    text_as ((u32) >>= λ line. (u32) >>= λ column. Done (let made : Place = record { line = line; column = column } in made)) (λ y. (number) ((λ (z : Place). z.line) y) ++ ((number) ((λ (z : Place). z.column) y))) (place_text) (λ y. ((λ n. n < 2 ^ 32) ((λ (z : Place). z.line) y)) × ((λ line. ((λ n. n < 2 ^ 32) ((λ (z : Place). z.column) y)) × (y ≡ (λ column. let made : Place = record { line = line; column = column } in made) ((λ (z : Place). z.column) y))) ((λ (z : Place). z.line) y))) (IsPlace)
-    (text_next (u32) (λ line. (u32) >>= λ column. Done (let made : Place = record { line = line; column = column } in made)) (number) (λ n. n < 2 ^ 32) (λ y. (number) ((λ (z : Place). z.column) y)) (λ line y. ((λ n. n < 2 ^ 32) ((λ (z : Place). z.column) y)) × (y ≡ (λ column. let made : Place = record { line = line; column = column } in made) ((λ (z : Place). z.column) y))) (λ (z : Place). z.line)
+    text_as ((u32) >>= λ line. (u32) >>= λ column. Done (let made : Place = record { line = line; column = column } in made)) (λ y. (number) ((λ (z : Place). z.line) y) ++ ((number) ((λ (z : Place). z.column) y))) (place_text) (λ y. ((λ n. n < 2 ^ 32) ((λ (z : Place). z.line) y)) × ((λ (line : ℕ). ((λ n. n < 2 ^ 32) ((λ (z : Place). z.column) y)) × (y ≡ (λ (column : ℕ). let made : Place = record { line = line; column = column } in made) ((λ (z : Place). z.column) y))) ((λ (z : Place). z.line) y))) (IsPlace)
+    (text_next (u32) (λ line. (u32) >>= λ column. Done (let made : Place = record { line = line; column = column } in made)) (number) (λ n. n < 2 ^ 32) (λ y. (number) ((λ (z : Place). z.column) y)) (λ line y. ((λ n. n < 2 ^ 32) ((λ (z : Place). z.column) y)) × (y ≡ (λ (column : ℕ). let made : Place = record { line = line; column = column } in made) ((λ (z : Place). z.column) y))) (λ (z : Place). z.line)
     (u32_law)
     (λ line. text_made (u32) (λ column. let made : Place = record { line = line; column = column } in made) (λ (z : Place). z.column) (number) (λ n. n < 2 ^ 32) (λ column g. refl) (u32_law))
     (λ line y g h. ap (λ (z : Place). z.line) h.1))
@@ -103,12 +103,12 @@ spot_made node begin end reason = (record { node = node; begin = begin; end = en
 pub spot_law : (before : Option ℕ) → IsText (spot before) (λ y. spot_text y.0) (λ y. IsSpotBehind before y.0 × (y.1 ≡ Some y.0.node))
 unfolding spot
 spot_law before =
-    text_as ((u32_as (passing (is_behind nat_cmp before))) >>= λ node. (place) >>= λ begin. (place) >>= λ end. (u8_as reason_of) >>= λ reason. Done (spot_made node begin end reason)) (λ y. (number) ((λ (z : SpotRead). z.0.node) y) ++ ((place_text) ((λ (z : SpotRead). z.0.begin) y) ++ ((place_text) ((λ (z : SpotRead). z.0.end) y) ++ ((λ r. reason_byte r ∷ []) ((λ (z : SpotRead). z.0.reason) y))))) (λ y. spot_text y.0) (λ y. ((λ n. (n < 2 ^ 32) × (is_behind nat_cmp before n ≡ true)) ((λ (z : SpotRead). z.0.node) y)) × ((λ node. ((IsPlace) ((λ (z : SpotRead). z.0.begin) y)) × ((λ begin. ((IsPlace) ((λ (z : SpotRead). z.0.end) y)) × ((λ end. ((λ r. (reason_byte r < 256) × Unit {0}) ((λ (z : SpotRead). z.0.reason) y)) × (y ≡ (λ reason. spot_made node begin end reason) ((λ (z : SpotRead). z.0.reason) y))) ((λ (z : SpotRead). z.0.end) y))) ((λ (z : SpotRead). z.0.begin) y))) ((λ (z : SpotRead). z.0.node) y))) (λ y. IsSpotBehind before y.0 × (y.1 ≡ Some y.0.node))
-    (text_next (u32_as (passing (is_behind nat_cmp before))) (λ node. (place) >>= λ begin. (place) >>= λ end. (u8_as reason_of) >>= λ reason. Done (spot_made node begin end reason)) (number) (λ n. (n < 2 ^ 32) × (is_behind nat_cmp before n ≡ true)) (λ y. (place_text) ((λ (z : SpotRead). z.0.begin) y) ++ ((place_text) ((λ (z : SpotRead). z.0.end) y) ++ ((λ r. reason_byte r ∷ []) ((λ (z : SpotRead). z.0.reason) y)))) (λ node y. ((IsPlace) ((λ (z : SpotRead). z.0.begin) y)) × ((λ begin. ((IsPlace) ((λ (z : SpotRead). z.0.end) y)) × ((λ end. ((λ r. (reason_byte r < 256) × Unit {0}) ((λ (z : SpotRead). z.0.reason) y)) × (y ≡ (λ reason. spot_made node begin end reason) ((λ (z : SpotRead). z.0.reason) y))) ((λ (z : SpotRead). z.0.end) y))) ((λ (z : SpotRead). z.0.begin) y))) (λ (z : SpotRead). z.0.node)
+    text_as ((u32_as (passing (is_behind nat_cmp before))) >>= λ node. (place) >>= λ begin. (place) >>= λ end. (u8_as reason_of) >>= λ reason. Done (spot_made node begin end reason)) (λ y. (number) ((λ (z : SpotRead). z.0.node) y) ++ ((place_text) ((λ (z : SpotRead). z.0.begin) y) ++ ((place_text) ((λ (z : SpotRead). z.0.end) y) ++ ((λ r. reason_byte r ∷ []) ((λ (z : SpotRead). z.0.reason) y))))) (λ y. spot_text y.0) (λ y. ((λ n. (n < 2 ^ 32) × (is_behind nat_cmp before n ≡ true)) ((λ (z : SpotRead). z.0.node) y)) × ((λ (node : ℕ). ((IsPlace) ((λ (z : SpotRead). z.0.begin) y)) × ((λ (begin : Place). ((IsPlace) ((λ (z : SpotRead). z.0.end) y)) × ((λ (end : Place). ((λ r. (reason_byte r < 256) × Unit {0}) ((λ (z : SpotRead). z.0.reason) y)) × (y ≡ (λ (reason : Option Reason). spot_made node begin end reason) ((λ (z : SpotRead). z.0.reason) y))) ((λ (z : SpotRead). z.0.end) y))) ((λ (z : SpotRead). z.0.begin) y))) ((λ (z : SpotRead). z.0.node) y))) (λ y. IsSpotBehind before y.0 × (y.1 ≡ Some y.0.node))
+    (text_next (u32_as (passing (is_behind nat_cmp before))) (λ node. (place) >>= λ begin. (place) >>= λ end. (u8_as reason_of) >>= λ reason. Done (spot_made node begin end reason)) (number) (λ n. (n < 2 ^ 32) × (is_behind nat_cmp before n ≡ true)) (λ y. (place_text) ((λ (z : SpotRead). z.0.begin) y) ++ ((place_text) ((λ (z : SpotRead). z.0.end) y) ++ ((λ r. reason_byte r ∷ []) ((λ (z : SpotRead). z.0.reason) y)))) (λ node y. ((IsPlace) ((λ (z : SpotRead). z.0.begin) y)) × ((λ (begin : Place). ((IsPlace) ((λ (z : SpotRead). z.0.end) y)) × ((λ (end : Place). ((λ r. (reason_byte r < 256) × Unit {0}) ((λ (z : SpotRead). z.0.reason) y)) × (y ≡ (λ (reason : Option Reason). spot_made node begin end reason) ((λ (z : SpotRead). z.0.reason) y))) ((λ (z : SpotRead). z.0.end) y))) ((λ (z : SpotRead). z.0.begin) y))) (λ (z : SpotRead). z.0.node)
     (number_text (is_behind nat_cmp before))
-    (λ node. text_next (place) (λ begin. (place) >>= λ end. (u8_as reason_of) >>= λ reason. Done (spot_made node begin end reason)) (place_text) (IsPlace) (λ y. (place_text) ((λ (z : SpotRead). z.0.end) y) ++ ((λ r. reason_byte r ∷ []) ((λ (z : SpotRead). z.0.reason) y))) (λ begin y. ((IsPlace) ((λ (z : SpotRead). z.0.end) y)) × ((λ end. ((λ r. (reason_byte r < 256) × Unit {0}) ((λ (z : SpotRead). z.0.reason) y)) × (y ≡ (λ reason. spot_made node begin end reason) ((λ (z : SpotRead). z.0.reason) y))) ((λ (z : SpotRead). z.0.end) y))) (λ (z : SpotRead). z.0.begin)
+    (λ node. text_next (place) (λ begin. (place) >>= λ end. (u8_as reason_of) >>= λ reason. Done (spot_made node begin end reason)) (place_text) (IsPlace) (λ y. (place_text) ((λ (z : SpotRead). z.0.end) y) ++ ((λ r. reason_byte r ∷ []) ((λ (z : SpotRead). z.0.reason) y))) (λ begin y. ((IsPlace) ((λ (z : SpotRead). z.0.end) y)) × ((λ (end : Place). ((λ r. (reason_byte r < 256) × Unit {0}) ((λ (z : SpotRead). z.0.reason) y)) × (y ≡ (λ (reason : Option Reason). spot_made node begin end reason) ((λ (z : SpotRead). z.0.reason) y))) ((λ (z : SpotRead). z.0.end) y))) (λ (z : SpotRead). z.0.begin)
     (place_law)
-    (λ begin. text_next (place) (λ end. (u8_as reason_of) >>= λ reason. Done (spot_made node begin end reason)) (place_text) (IsPlace) (λ y. (λ r. reason_byte r ∷ []) ((λ (z : SpotRead). z.0.reason) y)) (λ end y. ((λ r. (reason_byte r < 256) × Unit {0}) ((λ (z : SpotRead). z.0.reason) y)) × (y ≡ (λ reason. spot_made node begin end reason) ((λ (z : SpotRead). z.0.reason) y))) (λ (z : SpotRead). z.0.end)
+    (λ begin. text_next (place) (λ end. (u8_as reason_of) >>= λ reason. Done (spot_made node begin end reason)) (place_text) (IsPlace) (λ y. (λ r. reason_byte r ∷ []) ((λ (z : SpotRead). z.0.reason) y)) (λ end y. ((λ r. (reason_byte r < 256) × Unit {0}) ((λ (z : SpotRead). z.0.reason) y)) × (y ≡ (λ (reason : Option Reason). spot_made node begin end reason) ((λ (z : SpotRead). z.0.reason) y))) (λ (z : SpotRead). z.0.end)
     (place_law)
     (λ end. text_made (u8_as reason_of) (λ reason. spot_made node begin end reason) (λ (z : SpotRead). z.0.reason) (λ r. reason_byte r ∷ []) (λ r. (reason_byte r < 256) × Unit {0}) (λ reason g. refl) (reason_law))
     (λ end y g h. ap (λ (z : SpotRead). z.0.end) h.1))
@@ -260,8 +260,8 @@ name_list_law names sorted = counted_from (name_at names) (λ n. number (place_i
 abbrev key_rows_made : List (List ℕ) → ℕ → Ruled → KeyRows
 key_rows_made keys place r = record { key = member_at keys place; rows = r }
 
-key_rows_to : (keys : List (List ℕ)) (place : ℕ) (k : KeyRows) → AreKeyRows keys place k → AreRows k.rows × (k ≡ key_rows_made keys place k.rows)
-key_rows_to keys place k h =
+key_rows_to : (keys : List (List ℕ)) (at : ℕ) (k : KeyRows) → AreKeyRows keys at k → AreRows k.rows × (k ≡ key_rows_made keys at k.rows)
+key_rows_to keys at k h =
     let made : List ℕ → KeyRows = λ bytes. record { key = bytes; rows = k.rows } in
     (h.1, ap made (sym h.0))
 

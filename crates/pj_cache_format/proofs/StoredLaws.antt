@@ -134,12 +134,9 @@ text_stored c w =
 pub stored_text : (bytes : List ℕ) (c : Cache) → IsBytes bytes → IsStored bytes c → IsWhole c × (bytes ≡ text_two c)
 stored_text bytes c fits h =
     let s = h.is_sealed in
-    let begins : take 8 (content_of bytes) ≡ magic = rw take-take (take_front (length bytes) s.long bytes ∙ s.magic_is) in
+    let begins : take 8 (content_of bytes) ≡ magic = let inner : 8 ≤ length bytes - 32 = omega (arith, s.long) in take-take 8 (length bytes - 32) bytes inner ∙ s.magic_is in
     let taken = stored_takes (content_of bytes) c (bytes_take (length bytes - 32) bytes fits) begins h.spelled in
     (taken.0, sealed_again bytes s.seal_is ∙ ap sealed taken.1)
-  where
-    take_front : (n : ℕ) → 44 ≤ n → (l : List ℕ) → take (min 8 (n - 32)) l ≡ take 8 l
-    take_front n long l = let is : min 8 (n - 32) ≡ 8 = omega arith in ap (λ (k : ℕ). take k l) is
 
 abbrev read : Cache → Result Cache Fault
 read c = Ok c

@@ -11,11 +11,11 @@ pub is_text : (bytes : List ℕ) → IsUtf8 bytes → is_utf8 bytes ≡ true
 is_text bytes h = is_utf8-from_IsUtf8 bytes h
 
 by_case : (bytes : List ℕ) (b : Bool) → is_utf8 bytes ≡ b → ¬ (IsUtf8 bytes) → is_utf8 bytes ≡ false
-by_case bytes true e no = absurd (no (IsUtf8-from_is_utf8 bytes e))
-by_case bytes false e no = e
+by_case bytes true e none = absurd (none (IsUtf8-from_is_utf8 bytes e))
+by_case bytes false e none = e
 
 pub is_no_text : (bytes : List ℕ) → ¬ (IsUtf8 bytes) → is_utf8 bytes ≡ false
-is_no_text bytes no = by_case bytes (is_utf8 bytes) refl no
+is_no_text bytes none = by_case bytes (is_utf8 bytes) refl none
 
 by_test : (a b : Bool) → is_lt (cond a Less (cond b Equal Greater)) ≡ a
 by_test true b = refl
