@@ -1,0 +1,95 @@
+-- The types of variables by their declarations (JLS 8.3, 8.4.1, 8.9.1, 8.10.1, 14.4, 14.14.2, 14.20, 15.27.1).
+use Rattle.std.specs.Prelude.{ℕ, Bool, false, ◌&&◌, not, is_some, Option, None, Some, if◌then◌else◌, length}
+use Rattle.std.specs.Option.{option_and_then, option_map_or}
+use Rattle.pj_tree.specs.Tree.{Tree, is_descendant, parent_of}
+use Rattle.pj_tree.specs.Children.{child_of, second_child}
+use Rattle.pj_tree.specs.Kinds.{is_kind}
+use Rattle.pj_tree.specs.declared.kind.Kind.TheVariants as k
+use Rattle.pj_tree.specs.declared.node.Node.{Node}
+use Rattle.pj_names.specs.JavaType.{JavaType, Unknown}
+use Rattle.pj_names.specs.Asking.{Asking, Return, bind}
+use Rattle.pj_symbols.specs.Classes.{class_around}
+use Rattle.pj_symbols.specs.Variables.{declaration_of}
+use Rattle.pj_written.specs.Words.{own_brackets, type_child}
+use Rattle.pj_file_oracle.specs.Types.{declared_type}
+use Rattle.pj_exprtypes.specs.Classes.{class_or_unknown}
+use Rattle.pj_exprtypes.specs.Members.{iterated}
+
+module _ (t : Tree) where
+  -- ---- what is written
+
+  -- A declaration by `var` is one of a local variable that writes no type (JLS 14.4.1).
+  abbrev pub is_var : Node → Bool
+  is_var declaration = is_kind t k.LocalVariableDeclaration declaration && not (is_some (type_child t declaration))
+
+  -- The type that is written, with the brackets behind the name (JLS 10.2). An enum constant has the enum (JLS 8.9.3). A parameter of a lambda expression by itself, and one of a
+  -- `catch` of several types, write none, and are not known.
+  abbrev pub type_by : Node → Node → Asking JavaType
+  type_by id declaration =
+      if is_kind t k.EnumConstant declaration then Return (class_or_unknown t (class_around t declaration))
+      else declared_type t (length (own_brackets t id)) declaration
+
+  -- ---- by `var`
+
+  abbrev pub is_var_name : Node → Bool
+  is_var_name id = option_map_or is_var (declaration_of t id) false
+
+  -- A name in the initializer of the variable itself: there it has no type yet (JLS 14.4.1).
+  abbrev pub is_in_own_initializer : Node → Node → Bool
+  is_in_own_initializer place id = is_var_name id && option_map_or (is_descendant t place) (parent_of t id) false
+
+  abbrev pub if_iterates : Node → Option Node
+  if_iterates above = if is_kind t k.ForeachStatement above then Some above else None
+
+  -- the enhanced `for` that a variable is of
+  abbrev pub statement_of : Node → Option Node
+  statement_of id = option_and_then if_iterates (option_and_then (parent_of t) (declaration_of t id))
+
+  -- By what the types of expressions are.
+  module _ (type_of : Node → Asking JavaType) where
+    abbrev pub type_or_none : Option Node → Asking JavaType
+    type_or_none None = Return Unknown
+    type_or_none (Some n) = type_of n
+
+    -- the variable of an enhanced `for`: what its expression goes through (JLS 14.14.2)
+    abbrev pub iterated_variable : Node → Asking JavaType
+    iterated_variable statement = bind (type_or_none (second_child t statement)) (λ ty. iterated ty)
+
+    -- any other one: the type of its initializer, as it is
+    abbrev pub initialized_variable : Node → Asking JavaType
+    initialized_variable id = type_or_none (option_and_then (second_child t) (parent_of t id))
+
+    abbrev pub var_by : Node → Option Node → Asking JavaType
+    var_by id None = initialized_variable id
+    var_by id (Some statement) = iterated_variable statement
+
+    -- the type of a variable that is declared by `var`
+    abbrev pub var_type : Node → Asking JavaType
+    var_type id = var_by id (statement_of id)
+
+  -- ---- of any variable, by what the types of those are that are declared by `var`
+
+  module _ (var : Node → Asking JavaType) where
+    abbrev pub variable_by : Node → Option Node → Asking JavaType
+    variable_by id None = Return Unknown
+    variable_by id (Some declaration) = if is_var declaration then var id else type_by id declaration
+
+    -- the variable of a name
+    abbrev pub variable_type : Node → Asking JavaType
+    variable_type id = variable_by id (declaration_of t id)
+
+    abbrev pub variable_or_unknown : Option Node → Asking JavaType
+    variable_or_unknown None = Return Unknown
+    variable_or_unknown (Some id) = variable_type id
+
+    -- a node that declares one variable has its type
+    abbrev pub named_type : Node → Asking JavaType
+    named_type n = variable_or_unknown (child_of t n k.VariableId)
+
+    -- the first variable of a declaration
+    abbrev pub first_name : Node → Option Node
+    first_name declaration = option_and_then (λ declarator. child_of t declarator k.VariableId) (child_of t declaration k.VariableDeclarator)
+
+    -- A declaration of several has the type that it writes, and by `var` that of its first variable.
+    abbrev pub declaration_type : Node → Asking JavaType
+    declaration_type declaration = if is_var declaration then variable_or_unknown (first_name declaration) else declared_type t 0 declaration

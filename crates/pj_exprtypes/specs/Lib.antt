@@ -1,0 +1,10 @@
+-- definitions
+pub mod Written
+pub mod Classes
+pub mod Leaves
+pub mod Members
+pub mod Declarations
+pub mod Names
+pub mod Expressions
+pub mod TypeOf
+pub mod Table
