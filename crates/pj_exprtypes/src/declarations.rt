@@ -28,7 +28,7 @@ pub fn is_var(tree: &SyntaxTree<'_>, declaration: Node) -> bool
 }
 
 /// Whether a name is that of a variable that is declared by `var`.
-fn is_var_name(tree: &SyntaxTree<'_>, id: Node) -> bool
+pub fn is_var_name(tree: &SyntaxTree<'_>, id: Node) -> bool
     requires inside { id.0 < length tree.now.nodes }
     ensures { result ≡ is_var_name tree.now id }
 {

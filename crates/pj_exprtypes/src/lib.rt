@@ -9,6 +9,7 @@ mod held;
 mod leaves;
 mod members;
 mod operands;
+mod order;
 mod receivers;
 mod superclass;
 mod type_of;

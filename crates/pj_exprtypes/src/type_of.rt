@@ -10,6 +10,7 @@ ghost use Rattle.pj_exprtypes.specs.Table.{Keeps};
 ghost use Rattle.pj_exprtypes.specs.TypeOf.{type_of};
 
 use crate::held::Typed;
+use crate::order::type_variables;
 use crate::typing::typed;
 use pj_file_oracle::FileOracle;
 use pj_names::{AskFault, ClassNameSet, Oracle, Recorder, Ty};
@@ -36,6 +37,7 @@ fn type_noted<O: Oracle>(
         inner: &mut *oracle,
         noted: &mut *noted,
     };
+    type_variables(alloc, file, &mut recorder, types, n)?;
     typed(alloc, file, &mut recorder, types, count, count + 1, n)
 }
 

@@ -49,8 +49,7 @@ pub(crate) fn typed<'r, O: Oracle>(
     n: Node,
 ) -> Result<Ty, AskFault>
     requires inside { n.0 < length file.now.nodes }
-    requires left { left ≤ length file.now.nodes + 1 }
-    requires before { before ≤ length file.now.nodes }
+    requires left { left ≤ 2000001 }
     requires keeps { Keeps file.now (⟦<Recorder<'r, O> as Oracle>⟧.tells oracle.old) types.old }
     ensures asks { Asks (typed file.now (earlier file.now before) left n) (⟦<Recorder<'r, O> as Oracle>⟧.tells oracle.old) (⟦<Recorder<'r, O> as Oracle>⟧.tells oracle.new) (seen java_type result) }
     ensures keeps { Keeps file.now (⟦<Recorder<'r, O> as Oracle>⟧.tells oracle.new) types.new }
@@ -74,8 +73,7 @@ fn type_or_none<'r, O: Oracle>(
     n: Option<Node>,
 ) -> Result<Ty, AskFault>
     requires inside { IfSome n (λ m. m.0 < length file.now.nodes) }
-    requires left { left ≤ length file.now.nodes + 1 }
-    requires before { before ≤ length file.now.nodes }
+    requires left { left ≤ 2000001 }
     requires keeps { Keeps file.now (⟦<Recorder<'r, O> as Oracle>⟧.tells oracle.old) types.old }
     ensures asks { Asks (declarations.type_or_none file.now (typed file.now (earlier file.now before) left) n) (⟦<Recorder<'r, O> as Oracle>⟧.tells oracle.old) (⟦<Recorder<'r, O> as Oracle>⟧.tells oracle.new) (seen java_type result) }
     ensures keeps { Keeps file.now (⟦<Recorder<'r, O> as Oracle>⟧.tells oracle.new) types.new }
@@ -99,8 +97,7 @@ fn typed_by<'r, O: Oracle>(
     n: Node,
 ) -> Result<Ty, AskFault>
     requires inside { n.0 < length file.now.nodes }
-    requires left { left ≤ length file.now.nodes + 1 }
-    requires before { before ≤ length file.now.nodes }
+    requires left { left ≤ 2000001 }
     requires keeps { Keeps file.now (⟦<Recorder<'r, O> as Oracle>⟧.tells oracle.old) types.old }
     ensures asks { Asks (type_by file.now (earlier file.now before) (typed file.now (earlier file.now before) left) n (kind_of file.now n)) (⟦<Recorder<'r, O> as Oracle>⟧.tells oracle.old) (⟦<Recorder<'r, O> as Oracle>⟧.tells oracle.new) (seen java_type result) }
     ensures keeps { Keeps file.now (⟦<Recorder<'r, O> as Oracle>⟧.tells oracle.new) types.new }
@@ -149,8 +146,7 @@ fn both_by<'r, O: Oracle>(
     n: Node,
 ) -> Result<Ty, AskFault>
     requires inside { n.0 < length file.now.nodes }
-    requires left { left ≤ length file.now.nodes + 1 }
-    requires before { before ≤ length file.now.nodes }
+    requires left { left ≤ 2000001 }
     requires keeps { Keeps file.now (⟦<Recorder<'r, O> as Oracle>⟧.tells oracle.old) types.old }
     ensures asks { Asks (expressions.both_by file.now (typed file.now (earlier file.now before) left) operator n) (⟦<Recorder<'r, O> as Oracle>⟧.tells oracle.old) (⟦<Recorder<'r, O> as Oracle>⟧.tells oracle.new) (seen java_type result) }
     ensures keeps { Keeps file.now (⟦<Recorder<'r, O> as Oracle>⟧.tells oracle.new) types.new }
@@ -176,8 +172,7 @@ fn shift<'r, O: Oracle>(
     n: Node,
 ) -> Result<Ty, AskFault>
     requires inside { n.0 < length file.now.nodes }
-    requires left { left ≤ length file.now.nodes + 1 }
-    requires before { before ≤ length file.now.nodes }
+    requires left { left ≤ 2000001 }
     requires keeps { Keeps file.now (⟦<Recorder<'r, O> as Oracle>⟧.tells oracle.old) types.old }
     ensures asks { Asks (expressions.infix_by file.now (typed file.now (earlier file.now before) left) n (Some i.Shift)) (⟦<Recorder<'r, O> as Oracle>⟧.tells oracle.old) (⟦<Recorder<'r, O> as Oracle>⟧.tells oracle.new) (seen java_type result) }
     ensures keeps { Keeps file.now (⟦<Recorder<'r, O> as Oracle>⟧.tells oracle.new) types.new }
@@ -201,8 +196,7 @@ fn infix_expression<'r, O: Oracle>(
     n: Node,
 ) -> Result<Ty, AskFault>
     requires inside { n.0 < length file.now.nodes }
-    requires left { left ≤ length file.now.nodes + 1 }
-    requires before { before ≤ length file.now.nodes }
+    requires left { left ≤ 2000001 }
     requires keeps { Keeps file.now (⟦<Recorder<'r, O> as Oracle>⟧.tells oracle.old) types.old }
     ensures asks { Asks (expressions.infix_expression file.now (typed file.now (earlier file.now before) left) n) (⟦<Recorder<'r, O> as Oracle>⟧.tells oracle.old) (⟦<Recorder<'r, O> as Oracle>⟧.tells oracle.new) (seen java_type result) }
     ensures keeps { Keeps file.now (⟦<Recorder<'r, O> as Oracle>⟧.tells oracle.new) types.new }
@@ -229,8 +223,7 @@ fn unary_by<'r, O: Oracle>(
     n: Node,
 ) -> Result<Ty, AskFault>
     requires inside { n.0 < length file.now.nodes }
-    requires left { left ≤ length file.now.nodes + 1 }
-    requires before { before ≤ length file.now.nodes }
+    requires left { left ≤ 2000001 }
     requires keeps { Keeps file.now (⟦<Recorder<'r, O> as Oracle>⟧.tells oracle.old) types.old }
     ensures asks { Asks (bind (expressions.first_type file.now (typed file.now (earlier file.now before) left) n) (λ operand. Return (unary_type unary operand))) (⟦<Recorder<'r, O> as Oracle>⟧.tells oracle.old) (⟦<Recorder<'r, O> as Oracle>⟧.tells oracle.new) (seen java_type result) }
     ensures keeps { Keeps file.now (⟦<Recorder<'r, O> as Oracle>⟧.tells oracle.new) types.new }
@@ -254,8 +247,7 @@ fn unary_expression<'r, O: Oracle>(
     n: Node,
 ) -> Result<Ty, AskFault>
     requires inside { n.0 < length file.now.nodes }
-    requires left { left ≤ length file.now.nodes + 1 }
-    requires before { before ≤ length file.now.nodes }
+    requires left { left ≤ 2000001 }
     requires keeps { Keeps file.now (⟦<Recorder<'r, O> as Oracle>⟧.tells oracle.old) types.old }
     ensures asks { Asks (expressions.unary_expression file.now (typed file.now (earlier file.now before) left) n) (⟦<Recorder<'r, O> as Oracle>⟧.tells oracle.old) (⟦<Recorder<'r, O> as Oracle>⟧.tells oracle.new) (seen java_type result) }
     ensures keeps { Keeps file.now (⟦<Recorder<'r, O> as Oracle>⟧.tells oracle.new) types.new }
@@ -280,8 +272,7 @@ fn conditional_expression<'r, O: Oracle>(
     n: Node,
 ) -> Result<Ty, AskFault>
     requires inside { n.0 < length file.now.nodes }
-    requires left { left ≤ length file.now.nodes + 1 }
-    requires before { before ≤ length file.now.nodes }
+    requires left { left ≤ 2000001 }
     requires keeps { Keeps file.now (⟦<Recorder<'r, O> as Oracle>⟧.tells oracle.old) types.old }
     ensures asks { Asks (expressions.conditional_expression file.now (typed file.now (earlier file.now before) left) n) (⟦<Recorder<'r, O> as Oracle>⟧.tells oracle.old) (⟦<Recorder<'r, O> as Oracle>⟧.tells oracle.new) (seen java_type result) }
     ensures keeps { Keeps file.now (⟦<Recorder<'r, O> as Oracle>⟧.tells oracle.new) types.new }
@@ -306,8 +297,7 @@ fn array_access<'r, O: Oracle>(
     n: Node,
 ) -> Result<Ty, AskFault>
     requires inside { n.0 < length file.now.nodes }
-    requires left { left ≤ length file.now.nodes + 1 }
-    requires before { before ≤ length file.now.nodes }
+    requires left { left ≤ 2000001 }
     requires keeps { Keeps file.now (⟦<Recorder<'r, O> as Oracle>⟧.tells oracle.old) types.old }
     ensures asks { Asks (expressions.array_access file.now (typed file.now (earlier file.now before) left) n) (⟦<Recorder<'r, O> as Oracle>⟧.tells oracle.old) (⟦<Recorder<'r, O> as Oracle>⟧.tells oracle.new) (seen java_type result) }
     ensures keeps { Keeps file.now (⟦<Recorder<'r, O> as Oracle>⟧.tells oracle.new) types.new }
@@ -331,8 +321,7 @@ fn field_access<'r, O: Oracle>(
     n: Node,
 ) -> Result<Ty, AskFault>
     requires inside { n.0 < length file.now.nodes }
-    requires left { left ≤ length file.now.nodes + 1 }
-    requires before { before ≤ length file.now.nodes }
+    requires left { left ≤ 2000001 }
     requires keeps { Keeps file.now (⟦<Recorder<'r, O> as Oracle>⟧.tells oracle.old) types.old }
     ensures asks { Asks (expressions.field_access file.now (typed file.now (earlier file.now before) left) n) (⟦<Recorder<'r, O> as Oracle>⟧.tells oracle.old) (⟦<Recorder<'r, O> as Oracle>⟧.tells oracle.new) (seen java_type result) }
     ensures keeps { Keeps file.now (⟦<Recorder<'r, O> as Oracle>⟧.tells oracle.new) types.new }
@@ -355,7 +344,6 @@ fn meant_type<'r, O: Oracle>(
     meant: Option<Variable>,
 ) -> Result<Ty, AskFault>
     requires inside { n.0 < length file.now.nodes }
-    requires before { before ≤ length file.now.nodes }
     requires meant { IfSome meant (IsInside (length file.now.nodes)) }
     requires keeps { Keeps file.now (⟦<Recorder<'r, O> as Oracle>⟧.tells oracle.old) types.old }
     ensures asks { Asks (names.meant_type file.now (earlier file.now before) n (seen_variable meant)) (⟦<Recorder<'r, O> as Oracle>⟧.tells oracle.old) (⟦<Recorder<'r, O> as Oracle>⟧.tells oracle.new) (seen java_type result) }
@@ -385,7 +373,6 @@ fn access_type<'r, O: Oracle>(
     n: Node,
 ) -> Result<Ty, AskFault>
     requires inside { n.0 < length file.now.nodes }
-    requires before { before ≤ length file.now.nodes }
     requires keeps { Keeps file.now (⟦<Recorder<'r, O> as Oracle>⟧.tells oracle.old) types.old }
     ensures asks { Asks (names.access_type file.now (earlier file.now before) n) (⟦<Recorder<'r, O> as Oracle>⟧.tells oracle.old) (⟦<Recorder<'r, O> as Oracle>⟧.tells oracle.new) (seen java_type result) }
     ensures keeps { Keeps file.now (⟦<Recorder<'r, O> as Oracle>⟧.tells oracle.new) types.new }
@@ -406,7 +393,6 @@ fn variable_type<'r, O: Oracle>(
     id: Node,
 ) -> Result<Ty, AskFault>
     requires inside { id.0 < length file.now.nodes }
-    requires before { before ≤ length file.now.nodes }
     requires keeps { Keeps file.now (⟦<Recorder<'r, O> as Oracle>⟧.tells oracle.old) types.old }
     ensures asks { Asks (declarations.variable_type file.now (earlier file.now before) id) (⟦<Recorder<'r, O> as Oracle>⟧.tells oracle.old) (⟦<Recorder<'r, O> as Oracle>⟧.tells oracle.new) (seen java_type result) }
     ensures keeps { Keeps file.now (⟦<Recorder<'r, O> as Oracle>⟧.tells oracle.new) types.new }
@@ -435,7 +421,6 @@ fn variable_or_unknown<'r, O: Oracle>(
     id: Option<Node>,
 ) -> Result<Ty, AskFault>
     requires inside { IfSome id (λ m. m.0 < length file.now.nodes) }
-    requires before { before ≤ length file.now.nodes }
     requires keeps { Keeps file.now (⟦<Recorder<'r, O> as Oracle>⟧.tells oracle.old) types.old }
     ensures asks { Asks (declarations.variable_or_unknown file.now (earlier file.now before) id) (⟦<Recorder<'r, O> as Oracle>⟧.tells oracle.old) (⟦<Recorder<'r, O> as Oracle>⟧.tells oracle.new) (seen java_type result) }
     ensures keeps { Keeps file.now (⟦<Recorder<'r, O> as Oracle>⟧.tells oracle.new) types.new }
@@ -458,7 +443,6 @@ fn declaration_type<'r, O: Oracle>(
     n: Node,
 ) -> Result<Ty, AskFault>
     requires inside { n.0 < length file.now.nodes }
-    requires before { before ≤ length file.now.nodes }
     requires keeps { Keeps file.now (⟦<Recorder<'r, O> as Oracle>⟧.tells oracle.old) types.old }
     ensures asks { Asks (declarations.declaration_type file.now (earlier file.now before) n) (⟦<Recorder<'r, O> as Oracle>⟧.tells oracle.old) (⟦<Recorder<'r, O> as Oracle>⟧.tells oracle.new) (seen java_type result) }
     ensures keeps { Keeps file.now (⟦<Recorder<'r, O> as Oracle>⟧.tells oracle.new) types.new }
@@ -483,7 +467,6 @@ fn var<'r, O: Oracle>(
     id: Node,
 ) -> Result<Ty, AskFault>
     requires inside { id.0 < length file.now.nodes }
-    requires before { before ≤ length file.now.nodes }
     requires keeps { Keeps file.now (⟦<Recorder<'r, O> as Oracle>⟧.tells oracle.old) types.old }
     ensures asks { Asks (earlier file.now before id) (⟦<Recorder<'r, O> as Oracle>⟧.tells oracle.old) (⟦<Recorder<'r, O> as Oracle>⟧.tells oracle.new) (seen java_type result) }
     ensures keeps { Keeps file.now (⟦<Recorder<'r, O> as Oracle>⟧.tells oracle.new) types.new }
@@ -496,7 +479,7 @@ fn var<'r, O: Oracle>(
 
 /// The same by those before it: it is held, or found and then held.
 #[cycle(typing)]
-fn var_once<'r, O: Oracle>(
+pub(crate) fn var_once<'r, O: Oracle>(
     alloc: Global,
     file: &File<'_>,
     oracle: &mut Recorder<'r, O>,
@@ -614,8 +597,7 @@ fn iterated_variable<'r, O: Oracle>(
     n: Node,
 ) -> Result<Ty, AskFault>
     requires inside { n.0 < length file.now.nodes }
-    requires left { left ≤ length file.now.nodes + 1 }
-    requires before { before ≤ length file.now.nodes }
+    requires left { left ≤ 2000001 }
     requires keeps { Keeps file.now (⟦<Recorder<'r, O> as Oracle>⟧.tells oracle.old) types.old }
     ensures asks { Asks (declarations.iterated_variable file.now (typed file.now (earlier file.now before) left) n) (⟦<Recorder<'r, O> as Oracle>⟧.tells oracle.old) (⟦<Recorder<'r, O> as Oracle>⟧.tells oracle.new) (seen java_type result) }
     ensures keeps { Keeps file.now (⟦<Recorder<'r, O> as Oracle>⟧.tells oracle.new) types.new }
