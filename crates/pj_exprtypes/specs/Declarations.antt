@@ -24,10 +24,14 @@ module _ (t : Tree) where
 
   -- The type that is written, with the brackets behind the name (JLS 10.2). An enum constant has the enum (JLS 8.9.3). A parameter of a lambda expression by itself, and one of a
   -- `catch` of several types, write none, and are not known.
-  abbrev pub type_by : Node → Node → Asking JavaType
-  type_by id declaration =
+  abbrev pub declared_by : Node → Node → Asking JavaType
+  declared_by id declaration =
       if is_kind t k.EnumConstant declaration then Return (class_or_unknown t (class_around t declaration))
       else declared_type t (length (own_brackets t id)) declaration
+
+  -- the first name of a declaration
+  abbrev pub first_name : Node → Option Node
+  first_name declaration = option_and_then (λ declarator. child_of t declarator k.VariableId) (child_of t declaration k.VariableDeclarator)
 
   -- ---- by `var`
 
@@ -72,7 +76,7 @@ module _ (t : Tree) where
   module _ (var : Node → Asking JavaType) where
     abbrev pub variable_by : Node → Option Node → Asking JavaType
     variable_by id None = Return Unknown
-    variable_by id (Some declaration) = if is_var declaration then var id else type_by id declaration
+    variable_by id (Some declaration) = if is_var declaration then var id else declared_by id declaration
 
     -- the variable of a name
     abbrev pub variable_type : Node → Asking JavaType
@@ -85,10 +89,6 @@ module _ (t : Tree) where
     -- a node that declares one variable has its type
     abbrev pub named_type : Node → Asking JavaType
     named_type n = variable_or_unknown (child_of t n k.VariableId)
-
-    -- the first variable of a declaration
-    abbrev pub first_name : Node → Option Node
-    first_name declaration = option_and_then (λ declarator. child_of t declarator k.VariableId) (child_of t declaration k.VariableDeclarator)
 
     -- A declaration of several has the type that it writes, and by `var` that of its first variable.
     abbrev pub declaration_type : Node → Asking JavaType

@@ -7,7 +7,7 @@ ghost use Rattle.pj_names.specs.JavaType.{java_type};
 ghost use Rattle.pj_names.specs.Told.{Asks, seen};
 ghost use Rattle.pj_tree.specs.Tree.{parent_of, is_descendant};
 ghost use Rattle.pj_tree.specs.Children.{second_child};
-ghost use Rattle.pj_exprtypes.specs.Declarations.{first_name, is_in_own_initializer, is_var, is_var_name, statement_of, type_by};
+ghost use Rattle.pj_exprtypes.specs.Declarations.{first_name, is_in_own_initializer, is_var, is_var_name, statement_of, declared_by};
 
 use crate::classes::class_or_unknown;
 use crate::written::declared_type;
@@ -67,7 +67,7 @@ pub fn is_in_own_initializer(tree: &SyntaxTree<'_>, place: Node, id: Node) -> bo
 
 /// The type that a declaration writes for a name. An enum constant has the enum.
 #[tactic(auto, using(pj_names::proofs::AskingLaws::asking_steps))]
-pub fn type_by<O: Oracle>(
+pub fn declared_by<O: Oracle>(
     alloc: Global,
     file: &File<'_>,
     oracle: &mut O,
@@ -76,7 +76,7 @@ pub fn type_by<O: Oracle>(
 ) -> Result<Ty, AskFault>
     requires id { id.0 < length file.now.nodes }
     requires declaration { declaration.0 < length file.now.nodes }
-    ensures { Asks (type_by file.now id declaration) (O.tells oracle.old) (O.tells oracle.new) (seen java_type result) }
+    ensures { Asks (declared_by file.now id declaration) (O.tells oracle.old) (O.tells oracle.new) (seen java_type result) }
 {
     if is_kind(file.tree(), Kind::EnumConstant, declaration) {
         let ty = class_or_unknown(alloc, file, class_around(file.tree(), declaration))?;

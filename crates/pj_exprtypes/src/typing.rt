@@ -21,7 +21,7 @@ ghost use Rattle.pj_operators.specs.declared.operators.Infix.{Infix};
 
 use crate::classes::{declared_class, super_type, this_type};
 use crate::declarations::{
-    first_name, initializer_of, is_in_own_initializer, is_var, statement_of, type_by,
+    declared_by, first_name, initializer_of, is_in_own_initializer, is_var, statement_of,
 };
 use crate::held::{Typed, held, remember};
 use crate::leaves::leaf_type;
@@ -403,7 +403,7 @@ fn variable_type<'r, O: Oracle>(
             if is_var(file.tree(), declaration) {
                 var(alloc, file, oracle, types, before, id)
             } else {
-                type_by(alloc, file, oracle, id, declaration)
+                declared_by(alloc, file, oracle, id, declaration)
             }
         }
     }
