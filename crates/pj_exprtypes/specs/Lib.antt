@@ -8,3 +8,6 @@ pub mod Names
 pub mod Expressions
 pub mod TypeOf
 pub mod Table
+-- for private clauses
+pub mod Parts
+pub mod Order
