@@ -13,7 +13,7 @@ use Rattle.pj_symbols.specs.Variables.{declaration_of}
 use Rattle.pj_written.specs.Words.{own_brackets, type_child}
 use Rattle.pj_file_oracle.specs.Types.{declared_type}
 use Rattle.pj_exprtypes.specs.Classes.{class_or_unknown}
-use Rattle.pj_exprtypes.specs.Members.{iterated}
+use Rattle.pj_receivers.specs.Elements.{iterated}
 
 module _ (t : Tree) where
   -- ---- what is written

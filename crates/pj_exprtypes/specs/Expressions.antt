@@ -1,5 +1,5 @@
 -- Expressions by the types of their operands (JLS 15.10.3, 15.11, 15.14 to 15.26).
-use Rattle.std.specs.Prelude.{Bool, Option, None, Some, if◌then◌else◌, List, [], ◌∷◌}
+use Rattle.std.specs.Prelude.{Option, None, Some, List, [], ◌∷◌}
 use Rattle.pj_tree.specs.Tree.{Tree, children_of}
 use Rattle.pj_tree.specs.Children.{first_child, second_child, second_in}
 use Rattle.pj_tree.specs.Words.{last_of, words_of}
@@ -7,7 +7,6 @@ use Rattle.pj_tree.specs.declared.node.Node.{Node}
 use Rattle.pj_names.specs.declared.ty.PrimitiveType.TheVariants as p
 use Rattle.pj_names.specs.JavaType.{JavaType, Primitive, Unknown}
 use Rattle.pj_names.specs.Asking.{Asking, Return, bind}
-use Rattle.pj_types.specs.Subtyping.{is_under}
 use Rattle.pj_operators.specs.declared.operators.Infix.{Infix}
 use Rattle.pj_operators.specs.declared.operators.Infix.TheVariants as i
 use Rattle.pj_operators.specs.declared.operators.Unary.{Unary}
@@ -16,26 +15,8 @@ use Rattle.pj_operators.specs.Conditional.{conditional_type}
 use Rattle.pj_operators.specs.Numeric.{promoted}
 use Rattle.pj_operators.specs.Operators.{infix_of, infix_type, unary_of, unary_type}
 use Rattle.pj_exprtypes.specs.Declarations.{type_or_none}
-use Rattle.pj_exprtypes.specs.Members.{element_of, field_of}
-
--- ---- conditional expressions (JLS 15.25)
-
--- the upper one of two types, where one is under the other; the second operand's is tested first
-abbrev pub third_or_unknown : JavaType → Bool → JavaType
-third_or_unknown second is = if is then second else Unknown
-
-abbrev pub upper_or : JavaType → JavaType → Bool → Asking JavaType
-upper_or second third is = if is then Return third else bind (is_under third second) (λ above. Return (third_or_unknown second above))
-
-abbrev pub upper_type : JavaType → JavaType → Asking JavaType
-upper_type second third = bind (is_under second third) (λ is. upper_or second third is)
-
-abbrev pub told_or_upper : JavaType → JavaType → Option JavaType → Asking JavaType
-told_or_upper second third None = upper_type second third
-told_or_upper second third (Some ty) = Return ty
-
-abbrev pub conditional_by : JavaType → JavaType → Asking JavaType
-conditional_by second third = told_or_upper second third (conditional_type second third)
+use Rattle.pj_receivers.specs.Elements.{element_of}
+use Rattle.pj_receivers.specs.Fields.{field_of}
 
 -- ---- by what the types of operands are
 
@@ -77,7 +58,7 @@ module _ (t : Tree) (type_of : Node → Asking JavaType) where
 
   -- the condition is not looked at
   abbrev pub conditional_expression : Node → Asking JavaType
-  conditional_expression n = bind (second_type n) (λ second. bind (type_or_none t type_of (third_child t n)) (λ third. conditional_by second third))
+  conditional_expression n = bind (second_type n) (λ second. bind (type_or_none t type_of (third_child t n)) (λ third. conditional_type second third))
 
   -- the index is not looked at
   abbrev pub array_access : Node → Asking JavaType

@@ -2,7 +2,6 @@
 pub mod Written
 pub mod Classes
 pub mod Leaves
-pub mod Members
 pub mod Declarations
 pub mod Names
 pub mod Expressions

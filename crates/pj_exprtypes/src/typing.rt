@@ -25,12 +25,14 @@ use crate::declarations::{
 };
 use crate::held::{Typed, held, remember};
 use crate::leaves::leaf_type;
-use crate::members::{element_of, field_of, iterated};
-use crate::operands::{conditional_by, infix_type, third_child, unary_type};
+use crate::operands::third_child;
 use crate::written::{cast, created, declared_type, literal_of, written};
 use pj_names::{AskFault, ClassNameSet, ClassNames, Oracle, Prim, Recorder, Ty};
-use pj_operators::{Infix, Unary, infix_of, number_type, promoted, string_type, unary_of};
+use pj_operators::{
+    Infix, Unary, conditional_type, infix_of, infix_type, promoted, unary_of, unary_type,
+};
 use pj_outer_names::File;
+use pj_receivers::{element_of, field_of, iterated};
 use pj_scopes::{Variable, variable_name};
 use pj_symbols::declaration_of;
 use pj_tree::{Kind, Node, child_of, first_child, first_word, is_kind, last_word, second_child};
@@ -281,7 +283,7 @@ fn conditional_expression<'r, O: Oracle>(
     let third = third_child(file.tree(), n);
     let of_second = type_or_none(alloc, file, oracle, types, before, left, second)?;
     let of_third = type_or_none(alloc, file, oracle, types, before, left, third)?;
-    conditional_by(alloc, oracle, of_second, of_third)
+    conditional_type(alloc, oracle, of_second, of_third)
 }
 
 /// The type of an element of an array.

@@ -1,13 +1,15 @@
--- Binary numeric promotion: it is commutative, and of one type it is unary promotion.
+-- Binary numeric promotion: it is commutative, and of one type it is unary promotion. Operands that are not known.
 use Rattle.std.proofs.Common.{◌≡◌, Bool, false, Option, Some, None, refl, ap, ◌∙◌}
-use Rattle.std.specs.Prelude.{◌||◌, ◌&&◌, if◌then◌else◌}
+use Rattle.std.specs.Prelude.{◌||◌, ◌&&◌, if◌then◌else◌, is_some}
 use Rattle.std.proofs.Math.Bool.{or_comm, and_comm}
 use Rattle.pj_names.specs.declared.ty.PrimitiveType.{PrimitiveType}
 use Rattle.pj_names.specs.declared.ty.PrimitiveType.TheVariants as p
-use Rattle.pj_names.specs.JavaType.{JavaType, Primitive, Unknown}
+use Rattle.pj_names.specs.JavaType.{JavaType, Primitive, Void, Null, Class, Array, Variable, Unknown}
+use Rattle.pj_names.specs.Asking.{Return}
 use Rattle.pj_operators.specs.Boxing.{as_primitive, is_same_primitive}
+use Rattle.pj_operators.specs.Conditional.{conditional_type, told_or_upper}
 use Rattle.pj_operators.specs.Literals.{string_type}
-use Rattle.pj_operators.specs.Numeric.{is_either, numeric, numeric_in, promoted, promoted_both, promoted_in, promoted_pair, wider}
+use Rattle.pj_operators.specs.Numeric.{are_numeric, is_either, numeric, numeric_in, promoted, promoted_both, promoted_in, promoted_pair, wider}
 use Rattle.pj_operators.specs.Operators.{bitwise_type, is_boolean, is_string, sum_type}
 
 either-comm : (prim first second : PrimitiveType) → is_either prim first second ≡ is_either prim second first
@@ -65,3 +67,29 @@ no-sum second other = ap (λ (b : Bool). if b then string_type else promoted_bot
 
 pub no-sum-behind : (first : JavaType) → is_string first ≡ false → sum_type first Unknown ≡ Unknown
 no-sum-behind first other = sum-comm first Unknown ∙ no-sum first other
+
+-- ---- conditional expressions
+
+pub unknown-second : (third : JavaType) → conditional_type Unknown third ≡ Return Unknown
+unknown-second (Primitive prim) = refl
+unknown-second Void = refl
+unknown-second Null = refl
+unknown-second (Class name arguments) = refl
+unknown-second (Array member) = refl
+unknown-second (Variable name bound) = refl
+unknown-second Unknown = refl
+
+never-numeric : (ty : JavaType) → are_numeric ty Unknown ≡ false
+never-numeric ty = and_comm (is_some (numeric ty)) false
+
+by-numeric : (second : JavaType) (told : Bool → Option JavaType) → told false ≡ Some Unknown → told_or_upper second Unknown (told (are_numeric second Unknown)) ≡ Return Unknown
+by-numeric second told is = ap (λ (b : Bool). told_or_upper second Unknown (told b)) (never-numeric second) ∙ ap (λ (o : Option JavaType). told_or_upper second Unknown o) is
+
+pub unknown-third : (second : JavaType) → conditional_type second Unknown ≡ Return Unknown
+unknown-third (Primitive prim) = by-numeric (Primitive prim) (λ b. if b then Some (promoted_both (Primitive prim) Unknown) else Some Unknown) refl
+unknown-third Void = refl
+unknown-third Null = refl
+unknown-third (Class name arguments) = by-numeric (Class name arguments) (λ b. if b then Some (promoted_both (Class name arguments) Unknown) else Some Unknown) refl
+unknown-third (Array member) = refl
+unknown-third (Variable name bound) = refl
+unknown-third Unknown = refl

@@ -3,11 +3,11 @@
 ghost use Rattle.std.specs.Prelude.{◌≡◌, ◌<◌, ◌≤◌, [], IfOk, length, filter};
 ghost use Rattle.pj_names.specs.JavaType.{java_type};
 ghost use Rattle.pj_tree.specs.Words.{last_of};
-ghost use Rattle.pj_operators.specs.Operators.{bitwise_type, infix_by, infix_of, is_boolean, is_sign, is_string, sum_type, unary_of};
+ghost use Rattle.pj_operators.specs.Operators.{bitwise_type, infix_by, infix_of, is_boolean, is_sign, infix_type, is_string, sum_type, unary_of, unary_type};
 
 use crate::boxing::as_primitive;
 use crate::literals::string_type;
-use crate::numeric::promoted_both;
+use crate::numeric::{promoted, promoted_both};
 use pj_base::{NoMemory, value_in};
 use pj_names::{Prim, Ty};
 use pj_tree::{Node, OwnTokens, SyntaxTree};
@@ -156,7 +156,7 @@ fn is_boolean(ty: &Ty) -> bool
 }
 
 /// The type of a sum (JLS 15.18).
-pub fn sum_type(alloc: Global, first: &Ty, second: &Ty) -> Result<Ty, NoMemory>
+fn sum_type(alloc: Global, first: &Ty, second: &Ty) -> Result<Ty, NoMemory>
     ensures { IfOk result (λ ty. java_type ty ≡ sum_type (java_type first.now) (java_type second.now)) }
 {
     if is_string(first) || is_string(second) {
@@ -167,12 +167,36 @@ pub fn sum_type(alloc: Global, first: &Ty, second: &Ty) -> Result<Ty, NoMemory>
 }
 
 /// The type of `&`, `^` and `|` (JLS 15.22).
-pub fn bitwise_type(first: &Ty, second: &Ty) -> Ty
+fn bitwise_type(first: &Ty, second: &Ty) -> Ty
     ensures { java_type result ≡ bitwise_type (java_type first.now) (java_type second.now) }
 {
     if is_boolean(first) && is_boolean(second) {
         Ty::Prim(Prim::Boolean)
     } else {
         promoted_both(first, second)
+    }
+}
+
+/// What an infix operator makes of the types of its operands (JLS 15.17 to 15.24).
+pub fn infix_type(alloc: Global, operator: Infix, left: &Ty, right: &Ty) -> Result<Ty, NoMemory>
+    ensures { IfOk result (λ ty. java_type ty ≡ infix_type operator (java_type left.now) (java_type right.now)) }
+{
+    match operator {
+        Infix::Test => Ok(Ty::Prim(Prim::Boolean)),
+        Infix::Shift => Ok(promoted(left)),
+        Infix::Sum => sum_type(alloc, left, right),
+        Infix::Bitwise => Ok(bitwise_type(left, right)),
+        Infix::Arithmetic => Ok(promoted_both(left, right)),
+    }
+}
+
+/// What a unary operator makes of the type of its operand (JLS 15.14, 15.15).
+pub fn unary_type(operator: Unary, operand: Ty) -> Ty
+    ensures { java_type result ≡ unary_type operator (java_type operand) }
+{
+    match operator {
+        Unary::Not => Ty::Prim(Prim::Boolean),
+        Unary::Step => operand,
+        Unary::Sign => promoted(&operand),
     }
 }

@@ -6,7 +6,7 @@ ghost use Rattle.pj_names.specs.JavaType.{bound_types, java_type, java_types};
 ghost use Rattle.pj_names.specs.Told.{Asks, known_answer, seen};
 ghost use Rattle.pj_signatures.specs.Reading.{class_signature_of};
 ghost use Rattle.pj_members.specs.InClass.{erased_bounds, in_place};
-ghost use Rattle.pj_exprtypes.specs.Members.{as_receiver, in_receiver, parameters_of, put_in};
+ghost use Rattle.pj_receivers.specs.Receivers.{as_receiver, in_receiver, parameters_of, put_in};
 
 use pj_base::{Copied, NoMemory};
 use pj_names::{

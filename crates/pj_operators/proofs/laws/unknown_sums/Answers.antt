@@ -1,5 +1,5 @@
 use Rattle.pj_operators.proofs.Promotion.{no-sum, no-sum-behind}
-use Rattle.pj_operators.proofs.laws.unknown_sums_are_unknown.Goals as goal
+use Rattle.pj_operators.proofs.laws.unknown_sums.Goals as goal
 
 pub returns-clause-left : goal.returns-clause-left
 returns-clause-left c = no-sum

@@ -1,6 +1,9 @@
 use Rattle.std.proofs.Common.{refl}
-use Rattle.pj_operators.proofs.Promotion.{no-bits-behind, none-behind}
-use Rattle.pj_operators.proofs.laws.unknown_parts_are_unknown.Goals as goal
+use Rattle.pj_operators.proofs.Promotion.{no-bits-behind, none-behind, unknown-second, unknown-third}
+use Rattle.pj_operators.proofs.laws.unknown_operands.Goals as goal
+
+pub returns-clause-unary : goal.returns-clause-unary
+returns-clause-unary c = refl
 
 pub returns-clause-shift : goal.returns-clause-shift
 returns-clause-shift c = λ second. refl
@@ -16,3 +19,9 @@ returns-clause-left_bits c = λ second. refl
 
 pub returns-clause-right_bits : goal.returns-clause-right_bits
 returns-clause-right_bits c = no-bits-behind
+
+pub returns-clause-second : goal.returns-clause-second
+returns-clause-second c = unknown-second
+
+pub returns-clause-third : goal.returns-clause-third
+returns-clause-third c = unknown-third

@@ -2,8 +2,8 @@ use Rattle.pj_names.proofs.AskingLaws.{ComesTo}
 use Rattle.pj_types.proofs.AlongTurns.{first_rest}
 use Rattle.pj_types.specs.Standing.{standing}
 use Rattle.pj_types.specs.Along.{first_along}
-use Rattle.pj_exprtypes.specs.Members.{iterable_test}
-use Rattle.pj_exprtypes.proofs.members.first_iterable.Given as goal
+use Rattle.pj_receivers.specs.Elements.{iterable_test}
+use Rattle.pj_receivers.proofs.elements.first_iterable.Given as goal
 
 abbrev pub invariant-loop-class : goal.invariant-loop-class
 invariant-loop-class g l =

@@ -5,8 +5,8 @@ use Rattle.pj_names.specs.Told.{longest, longest_is}
 use Rattle.pj_types.proofs.AlongTurns.{first-begin, first-turn, first-tested}
 use Rattle.pj_types.specs.Standing.{standing}
 use Rattle.pj_types.specs.Along.{first_along}
-use Rattle.pj_exprtypes.specs.Members.{iterable_test}
-use Rattle.pj_exprtypes.proofs.members.first_iterable.Goals as goal
+use Rattle.pj_receivers.specs.Elements.{iterable_test}
+use Rattle.pj_receivers.proofs.elements.first_iterable.Goals as goal
 
 pub returns-in_err-walk : goal.returns-in_err-walk
 returns-in_err-walk g c = asks-stop (search rules)
