@@ -2,7 +2,7 @@
 use Rattle.std.specs.Prelude.{Bool, true, false, ◌&&◌, ◌||◌, Option, None, Some, is_some, if◌then◌else◌}
 use Rattle.pj_names.specs.declared.ty.PrimitiveType.{PrimitiveType}
 use Rattle.pj_names.specs.declared.ty.PrimitiveType.TheVariants as p
-use Rattle.pj_names.specs.JavaType.{JavaType, Primitive, Void, Null, Class, Array, Variable, Unknown}
+use Rattle.pj_names.specs.JavaType.{JavaType, Primitive, Unknown}
 use Rattle.pj_operators.specs.Boxing.{as_primitive, is_same_primitive}
 
 -- the numeric types (JLS 4.2)

@@ -32,14 +32,14 @@ if_iterable (Array member) = None
 if_iterable (Variable name bound) = None
 if_iterable Unknown = None
 
-abbrev pub iterable_test : JavaType → Asking (Option JavaType)
+unfoldable pub iterable_test : JavaType → Asking (Option JavaType)
 iterable_test ty = Return (if_iterable ty)
 
 abbrev pub iterated_in : Name → Arguments → Option JavaType → Asking JavaType
 iterated_in class arguments None = Return Unknown
 iterated_in class arguments (Some element) = in_receiver class arguments element
 
-abbrev pub iterated_along : Name → Arguments → Asking JavaType
+unfoldable pub iterated_along : Name → Arguments → Asking JavaType
 iterated_along class arguments = bind (first_along iterable_test class) (λ found. iterated_in class arguments found)
 
 -- where it is the class `java.lang.Iterable` itself, nothing is asked

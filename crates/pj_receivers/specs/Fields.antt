@@ -1,6 +1,6 @@
 -- What a name behind a dot means of the type of a receiver: a field (JLS 15.11.1), the length of an array (JLS 10.7), and else a member class (JLS 6.5.2, 8.5). Classes are asked of
 -- an oracle that answers those of the file too.
-use Rattle.std.specs.Prelude.{ℕ, false, Option, None, Some, if◌then◌else◌, List, codes}
+use Rattle.std.specs.Prelude.{ℕ, true, Option, None, Some, if◌then◌else◌, List, codes}
 use Rattle.pj_tree.specs.Tree.{Tree}
 use Rattle.pj_names.specs.declared.ty.PrimitiveType.TheVariants as p
 use Rattle.pj_names.specs.ClassName.{Name}
@@ -12,6 +12,7 @@ use Rattle.pj_members.specs.Fields.{find_field}
 use Rattle.pj_written.specs.Words.{same_text}
 use Rattle.pj_outer_names.specs.Candidates.{file_classes}
 use Rattle.pj_outer_names.specs.Inherited.{member_in}
+use Rattle.pj_outer_names.specs.NameWalks.{left_out}
 use Rattle.pj_receivers.specs.Receivers.{as_receiver, in_receiver}
 
 abbrev pub member_or_unknown : Option Name → JavaType
@@ -23,20 +24,20 @@ abbrev pub member_on_list : Tree → List ℕ → JavaType → Asking (Option Na
 member_on_list t name (Primitive prim) = Return None
 member_on_list t name Void = Return None
 member_on_list t name Null = Return None
-member_on_list t name (Class class arguments) = member_in (file_classes t) (λ other. false) name class
+member_on_list t name (Class class arguments) = member_in (file_classes t) (left_out true class) name class
 member_on_list t name (Array member) = Return None
 member_on_list t name (Variable variable bound) = Return None
 member_on_list t name Unknown = Return None
 
 -- the member class of a class, of its own or inherited (JLS 8.5)
-abbrev pub member_class : Tree → Name → List ℕ → Asking JavaType
+unfoldable pub member_class : Tree → Name → List ℕ → Asking JavaType
 member_class t class name = bind (first_along (member_on_list t name) class) (λ hit. Return (member_or_unknown hit))
 
 abbrev pub field_or_member : Tree → Name → Arguments → List ℕ → Option FoundField → Asking JavaType
 field_or_member t class arguments name None = member_class t class name
 field_or_member t class arguments name (Some field) = in_receiver class arguments field.ty
 
-abbrev pub field_of_class : Tree → Name → Arguments → List ℕ → Asking JavaType
+unfoldable pub field_of_class : Tree → Name → Arguments → List ℕ → Asking JavaType
 field_of_class t class arguments name = bind (find_field class name) (λ found. field_or_member t class arguments name found)
 
 -- the one field of an array

@@ -63,7 +63,7 @@ fn if_named_iterable(
 }
 
 /// The same, as a test of the types on a list. It asks nothing.
-#[tactic(auto, using(pj_names::proofs::AskingLaws::asking_steps))]
+#[tactic(auto, using(pj_names::proofs::AskingLaws::asking_steps), unfolding(crate::specs::Elements::iterable_test))]
 fn iterable_test<O: Oracle>(alloc: Global, oracle: &mut O, ty: &Ty) -> Result<Option<Ty>, AskFault>
     ensures { Asks (iterable_test (java_type ty.now)) (O.tells oracle.old) (O.tells oracle.new) (seen type_seen result) }
 {
@@ -112,7 +112,7 @@ fn iterated_in<O: Oracle>(
 }
 
 /// What is iterated of a class with type arguments that is not `java.lang.Iterable` itself.
-#[tactic(auto, using(pj_names::proofs::AskingLaws::asking_steps))]
+#[tactic(auto, using(pj_names::proofs::AskingLaws::asking_steps), unfolding(crate::specs::Elements::iterated_along))]
 fn iterated_along<O: Oracle>(
     alloc: Global,
     oracle: &mut O,

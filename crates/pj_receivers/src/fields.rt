@@ -69,7 +69,7 @@ fn member_or_unknown(member: Option<ClassName>) -> Ty
 }
 
 /// The member class of a class, of its own or inherited.
-#[tactic(auto, using(pj_names::proofs::AskingLaws::asking_steps))]
+#[tactic(auto, using(pj_names::proofs::AskingLaws::asking_steps), unfolding(crate::specs::Fields::member_class))]
 fn member_class<O: Oracle>(
     alloc: Global,
     file: &File<'_>,
@@ -104,7 +104,7 @@ fn field_or_member<O: Oracle>(
 }
 
 /// The type of a field of a class, and else its member class.
-#[tactic(auto, using(pj_names::proofs::AskingLaws::asking_steps))]
+#[tactic(auto, using(pj_names::proofs::AskingLaws::asking_steps), unfolding(crate::specs::Fields::field_of_class))]
 fn field_of_class<O: Oracle>(
     alloc: Global,
     file: &File<'_>,

@@ -1,4 +1,4 @@
-use Rattle.std.proofs.Common.{◌≡◌, IsTrue, subst}
+use Rattle.std.proofs.Common.{IsTrue, subst}
 use Rattle.pj_names.specs.JavaType.{JavaType}
 use Rattle.pj_operators.specs.Same.{same_type}
 use Rattle.pj_operators.proofs.SameTypes.{type-same, types-equal}
