@@ -1,5 +1,5 @@
 -- Types of receivers, and what stands in the place of type parameters in their members (JLS 4.4, 4.5.2, 4.8).
-use Rattle.std.specs.Prelude.{Option, None, Some, List, []}
+use Rattle.std.specs.Prelude.{Option, None, Some, []}
 use Rattle.std.specs.Option.{option_map_or}
 use Rattle.pj_names.specs.declared.answer.Answer.{Answer}
 use Rattle.pj_names.specs.ClassName.{Name}
