@@ -2,4 +2,6 @@
 pub mod InClass
 pub mod Fields
 pub mod Methods
+pub mod Receivers
+pub mod MemberClasses
 pub mod Seen

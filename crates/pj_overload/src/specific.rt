@@ -1,7 +1,8 @@
 //! The most specific of applicable candidates (JLS 15.12.2.5).
-ghost use Rattle.std.specs.Prelude.{◌≡◌, IfOk};
+ghost use Rattle.std.specs.Prelude.{◌≡◌, IfOk, IfSome};
 ghost use Rattle.pj_names.specs.JavaType.{java_type, type_list};
 ghost use Rattle.pj_names.specs.Told.{Asks};
+ghost use Rattle.pj_overload.specs.Inside.{IsChoiceAmong, IsNumberAmong};
 ghost use Rattle.pj_overload.specs.Seen.{candidate_seen, candidates_seen};
 ghost use Rattle.pj_overload.specs.Specific.{all_under, best_of, compared, is_itself_or_under, is_more_specific, is_most_specific, most_specific, most_specific_at, under_by_types};
 
@@ -139,7 +140,8 @@ fn most_specific_at<O: Oracle>(
     candidates: &Candidates,
     candidate: &Candidate,
 ) -> Result<Option<u32>, AskFault>
-    ensures { Asks (most_specific_at phase count (candidates_seen candidates.now) (candidate_seen candidate.now)) (O.tells oracle.old) (O.tells oracle.new) result }
+    ensures asks { Asks (most_specific_at phase count (candidates_seen candidates.now) (candidate_seen candidate.now)) (O.tells oracle.old) (O.tells oracle.new) result }
+    ensures number { IfOk result (λ found. IfSome found (λ number. number ≡ candidate.now.number)) }
 {
     let is_chosen = is_most_specific(alloc, oracle, phase, count, candidates, candidate)?;
     let number = if is_chosen {
@@ -159,7 +161,8 @@ fn best_of<O: Oracle>(
     count: usize,
     candidates: &Candidates,
 ) -> Result<Option<u32>, AskFault>
-    ensures { Asks (best_of phase count (candidates_seen candidates.now)) (O.tells oracle.old) (O.tells oracle.new) result }
+    ensures asks { Asks (best_of phase count (candidates_seen candidates.now)) (O.tells oracle.old) (O.tells oracle.new) result }
+    ensures inside { IfOk result (λ found. IfSome found (λ number. IsNumberAmong number (candidates_seen candidates.now))) }
 {
     for candidate in candidates.as_slice() {
         let best = most_specific_at(alloc, oracle, phase, count, candidates, candidate)?;
@@ -180,7 +183,8 @@ pub fn most_specific<O: Oracle>(
     count: usize,
     candidates: &Candidates,
 ) -> Result<Choice, AskFault>
-    ensures { Asks (most_specific phase count (candidates_seen candidates.now)) (O.tells oracle.old) (O.tells oracle.new) result }
+    ensures asks { Asks (most_specific phase count (candidates_seen candidates.now)) (O.tells oracle.old) (O.tells oracle.new) result }
+    ensures inside { IfOk result (λ choice. IsChoiceAmong choice (candidates_seen candidates.now)) }
 {
     let best = best_of(alloc, oracle, phase, count, candidates)?;
     let choice = match best {

@@ -3,6 +3,7 @@ pub mod Substitution
 pub mod DepthFirst
 pub mod Supertypes
 pub mod Subtyping
+pub mod Conversions
 pub mod Seen
 pub mod Standing
 pub mod Stepped

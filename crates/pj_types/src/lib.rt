@@ -1,6 +1,7 @@
 //! Types of the Java language: substitution, erasure, supertypes and subtyping.
 #![tactic(auto)]
 
+mod conversions;
 mod hierarchy;
 mod laws;
 mod listed;
@@ -9,6 +10,9 @@ mod substitution;
 mod subtyping;
 mod walk;
 
+pub use conversions::{
+    binary_promoted, boxed, boxed_name, boxed_type, primitive_of, unary_promoted, unboxed,
+};
 pub use hierarchy::{supertype_list, supertypes};
 pub use laws::{
     erasure_is_done_once, lists_are_the_recursion, sources_agree, subtyping_is_by_the_list,
@@ -17,5 +21,5 @@ pub use laws::{
 pub use listed::paired;
 pub use members::{Field, Method, Methods, copied_methods};
 pub use substitution::{erase, substitute};
-pub use subtyping::is_subtype;
+pub use subtyping::{is_primitive_under, is_subtype};
 pub use walk::Walk;

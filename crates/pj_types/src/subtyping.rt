@@ -11,7 +11,7 @@ use pj_names::{AskFault, ClassName, Oracle, Prim, Ty};
 use std::alloc::Global;
 
 /// Whether a primitive type is under another one (JLS 4.10.1).
-fn is_primitive_under(lower: Prim, upper: Prim) -> bool
+pub fn is_primitive_under(lower: Prim, upper: Prim) -> bool
     ensures { result ≡ is_primitive_under lower upper }
 {
     match upper {

@@ -1,12 +1,15 @@
-//! Substitution, erasure, supertypes and subtyping.
+//! Substitution, erasure, conversions, supertypes and subtyping.
 use crate::classes::{class_name, oracle_of};
 use crate::row_fault::{RowFault, answer_text};
-use crate::shown::{put_asked, put_type, text_of, type_text};
+use crate::shown::{put_asked, put_type, text_of, type_text, word};
 use pj_base::{NoMemory, Text};
-use pj_names::{Bindings, MapOracle, Ty};
+use pj_names::{Bindings, MapOracle, Prim, Ty};
 use pj_rows::{Row, Section, Table};
 use pj_signatures::field_signature;
-use pj_types::{Walk, erase, is_subtype, substitute, supertypes};
+use pj_types::{
+    Walk, binary_promoted, boxed, erase, is_subtype, primitive_of, substitute, supertypes,
+    unary_promoted,
+};
 use std::alloc::Global;
 
 /// How many steps a walk has at most.
@@ -29,6 +32,9 @@ fn answer(alloc: Global, section: &Section, given: &str) -> Result<String, RowFa
     match section.setting("shows").unwrap_or("") {
         "substituted" => substituted_type(alloc, section, given),
         "erased" => erased_type(alloc, given),
+        "boxed" => boxed_type(alloc, given),
+        "operand" => operand(alloc, given),
+        "promoted" => promoted(alloc, given),
         "supertypes" => all_supertypes(alloc, oracle_of(alloc, section)?, given),
         "walk" => walk(alloc, oracle_of(alloc, section)?, given),
         "asking walk" => asking_walk(alloc, oracle_of(alloc, section)?, given),
@@ -85,6 +91,33 @@ fn erased_type(alloc: Global, given: &str) -> Result<String, RowFault> {
     let ty = type_of(alloc, given)?;
     let ty = erase(alloc, &ty)?;
     Ok(type_text(alloc, &ty)?.into_string())
+}
+
+fn boxed_type(alloc: Global, given: &str) -> Result<String, RowFault> {
+    let ty = type_of(alloc, given)?;
+    let ty = boxed(alloc, &ty)?;
+    Ok(type_text(alloc, &ty)?.into_string())
+}
+
+/// The word of a primitive type, or `none`.
+fn primitive_text(alloc: Global, prim: Option<Prim>) -> Result<String, RowFault> {
+    Ok(text_of(alloc, prim.map_or("none", |prim| word(prim)))?)
+}
+
+fn operand(alloc: Global, given: &str) -> Result<String, RowFault> {
+    let ty = type_of(alloc, given)?;
+    primitive_text(alloc, primitive_of(&ty))
+}
+
+/// An operand promoted, or two with a comma between them.
+fn promoted(alloc: Global, given: &str) -> Result<String, RowFault> {
+    let Some((left, right)) = given.split_once(", ") else {
+        let ty = type_of(alloc, given)?;
+        return primitive_text(alloc, unary_promoted(&ty));
+    };
+    let left = type_of(alloc, left)?;
+    let right = type_of(alloc, right)?;
+    primitive_text(alloc, binary_promoted(&left, &right))
 }
 
 /// The names of the supertypes of a class, and the names that are asked.

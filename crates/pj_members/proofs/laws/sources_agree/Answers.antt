@@ -1,5 +1,6 @@
 use Rattle.pj_names.proofs.MeaningLaws.{agreement}
 use Rattle.pj_members.specs.Fields.{find_field}
+use Rattle.pj_members.specs.MemberClasses.{member_class}
 use Rattle.pj_members.specs.Methods.{methods_named}
 use Rattle.pj_members.proofs.laws.sources_agree.Goals as goal
 
@@ -8,3 +9,6 @@ returns-clause-fields c = λ first second class name. agreement first second (fi
 
 pub returns-clause-methods : goal.returns-clause-methods
 returns-clause-methods c = λ first second class name. agreement first second (methods_named class name)
+
+pub returns-clause-classes : goal.returns-clause-classes
+returns-clause-classes c = λ first second class name. agreement first second (member_class class name)
