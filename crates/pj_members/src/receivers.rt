@@ -58,11 +58,7 @@ pub fn receiver_bindings<O: Oracle>(
 }
 
 /// A field of a receiver, from the one that `find_field` finds in its class and what stands in the place of its type parameters.
-pub fn field_of_receiver(
-    alloc: Global,
-    bound: &Bindings,
-    field: &Field,
-) -> Result<Field, NoMemory>
+pub fn field_of_receiver(alloc: Global, bound: &Bindings, field: &Field) -> Result<Field, NoMemory>
     ensures { IfOk result (λ made. field_view made ≡ field_of_receiver (bound_types bound.now) (field_view field.now)) }
 {
     let owner = field.owner.copied()?;

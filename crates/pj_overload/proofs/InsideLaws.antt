@@ -1,14 +1,17 @@
 -- What is chosen is one of the candidates, step by step.
-use Rattle.std.specs.Prelude.{Bool, true, false, map, Option, Some, None, if◌then◌else◌}
+use Rattle.std.specs.Prelude.{Bool, true, false, map, Option, Some, None, Result, Ok, Err, IfOk, IfSome, if◌then◌else◌}
 use Rattle.std.proofs.Common.{◌≡◌, ℕ, zero, suc, ◌<◌, ◌+◌, List, [], ◌∷◌, ◌++◌, length, get_or, refl, sym, ap, subst, arith}
 use Rattle.std.proofs.lemmas.List.{length-map}
-use Rattle.pj_types.specs.Members.{FoundMethod}
+use Rattle.pj_names.specs.declared.oracle.AskFault.{AskFault}
+use Rattle.pj_types.specs.declared.members.Method.{Method}
+use Rattle.pj_types.specs.Members.{FoundMethod, all_methods, method_view}
 use Rattle.pj_overload.specs.declared.candidates.Candidate as held
 use Rattle.pj_overload.specs.declared.choice.Choice.{Choice}
 use Rattle.pj_overload.specs.declared.choice.Choice.TheVariants as choices
 use Rattle.pj_overload.specs.Candidates.{Candidate, candidates_from, candidates_of}
 use Rattle.pj_overload.specs.Inside.{AreBelow, AreAmong, IsInside, IsNumberAmong, IsChoiceAmong}
 use Rattle.pj_overload.specs.Seen.{candidate_seen, candidates_seen}
+use Rattle.pj_overload.specs.Specific.{number_if, one_or_tie}
 
 -- the candidates of some methods
 from-below : (k count : ℕ) (methods : List FoundMethod) → k + length methods ≡ count → AreBelow count (candidates_from k methods)
@@ -58,3 +61,23 @@ none-chosen all = record { each = λ count below. tt }
 -- what is chosen among some that are among others
 pub choice-among : (choice : Choice) (found all : List Candidate) → IsChoiceAmong choice found → AreAmong found all → IsChoiceAmong choice all
 choice-among choice found all chosen among = record { each = λ count below. chosen.each count (among.each count below) }
+
+pub chosen-number : (candidate : Candidate) (is_chosen : Bool) → IfSome (number_if candidate is_chosen) (λ number. number ≡ candidate.number)
+chosen-number candidate true = refl
+chosen-number candidate false = tt
+
+pub best-among : (best : Option ℕ) (all : List Candidate) → IfSome best (λ number. IsNumberAmong number all) → IsChoiceAmong (one_or_tie best) all
+best-among None all among = tie-among all
+best-among (Some number) all among = one-among number all among
+
+pub found-among : (r : Result (Option Choice) AskFault) (found all : List Candidate) → AreAmong found all → IfOk r (λ chosen. IfSome chosen (λ choice. IsChoiceAmong choice found)) → IfOk r (λ chosen. IfSome chosen (λ choice. IsChoiceAmong choice all))
+found-among (Ok (Some choice)) found all among chosen = choice-among choice found all chosen among
+found-among (Ok None) found all among chosen = tt
+found-among (Err fault) found all among chosen = tt
+
+pub inside-all : (r : Result Choice AskFault) (candidates : List held.Candidate) (methods : List Method) → candidates_seen candidates ≡ candidates_of (all_methods methods) → IfOk r (λ choice. IsChoiceAmong choice (candidates_seen candidates))
+    → IfOk r (λ choice. IsInside (length methods) choice)
+inside-all (Ok choice) candidates methods is chosen =
+    let below : AreBelow (length (all_methods methods)) (candidates_seen candidates) = subst (λ l. AreBelow (length (all_methods methods)) l) (sym is) (all-below (all_methods methods)) in
+    subst (λ n. IsInside n choice) (length-map methods method_view) (chosen.each (length (all_methods methods)) below)
+inside-all (Err fault) candidates methods is chosen = tt

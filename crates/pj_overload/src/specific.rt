@@ -4,7 +4,7 @@ ghost use Rattle.pj_names.specs.JavaType.{java_type, type_list};
 ghost use Rattle.pj_names.specs.Told.{Asks};
 ghost use Rattle.pj_overload.specs.Inside.{IsChoiceAmong, IsNumberAmong};
 ghost use Rattle.pj_overload.specs.Seen.{candidate_seen, candidates_seen};
-ghost use Rattle.pj_overload.specs.Specific.{all_under, best_of, compared, is_itself_or_under, is_more_specific, is_most_specific, most_specific, most_specific_at, under_by_types};
+ghost use Rattle.pj_overload.specs.Specific.{all_under, best_of, compared, is_itself_or_under, is_more_specific, is_most_specific, most_specific, most_specific_at, number_if, one_or_tie, under_by_types};
 
 use crate::candidates::{Candidate, Candidates};
 use crate::choice::Choice;
@@ -130,6 +130,17 @@ fn is_most_specific<O: Oracle>(
     Ok(true)
 }
 
+/// The number of a candidate, where it is chosen.
+fn number_if(candidate: &Candidate, is_chosen: bool) -> Option<u32>
+    ensures { result ≡ number_if (candidate_seen candidate.now) is_chosen }
+{
+    if is_chosen {
+        Some(candidate.number)
+    } else {
+        None
+    }
+}
+
 /// The number of a candidate, where it is the most specific one.
 #[tactic(auto, using(pj_names::proofs::AskingLaws::asking_steps))]
 fn most_specific_at<O: Oracle>(
@@ -144,11 +155,7 @@ fn most_specific_at<O: Oracle>(
     ensures number { IfOk result (λ found. IfSome found (λ number. number ≡ candidate.now.number)) }
 {
     let is_chosen = is_most_specific(alloc, oracle, phase, count, candidates, candidate)?;
-    let number = if is_chosen {
-        Some(candidate.number)
-    } else {
-        None
-    };
+    let number = number_if(candidate, is_chosen);
     Ok(number)
 }
 
@@ -173,6 +180,16 @@ fn best_of<O: Oracle>(
     Ok(None)
 }
 
+/// The best one, or else a tie.
+fn one_or_tie(best: Option<u32>) -> Choice
+    ensures { result ≡ one_or_tie best }
+{
+    match best {
+        Some(number) => Choice::One(number),
+        None => Choice::Tie,
+    }
+}
+
 /// The choice among candidates that are applicable in a phase, for so many arguments: the first one that is more specific than
 /// every other one, or else a tie.
 #[tactic(auto, using(pj_names::proofs::AskingLaws::asking_steps))]
@@ -187,9 +204,6 @@ pub fn most_specific<O: Oracle>(
     ensures inside { IfOk result (λ choice. IsChoiceAmong choice (candidates_seen candidates.now)) }
 {
     let best = best_of(alloc, oracle, phase, count, candidates)?;
-    let choice = match best {
-        Some(number) => Choice::One(number),
-        None => Choice::Tie,
-    };
+    let choice = one_or_tie(best);
     Ok(choice)
 }

@@ -1,6 +1,5 @@
 -- Boxing, unboxing and numeric promotion, JLS 5.1.7, 5.1.8 and 5.6.
-use Rattle.std.specs.Prelude.{Bool, true, false, List, [], ◌∷◌, Option, Some, None, codes, map, if◌then◌else◌}
-use Rattle.std.specs.Option.{option_and_then}
+use Rattle.std.specs.Prelude.{List, [], ◌∷◌, Option, Some, None, codes, map, if◌then◌else◌}
 use Rattle.pj_base.specs.WordTable.{value_in}
 use Rattle.pj_names.specs.declared.ty.PrimitiveType.{PrimitiveType}
 use Rattle.pj_names.specs.declared.ty.PrimitiveType.TheVariants.{Boolean, Byte, Short, Int, Long, Char, Float, Double}
@@ -65,9 +64,14 @@ promoted Double = Some Double
 abbrev pub wider : PrimitiveType → PrimitiveType → PrimitiveType
 wider first second = if is_primitive_under first second then second else first
 
+-- the same, where there is one
+abbrev pub promoted_if : Option PrimitiveType → Option PrimitiveType
+promoted_if None = None
+promoted_if (Some prim) = promoted prim
+
 -- Unary numeric promotion of an operand, which is unboxed first; none where it is not numeric.
 abbrev pub unary_promoted : JavaType → Option PrimitiveType
-unary_promoted ty = option_and_then promoted (primitive_of ty)
+unary_promoted ty = promoted_if (primitive_of ty)
 
 -- the wider one of two, where there are both
 abbrev pub wider_of : Option PrimitiveType → Option PrimitiveType → Option PrimitiveType

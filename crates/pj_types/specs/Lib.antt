@@ -9,6 +9,8 @@ pub mod Standing
 pub mod Stepped
 pub mod Members
 pub mod Along
+pub mod NameSearch
+pub mod NameWalks
 -- laws
 pub mod WalkAnswers
 pub mod Listing

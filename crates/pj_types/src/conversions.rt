@@ -44,6 +44,7 @@ pub fn unboxed(name: &ClassName) -> Option<Prim>
 }
 
 /// The class that boxing makes of a primitive type (JLS 5.1.7), without type arguments.
+#[tactic(auto, using(crate::proofs::Boxed::boxed_is_name))]
 pub fn boxed_type(alloc: Global, prim: Prim) -> Result<Ty, NoMemory>
     ensures { IfOk result (λ made. java_type made ≡ boxed_type prim) }
 {
@@ -59,7 +60,9 @@ pub fn boxed(alloc: Global, ty: &Ty) -> Result<Ty, NoMemory>
 {
     match ty {
         Ty::Prim(prim) => boxed_type(alloc, *prim),
-        _ => ty.copied(),
+        Ty::Void | Ty::Null | Ty::Class(_, _) | Ty::Array(_) | Ty::Var(_, _) | Ty::Unknown => {
+            ty.copied()
+        }
     }
 }
 
@@ -81,7 +84,9 @@ fn promoted(prim: Prim) -> Option<Prim>
     match prim {
         Prim::Boolean => None,
         Prim::Byte | Prim::Short | Prim::Char | Prim::Int => Some(Prim::Int),
-        Prim::Long | Prim::Float | Prim::Double => Some(prim),
+        Prim::Long => Some(Prim::Long),
+        Prim::Float => Some(Prim::Float),
+        Prim::Double => Some(Prim::Double),
     }
 }
 
@@ -111,8 +116,11 @@ pub fn unary_promoted(ty: &Ty) -> Option<Prim>
 pub fn binary_promoted(left: &Ty, right: &Ty) -> Option<Prim>
     ensures { result ≡ binary_promoted (java_type left.now) (java_type right.now) }
 {
-    match (unary_promoted(left), unary_promoted(right)) {
-        (Some(first), Some(second)) => Some(wider(first, second)),
-        _ => None,
+    let Some(first) = unary_promoted(left) else {
+        return None;
+    };
+    match unary_promoted(right) {
+        Some(second) => Some(wider(first, second)),
+        None => None,
     }
 }

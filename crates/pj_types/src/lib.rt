@@ -2,10 +2,12 @@
 #![tactic(auto)]
 
 mod conversions;
+mod direct_names;
 mod hierarchy;
 mod laws;
 mod listed;
 mod members;
+mod name_walk;
 mod substitution;
 mod subtyping;
 mod walk;
@@ -13,13 +15,15 @@ mod walk;
 pub use conversions::{
     binary_promoted, boxed, boxed_name, boxed_type, primitive_of, unary_promoted, unboxed,
 };
+pub use direct_names::direct_names;
 pub use hierarchy::{supertype_list, supertypes};
 pub use laws::{
-    erasure_is_done_once, lists_are_the_recursion, sources_agree, subtyping_is_by_the_list,
-    walks_give_the_list,
+    erasure_is_done_once, lists_are_the_recursion, sources_agree, special_types_are_apart,
+    subtyping_is_by_the_list, walks_give_the_list,
 };
 pub use listed::paired;
 pub use members::{Field, Method, Methods, copied_methods};
+pub use name_walk::NameWalk;
 pub use substitution::{erase, substitute};
 pub use subtyping::{is_primitive_under, is_subtype};
 pub use walk::Walk;

@@ -14,8 +14,8 @@ loop-candidate-init g c = record {
 pub loop-candidate-preserved : goal.loop-candidate-preserved
 loop-candidate-preserved g c = record {
   so_far = behind-put candidate_seen c.as_slice-candidate-items.result.now c.loop-candidate.candidate-index c.candidate-item.result c.loop-candidate-test.true c.candidate-item.is
-    (λ candidate. is_applicable c.args.phase (arguments_seen c.args.arguments.now) candidate) (candidates_seen c.loop-candidate.found) c.loop-candidate.invariant.so_far
-    (candidates_seen c.put_if.new.candidates) c.in_ok-is_taken.ensures c.in_ok-put_if.ensures;
+      (λ candidate. is_applicable c.args.phase (arguments_seen c.args.arguments.now) candidate) (candidates_seen c.loop-candidate.found) c.loop-candidate.invariant.so_far
+      (candidates_seen c.put_if.new.candidates) c.in_ok-is_taken.ensures c.in_ok-put_if.ensures;
   among = among-put c.as_slice-candidate-items.result.now c.loop-candidate.candidate-index c.candidate-item.result (candidates_seen c.loop-candidate.found) (candidates_seen c.put_if.new.candidates) c.in_ok-is_taken.is_taken c.loop-candidate-test.true c.candidate-item.is
       c.loop-candidate.invariant.among c.in_ok-put_if.ensures;
 }
