@@ -44,7 +44,7 @@ pub fn unboxed(name: &ClassName) -> Option<Prim>
 }
 
 /// The class that boxing makes of a primitive type (JLS 5.1.7), without type arguments.
-#[tactic(auto, using(crate::proofs::Boxed::boxed_is_name))]
+#[tactic(auto, using(crate::proofs::BoxedNames::boxed_is_name))]
 pub fn boxed_type(alloc: Global, prim: Prim) -> Result<Ty, NoMemory>
     ensures { IfOk result (λ made. java_type made ≡ boxed_type prim) }
 {

@@ -3,7 +3,7 @@ ghost use Rattle.pj_names.specs.JavaType.{type_list};
 ghost use Rattle.pj_names.specs.Told.{Asks, seen};
 ghost use Rattle.pj_types.specs.Supertypes.{supertype_list, supertypes_of};
 
-use crate::direct_names::direct_names;
+use crate::direct::direct_names;
 use crate::name_walk::NameWalk;
 use crate::walk::Walk;
 use pj_base::Names;

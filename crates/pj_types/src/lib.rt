@@ -2,7 +2,7 @@
 #![tactic(auto)]
 
 mod conversions;
-mod direct_names;
+mod direct;
 mod hierarchy;
 mod laws;
 mod listed;
@@ -15,7 +15,7 @@ mod walk;
 pub use conversions::{
     binary_promoted, boxed, boxed_name, boxed_type, primitive_of, unary_promoted, unboxed,
 };
-pub use direct_names::direct_names;
+pub use direct::direct_names;
 pub use hierarchy::{supertype_list, supertypes};
 pub use laws::{
     erasure_is_done_once, lists_are_the_recursion, sources_agree, special_types_are_apart,

@@ -4,7 +4,7 @@ ghost use Rattle.pj_names.specs.JavaType.{java_type};
 ghost use Rattle.pj_names.specs.Told.{Asks};
 ghost use Rattle.pj_types.specs.Subtyping.{class_under, erased_under, is_above_arrays, is_class_under, is_null_under, is_on_list, is_primitive, is_primitive_under, is_under, primitive_under};
 
-use crate::direct_names::direct_names;
+use crate::direct::direct_names;
 use crate::hierarchy::MOST_CLASSES;
 use crate::name_walk::NameWalk;
 use crate::substitution::erase;
