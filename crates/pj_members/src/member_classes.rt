@@ -1,12 +1,11 @@
 //! Member classes, along the supertypes of a class (JLS 8.5).
 ghost use Rattle.std.specs.Prelude.{◌≡◌, ◌++◌, ◌∷◌, IfOk};
-ghost use Rattle.pj_names.specs.JavaType.{java_type};
 ghost use Rattle.pj_names.specs.Told.{Asks};
-ghost use Rattle.pj_members.specs.MemberClasses.{class_there, is_there, member_class, member_of_class, member_of_type};
+ghost use Rattle.pj_members.specs.MemberClasses.{class_there, is_there, member_class, member_of_class};
 
 use pj_base::{NoMemory, Text};
-use pj_names::{Answer, AskFault, ClassName, Oracle, Ty};
-use pj_types::Walk;
+use pj_names::{Answer, AskFault, ClassName, Oracle};
+use pj_types::{NameWalk, direct_names};
 use std::alloc::Global;
 
 /// Whether what is answered is a class, found or broken.
@@ -63,30 +62,14 @@ fn member_of_class<O: Oracle>(
     class_there(alloc, oracle, name.as_str())
 }
 
-/// The member class of a type on the list of a class. Each of these is a class.
-#[tactic(auto, using(pj_names::proofs::AskingLaws::asking_steps))]
-fn member_of_type<O: Oracle>(
-    alloc: Global,
-    oracle: &mut O,
-    simple: &str,
-    ty: &Ty,
-) -> Result<Option<ClassName>, AskFault>
-    ensures { Asks (member_of_type simple.now (java_type ty.now)) (O.tells oracle.old) (O.tells oracle.new) result }
-{
-    match ty {
-        Ty::Class(class, _) => member_of_class(alloc, oracle, simple, class),
-        _ => Ok(None),
-    }
-}
-
 /// The most classes that a walk is followed: a list has no more members.
 const MOST_CLASSES: u64 = 4294967294;
 
 /// The member class of a simple name in a class, its own or one that it inherits (JLS 8.5): along the list of supertypes, the class
 /// itself first, the first class `T$S` that is there, found or broken. `None` comes exactly where there is none.
 ///
-/// A class of the list is asked only where the search goes past it, and of `java.lang.Object` nothing is looked for.
-#[tactic(auto, using(pj_types::proofs::AlongTurns::along_loops))]
+/// A class of the list is asked only where the search goes past it, and of `java.lang.Object` nothing is looked for. The search goes by
+/// names, so no type arguments are put in.
 pub fn member_class<O: Oracle>(
     alloc: Global,
     oracle: &mut O,
@@ -95,15 +78,17 @@ pub fn member_class<O: Oracle>(
 ) -> Result<Option<ClassName>, AskFault>
     ensures { Asks (member_class class.now simple.now) (O.tells oracle.old) (O.tells oracle.new) result }
 {
-    let mut walk = Walk::of(alloc, class)?;
+    let mut walk = NameWalk::of(alloc, class)?;
     for _class in 0..MOST_CLASSES {
-        let Some(ty) = walk.next_class(oracle)? else {
+        let Some(next) = walk.next_class()? else {
             return Ok(None);
         };
-        let hit = member_of_type(alloc, oracle, simple, &ty)?;
+        let hit = member_of_class(alloc, oracle, simple, &next)?;
         if let Some(member) = hit {
             return Ok(Some(member));
         }
+        let more = direct_names(alloc, oracle, &next)?;
+        walk.put(more)?;
     }
     Err(AskFault::Memory)
 }
