@@ -70,7 +70,7 @@ enumerated_after t s n from (p ∷ ps) all same =
     (enumerated_after t s n (from + 1) ps (omega (arith, all)) (λ k low. let next : from + suc k ≡ from + 1 + k = omega arith in same (suc k) (omega (arith, low)) ∙ ap (λ i. get_or (parents t.nodes) i None) next))
 
 children_after : (t : Tree) → IsSyntaxTree t → (n : Node) → AreAfter n.0 (length t.nodes) (children_of t n)
-children_after t s n = enumerated_after t s n 0 (parents t.nodes) (omega (arith, length-map t.nodes (λ x. x.parent))) (λ k low. refl)
+children_after t s n = enumerated_after t s n 0 (parents t.nodes) (omega (arith, length-map t.nodes (λ x. x.parent))) (λ k low. let here : k ≡ 0 + k = omega arith in ap (λ i. get_or (parents t.nodes) i None) here)
 
 some_after : (low count : ℕ) (b : Bool) (n : Node) (o : Option Node) → (low < n.0) × (n.0 < count) → IfSome o (λ m. (low < m.0) × (m.0 < count)) → IfSome (cond b (Some n) o) (λ m. (low < m.0) × (m.0 < count))
 some_after low count true n o first second = first
