@@ -9,11 +9,11 @@ use Rattle.pj_settings.specs.declared.settings.Settings.{Settings}
 use Rattle.pj_sources.specs.Reading.{AreRead, AreWithin}
 use Rattle.pj_sources.specs.declared.listing.Listing.{Listing}
 use Rattle.pj_workers.specs.declared.work.Work.{Work}
-use Rattle.pj_writing.specs.Formats.{report_text}
-use Rattle.pj_writing.specs.Verdicts.{verdict_of}
-use Rattle.pj_writing.specs.declared.verdict.Verdict.{Verdict}
-use Rattle.pj_writing.specs.declared.verdict.Verdict.TheVariants as verdict
-use Rattle.pj_writing.specs.declared.written.Written.{Written}
+use Rattle.pj_check.specs.Formats.{report_text}
+use Rattle.pj_check.specs.Verdicts.{verdict_of}
+use Rattle.pj_check.specs.declared.verdict.Verdict.{Verdict}
+use Rattle.pj_check.specs.declared.verdict.Verdict.TheVariants as verdict
+use Rattle.pj_check.specs.declared.report_rendering.Written.{Written}
 use Rattle.pj_check.specs.Cold.{IsColdOf}
 use Rattle.pj_check.specs.Outcome.{AsksFor, CountsSinkFaults, CountsTreeFaults, KeepsSink, Says, SaysOfWords, Worked}
 use Rattle.pj_check.specs.Run.{HasRules, Run}

@@ -5,3 +5,5 @@ mod Ending
 mod Excluding
 mod OneRefusal
 mod Once
+pub mod Pieces
+pub mod Emptiness

@@ -8,3 +8,10 @@ pub mod Notes
 pub mod Laws
 -- for private clauses
 pub mod Steps
+-- definitions
+pub mod NoteText
+-- definitions
+pub mod Formats
+pub mod Verdicts
+-- laws
+pub mod ReportLaws

@@ -1,6 +1,6 @@
 -- The line that tells the user why a run has no report.
 use Rattle.std.specs.Prelude.{◌≡◌, ◌⊎◌, ◌++◌, ℕ, Option, Some, None, codes}
-use Rattle.pj_notes.specs.NoteText.{limit_text, line_of, usage_text}
+use Rattle.pj_check.specs.NoteText.{limit_text, line_of, usage_text}
 use Rattle.pj_outside.specs.Faults.{Rises}
 use Rattle.pj_outside.specs.Files.{Bytes}
 use Rattle.pj_outside.specs.Putting.{Gets, GetsPrefix}

@@ -7,9 +7,9 @@ use Rattle.pj_settings.specs.Job.{job}
 use Rattle.pj_settings.specs.declared.settings.Settings.{Settings}
 use Rattle.pj_sources.specs.Paths.{is_source}
 use Rattle.pj_workers.specs.declared.work.Work.{Work}
-use Rattle.pj_writing.specs.Verdicts.{verdict_of}
-use Rattle.pj_writing.specs.declared.verdict.Verdict.{Verdict}
-use Rattle.pj_writing.specs.declared.verdict.Verdict.TheVariants as verdict
+use Rattle.pj_check.specs.Verdicts.{verdict_of}
+use Rattle.pj_check.specs.declared.verdict.Verdict.{Verdict}
+use Rattle.pj_check.specs.declared.verdict.Verdict.TheVariants as verdict
 use Rattle.pj_check.specs.Refused.{IsRefused}
 use Rattle.pj_check.specs.Run.{IsRun, Run, text_of}
 use Rattle.pj_check.specs.declared.outcome.Outcome.{Outcome}

@@ -10,7 +10,7 @@ use Rattle.pj_sources.specs.Limits.{most_files}
 use Rattle.pj_sources.specs.Listing.{IsListing}
 use Rattle.pj_sources.specs.Reading.{AreRead}
 use Rattle.pj_sources.specs.declared.listing.Listing.{Listing}
-use Rattle.pj_writing.specs.Formats.{report_text}
+use Rattle.pj_check.specs.Formats.{report_text}
 use Rattle.pj_check.specs.Cold.{IsColdOf}
 
 -- all that a run works out, step by step

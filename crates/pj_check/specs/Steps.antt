@@ -18,10 +18,10 @@ use Rattle.pj_workers.specs.Cold.{AreRowsOf, World}
 use Rattle.pj_workers.specs.NoTypes.{no_types}
 use Rattle.pj_workers.specs.Rules.{AreRulesOf, Rule}
 use Rattle.pj_workers.specs.declared.work.Work.{Work}
-use Rattle.pj_writing.specs.Verdicts.{verdict_of}
-use Rattle.pj_writing.specs.declared.verdict.Verdict.{Verdict}
-use Rattle.pj_writing.specs.declared.verdict.Verdict.TheVariants as verdict
-use Rattle.pj_writing.specs.declared.written.Written.{Written}
+use Rattle.pj_check.specs.Verdicts.{verdict_of}
+use Rattle.pj_check.specs.declared.verdict.Verdict.{Verdict}
+use Rattle.pj_check.specs.declared.verdict.Verdict.TheVariants as verdict
+use Rattle.pj_check.specs.declared.report_rendering.Written.{Written}
 use Rattle.pj_check.specs.Outcome.{SaysOfWords, Worked}
 use Rattle.pj_check.specs.Refused.{IsRefused}
 use Rattle.pj_check.specs.Run.{IsRun, Run, text_of}

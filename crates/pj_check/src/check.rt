@@ -11,10 +11,10 @@ use crate::note::put_outcome;
 use crate::outcome::Outcome;
 use crate::refusal::{Refusal, ended};
 use crate::steps::{asked, listed, loaded, sources_of};
+use crate::{Verdict, Written, put_report, written_report};
 use pj_base::Words;
 use pj_outside::{ClassPath, Keeper, Sink, Tree};
 use pj_workers::Work;
-use pj_writing::{Verdict, Written, put_report, written_report};
 use std::alloc::Global;
 
 /// The report that the words ask for, made whole in memory.

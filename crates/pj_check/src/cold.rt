@@ -12,10 +12,10 @@ ghost use Rattle.pj_check.specs.Steps.{AreRows};
 
 use pj_base::{Bytes, Copied, NoMemory, Text};
 use pj_grammar::java_17;
+use pj_names::RuleRowList;
 use pj_outside::Files;
 use pj_peg::WellFormed;
 use pj_reports::{FileRows, PathRows, Report};
-use pj_rule_rows::RuleRowList;
 use pj_rule_sets::{Rule, RuleSet};
 use pj_workers::{Work, analyse_file};
 use std::alloc::Global;

@@ -1,15 +1,30 @@
-//! The top call: a run on one thread, from the words that come in to the bytes of the report that goes out.
+//! The top call: a run on one thread, from the words that come in to the bytes of the report that goes out, and the notes that tell why a
+//! run has none.
+//!
+//! A report is written whole in memory before anything of it is put.
 #![tactic(auto)]
 
 mod check;
 mod cold;
 mod laws;
 mod note;
+mod note_kind;
+mod note_putting;
 mod outcome;
 mod refusal;
+mod report_laws;
+mod report_putting;
+mod report_rendering;
 mod steps;
+mod verdict;
 
 pub use check::check_alone;
 pub use laws::{one_refusal, one_run, runs_are_not_refused};
 pub use note::put_outcome;
+pub use note_kind::Note;
+pub use note_putting::put_note;
 pub use outcome::Outcome;
+pub use report_laws::clean_is_empty;
+pub use report_putting::put_report;
+pub use report_rendering::{Written, report_text, written_report};
+pub use verdict::{Verdict, verdict_of};

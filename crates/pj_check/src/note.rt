@@ -1,10 +1,10 @@
 //! The note of an outcome.
 ghost use Rattle.std.specs.Prelude.{◌≡◌, MatchOption, Some, None};
 ghost use Rattle.pj_check.specs.Notes.{GetNote, note_of, what_name};
-ghost use Rattle.pj_notes.specs.NoteText.{note_line};
+ghost use Rattle.pj_check.specs.NoteText.{note_line};
 
 use crate::outcome::Outcome;
-use pj_notes::{Note, put_note};
+use crate::{Note, put_note};
 use pj_outside::Sink;
 use pj_rules::RuleWhat;
 

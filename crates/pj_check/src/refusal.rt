@@ -2,12 +2,12 @@
 ghost use Rattle.std.specs.Prelude.{◌≡◌};
 ghost use Rattle.pj_check.specs.Steps.{after_listing, after_loading, after_reading, after_words, ended};
 
+use crate::Verdict;
 use crate::outcome::Outcome;
 use pj_base::{NoMemory, Text};
 use pj_rules::{RuleFault, RuleRefused};
 use pj_settings::{UsageFault, UsageRefused};
 use pj_sources::{LimitKind, ListRefused, ReadRefused};
-use pj_writing::Verdict;
 
 /// Why a run does not come to its report.
 #[derive(Drop)]

@@ -8,7 +8,7 @@ use Rattle.pj_tree.specs.Tree.{Tree, kind_of, ancestors_of}
 use Rattle.pj_tree.specs.declared.kind.Kind.{Kind}
 use Rattle.pj_tree.specs.declared.kind.Kind.TheVariants as k
 use Rattle.pj_tree.specs.declared.node.Node.{Node}
-use Rattle.pj_nodes.specs.Children.{first_child}
+use Rattle.pj_tree.specs.Children.{first_child}
 use Rattle.pj_declared.specs.Bodies.{is_body}
 
 -- a block (JLS 14.2), and a branch of a switch (JLS 14.11.1)

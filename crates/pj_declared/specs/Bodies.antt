@@ -5,7 +5,7 @@ use Rattle.pj_tree.specs.Tree.{Tree, kind_of, parent_of, ancestors_of}
 use Rattle.pj_tree.specs.declared.kind.Kind.{Kind}
 use Rattle.pj_tree.specs.declared.kind.Kind.TheVariants as k
 use Rattle.pj_tree.specs.declared.node.Node.{Node}
-use Rattle.pj_nodes.specs.Children.{child_of}
+use Rattle.pj_tree.specs.Children.{child_of}
 use Rattle.pj_declared.specs.declared.scope.Scopes.{Scopes}
 use Rattle.pj_declared.specs.Scope.{scope_from}
 

@@ -6,7 +6,7 @@ use Rattle.pj_tree.specs.Tree.{Tree, kind_of, parent_of}
 use Rattle.pj_tree.specs.declared.kind.Kind.{Kind}
 use Rattle.pj_tree.specs.declared.kind.Kind.TheVariants as k
 use Rattle.pj_tree.specs.declared.node.Node.{Node}
-use Rattle.pj_nodes.specs.Words.{words_of, has}
+use Rattle.pj_tree.specs.Words.{words_of, has}
 use Rattle.pj_declared.specs.declared.scope.Scope.{Scope}
 use Rattle.pj_declared.specs.declared.named.Named.{Named}
 use Rattle.pj_declared.specs.declared.imports.ImportSort.{ImportSort}

@@ -5,7 +5,7 @@ use Rattle.pj_tree.specs.Tree.{Tree, kind_of}
 use Rattle.pj_tree.specs.declared.kind.Kind.{Kind}
 use Rattle.pj_tree.specs.declared.kind.Kind.TheVariants as k
 use Rattle.pj_tree.specs.declared.node.Node.{Node}
-use Rattle.pj_nodes.specs.Words.{words_of}
+use Rattle.pj_tree.specs.Words.{words_of}
 use Rattle.pj_symbols.specs.Kinds.{declares_class}
 use Rattle.pj_symbols.specs.Symbols.{names_variable}
 use Rattle.pj_declared.specs.declared.scope.Scope.{Scope}

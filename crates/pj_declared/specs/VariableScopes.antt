@@ -5,7 +5,7 @@ use Rattle.pj_tree.specs.Tree.{Tree, kind_of, parent_of}
 use Rattle.pj_tree.specs.declared.kind.Kind.{Kind}
 use Rattle.pj_tree.specs.declared.kind.Kind.TheVariants as k
 use Rattle.pj_tree.specs.declared.node.Node.{Node}
-use Rattle.pj_nodes.specs.Children.{child_of, second_child}
+use Rattle.pj_tree.specs.Children.{child_of, second_child}
 use Rattle.pj_symbols.specs.Classes.{class_around}
 use Rattle.pj_symbols.specs.Variables.{declaration_of, variable_kind}
 use Rattle.pj_symbols.specs.declared.variable.VariableKind.{VariableKind}

@@ -4,8 +4,7 @@ ghost use Rattle.std.specs.Prelude.{◌≡◌, ◌<◌, ◌≤◌, length, IfSom
 ghost use Rattle.pj_declared.specs.Bindings.{is_branch, has_branches, is_first_child, ends_binding, binding_end};
 
 use crate::bodies::is_body;
-use pj_nodes::first_child;
-use pj_tree::{Kind, Node, SyntaxTree};
+use pj_tree::{Kind, Node, SyntaxTree, first_child};
 
 /// Whether a node of the kind is a block or a branch of a switch (JLS 14.2, 14.11.1).
 fn is_branch(kind: Kind) -> bool

@@ -6,8 +6,7 @@ ghost use Rattle.pj_declared.specs.Scope.{scope_from};
 ghost use Rattle.pj_declared.specs.Bodies.{body_kind, body_of, member_scopes, is_body, shows_members, class_at};
 
 use crate::scope::{Scope, Scopes, scope_from};
-use pj_nodes::child_of;
-use pj_tree::{Kind, Node, SyntaxTree};
+use pj_tree::{Kind, Node, SyntaxTree, child_of};
 
 /// What the body of a class is, by what declares the class (JLS 8.1.7, 8.9.1, 8.10.2, 9.1.5, 9.6.1, 15.9.5).
 fn body_kind(declaration: Kind) -> Option<Kind>

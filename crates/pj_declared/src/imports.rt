@@ -8,8 +8,7 @@ use crate::gather::put_named;
 use crate::named::Named;
 use crate::scope::{Scope, one_scope, scope_of_all};
 use pj_base::NoMemory;
-use pj_nodes::has_word;
-use pj_tree::{Kind, Node, SyntaxTree};
+use pj_tree::{Kind, Node, SyntaxTree, has_word};
 use std::alloc::Global;
 
 /// What is imported by an import of one name.

@@ -10,9 +10,8 @@ use crate::behind::behind;
 use crate::bindings::binding_end;
 use crate::bodies::member_scopes;
 use crate::scope::{Scope, Scopes, no_scopes, one_scope, scope_from, scope_of_all};
-use pj_nodes::{child_of, second_child};
 use pj_symbols::{VariableKind, class_around, declaration_of, variable_kind};
-use pj_tree::{Kind, Node, SyntaxTree};
+use pj_tree::{Kind, Node, SyntaxTree, child_of, second_child};
 
 /// The node above the declaration of the variable.
 fn above_declaration(tree: &SyntaxTree<'_>, id: Node) -> Option<Node>

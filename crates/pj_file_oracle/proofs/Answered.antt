@@ -21,7 +21,7 @@ use Rattle.pj_names.proofs.AskingLaws.{asked_after-names, within-names, within-s
 use Rattle.pj_names.proofs.NotingLaws.{insert-there}
 use Rattle.pj_tree.specs.Tree.{Tree}
 use Rattle.pj_tree.specs.declared.node.Node.{Node}
-use Rattle.pj_imports.specs.Candidates.{file_classes, node_named}
+use Rattle.pj_outer_names.specs.Candidates.{file_classes, node_named}
 use Rattle.pj_file_oracle.specs.FileAnswer.{answer_by, class_answer, file_answer}
 use Rattle.pj_file_oracle.specs.Answered.{AreAnswered, IsAnswered}
 

@@ -12,7 +12,7 @@ use Rattle.pj_names.specs.ClassName.{Name}
 use Rattle.pj_names.specs.Asking.{Asking, Return, ask, bind}
 use Rattle.pj_written.specs.Flags.{class_flags}
 use Rattle.pj_written.specs.Spelling.{class_signature_text}
-use Rattle.pj_imports.specs.Candidates.{file_classes, node_named}
+use Rattle.pj_outer_names.specs.Candidates.{file_classes, node_named}
 use Rattle.pj_file_oracle.specs.declared.members.MemberLists.{MemberLists}
 use Rattle.pj_file_oracle.specs.Types.{type_parameters}
 use Rattle.pj_file_oracle.specs.Supertypes.{supertypes_of}

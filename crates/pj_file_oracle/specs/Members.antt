@@ -6,9 +6,9 @@ use Rattle.pj_tree.specs.Tree.{Tree, kind_of, children_of}
 use Rattle.pj_tree.specs.declared.kind.Kind.{Kind}
 use Rattle.pj_tree.specs.declared.kind.Kind.TheVariants as k
 use Rattle.pj_tree.specs.declared.node.Node.{Node}
-use Rattle.pj_nodes.specs.Children.{child_of}
-use Rattle.pj_nodes.specs.Kinds.{is_kind}
-use Rattle.pj_nodes.specs.Words.{words_of, first_of}
+use Rattle.pj_tree.specs.Children.{child_of}
+use Rattle.pj_tree.specs.Kinds.{is_kind}
+use Rattle.pj_tree.specs.Words.{words_of, first_of}
 use Rattle.pj_names.specs.declared.answer.Member.{Member}
 use Rattle.pj_names.specs.JavaType.{JavaType, Void}
 use Rattle.pj_names.specs.Asking.{Asking, Return, bind, each}

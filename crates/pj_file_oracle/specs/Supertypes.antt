@@ -8,7 +8,7 @@ use Rattle.pj_tree.specs.Tree.{Tree, kind_of}
 use Rattle.pj_tree.specs.declared.kind.Kind.{Kind}
 use Rattle.pj_tree.specs.declared.kind.Kind.TheVariants as k
 use Rattle.pj_tree.specs.declared.node.Node.{Node}
-use Rattle.pj_nodes.specs.Kinds.{is_kind}
+use Rattle.pj_tree.specs.Kinds.{is_kind}
 use Rattle.pj_names.specs.declared.answer.Answer.{Answer}
 use Rattle.pj_names.specs.declared.answer.Answer.TheVariants.{Found, Absent, Broken}
 use Rattle.pj_names.specs.ClassName.{Name, is_class_name, is_object}
@@ -19,7 +19,7 @@ use Rattle.pj_symbols.specs.Classes.{class_around}
 use Rattle.pj_written.specs.Headers.{class_text, created, extended, implemented, is_constant_body}
 use Rattle.pj_written.specs.Types.{class_of_text, object_type}
 use Rattle.pj_written.specs.Words.{is_interface, is_plain_interface}
-use Rattle.pj_imports.specs.Candidates.{file_classes, node_named}
+use Rattle.pj_outer_names.specs.Candidates.{file_classes, node_named}
 use Rattle.pj_type_names.specs.TypeName.{written_type}
 
 -- the superclass and the interfaces

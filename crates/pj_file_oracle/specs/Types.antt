@@ -2,7 +2,7 @@
 use Rattle.std.specs.Prelude.{ℕ, Option, None, Some, List, []}
 use Rattle.pj_tree.specs.Tree.{Tree}
 use Rattle.pj_tree.specs.declared.node.Node.{Node}
-use Rattle.pj_nodes.specs.Words.{words_of, first_of}
+use Rattle.pj_tree.specs.Words.{words_of, first_of}
 use Rattle.pj_names.specs.JavaType.{JavaType, Unknown}
 use Rattle.pj_names.specs.Asking.{Asking, Return, bind, each}
 use Rattle.pj_written.specs.Headers.{bounds_of, parameters_of}

@@ -11,8 +11,8 @@ ghost use Rattle.pj_written.specs.Types.{object_type};
 
 use crate::supertypes::{Supertypes, as_interface, as_superclass, supertype};
 use pj_base::{NoMemory, Numbers};
-use pj_imports::File;
 use pj_names::{Answer, AskFault, ClassName, Oracle, Ty};
+use pj_outer_names::File;
 use pj_signatures::class_signature;
 use pj_symbols::class_around;
 use pj_tree::Node;

@@ -1,7 +1,7 @@
 //! What a class of the file answers.
 
 ghost use Rattle.std.specs.Prelude.{◌≡◌, ◌<◌, length, IfOk, Some};
-ghost use Rattle.pj_imports.specs.Candidates.{file_classes, node_named};
+ghost use Rattle.pj_outer_names.specs.Candidates.{file_classes, node_named};
 ghost use Rattle.pj_names.specs.Told.{Asks, seen, shared_answer};
 ghost use Rattle.pj_file_oracle.specs.Answered.{AreAnswered};
 ghost use Rattle.pj_file_oracle.specs.FileAnswer.{class_answer, file_answer, found_with};
@@ -9,8 +9,8 @@ ghost use Rattle.pj_file_oracle.specs.FileAnswer.{class_answer, file_answer, fou
 use crate::headers::header_text;
 use crate::members::{MemberLists, members_of};
 use pj_base::{Copied, NoMemory, Text};
-use pj_imports::File;
 use pj_names::{Answer, AskFault, ClassInfo, ClassName, Oracle};
+use pj_outer_names::File;
 use pj_tree::{Node, SyntaxTree};
 use pj_written::class_flags;
 use std::alloc::Global;

@@ -11,8 +11,8 @@ ghost use Rattle.pj_file_oracle.specs.Members.{constant_of, field_of, field_with
 use crate::nodes::{children_of_kind, variable_brackets, variable_text};
 use crate::types::declared_type;
 use pj_base::{NoMemory, Text};
-use pj_imports::File;
 use pj_names::{AskFault, Member, Members, Oracle, Ty};
+use pj_outer_names::File;
 use pj_tree::{Kind, Node, SyntaxTree};
 use pj_written::{CONSTANT_FLAGS, class_of_text, field_flags, type_signature};
 use std::alloc::Global;

@@ -11,8 +11,8 @@ ghost use Rattle.pj_file_oracle.specs.Answered.{AreAnswered, all_answered_prop};
 ghost use Rattle.pj_file_oracle.specs.FileAnswer.{file_answer};
 
 use crate::answer::{Answered, file_answer};
-use pj_imports::File;
 use pj_names::{Answer, AskFault, ClassName, Oracle, Ty};
+use pj_outer_names::File;
 use pj_symbols::Symbols;
 use pj_tree::{Node, SyntaxTree};
 use pj_type_names::type_name;

@@ -13,10 +13,9 @@ use crate::named::named_supertypes;
 use crate::supertypes::{Supertypes, as_interface};
 use crate::types::type_parameters;
 use pj_base::{NoMemory, Numbers, Text};
-use pj_imports::File;
 use pj_names::{AskFault, Oracle};
-use pj_nodes::is_kind;
-use pj_tree::{Kind, Node};
+use pj_outer_names::File;
+use pj_tree::{Kind, Node, is_kind};
 use pj_written::{Parameters, class_of_text, class_signature};
 use std::alloc::Global;
 

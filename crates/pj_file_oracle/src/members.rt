@@ -10,8 +10,8 @@ use crate::fields::{constant_of, fields_of};
 use crate::methods::method_of;
 use crate::nodes::body_nodes;
 use pj_base::NoMemory;
-use pj_imports::File;
 use pj_names::{AskFault, Member, Members, Oracle};
+use pj_outer_names::File;
 use pj_tree::{Kind, Node};
 use std::alloc::Global;
 

@@ -12,10 +12,9 @@ ghost use Rattle.pj_written.specs.Seen.{all_parameters};
 use crate::nodes::{formal_parameters, variable_brackets};
 use crate::types::{declared_type, type_parameters};
 use pj_base::{NoMemory, Numbers, Text};
-use pj_imports::File;
 use pj_names::{AskFault, Member, Oracle, Ty, TyList};
-use pj_nodes::{first_word, is_kind};
-use pj_tree::{Kind, Node, SyntaxTree};
+use pj_outer_names::File;
+use pj_tree::{Kind, Node, SyntaxTree, first_word, is_kind};
 use pj_written::{Parameters, bracket_count, method_flags, method_signature};
 use std::alloc::Global;
 

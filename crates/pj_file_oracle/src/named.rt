@@ -10,8 +10,8 @@ ghost use Rattle.pj_written.specs.Types.{class_of_text};
 
 use crate::supertypes::{Supertypes, listed_supertypes, only_interfaces};
 use pj_base::{NoMemory, Numbers};
-use pj_imports::File;
 use pj_names::{AskFault, ClassName, Oracle, Ty, TyList, Types};
+use pj_outer_names::File;
 use pj_tree::{Kind, Node};
 use pj_written::{below_child, class_of_text, is_plain_interface, object_type};
 use std::alloc::Global;

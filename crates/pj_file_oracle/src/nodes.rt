@@ -3,15 +3,14 @@
 ghost use Rattle.std.specs.Prelude.{◌≡◌, ◌<◌, ◌≤◌, length, filter, IfOk};
 ghost use Rattle.std.specs.List.{All};
 ghost use Rattle.pj_declared.specs.Bodies.{body_kind};
-ghost use Rattle.pj_nodes.specs.Kinds.{is_kind};
+ghost use Rattle.pj_tree.specs.Kinds.{is_kind};
 ghost use Rattle.pj_tree.specs.Tree.{children_of};
 ghost use Rattle.pj_tree.specs.declared.node.Node.{Node};
 ghost use Rattle.pj_written.specs.Flags.{formal_parameters};
 ghost use Rattle.pj_file_oracle.specs.Members.{body_nodes, variable_brackets, variable_text};
 
 use pj_base::NoMemory;
-use pj_nodes::{child_of, first_word, is_kind};
-use pj_tree::{Kind, Node, SyntaxTree};
+use pj_tree::{Kind, Node, SyntaxTree, child_of, first_word, is_kind};
 use pj_written::{Nodes, below_child, bracket_count};
 use std::alloc::Global;
 

@@ -10,8 +10,8 @@ ghost use Rattle.pj_file_oracle.specs.Seen.{supertypes_view};
 ghost use Rattle.pj_file_oracle.specs.Supertypes.{as_interface, as_superclass, as_supertype, only_interfaces, supertype};
 
 use pj_base::{NoMemory, Numbers};
-use pj_imports::File;
 use pj_names::{AskFault, Oracle, Ty, TyList};
+use pj_outer_names::File;
 use pj_tree::Node;
 use pj_type_names::written_type;
 use pj_written::object_type;

@@ -11,10 +11,9 @@ ghost use Rattle.pj_written.specs.Seen.{all_parameters, parameter_view};
 ghost use Rattle.pj_file_oracle.specs.Types.{declared_type, parameter_of, parameter_with, type_parameters};
 
 use pj_base::{NoMemory, Numbers, Text};
-use pj_imports::File;
 use pj_names::{AskFault, Oracle, Ty, TyList};
-use pj_nodes::first_word;
-use pj_tree::{Kind, Node, SyntaxTree};
+use pj_outer_names::File;
+use pj_tree::{Kind, Node, SyntaxTree, first_word};
 use pj_type_names::{written_bound, written_type};
 use pj_written::{Parameter, Parameters, below_child, bounds_of, type_child};
 use std::alloc::Global;

@@ -2,9 +2,9 @@
 use Rattle.std.specs.Prelude.{Bool, true, false, not, ◌&&◌, ◌||◌, Option}
 use Rattle.std.specs.List.{list_any}
 use Rattle.std.specs.Option.{option_map_or, option_and_then}
-use Rattle.pj_nodes.specs.Kinds.{is_kind}
-use Rattle.pj_nodes.specs.Children.{child_of, has_child}
-use Rattle.pj_nodes.specs.Words.{words_of, has}
+use Rattle.pj_tree.specs.Kinds.{is_kind}
+use Rattle.pj_tree.specs.Children.{child_of, has_child}
+use Rattle.pj_tree.specs.Words.{words_of, has}
 use Rattle.pj_symbols.specs.Classes.{nesting_of}
 use Rattle.pj_symbols.specs.declared.class.Nesting.{Nesting}
 use Rattle.pj_symbols.specs.declared.class.Nesting.TheVariants.{TopLevel}

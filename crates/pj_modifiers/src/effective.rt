@@ -5,9 +5,8 @@ ghost use Rattle.pj_modifiers.specs.Implied.{is_public_member, is_abstract_membe
 
 use crate::explicit::{bearer_of, is_explicit_at};
 use crate::interface::{has_constant_body, in_enum, in_interface, is_interface, is_static_class};
-use pj_nodes::{has_child, is_kind};
 use pj_symbols::{Nesting, nesting_of};
-use pj_tree::{Kind, Node, SyntaxTree};
+use pj_tree::{Kind, Node, SyntaxTree, has_child, is_kind};
 use pj_xvalue::Modifier;
 
 /// Whether a member is public since it stands in an interface (JLS 9.3, 9.4, 9.5).

@@ -1,12 +1,11 @@
 //! Modifiers that are written.
 
 ghost use Rattle.std.specs.Prelude.{◌≡◌, ◌<◌, [], length, IfSome};
-ghost use Rattle.pj_nodes.specs.Words.{words_of, has};
+ghost use Rattle.pj_tree.specs.Words.{words_of, has};
 ghost use Rattle.pj_modifiers.specs.Explicit.{bearer_of, modifier_list, is_explicit_at, is_explicit, is_written, has_sealed, word_of};
 
-use pj_nodes::{first_child, has_word, is_kind};
 use pj_symbols::declaration_of;
-use pj_tree::{Kind, Node, OwnTokens, SyntaxTree};
+use pj_tree::{Kind, Node, OwnTokens, SyntaxTree, first_child, has_word, is_kind};
 use pj_xvalue::Modifier;
 
 /// The node that has the modifiers of the node: for the name of a variable the variable's declaration, and else the node.

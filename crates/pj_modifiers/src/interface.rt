@@ -3,8 +3,7 @@
 ghost use Rattle.std.specs.Prelude.{◌≡◌, ◌<◌, length, IfSome};
 ghost use Rattle.pj_modifiers.specs.Implied.{is_interface, class_above, in_interface, in_enum, is_static_class, has_constant_body, is_constant_body, constant_body_among};
 
-use pj_nodes::{child_of, has_child, has_word, is_kind};
-use pj_tree::{Kind, Node, SyntaxTree};
+use pj_tree::{Kind, Node, SyntaxTree, child_of, has_child, has_word, is_kind};
 
 /// Whether the node declares an interface, an annotation interface included (JLS 9.1, 9.6).
 pub fn is_interface(tree: &SyntaxTree<'_>, n: Node) -> bool

@@ -1,5 +1,5 @@
-//! Names of classes, types and answers, that contracts see as lists and sets. And the form of every computation that asks
-//! for classes: its meaning, its oracle, its laws.
+//! Names of classes, types and answers, that contracts see as lists and sets; the form of every computation that asks for classes: its
+//! meaning, its oracle, its laws; and the rows of rules and configuration errors that the loading of rulesets hands to reports.
 #![tactic(auto)]
 
 mod answer;
@@ -11,6 +11,7 @@ mod laws;
 mod map_oracle;
 mod oracle;
 mod recorder;
+mod rule_row;
 mod ty;
 
 pub use answer::{Answer, Broken, ClassFault, ClassInfo, Member, Members};
@@ -24,6 +25,7 @@ pub use laws::{
 pub use map_oracle::MapOracle;
 pub use oracle::{AskFault, Oracle};
 pub use recorder::Recorder;
+pub use rule_row::{ConfigError, ConfigErrors, RuleRow, RuleRowList};
 pub use ty::{
     Bindings, PrimitiveType as Prim, Ty, TyList, Types, copied_bindings, copied_types, same_types,
 };

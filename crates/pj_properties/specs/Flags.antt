@@ -7,9 +7,9 @@ use Rattle.pj_tree.specs.Tree.{Tree, kind_of, children_of, text_of}
 use Rattle.pj_tree.specs.declared.kind.Kind.{Kind}
 use Rattle.pj_tree.specs.declared.kind.Kind.TheVariants as k
 use Rattle.pj_tree.specs.declared.node.Node.{Node}
-use Rattle.pj_nodes.specs.Kinds.{is_kind}
-use Rattle.pj_nodes.specs.Children.{first_child, second_child, child_of, has_child}
-use Rattle.pj_nodes.specs.Words.{words_of, last_of, has}
+use Rattle.pj_tree.specs.Kinds.{is_kind}
+use Rattle.pj_tree.specs.Children.{first_child, second_child, child_of, has_child}
+use Rattle.pj_tree.specs.Words.{words_of, last_of, has}
 use Rattle.pj_parse.specs.PoolText.{pool_text}
 use Rattle.pj_symbols.specs.Classes.{nesting_of}
 use Rattle.pj_symbols.specs.Variables.{declaration_of, variable_kind}

@@ -5,7 +5,7 @@ use Rattle.std.specs.Str.{chars}
 use Rattle.pj_tree.specs.Tree.{Tree, children_of, text_of}
 use Rattle.pj_tree.specs.declared.kind.Kind.TheVariants as k
 use Rattle.pj_tree.specs.declared.node.Node.{Node}
-use Rattle.pj_nodes.specs.Children.{child_of, kind_count}
+use Rattle.pj_tree.specs.Children.{child_of, kind_count}
 use Rattle.pj_parse.specs.PoolText.{pool_text}
 use Rattle.pj_parse.specs.Parses.{FileParsed}
 use Rattle.pj_properties.specs.Literals.{radix_of, constant_integer}

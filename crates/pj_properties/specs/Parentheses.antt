@@ -8,7 +8,7 @@ use Rattle.pj_tree.specs.declared.node.Node.{Node}
 use Rattle.pj_tree.specs.declared.node.Span.{Span}
 use Rattle.pj_lex.specs.declared.token.TokenKind.{TokenKind}
 use Rattle.pj_lex.specs.declared.token.TokenKind.TheVariants.{LeftParenthesis, RightParenthesis}
-use Rattle.pj_nodes.specs.Children.{second_child}
+use Rattle.pj_tree.specs.Children.{second_child}
 use Rattle.pj_grammar.specs.Words.{TokenSeen, is_comment}
 use Rattle.pj_parse.specs.Parses.{FileParsed}
 

@@ -6,9 +6,9 @@ use Rattle.std.specs.Path.{rsplit_once}
 use Rattle.pj_tree.specs.Tree.{Tree, parent_of, text_of}
 use Rattle.pj_tree.specs.declared.kind.Kind.TheVariants as k
 use Rattle.pj_tree.specs.declared.node.Node.{Node}
-use Rattle.pj_nodes.specs.Kinds.{is_kind}
-use Rattle.pj_nodes.specs.Children.{first_child, child_of}
-use Rattle.pj_nodes.specs.Words.{words_of, first_of, last_of, has}
+use Rattle.pj_tree.specs.Kinds.{is_kind}
+use Rattle.pj_tree.specs.Children.{first_child, child_of}
+use Rattle.pj_tree.specs.Words.{words_of, first_of, last_of, has}
 use Rattle.pj_parse.specs.PoolText.{pool_text}
 use Rattle.pj_symbols.specs.Kinds.{declares_class}
 use Rattle.pj_symbols.specs.Names.{package_name}

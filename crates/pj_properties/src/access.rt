@@ -3,8 +3,7 @@
 ghost use Rattle.std.specs.Prelude.{◌≡◌, ◌<◌, length};
 ghost use Rattle.pj_properties.specs.Texts.{is_left_side, is_stepped, is_written, access_type};
 
-use pj_nodes::{first_child, has_word, is_kind};
-use pj_tree::{Kind, Node, SyntaxTree};
+use pj_tree::{Kind, Node, SyntaxTree, first_child, has_word, is_kind};
 
 /// Whether the node is the left side of the assignment above it (JLS 15.26).
 fn is_left_side(tree: &SyntaxTree<'_>, above: Node, n: Node) -> bool

@@ -16,10 +16,11 @@ use crate::types::{
     is_array_variable, is_inferred, is_varargs, is_varargs_method, is_variable_inferred,
 };
 use pj_modifiers::{is_effective, is_interface};
-use pj_nodes::{child_of, first_child, has_child, has_word, is_kind, last_word};
 use pj_parse::{Parsed, Pool};
 use pj_symbols::{Nesting, Symbols, VariableKind, nesting_of, variable_kind};
-use pj_tree::{Kind, Node, SyntaxTree};
+use pj_tree::{
+    Kind, Node, SyntaxTree, child_of, first_child, has_child, has_word, is_kind, last_word,
+};
 
 /// The text of a word.
 fn word_text(word: Word) -> &'static str

@@ -3,12 +3,11 @@
 ghost use Rattle.std.specs.Prelude.{◌≡◌, ◌<◌, [], length};
 ghost use Rattle.std.specs.Option.{option_copied};
 ghost use Rattle.pj_parse.specs.PoolText.{IsPoolOf};
-ghost use Rattle.pj_nodes.specs.Words.{words_of};
+ghost use Rattle.pj_tree.specs.Words.{words_of};
 ghost use Rattle.pj_properties.specs.Texts.{last_name, imported_simple_name, before_last_dot, imported_package, is_on_demand, variable_name, type_name, pair_name, second_of_three};
 
-use pj_nodes::{child_of, first_word, has_word, last_word};
 use pj_parse::Pool;
-use pj_tree::{Kind, Node, OwnTokens, SyntaxTree};
+use pj_tree::{Kind, Node, OwnTokens, SyntaxTree, child_of, first_word, has_word, last_word};
 
 /// Whether an import is one on demand (JLS 7.5.2, 7.5.4).
 fn is_on_demand(tree: &SyntaxTree<'_>, n: Node) -> bool

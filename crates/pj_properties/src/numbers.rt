@@ -11,10 +11,9 @@ ghost use Rattle.pj_symbols.specs.Symbols.{FileSymbols};
 use crate::literals::{constant_integer, radix_of};
 use crate::parentheses::parenthesis_depth;
 use crate::property::NumberProperty;
-use pj_nodes::{child_count, child_of, kind_count};
 use pj_parse::{Parsed, Pool};
 use pj_symbols::Symbols;
-use pj_tree::{Kind, Node, SyntaxTree};
+use pj_tree::{Kind, Node, SyntaxTree, child_count, child_of, kind_count};
 
 /// How many parameters a method or constructor has.
 fn arity(tree: &SyntaxTree<'_>, n: Node) -> u32

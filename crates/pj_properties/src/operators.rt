@@ -2,7 +2,7 @@
 
 ghost use Rattle.std.specs.Prelude.{◌≡◌, ◌<◌, ◌≤◌, [], length, filter};
 ghost use Rattle.std.specs.Option.{option_copied, option_map};
-ghost use Rattle.pj_nodes.specs.Words.{last_of};
+ghost use Rattle.pj_tree.specs.Words.{last_of};
 ghost use Rattle.pj_properties.specs.Texts.{is_sign, shift_of, operator_of};
 ghost use Rattle.pj_properties.specs.Flags.{begins_with, is_prefix, is_compound};
 

@@ -8,9 +8,8 @@ ghost use Rattle.pj_grammar.specs.Words.{is_comment, seen};
 ghost use Rattle.pj_properties.specs.Parentheses.{is_left, is_right, run, opened, closed, pairs_within, syntactic, syntactic_at, depth_below, parenthesis_depth};
 
 use pj_lex::{Token, TokenKind};
-use pj_nodes::second_child;
 use pj_parse::Parsed;
-use pj_tree::{Kind, Node, Span, SyntaxTree};
+use pj_tree::{Kind, Node, Span, SyntaxTree, second_child};
 
 /// Whether a token is `(`.
 fn is_left(kind: TokenKind) -> bool

@@ -13,10 +13,9 @@ use crate::names::{
 use crate::operators::operator_of;
 use crate::property::TextProperty;
 use crate::visibility::{class_visibility, member_visibility, variable_visibility};
-use pj_nodes::{first_word, last_word};
 use pj_parse::Parsed;
 use pj_symbols::Symbols;
-use pj_tree::{Node, SyntaxTree};
+use pj_tree::{Node, SyntaxTree, first_word, last_word};
 
 /// The binary name of the class that the node declares.
 fn binary_name<'t>(symbols: &'t Symbols, tree: &SyntaxTree<'_>, n: Node) -> Option<&'t str>

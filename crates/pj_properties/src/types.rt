@@ -3,9 +3,8 @@
 ghost use Rattle.std.specs.Prelude.{◌≡◌, ◌<◌, length, IfSome};
 ghost use Rattle.pj_properties.specs.Flags.{has_ellipsis, is_varargs, varargs_among, is_varargs_method, is_type, has_type, is_inferred, may_be_inferred, is_inferred_in, is_variable_inferred, has_array_type, has_array_declaration, is_array_variable};
 
-use pj_nodes::{child_of, has_child, has_word, is_kind, second_child};
 use pj_symbols::declaration_of;
-use pj_tree::{Kind, Node, SyntaxTree};
+use pj_tree::{Kind, Node, SyntaxTree, child_of, has_child, has_word, is_kind, second_child};
 
 /// Whether a parameter is written with `...`.
 fn has_ellipsis(tree: &SyntaxTree<'_>, n: Node) -> bool

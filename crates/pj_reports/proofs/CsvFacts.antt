@@ -4,7 +4,7 @@ use Rattle.std.proofs.Math.Seq.{take-suc, take-length}
 use Rattle.std.proofs.lemmas.List.{length-map, map-append}
 use Rattle.std.specs.Io.KnownBytes.{Appends}
 use Rattle.csv.specs.Writing.{escaped, field_text, fields_text, is_blank, row_text}
-use Rattle.pj_rule_rows.specs.declared.rule_row.RuleRow.{RuleRow}
+use Rattle.pj_names.specs.declared.rule_row.RuleRow.{RuleRow}
 use Rattle.pj_reports.specs.Borrowed.{problem_seen}
 use Rattle.pj_reports.specs.CsvWriter.{quoting}
 use Rattle.pj_reports.specs.ReportText.{csv_field, csv_header, csv_row, csv_rows, doubled, each_after_comma, problem_fields}

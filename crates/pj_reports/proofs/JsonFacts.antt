@@ -6,8 +6,8 @@ use Rattle.serde_json.specs.View.{items_of}
 use Rattle.std.specs.List.{list_any}
 use Rattle.serde_json.specs.Written.{compact_text, has_float, items_have_float, items_text, members_have_float, members_text}
 use Rattle.serde_json.proofs.OnLiterals.{serde_json_on_literals}
-use Rattle.pj_rule_rows.specs.declared.rule_row.ConfigError.{ConfigError}
-use Rattle.pj_rule_rows.specs.declared.rule_row.RuleRow.{RuleRow}
+use Rattle.pj_names.specs.declared.rule_row.ConfigError.{ConfigError}
+use Rattle.pj_names.specs.declared.rule_row.RuleRow.{RuleRow}
 use Rattle.pj_reports.specs.JsonData.{config_error_data, file_data, path_error_data, report_data, suppression_data, violation_data}
 use Rattle.pj_reports.specs.ReportText.{config_error_text, each_after_comma, file_text, json_report, json_value, path_error_text, suppression_text, violation_text, with_commas}
 use Rattle.pj_reports.specs.Shown.{Bytes, PathError, errors, is_reported, is_suppressed}

@@ -6,8 +6,8 @@ use Rattle.csv.specs.Reading.{default_config, records_from}
 use Rattle.csv.specs.Writing.{default_writer, escaped}
 use Rattle.csv.specs.declared.parser.State.TheVariants as st
 use Rattle.csv.proofs.RoundTrip.{quoted-run}
-use Rattle.pj_rule_rows.specs.declared.rule_row.ConfigError.{ConfigError}
-use Rattle.pj_rule_rows.specs.declared.rule_row.RuleRow.{RuleRow}
+use Rattle.pj_names.specs.declared.rule_row.ConfigError.{ConfigError}
+use Rattle.pj_names.specs.declared.rule_row.RuleRow.{RuleRow}
 use Rattle.pj_reports.specs.ReportText.{csv_field, csv_header, csv_report, csv_row, csv_rows, doubled, each_after_comma, fault_line, joined, problem_fields, problem_line, text_report}
 use Rattle.pj_reports.specs.Shown.{Bytes, PathError, Problem, errors, problems}
 use Rattle.pj_reports.specs.TextRows.{numbered_fields, text_lines}

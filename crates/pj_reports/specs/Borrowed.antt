@@ -1,5 +1,5 @@
 -- What borrowed rows hold, for private clauses.
-use Rattle.pj_rule_rows.specs.declared.rule_row.RuleRow.{RuleRow}
+use Rattle.pj_names.specs.declared.rule_row.RuleRow.{RuleRow}
 use Rattle.pj_reports.specs.Shown.{Problem}
 use Rattle.pj_reports.specs.declared.shown.Problem as declared
 use Rattle.pj_reports.specs.declared.shown.RuleShown as declared_rule

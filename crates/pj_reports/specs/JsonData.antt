@@ -4,8 +4,8 @@ use Rattle.std.specs.List.{list_any}
 use Rattle.serde_json.specs.Data.{Data, Members, array, member, no_members}
 use Rattle.serde_json.specs.Data.{number, object, string, unsigned}
 use Rattle.serde_json.specs.View.{items_of}
-use Rattle.pj_rule_rows.specs.declared.rule_row.ConfigError.{ConfigError}
-use Rattle.pj_rule_rows.specs.declared.rule_row.RuleRow.{RuleRow}
+use Rattle.pj_names.specs.declared.rule_row.ConfigError.{ConfigError}
+use Rattle.pj_names.specs.declared.rule_row.RuleRow.{RuleRow}
 use Rattle.pj_reports.specs.Shown.{Bytes, PathError, errors, is_reported, is_suppressed, row_of}
 use Rattle.pj_reports.specs.ReportText.{reason_word}
 use Rattle.pj_reports.specs.declared.report.Report.{Report}

@@ -5,8 +5,8 @@ use Rattle.std.specs.Prelude.{◌==◌, ◌+◌, ℕ, Bool, List, [], ◌∷◌,
 use Rattle.std.specs.Prelude.{if◌then◌else◌}
 use Rattle.std.specs.List.{list_any}
 use Rattle.json.specs.Print.{quoted}
-use Rattle.pj_rule_rows.specs.declared.rule_row.ConfigError.{ConfigError}
-use Rattle.pj_rule_rows.specs.declared.rule_row.RuleRow.{RuleRow}
+use Rattle.pj_names.specs.declared.rule_row.ConfigError.{ConfigError}
+use Rattle.pj_names.specs.declared.rule_row.RuleRow.{RuleRow}
 use Rattle.pj_reports.specs.Shown.{Bytes, PathError, Problem, errors, is_reported, is_suppressed, problems, row_of}
 use Rattle.pj_reports.specs.declared.report.Report.{Report}
 use Rattle.pj_reports.specs.declared.rows.FileRows.{FileRows}

@@ -1,6 +1,6 @@
 -- Which rows of a report its texts show, and what of a rule.
 use Rattle.std.specs.Prelude.{ℕ, Bool, not, List, [], is_some, unwrap_or, slice_get, filter, flat_map, map}
-use Rattle.pj_rule_rows.specs.declared.rule_row.RuleRow.{RuleRow}
+use Rattle.pj_names.specs.declared.rule_row.RuleRow.{RuleRow}
 use Rattle.pj_reports.specs.declared.rows.FileRows.{FileRows}
 use Rattle.pj_reports.specs.declared.rows.Finding.{Finding}
 

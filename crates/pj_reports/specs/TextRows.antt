@@ -1,6 +1,6 @@
 -- The rows of the texts as lists, for their laws.
 use Rattle.std.specs.Prelude.{◌+◌, ◌++◌, ◌∷◌, [], ℕ, List, map}
-use Rattle.pj_rule_rows.specs.declared.rule_row.RuleRow.{RuleRow}
+use Rattle.pj_names.specs.declared.rule_row.RuleRow.{RuleRow}
 use Rattle.pj_reports.specs.ReportText.{fault_line, problem_fields, problem_line}
 use Rattle.pj_reports.specs.Shown.{Bytes, Problem, errors, problems}
 use Rattle.pj_reports.specs.declared.report.Report.{Report}

@@ -8,7 +8,7 @@ use crate::report::Report;
 use crate::shown::{Problem, problems, rule_shown};
 use csv::{QuoteStyle, Writer, WriterBuilder};
 use pj_base::{Bytes, NoMemory};
-use pj_rule_rows::RuleRowList;
+use pj_names::RuleRowList;
 use std::alloc::Global;
 use std::convert::AsStr;
 

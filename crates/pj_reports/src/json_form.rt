@@ -11,7 +11,7 @@ use crate::report::Report;
 use crate::rows::{FileRows, Finding, Reason};
 use crate::shown::{RuleShown, rule_shown};
 use pj_base::{Bytes, NoMemory, Text};
-use pj_rule_rows::{ConfigError, RuleRowList};
+use pj_names::{ConfigError, RuleRowList};
 use serde_json::{Value, json};
 use std::alloc::{AllocError, Global};
 use std::convert::AsStr;

@@ -1,7 +1,7 @@
 //! The report of a run.
 use crate::rows::FileRows;
 use pj_base::{ListOf, Text};
-use pj_rule_rows::{ConfigErrors, RuleRowList};
+use pj_names::{ConfigErrors, RuleRowList};
 
 /// The rows of files, each with its path, in the order of the paths' bytes.
 pub type PathRows = ListOf<(Text, FileRows)>;

@@ -5,7 +5,7 @@ ghost use Rattle.pj_reports.specs.Borrowed.{problem_seen, rule_seen};
 
 use crate::rows::{FileRows, Finding};
 use pj_base::{NoMemory, Text};
-use pj_rule_rows::RuleRowList;
+use pj_names::RuleRowList;
 use std::alloc::Global;
 use std::convert::AsStr;
 

@@ -8,7 +8,7 @@ use crate::report::Report;
 use crate::rows::FileRows;
 use crate::shown::{Problem, problems, rule_shown};
 use pj_base::{Bytes, NoMemory, Text};
-use pj_rule_rows::{ConfigError, RuleRowList};
+use pj_names::{ConfigError, RuleRowList};
 use std::alloc::Global;
 
 /// Puts texts at the end, one after the other.

@@ -2,7 +2,7 @@
 use Rattle.std.proofs.Common.{◌≡◌, true, ◌&&◌, List, [], ◌∷◌, Option, Some, None, refl, sym, ap, ap₂, ◌∙◌, subst, true≢false}
 use Rattle.std.specs.Cmp.Lexicographic.{pointwise, same_text}
 use Rattle.std.proofs.lemmas.Bool.{and_parts}
-use Rattle.pj_rule_rows.specs.declared.rule_row.RuleRow.{RuleRow}
+use Rattle.pj_names.specs.declared.rule_row.RuleRow.{RuleRow}
 use Rattle.pj_rule_texts.specs.Values.{Text, is_same}
 use Rattle.pj_rule_texts.specs.declared.properties.Property.{Property}
 use Rattle.pj_rule_texts.specs.declared.rule.RuleTexts.{RuleTexts}

@@ -1,7 +1,7 @@
 -- The rules of a set.
 use Rattle.std.specs.Prelude.{ℕ, List}
-use Rattle.pj_rule_rows.specs.declared.rule_row.ConfigError.{ConfigError}
-use Rattle.pj_rule_rows.specs.declared.rule_row.RuleRow.{RuleRow}
+use Rattle.pj_names.specs.declared.rule_row.ConfigError.{ConfigError}
+use Rattle.pj_names.specs.declared.rule_row.RuleRow.{RuleRow}
 use Rattle.pj_rule_texts.specs.Values.{Text}
 use Rattle.pj_rule_texts.specs.declared.properties.Property.{Property}
 use Rattle.pj_rule_texts.specs.declared.rule.RuleTexts.{RuleTexts}

@@ -4,7 +4,7 @@ ghost use Rattle.pj_rule_sets.specs.Lists.{not_an_xpath_rule, not_available};
 
 use crate::usable::UsableRule;
 use pj_base::{Copied, NoMemory, Text};
-use pj_rule_rows::ConfigError;
+use pj_names::ConfigError;
 use std::alloc::Global;
 
 /// What a rule is told apart by: a rule by the file in which it is defined and its name there, and a reference to a file that is

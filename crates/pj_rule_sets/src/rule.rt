@@ -13,7 +13,7 @@ use crate::expressions::RuleExpressions;
 use crate::path_patterns::{PathPatterns, texts_of};
 use crate::usable::UsableRule;
 use pj_base::{Names, NoMemory, Text};
-use pj_rule_rows::RuleRow;
+use pj_names::RuleRow;
 use pj_rule_texts::{Properties, RuleTexts};
 use pj_xexpressions::Expr;
 use pj_xpatterns::Patterns;

@@ -4,7 +4,7 @@ ghost use Rattle.pj_rule_sets.specs.Active.{covers_at, is_active_at};
 
 use crate::rule::Rule;
 use pj_base::{ListOf, NoMemory, Text};
-use pj_rule_rows::ConfigErrors;
+use pj_names::ConfigErrors;
 use std::alloc::Global;
 use std::marker::Model;
 

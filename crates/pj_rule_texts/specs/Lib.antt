@@ -7,3 +7,8 @@ pub mod Seen
 -- for private clauses
 pub mod Spaces
 pub mod Tables
+-- definitions
+pub mod Files
+-- for private clauses
+pub mod Readings
+pub mod Refusals

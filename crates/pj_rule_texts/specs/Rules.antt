@@ -1,6 +1,6 @@
 -- The texts of a rule: those that an element `rule` defines, and those that a reference changes.
 use Rattle.std.specs.Prelude.{⊤, ◌≡◌, ℕ, ◌&&◌, ◌||◌, Bool, true, false, List, [], ◌∷◌, Option, Some, None, Result, Ok, Err, codes, is_some, unwrap_or, if◌then◌else◌}
-use Rattle.pj_rule_rows.specs.declared.rule_row.RuleRow.{RuleRow}
+use Rattle.pj_names.specs.declared.rule_row.RuleRow.{RuleRow}
 use Rattle.pj_rule_texts.specs.Values.{Text, is_same, is_xpath, needs_no_type, normalized, priority_of, typed_value}
 use Rattle.pj_rule_texts.specs.Written.{or_else}
 use Rattle.pj_rule_texts.specs.declared.properties.Property.{Property}

@@ -1,11 +1,13 @@
-//! The texts of rulesets: what is written in a ruleset file, and the texts of the rules that its elements define or change.
+//! The texts of rulesets: what is written in a ruleset file, or why it is no ruleset, and the texts of the rules that its elements define
+//! or change.
 //!
-//! Nothing here reads files or XPath: a ruleset is taken from its markup, a rule is its texts, and a reference to another file
-//! is told apart, not followed.
+//! Nothing here reads XPath: a rule is its texts, and a reference to another file is told apart, not followed.
 #![tactic(auto)]
 
 mod draft;
 mod fault;
+mod file;
+mod file_fault;
 mod members;
 mod numbers;
 mod priority;
@@ -20,6 +22,8 @@ mod written;
 
 pub use draft::needs_no_type;
 pub use fault::TextFault;
+pub use file::read_ruleset;
+pub use file_fault::{FileFault, FileRefused};
 pub use members::members_of;
 pub use priority::priority_of;
 pub use properties::{Properties, Property};

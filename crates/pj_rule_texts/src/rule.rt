@@ -9,7 +9,7 @@ use crate::properties::{Properties, PropertyTable};
 use crate::spaces::normalized;
 use crate::written::WrittenRule;
 use pj_base::{Copied, NoMemory, Text, is_same_text};
-use pj_rule_rows::RuleRow;
+use pj_names::RuleRow;
 use std::alloc::Global;
 
 /// The texts of a rule: all that a ruleset says of it.

@@ -11,8 +11,8 @@ use Rattle.pj_rule_sets.specs.Expressions.{IsSound}
 use Rattle.pj_rule_sets.specs.Faults as expressions
 use Rattle.pj_rule_sets.specs.Laws.{SoundOrFault}
 use Rattle.pj_rule_sets.specs.declared.fault.ExpressionFault.{ExpressionFault}
-use Rattle.pj_rule_files.specs.Files.{AreFault, AreRuleset, IsRead, IsRuleset, IsTextFault, IsUnreadable, greatest_size, is_there}
-use Rattle.pj_rule_files.specs.declared.fault.FileFault.{FileFault}
+use Rattle.pj_rule_texts.specs.Files.{AreFault, AreRuleset, IsRead, IsRuleset, IsTextFault, IsUnreadable, greatest_size, is_there}
+use Rattle.pj_rule_texts.specs.declared.file_fault.FileFault.{FileFault}
 use Rattle.pj_rule_sets.specs.Lists.{Taken, is_among, named}
 use Rattle.pj_rule_sets.specs.declared.entry.Entry.{Entry}
 use Rattle.pj_rule_sets.specs.declared.entry.Entry.TheVariants as entry

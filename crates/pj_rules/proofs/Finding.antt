@@ -4,10 +4,10 @@ use Rattle.std.proofs.lemmas.Bool.{eqb-true}
 use Rattle.std.specs.Borrow.{Bor}
 use Rattle.std.specs.Option.{option_copied}
 use Rattle.pj_outside.specs.Files.{Files}
-use Rattle.pj_rule_files.specs.Files as files
-use Rattle.pj_rule_files.specs.Files.{IsRead, IsUnreadable, is_there}
-use Rattle.pj_rule_files.specs.declared.fault.FileRefused.{FileRefused}
-use Rattle.pj_rule_files.specs.declared.fault.FileRefused.TheVariants as file_refused
+use Rattle.pj_rule_texts.specs.Files as files
+use Rattle.pj_rule_texts.specs.Files.{IsRead, IsUnreadable, is_there}
+use Rattle.pj_rule_texts.specs.declared.file_fault.FileRefused.{FileRefused}
+use Rattle.pj_rule_texts.specs.declared.file_fault.FileRefused.TheVariants as file_refused
 use Rattle.pj_rule_sets.specs.Lists.{Taken, is_among}
 use Rattle.pj_rule_texts.specs.References.{beside}
 use Rattle.pj_rule_texts.specs.Values.{Text, is_empty}

@@ -8,7 +8,7 @@ use Rattle.pj_rule_sets.specs.Laws.{OneFault, SoundOrFault}
 use Rattle.pj_rule_sets.specs.Faults as expressions
 use Rattle.pj_rule_sets.specs.declared.fault.ExpressionFault.{ExpressionFault}
 use Rattle.pj_rule_sets.specs.declared.fault.ExpressionFault.TheVariants as unsound
-use Rattle.pj_rule_files.specs.Files.{IsRead, is_there}
+use Rattle.pj_rule_texts.specs.Files.{IsRead, is_there}
 use Rattle.pj_rule_sets.specs.Lists.{Taken, is_among, named}
 use Rattle.pj_rule_sets.specs.declared.entry.Entry.{Entry}
 use Rattle.pj_rule_sets.specs.declared.entry.Entry.TheVariants as entry

@@ -5,7 +5,7 @@ use Rattle.pj_markup.specs.Depth.{greatest_depth}
 use Rattle.pj_markup.specs.declared.element.Row.{Row}
 use Rattle.pj_markup.specs.Faults.{IsMarkup}
 use Rattle.pj_outside.specs.Files.{Files, bytes_at}
-use Rattle.pj_rule_files.specs.Files.{IsRead, IsRuleset}
+use Rattle.pj_rule_texts.specs.Files.{IsRead, IsRuleset}
 use Rattle.pj_rule_sets.specs.Lists.{Taken, defined_in, is_among, named, not_available, referred_in, without}
 use Rattle.pj_rule_sets.specs.declared.entry.Entry.{Entry}
 use Rattle.pj_rule_sets.specs.declared.entry.Entry.TheVariants as entry

@@ -8,9 +8,9 @@ use Rattle.pj_markup.specs.Faults.{CanGoOn, CannotFollow, IsMarkup, IsTooDeepAt,
 use Rattle.pj_markup.specs.Markup.{Doc}
 use Rattle.pj_markup.specs.declared.element.Row.{Row}
 use Rattle.pj_outside.specs.Files.{Files, bytes_at}
-use Rattle.pj_rule_files.specs.Files.{AreFault, IsTextFault, IsUnreadable, greatest_size}
-use Rattle.pj_rule_files.specs.declared.fault.FileFault.{FileFault}
-use Rattle.pj_rule_files.specs.declared.fault.FileFault.TheVariants.{Markup}
+use Rattle.pj_rule_texts.specs.Files.{AreFault, IsTextFault, IsUnreadable, greatest_size}
+use Rattle.pj_rule_texts.specs.declared.file_fault.FileFault.{FileFault}
+use Rattle.pj_rule_texts.specs.declared.file_fault.FileFault.TheVariants.{Markup}
 use Rattle.pj_rule_texts.specs.Values.{Text}
 use Rattle.pj_rule_texts.specs.Written.{root}
 use Rattle.pj_rules.proofs.Apart.{not_deep, not_stopped}

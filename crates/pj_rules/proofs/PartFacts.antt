@@ -1,7 +1,7 @@
 -- What parts of a file add, or their faults.
 use Rattle.std.proofs.Common.{◌≡◌, true, false, List, Option, Some, None, sym, ap, subst}
 use Rattle.pj_outside.specs.Files.{Files}
-use Rattle.pj_rule_files.specs.Files.{IsRead}
+use Rattle.pj_rule_texts.specs.Files.{IsRead}
 use Rattle.pj_rule_sets.specs.Lists.{Taken, is_among}
 use Rattle.pj_rule_texts.specs.Values.{Text}
 use Rattle.pj_rule_texts.specs.declared.written.Part.TheVariants as part

@@ -3,7 +3,7 @@ use Rattle.std.proofs.Common.{◌≡◌, ◌∙◌, ℕ, ◌+◌, ◌<◌, true,
 use Rattle.std.specs.List.{filter_map}
 use Rattle.std.proofs.lemmas.List.{drop_more, take_more, take-append-drop, map-append}
 use Rattle.pj_outside.specs.Files.{Files}
-use Rattle.pj_rule_files.specs.Files.{is_there}
+use Rattle.pj_rule_texts.specs.Files.{is_there}
 use Rattle.pj_rule_sets.specs.Lists.{Taken, not_available, referred_in}
 use Rattle.pj_rule_sets.specs.declared.entry.Entry.{Entry}
 use Rattle.pj_rule_texts.specs.References.{is_from_elsewhere}

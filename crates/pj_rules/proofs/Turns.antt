@@ -2,7 +2,7 @@
 use Rattle.std.proofs.Common.{◌≡◌, ◌∙◌, Bool, true, false, List, [], ◌∷◌, ◌++◌, Option, Some, None, is_some, sym, ap, subst, append-nil}
 use Rattle.std.specs.Prelude.{MatchOption}
 use Rattle.pj_outside.specs.Files.{Files}
-use Rattle.pj_rule_files.specs.Files.{IsRead}
+use Rattle.pj_rule_texts.specs.Files.{IsRead}
 use Rattle.pj_rule_sets.specs.Lists.{Taken}
 use Rattle.pj_rule_texts.specs.Values.{Text}
 use Rattle.pj_rule_texts.specs.declared.written.Part.{Part}

@@ -17,9 +17,9 @@ use Rattle.pj_rule_texts.specs.declared.written.Part.{Part}
 use Rattle.pj_rule_texts.specs.declared.written.Part.TheVariants as part
 use Rattle.pj_rule_texts.specs.declared.written.WrittenRule.{WrittenRule}
 use Rattle.pj_rule_texts.specs.declared.written.WrittenRuleset.{WrittenRuleset}
-use Rattle.pj_rule_files.specs.Files.{IsRead, IsUnreadable}
-use Rattle.pj_rule_files.specs.declared.fault.FileFault.{FileFault}
-use Rattle.pj_rule_files.specs.declared.fault.FileFault.TheVariants as of_file
+use Rattle.pj_rule_texts.specs.Files.{IsRead, IsUnreadable}
+use Rattle.pj_rule_texts.specs.declared.file_fault.FileFault.{FileFault}
+use Rattle.pj_rule_texts.specs.declared.file_fault.FileFault.TheVariants as of_file
 use Rattle.pj_rule_sets.specs.Lists.{Taken, defined_in, is_among, named, not_an_xpath_rule, not_available, put, put_all, referred_in, without}
 use Rattle.pj_rule_sets.specs.declared.entry.Entry.TheVariants as entry
 use Rattle.pj_rule_sets.specs.declared.entry.Unusable.{Unusable}

@@ -1,7 +1,7 @@
 -- What looking a file up finds.
 use Rattle.std.specs.Prelude.{◌≡◌, Bool, true, false, List, ◌++◌, [], ◌∷◌, Some, None}
 use Rattle.pj_outside.specs.Files.{Files}
-use Rattle.pj_rule_files.specs.Files.{IsRead, is_there}
+use Rattle.pj_rule_texts.specs.Files.{IsRead, is_there}
 use Rattle.pj_rule_sets.specs.Lists.{is_among}
 use Rattle.pj_rule_texts.specs.Values.{Text}
 use Rattle.pj_rules.specs.Effective.{FileFaults}

@@ -1,7 +1,7 @@
 -- Which files are known.
 use Rattle.std.specs.Prelude.{⊤, ◌≡◌, true, List, [], ◌∷◌}
 use Rattle.pj_outside.specs.Files.{Files}
-use Rattle.pj_rule_files.specs.Files.{is_there}
+use Rattle.pj_rule_texts.specs.Files.{is_there}
 use Rattle.pj_rule_sets.specs.ReadFiles.{Read}
 use Rattle.pj_rule_texts.specs.Values.{Text}
 use Rattle.pj_rules.specs.Effective.{HasRules}

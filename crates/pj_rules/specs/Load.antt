@@ -2,10 +2,10 @@
 use Rattle.std.specs.Prelude.{◌≡◌, ℕ, ◌+◌, ◌<◌, true, false, List, [], ◌∷◌, ◌++◌, length, Option, Some, None, nat_le, if◌then◌else◌}
 use Rattle.std.specs.List.{filter_map, flat_map}
 use Rattle.pj_outside.specs.Files.{Files}
-use Rattle.pj_rule_files.specs.Files.{IsRead, is_there}
+use Rattle.pj_rule_texts.specs.Files.{IsRead, is_there}
 use Rattle.pj_rule_sets.specs.Lists.{Taken, not_available, referred_in}
 use Rattle.pj_rule_sets.specs.declared.entry.Entry.TheVariants as entry
-use Rattle.pj_rule_rows.specs.declared.rule_row.ConfigError.{ConfigError}
+use Rattle.pj_names.specs.declared.rule_row.ConfigError.{ConfigError}
 use Rattle.pj_rule_texts.specs.References.{is_from_elsewhere}
 use Rattle.pj_rule_texts.specs.Values.{Text}
 use Rattle.pj_rule_texts.specs.declared.written.Part.{Part}

@@ -1,7 +1,7 @@
 -- Where files are looked up.
 use Rattle.std.specs.Prelude.{Option, Some, None, if◌then◌else◌}
 use Rattle.pj_outside.specs.Files.{Files}
-use Rattle.pj_rule_files.specs.Files.{is_there}
+use Rattle.pj_rule_texts.specs.Files.{is_there}
 use Rattle.pj_rule_texts.specs.References.{beside}
 use Rattle.pj_rule_texts.specs.Values.{Text, is_empty}
 

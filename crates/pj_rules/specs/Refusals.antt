@@ -2,8 +2,8 @@
 use Rattle.std.specs.Prelude.{⊤, ◌≡◌, Some}
 use Rattle.pj_rule_sets.specs.Faults as expressions
 use Rattle.pj_rule_sets.specs.declared.fault.ExpressionFault.{ExpressionFault}
-use Rattle.pj_rule_files.specs.declared.fault.FileRefused.{FileRefused}
-use Rattle.pj_rule_files.specs.declared.fault.FileRefused.TheVariants as file
+use Rattle.pj_rule_texts.specs.declared.file_fault.FileRefused.{FileRefused}
+use Rattle.pj_rule_texts.specs.declared.file_fault.FileRefused.TheVariants as file
 use Rattle.pj_rule_texts.specs.Values.{Text}
 use Rattle.pj_rule_texts.specs.declared.rule.RuleTexts.{RuleTexts}
 use Rattle.pj_rules.specs.Effective.{what_of_expressions, what_of_file}

@@ -8,7 +8,7 @@ ghost use Rattle.pj_rules.specs.States.{top_rules};
 
 use crate::top::Top;
 use pj_base::{ListOf, NoMemory};
-use pj_rule_rows::ConfigErrors;
+use pj_names::ConfigErrors;
 use pj_rule_sets::{Entry, Origin, PathPatterns, Rule, Rules};
 use std::alloc::Global;
 use std::sync::Arc;

@@ -1,7 +1,7 @@
 //! Looking files up.
 ghost use Rattle.std.specs.Prelude.{◌≡◌, ◌≢◌, Some, Err, IfOk, IfErr};
 ghost use Rattle.pj_outside.specs.Files.{Files};
-ghost use Rattle.pj_rule_files.specs.Files.{GivesRead};
+ghost use Rattle.pj_rule_texts.specs.Files.{GivesRead};
 ghost use Rattle.pj_rules.specs.Effective.{what_of_file};
 ghost use Rattle.pj_rules.specs.Finding.{IsFaultAt, IsFound, IsFoundAt, IsFoundFault, IsNewFault};
 ghost use Rattle.pj_rules.specs.Known.{AreKnown};
@@ -11,9 +11,8 @@ ghost use Rattle.pj_rules.specs.Refusals.{IfFault, refused_file};
 use crate::fault::{RuleFault, RuleRefused, RuleWhat};
 use pj_base::{Copied, Text};
 use pj_outside::Tree;
-use pj_rule_files::{FileFault, FileRefused, read_ruleset};
 use pj_rule_sets::Known;
-use pj_rule_texts::{WrittenRuleset, beside};
+use pj_rule_texts::{FileFault, FileRefused, WrittenRuleset, beside, read_ruleset};
 use std::alloc::Global;
 
 /// What is found under a path.

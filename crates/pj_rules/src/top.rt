@@ -1,7 +1,7 @@
 //! Top rulesets.
 ghost use Rattle.std.specs.Prelude.{◌≡◌, ◌≢◌, Some, map, false, Err, IfOk, IfErr};
 ghost use Rattle.pj_outside.specs.Files.{Files};
-ghost use Rattle.pj_rule_files.specs.Files.{IsRead, is_there};
+ghost use Rattle.pj_rule_texts.specs.Files.{IsRead, is_there};
 ghost use Rattle.pj_rule_texts.specs.Values.{Text};
 ghost use Rattle.pj_rules.specs.Known.{AreRead};
 ghost use Rattle.pj_rules.specs.Load.{AreTops, IsFirstFault, IsTop, IsTopFault};

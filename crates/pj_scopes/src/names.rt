@@ -4,13 +4,13 @@ ghost use Rattle.std.specs.Prelude.{◌≡◌, ◌<◌, IfOk, IfSome, length};
 ghost use Rattle.pj_names.specs.Expand.{expand};
 ghost use Rattle.pj_names.specs.Told.{Asks, seen};
 ghost use Rattle.pj_file_oracle.specs.FileAnswer.{file_answer};
-ghost use Rattle.pj_variables.specs.Seen.{IsInside, seen_variable};
-ghost use Rattle.pj_variables.specs.VariableName.{variable_name};
+ghost use Rattle.pj_scopes.specs.Seen.{IsInside, seen_variable};
+ghost use Rattle.pj_scopes.specs.VariableName.{variable_name};
 
+use crate::{Variable, variable_name};
 use pj_file_oracle::FileOracle;
 use pj_names::{AskFault, Oracle};
 use pj_tree::Node;
-use pj_variables::{Variable, variable_name};
 
 /// The variable that a simple name means at a place of the file (JLS 6.3, 6.4.1, 6.5.6.1), and `None` exactly where it means none.
 ///

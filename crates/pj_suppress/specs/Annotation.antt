@@ -2,9 +2,9 @@
 use Rattle.std.specs.Prelude.{Bool, false, ◌&&◌, ◌||◌, List, [], ◌∷◌, Option, Some, codes, drop, is_none, nat_eq}
 use Rattle.std.specs.List.{list_any, starts_with}
 use Rattle.std.specs.Option.{option_map_or}
-use Rattle.pj_nodes.specs.Children.{first_child}
-use Rattle.pj_nodes.specs.Kinds.{is_kind}
-use Rattle.pj_nodes.specs.Words.{words_of}
+use Rattle.pj_tree.specs.Children.{first_child}
+use Rattle.pj_tree.specs.Kinds.{is_kind}
+use Rattle.pj_tree.specs.Words.{words_of}
 use Rattle.pj_tree.specs.Tree.{Tree, ancestors_of, children_of}
 use Rattle.pj_tree.specs.declared.kind.Kind.TheVariants as kind
 use Rattle.pj_tree.specs.declared.node.Node.{Node}

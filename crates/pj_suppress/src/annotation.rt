@@ -2,15 +2,14 @@
 ghost use Rattle.std.specs.Prelude.{◌≡◌, ◌<◌, ◌&&◌, ◌∷◌, [], IfSome, IsTrue, MatchOption, codes, drop, is_none, length, nat_eq};
 ghost use Rattle.std.specs.List.{list_any, starts_with};
 ghost use Rattle.pj_tree.specs.Tree.{ancestors_of, children_of};
-ghost use Rattle.pj_nodes.specs.Children.{first_child};
-ghost use Rattle.pj_nodes.specs.Words.{words_of};
+ghost use Rattle.pj_tree.specs.Children.{first_child};
+ghost use Rattle.pj_tree.specs.Words.{words_of};
 ghost use Rattle.pj_suppress.specs.Annotation.{annotation_names, by_annotation, declaration_names, is_named, is_string, literal_names, member_names, members_name, modifiers_name, names_rule, qualified_name, simple_name, value_names};
 ghost use Rattle.pj_suppress.specs.Words.{same_text, same_texts};
 
 use crate::words::has_words;
 use pj_base::Text;
-use pj_nodes::{first_child, is_kind};
-use pj_tree::{Kind, Node, SyntaxTree};
+use pj_tree::{Kind, Node, SyntaxTree, first_child, is_kind};
 use pj_xvalue::{Attributes, Value};
 
 /// What stands behind a front of a text.

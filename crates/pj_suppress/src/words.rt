@@ -1,6 +1,6 @@
 //! Texts beside each other.
 ghost use Rattle.std.specs.Prelude.{◌≡◌, ◌<◌, length, map};
-ghost use Rattle.pj_nodes.specs.Words.{words_of};
+ghost use Rattle.pj_tree.specs.Words.{words_of};
 ghost use Rattle.pj_suppress.specs.Words.{contains, same_texts};
 
 use pj_tree::{Node, OwnTokens, SyntaxTree};

@@ -6,7 +6,7 @@ use Rattle.pj_tree.specs.Tree.{Tree, kind_of, ancestors_of}
 use Rattle.pj_tree.specs.declared.kind.Kind.{Kind}
 use Rattle.pj_tree.specs.declared.kind.Kind.TheVariants as k
 use Rattle.pj_tree.specs.declared.node.Node.{Node}
-use Rattle.pj_nodes.specs.Kinds.{kind_above}
+use Rattle.pj_tree.specs.Kinds.{kind_above}
 use Rattle.pj_symbols.specs.Kinds.{declares_class}
 use Rattle.pj_symbols.specs.Names.{simple_name, package_name, package_prefix}
 use Rattle.pj_symbols.specs.declared.class.Nesting.{Nesting}

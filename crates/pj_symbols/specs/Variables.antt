@@ -5,8 +5,8 @@ use Rattle.pj_tree.specs.Tree.{Tree, kind_of, parent_of}
 use Rattle.pj_tree.specs.declared.kind.Kind.{Kind}
 use Rattle.pj_tree.specs.declared.kind.Kind.TheVariants as k
 use Rattle.pj_tree.specs.declared.node.Node.{Node}
-use Rattle.pj_nodes.specs.Kinds.{kind_above}
-use Rattle.pj_nodes.specs.Words.{first_of, words_of}
+use Rattle.pj_tree.specs.Kinds.{kind_above}
+use Rattle.pj_tree.specs.Words.{first_of, words_of}
 use Rattle.pj_symbols.specs.declared.variable.Variable.{Variable}
 use Rattle.pj_symbols.specs.declared.variable.VariableKind.{VariableKind}
 use Rattle.pj_symbols.specs.declared.variable.VariableKind.TheVariants as v

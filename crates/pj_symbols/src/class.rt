@@ -7,8 +7,7 @@ ghost use Rattle.pj_symbols.specs.Names.{package_name, package_prefix};
 
 use crate::kinds::is_class;
 use pj_base::{NoMemory, Text};
-use pj_nodes::{kind_above, last_word};
-use pj_tree::{Kind, Node, SyntaxTree};
+use pj_tree::{Kind, Node, SyntaxTree, kind_above, last_word};
 use std::alloc::Global;
 
 /// A class or an interface that a file declares.

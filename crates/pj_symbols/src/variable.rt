@@ -5,8 +5,7 @@ ghost use Rattle.pj_symbols.specs.Symbols.{variable_at};
 ghost use Rattle.pj_symbols.specs.Variables.{declaration_of, variable_kind, kind_in, local_kind, local_kind_in};
 
 use pj_base::{NoMemory, Text};
-use pj_nodes::{first_word, kind_above};
-use pj_tree::{Kind, Node, SyntaxTree};
+use pj_tree::{Kind, Node, SyntaxTree, first_word, kind_above};
 use std::alloc::Global;
 
 /// A variable that a file declares.

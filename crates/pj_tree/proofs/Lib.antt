@@ -13,3 +13,4 @@ pub mod Seen
 pub mod Siblings
 pub mod TokenLists
 pub mod TreeLaws
+pub mod Inside

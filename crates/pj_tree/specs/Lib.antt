@@ -7,3 +7,7 @@ pub mod Tree
 -- for private clauses
 pub mod Rows
 pub mod Runs
+-- definitions
+pub mod Children
+pub mod Kinds
+pub mod Words

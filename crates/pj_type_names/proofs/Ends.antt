@@ -10,7 +10,7 @@ use Rattle.pj_tree.specs.declared.node.Node.{Node}
 use Rattle.pj_names.specs.Asking.{Asking, Return}
 use Rattle.pj_names.specs.ClassName.{Name, is_object}
 use Rattle.pj_symbols.specs.declared.class.Class.{Class as DeclaredClass}
-use Rattle.pj_imports.specs.Candidates.{class_named, file_classes, node_named}
+use Rattle.pj_outer_names.specs.Candidates.{class_named, file_classes, node_named}
 use Rattle.pj_type_names.specs.TypeName.{HeadersEnd, direct, enough, header_supertypes, is_busy, supertypes_by}
 
 -- ---- classes whose headers are being resolved

@@ -4,7 +4,7 @@ use Rattle.std.specs.Prelude.{find}
 use Rattle.std.specs.Option.{IfSome, option_and_then, option_map, option_map_or}
 use Rattle.pj_tree.specs.Tree.{Tree, children_of, parent_of}
 use Rattle.pj_tree.specs.declared.node.Node.{Node}
-use Rattle.pj_nodes.specs.Children.{child_of}
+use Rattle.pj_tree.specs.Children.{child_of}
 use Rattle.pj_symbols.specs.Classes.{class_around, nesting_of}
 use Rattle.pj_symbols.specs.Kinds.{declares_class}
 use Rattle.pj_symbols.specs.declared.class.Nesting.{Nesting}
@@ -19,8 +19,8 @@ use Rattle.pj_declared.specs.declared.named.Named.{Named}
 use Rattle.pj_declared.specs.declared.nearest.Declared.{Declared}
 use Rattle.pj_declared.specs.declared.scope.Scope.{Scope}
 use Rattle.pj_declared.specs.declared.scope.Scopes.{Scopes}
-use Rattle.pj_nodes.specs.Kinds.{is_kind}
-use Rattle.pj_nodes.proofs.Inside.{AreInside}
+use Rattle.pj_tree.specs.Kinds.{is_kind}
+use Rattle.pj_tree.proofs.Inside.{AreInside}
 use Rattle.pj_written.proofs.Inside.{children_inside}
 use Rattle.pj_written.specs.Written.{name_within, with_outer, written_name}
 use Rattle.pj_written.specs.declared.written.Written.{Written}

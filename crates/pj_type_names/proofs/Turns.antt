@@ -19,15 +19,15 @@ use Rattle.pj_declared.specs.Nearest.{type_meant}
 use Rattle.pj_declared.specs.declared.nearest.Declared.{Declared}
 use Rattle.pj_written.specs.Headers.{class_text}
 use Rattle.std.specs.Option.{MatchOption}
-use Rattle.pj_inherited.specs.Around.{classes_around, further_in, searched}
-use Rattle.pj_inherited.specs.Inherited.{inherited_member, outside_supertypes}
+use Rattle.pj_outer_names.specs.Around.{classes_around, further_in, searched}
+use Rattle.pj_outer_names.specs.Inherited.{inherited_member, outside_supertypes}
 use Rattle.pj_symbols.specs.Symbols.{class_at, classes_below, one_class}
 use Rattle.pj_symbols.specs.declared.class.Class.{Class as DeclaredClass}
 use Rattle.pj_written.specs.Fits.{argument_by, bare, brackets, fits, fits_within, listed_fit, most_signs, most_signs_is}
 use Rattle.pj_written.specs.Types.{arrays, object_type}
 use Rattle.pj_written.specs.Words.{below_child}
 use Rattle.pj_tree.specs.declared.kind.Kind.TheVariants as k
-use Rattle.pj_imports.specs.Candidates.{file_classes, node_named}
+use Rattle.pj_outer_names.specs.Candidates.{file_classes, node_named}
 use Rattle.pj_type_names.specs.Searching as resolution
 use Rattle.pj_type_names.specs.TypeName.{direct, supertypes_by}
 

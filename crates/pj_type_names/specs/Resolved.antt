@@ -5,8 +5,8 @@ use Rattle.pj_tree.specs.Tree.{Tree, kind_of}
 use Rattle.pj_tree.specs.declared.kind.Kind.{Kind}
 use Rattle.pj_tree.specs.declared.kind.Kind.TheVariants as k
 use Rattle.pj_tree.specs.declared.node.Node.{Node}
-use Rattle.pj_nodes.specs.Kinds.{is_kind}
-use Rattle.pj_nodes.specs.Words.{words_of, has}
+use Rattle.pj_tree.specs.Kinds.{is_kind}
+use Rattle.pj_tree.specs.Words.{words_of, has}
 use Rattle.pj_names.specs.ClassName.{Name}
 use Rattle.pj_names.specs.JavaType.{JavaType, Arguments, Void, Class, Unknown}
 use Rattle.pj_names.specs.Asking.{Asking, Return, bind, each}
@@ -18,7 +18,7 @@ use Rattle.pj_written.specs.Names.{with_dots}
 use Rattle.pj_written.specs.Types.{arrays, as_argument, object_type, primitive_of}
 use Rattle.pj_written.specs.Written.{written_name}
 use Rattle.pj_written.specs.Fits.{bare, brackets, fits, most_signs}
-use Rattle.pj_imports.specs.Candidates.{as_type, dotted_class}
+use Rattle.pj_outer_names.specs.Candidates.{as_type, dotted_class}
 
 -- the class of a name with a package, by its candidates (JLS 6.5.5.2): its parts are no classes in scope
 abbrev pub packaged : List DeclaredClass → List (List ℕ) → Asking JavaType

@@ -12,9 +12,9 @@ use Rattle.pj_written.specs.declared.written.Written.{Written}
 use Rattle.pj_written.specs.Headers.{bounds_of}
 use Rattle.pj_written.specs.Words.{below_child}
 use Rattle.pj_written.specs.Written.{written_name}
-use Rattle.pj_imports.specs.Candidates.{file_classes}
-use Rattle.pj_inherited.specs.Inherited as inheriting
-use Rattle.pj_inherited.specs.NameWalks.{left_out}
+use Rattle.pj_outer_names.specs.Candidates.{file_classes}
+use Rattle.pj_outer_names.specs.Inherited as inheriting
+use Rattle.pj_outer_names.specs.NameWalks.{left_out}
 use Rattle.pj_type_names.specs.Resolved as writing
 use Rattle.pj_type_names.specs.TypeName as names
 

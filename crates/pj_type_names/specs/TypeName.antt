@@ -10,7 +10,7 @@
 --    between a node and one within it are those of nodes within it; so a class around with a number no greater has that node
 --    within it, or is it, and one with a greater number does not.
 -- 2. Classes of the file. They too are what `type_meant` tells.
--- 3. to 5. Imports of the name, the package, imports on demand with `java.lang`: `outside` of `pj_imports`.
+-- 3. to 5. Imports of the name, the package, imports on demand with `java.lang`: `outside` of `pj_outer_names`.
 --
 -- What a class inherits is found by its header, and a header writes types, whose names are looked for in scopes of the same file, with what
 -- further classes inherit. So headers lead to one another, and back. A class whose header is being resolved has no supertypes; which
@@ -33,10 +33,10 @@ use Rattle.pj_declared.specs.Rows.{names_type_parameter}
 use Rattle.pj_written.specs.Headers.{all_bounds, bounds_of, class_text, implied_supertypes, written_supertypes}
 use Rattle.pj_written.specs.Types.{class_of_text, object_type}
 use Rattle.pj_written.specs.Written.{name_of_text}
-use Rattle.pj_imports.specs.Candidates.{file_classes, node_named}
-use Rattle.pj_imports.specs.Imports.{outside}
-use Rattle.pj_inherited.specs.Around.{searched}
-use Rattle.pj_inherited.specs.Inherited.{class_names, inherited_member, member_along, outside_supertypes}
+use Rattle.pj_outer_names.specs.Candidates.{file_classes, node_named}
+use Rattle.pj_outer_names.specs.Imports.{outside}
+use Rattle.pj_outer_names.specs.Around.{searched}
+use Rattle.pj_outer_names.specs.Inherited.{class_names, inherited_member, member_along, outside_supertypes}
 use Rattle.pj_type_names.specs.Resolved.{class_of, type_written}
 
 -- ---- a simple name

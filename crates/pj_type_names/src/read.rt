@@ -4,7 +4,7 @@ ghost use Rattle.std.specs.Prelude.{◌≡◌, ◌<◌, ◌≤◌, ◌+◌, ◌+
 ghost use Rattle.pj_names.specs.JavaType.{Variable, java_type, type_list};
 ghost use Rattle.pj_declared.specs.Nearest.{type_meant};
 ghost use Rattle.pj_declared.specs.Rows.{is_type_parameter, names_type_parameter};
-ghost use Rattle.pj_inherited.specs.Inherited.{class_names};
+ghost use Rattle.pj_outer_names.specs.Inherited.{class_names};
 ghost use Rattle.pj_written.specs.Fits.{fits};
 ghost use Rattle.pj_written.specs.Headers.{implied_supertypes};
 ghost use Rattle.pj_written.specs.Written.{written_name};
@@ -12,9 +12,8 @@ ghost use Rattle.pj_type_names.specs.TypeName.{enough, member_found};
 
 use pj_base::{NoMemory, Text};
 use pj_declared::Declared;
-use pj_imports::File;
-use pj_inherited::with_classes;
 use pj_names::{ClassName, ClassNames, Ty, TyList};
+use pj_outer_names::{File, with_classes};
 use pj_tree::{Kind, Node, SyntaxTree};
 use pj_written::{
     MOST_SIGNS, Written, class_of_text, fits, implied_supertypes, member_name, written_name,

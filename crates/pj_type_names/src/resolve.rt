@@ -11,8 +11,8 @@ ghost use Rattle.pj_names.specs.Asking.{each, first_hit};
 ghost use Rattle.pj_names.specs.JavaType.{java_type, java_types, type_list};
 ghost use Rattle.pj_tree.specs.declared.node.Node.{Node};
 ghost use Rattle.pj_names.specs.Told.{Asks, seen};
-ghost use Rattle.pj_imports.specs.Candidates.{file_classes};
-ghost use Rattle.pj_inherited.specs.Around.{searched};
+ghost use Rattle.pj_outer_names.specs.Candidates.{file_classes};
+ghost use Rattle.pj_outer_names.specs.Around.{searched};
 ghost use Rattle.pj_type_names.specs.Searching as resolution;
 ghost use Rattle.pj_type_names.specs.Resolved.{packaged};
 ghost use Rattle.pj_type_names.specs.TypeName.{enough, type_name, written_bound, written_type};
@@ -25,11 +25,11 @@ use crate::read::{
 use crate::stage::{Entered, MOST_ENTERED, MOST_NESTED, Stage, is_busy};
 use pj_base::{Copied, Names, Numbers, Text};
 use pj_declared::Declared;
-use pj_imports::{File, dotted_class, outside};
-use pj_inherited::{NameWalk, member_in, next_searched, outside_supertypes};
 use pj_names::{AskFault, ClassName, ClassNames, Oracle, Ty, TyList, Types};
-use pj_nodes::{has_word, is_kind};
-use pj_tree::{Kind, Node};
+use pj_outer_names::{
+    File, NameWalk, dotted_class, member_in, next_searched, outside, outside_supertypes,
+};
+use pj_tree::{Kind, Node, has_word, is_kind};
 use pj_written::{
     MOST_SIGNS, Written, all_bounds, arguments_of, arrays, bare, below_child, bounds_of, brackets,
     class_of_text, last_child, name_of_text, object_type, primitive_of, with_dots,

@@ -4,7 +4,7 @@ ghost use Rattle.std.specs.Prelude.{◌≡◌, ◌<◌, ◌+◌};
 ghost use Rattle.pj_type_names.specs.TypeName.{is_busy};
 
 use pj_base::Numbers;
-use pj_imports::File;
+use pj_outer_names::File;
 use pj_tree::Node;
 
 /// The most headers and lists of type arguments that stand open within one another.

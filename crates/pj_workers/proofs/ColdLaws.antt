@@ -7,7 +7,7 @@ use Rattle.pj_names.specs.Asking.{Asking}
 use Rattle.pj_outside.specs.Files.{Files}
 use Rattle.pj_reports.specs.declared.report.Report.{Report}
 use Rattle.pj_reports.specs.declared.rows.FileRows.{FileRows}
-use Rattle.pj_rule_rows.specs.declared.rule_row.ConfigError.{ConfigError}
+use Rattle.pj_names.specs.declared.rule_row.ConfigError.{ConfigError}
 use Rattle.pj_workers.specs.Cold.{AreRowsOf, IsCold, World}
 use Rattle.pj_workers.specs.FileMeaning.{Bytes, Replies}
 use Rattle.pj_workers.specs.Rules.{Rule}

@@ -12,7 +12,7 @@ use Rattle.pj_rule_sets.specs.Active.{are_active}
 use Rattle.pj_rule_sets.specs.Rules.{EffectiveRule, EffectiveRules}
 use Rattle.pj_symbols.specs.Names.{package_name}
 use Rattle.pj_xpatterns.specs.Laws.{PatternsByTree}
-use Rattle.pj_xtrees.specs.Laws.{DenotesByTree}
+use Rattle.pj_xlaws.specs.TreeLaws.{DenotesByTree}
 use Rattle.pj_workers.specs.Faults.{fault_message}
 use Rattle.pj_workers.specs.FileMeaning.{Bytes, head_of, merge, nothing, rule_at}
 use Rattle.pj_workers.specs.NoTypes.{always_false, knows_nothing, no_types}

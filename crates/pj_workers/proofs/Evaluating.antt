@@ -11,11 +11,11 @@ use Rattle.pj_rule_sets.specs.declared.spelled.Spelled.{Spelled}
 use Rattle.pj_rule_sets.specs.Rules.{texts_of}
 use Rattle.pj_tree.specs.Tree.{Tree}
 use Rattle.pj_tree.specs.declared.node.Node.{Node}
-use Rattle.pj_xdenotes.specs.Context.{Context, Variables, around}
-use Rattle.pj_xdenotes.specs.Denotes.{denotes}
-use Rattle.pj_xdenotes.specs.Means.{Means, after, give, judged, ◌>>=◌}
+use Rattle.pj_xsteps.specs.Context.{Context, Variables, around}
+use Rattle.pj_xsteps.specs.Denotes.{denotes}
+use Rattle.pj_xsteps.specs.Means.{Means, after, give, judged, ◌>>=◌}
 use Rattle.pj_xpatterns.specs.Written.{patterns_in}
-use Rattle.pj_xtrees.specs.Laws.{DenotesByPatterns}
+use Rattle.pj_xlaws.specs.TreeLaws.{DenotesByPatterns}
 use Rattle.pj_xvalue.specs.Boolean.{effective_boolean}
 use Rattle.pj_xvalue.specs.Items.{ItemValue}
 use Rattle.pj_xvalue.specs.Replies.{outcome}

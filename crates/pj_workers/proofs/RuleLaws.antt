@@ -15,7 +15,7 @@ use Rattle.pj_parse.specs.JavaFile.{JavaFile}
 use Rattle.pj_parse.specs.declared.file_fault.FileFault.{FileFault}
 use Rattle.pj_reports.specs.declared.rows.Reason.{Reason}
 use Rattle.pj_tree.specs.declared.node.Node.{Node}
-use Rattle.pj_xdenotes.specs.Means.{Means, after, give, judged, ◌>>=◌}
+use Rattle.pj_xsteps.specs.Means.{Means, after, give, judged, ◌>>=◌}
 use Rattle.pj_xvalue.specs.Items.{ItemValue}
 use Rattle.pj_xvalue.specs.declared.fault.XCode.{XCode}
 use Rattle.pj_workers.specs.Cold.{World}

@@ -8,13 +8,13 @@ use Rattle.pj_parse.specs.JavaFile.{JavaFile}
 use Rattle.pj_parse.specs.declared.file_fault.FileFault.{FileFault}
 use Rattle.pj_reports.specs.declared.rows.Reason.{Reason}
 use Rattle.pj_tree.specs.declared.node.Node.{Node}
-use Rattle.pj_xdenotes.specs.Context.{Context, Variables, at}
-use Rattle.pj_xdenotes.specs.Denotes.{denotes}
-use Rattle.pj_xdenotes.specs.Means.{Means, give, judged, ◌>>=◌}
+use Rattle.pj_xsteps.specs.Context.{Context, Variables, at}
+use Rattle.pj_xsteps.specs.Denotes.{denotes}
+use Rattle.pj_xsteps.specs.Means.{Means, give, judged, ◌>>=◌}
 use Rattle.pj_xexpressions.specs.Trees.{Tree, tree_of}
 use Rattle.pj_xparse.specs.Spells.{Spells}
 use Rattle.pj_xpatterns.specs.Laws.{PatternsByTree}
-use Rattle.pj_xtrees.specs.Laws.{DenotesByTree}
+use Rattle.pj_xlaws.specs.TreeLaws.{DenotesByTree}
 use Rattle.pj_xvalue.specs.Boolean.{effective_boolean}
 use Rattle.pj_xvalue.specs.Items.{ItemValue, Document, Element}
 use Rattle.pj_xexpressions.specs.declared.expr.Expr.{Expr}

@@ -4,7 +4,7 @@ use Rattle.pj_attrs.specs.FileFacts.{FileFacts, attribute_in, facts_of, names_at
 use Rattle.pj_parse.specs.JavaFile.{JavaFile}
 use Rattle.pj_tree.specs.declared.node.Node.{Node}
 use Rattle.pj_tree.specs.declared.node.Place.{Place}
-use Rattle.pj_xdenotes.specs.Context.{Around, around}
+use Rattle.pj_xsteps.specs.Context.{Around, around}
 use Rattle.pj_xpatterns.specs.Meaning.{Pattern}
 use Rattle.pj_xvalue.specs.Items.{ItemValue}
 

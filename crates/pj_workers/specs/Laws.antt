@@ -16,7 +16,7 @@ use Rattle.pj_parse.specs.FileOutcome.{outcome_of}
 use Rattle.pj_parse.specs.JavaFile.{JavaFile}
 use Rattle.pj_parse.specs.declared.file_fault.FileFault.{FileFault}
 use Rattle.pj_reports.specs.declared.report.Report.{Report}
-use Rattle.pj_rule_rows.specs.declared.rule_row.ConfigError.{ConfigError}
+use Rattle.pj_names.specs.declared.rule_row.ConfigError.{ConfigError}
 use Rattle.pj_workers.specs.Cold.{IsCold, World}
 use Rattle.pj_workers.specs.Faults.{fault_message}
 use Rattle.pj_workers.specs.FileFacts.{place_of}

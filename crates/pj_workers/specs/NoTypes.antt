@@ -5,7 +5,7 @@ use Rattle.pj_names.specs.Asking.{Return}
 use Rattle.pj_names.specs.Told.{Told}
 use Rattle.pj_names.specs.declared.answer.Answer.TheVariants.{Absent}
 use Rattle.pj_tree.specs.declared.node.Node.{Node}
-use Rattle.pj_xdenotes.specs.Means.{Means}
+use Rattle.pj_xsteps.specs.Means.{Means}
 use Rattle.pj_xvalue.specs.Items.{ItemValue, Boolean}
 use Rattle.pj_xvalue.specs.Replies.{is_type_test, may_be}
 use Rattle.pj_xexpressions.specs.declared.pmd_function.PmdFunction.{PmdFunction}

@@ -18,7 +18,7 @@ use Rattle.pj_rule_sets.specs.declared.expressions.RuleExpressions.{RuleExpressi
 use Rattle.pj_rule_sets.specs.declared.spelled.Spelled.{Spelled}
 use Rattle.pj_rule_sets.specs.Rules.{EffectiveRule, EffectiveRules, texts_of}
 use Rattle.pj_tree.specs.declared.node.Node.{Node}
-use Rattle.pj_xdenotes.specs.Means.{Means, give, ◌>>=◌}
+use Rattle.pj_xsteps.specs.Means.{Means, give, ◌>>=◌}
 use Rattle.pj_workers.specs.Cold.{World}
 use Rattle.pj_workers.specs.Faults.{fault_message}
 use Rattle.pj_workers.specs.FileMeaning.{Bytes, file_at, rule_at}

@@ -5,7 +5,7 @@ ghost use Rattle.pj_findings.specs.Spots.{spot_of};
 ghost use Rattle.pj_names.specs.Told.{Asks};
 ghost use Rattle.pj_rule_sets.specs.Expressions.{HasPatterns, variables_of};
 ghost use Rattle.pj_rule_sets.specs.Rules.{texts_of};
-ghost use Rattle.pj_xdenotes.specs.Context.{at};
+ghost use Rattle.pj_xsteps.specs.Context.{at};
 ghost use Rattle.pj_xvalue.specs.Items.{IsOfTree, value_of_item, values_of};
 ghost use Rattle.pj_xvalue.specs.OfTree.{OfTree};
 ghost use Rattle.pj_xvalue.specs.Replies.{outcome};
@@ -24,7 +24,7 @@ use pj_reports::Reason;
 use pj_rule_sets::{Rule, Spelled};
 use pj_tree::Node;
 use pj_xeval::{Focus, evaluate};
-use pj_xtrees::patterns_are_a_set;
+use pj_xlaws::patterns_are_a_set;
 use pj_xvalue::{Calls, Item, Sequence, XFault, boolean_value};
 
 /// The value of an expression of a rule with an item as its context.

@@ -35,9 +35,9 @@ use pj_rule_sets::{Rule, RuleSet};
 use pj_source::Source;
 use pj_suppress::marks;
 use pj_symbols::Symbols;
+use pj_xlaws::trees_tell_expressions;
 use pj_xparse::one_expression;
 use pj_xpatterns::trees_tell_patterns;
-use pj_xtrees::trees_tell_expressions;
 use std::alloc::Global;
 
 /// What an active rule comes to in a file.

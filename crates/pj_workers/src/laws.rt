@@ -5,9 +5,9 @@ ghost use Rattle.pj_workers.specs.Laws.{InactiveIsNothing, ListsAreTexts, MarksA
 
 use pj_findings::nodes_are_the_items;
 use pj_rule_sets::RuleSet;
+use pj_xlaws::trees_tell_expressions;
 use pj_xparse::one_expression;
 use pj_xpatterns::trees_tell_patterns;
-use pj_xtrees::trees_tell_expressions;
 
 /// A rule that is not active for a path means nothing at a file of that path, and asks for no class.
 pub fn inactive_rules_mean_nothing()

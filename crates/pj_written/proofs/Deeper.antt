@@ -4,7 +4,7 @@ use Rattle.std.proofs.lemmas.Bool.{le-leb}
 use Rattle.pj_tree.specs.Tree.{Tree, children_of}
 use Rattle.pj_tree.specs.declared.kind.Kind.TheVariants as k
 use Rattle.pj_tree.specs.declared.node.Node.{Node}
-use Rattle.pj_nodes.specs.Children.{child_of}
+use Rattle.pj_tree.specs.Children.{child_of}
 use Rattle.pj_written.specs.Words.{children_or}
 use Rattle.pj_written.specs.Fits.{argument_by, bare, brackets, fits_within, listed_fit, most_signs, most_signs_is}
 use Rattle.pj_written.specs.Written.{extended, innermost, name_within, with_outer}

@@ -9,9 +9,9 @@ use Rattle.pj_tree.specs.Tree.{Tree, children_of, is_parent, node_numbered, pare
 use Rattle.pj_tree.specs.declared.kind.Kind.{Kind}
 use Rattle.pj_tree.specs.declared.kind.Kind.TheVariants as k
 use Rattle.pj_tree.specs.declared.node.Node.{Node}
-use Rattle.pj_nodes.specs.Children.{child_of}
-use Rattle.pj_nodes.specs.Kinds.{is_kind}
-use Rattle.pj_nodes.proofs.Inside.{AreInside}
+use Rattle.pj_tree.specs.Children.{child_of}
+use Rattle.pj_tree.specs.Kinds.{is_kind}
+use Rattle.pj_tree.proofs.Inside.{AreInside}
 use Rattle.pj_written.specs.Words.{below_child, children_or, last_in, one_or_none}
 use Rattle.pj_written.specs.Headers.{all_bounds, bounds_among, bounds_in, bounds_of, created, if_bound, listed_bounds, writes_bound, written_supertypes}
 

@@ -11,8 +11,8 @@ use Rattle.std.specs.Option.{option_map_or}
 use Rattle.pj_tree.specs.Tree.{Tree}
 use Rattle.pj_tree.specs.declared.kind.Kind.TheVariants as k
 use Rattle.pj_tree.specs.declared.node.Node.{Node}
-use Rattle.pj_nodes.specs.Kinds.{is_kind}
-use Rattle.pj_nodes.specs.Words.{words_of, has}
+use Rattle.pj_tree.specs.Kinds.{is_kind}
+use Rattle.pj_tree.specs.Words.{words_of, has}
 use Rattle.pj_written.specs.Words.{below_child, last_child, own_brackets, without_brackets}
 
 -- the most signs that are open at one place, and the most arguments in one list

@@ -5,9 +5,9 @@ use Rattle.std.specs.Option.{option_map_or}
 use Rattle.pj_tree.specs.Tree.{Tree}
 use Rattle.pj_tree.specs.declared.kind.Kind.TheVariants as k
 use Rattle.pj_tree.specs.declared.node.Node.{Node}
-use Rattle.pj_nodes.specs.Children.{child_of}
-use Rattle.pj_nodes.specs.Kinds.{is_kind}
-use Rattle.pj_nodes.specs.Words.{words_of, has}
+use Rattle.pj_tree.specs.Children.{child_of}
+use Rattle.pj_tree.specs.Kinds.{is_kind}
+use Rattle.pj_tree.specs.Words.{words_of, has}
 use Rattle.pj_written.specs.Words.{below_child, is_interface, own_brackets, type_child}
 
 -- whether a modifier stands in the list of a declaration

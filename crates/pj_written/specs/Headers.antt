@@ -5,8 +5,8 @@ use Rattle.pj_tree.specs.Tree.{Tree, kind_of, parent_of, children_of}
 use Rattle.pj_tree.specs.declared.kind.Kind.{Kind}
 use Rattle.pj_tree.specs.declared.kind.Kind.TheVariants as k
 use Rattle.pj_tree.specs.declared.node.Node.{Node}
-use Rattle.pj_nodes.specs.Children.{child_of}
-use Rattle.pj_nodes.specs.Kinds.{is_kind}
+use Rattle.pj_tree.specs.Children.{child_of}
+use Rattle.pj_tree.specs.Kinds.{is_kind}
 use Rattle.pj_names.specs.ClassName.{Name, is_class_name}
 use Rattle.pj_symbols.specs.Classes.{class_around}
 use Rattle.pj_symbols.specs.Symbols.{class_at}

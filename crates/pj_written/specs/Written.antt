@@ -3,8 +3,8 @@ use Rattle.std.specs.Prelude.{ℕ, zero, suc, false, Option, None, Some, List, [
 use Rattle.pj_tree.specs.Tree.{Tree}
 use Rattle.pj_tree.specs.declared.kind.Kind.TheVariants as k
 use Rattle.pj_tree.specs.declared.node.Node.{Node}
-use Rattle.pj_nodes.specs.Words.{words_of, has}
-use Rattle.pj_nodes.specs.Children.{child_of}
+use Rattle.pj_tree.specs.Words.{words_of, has}
+use Rattle.pj_tree.specs.Children.{child_of}
 use Rattle.pj_names.specs.ClassName.{parts}
 use Rattle.pj_written.specs.declared.written.Written.{Written}
 use Rattle.pj_written.specs.Names.{begins_package, own_parts}

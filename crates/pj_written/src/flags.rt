@@ -6,8 +6,7 @@ ghost use Rattle.pj_tree.specs.Tree.{children_of};
 ghost use Rattle.pj_written.specs.Flags.{class_flags, field_flags, flag_if, has_variable_arity, is_ellipsis, is_variable_arity, is_written, last_parameter, member_flags, method_flags, written_flag};
 
 use crate::nodes::{is_interface, type_child};
-use pj_nodes::{child_of, has_word, is_kind};
-use pj_tree::{Kind, Node, SyntaxTree};
+use pj_tree::{Kind, Node, SyntaxTree, child_of, has_word, is_kind};
 
 /// The flags of an enum constant.
 pub const CONSTANT_FLAGS: u16 = 0x4000;

@@ -10,9 +10,8 @@ ghost use Rattle.pj_written.specs.Headers.{all_bounds, bounds_in, bounds_of, cla
 use crate::nodes::{Nodes, below_child, put_below, put_nodes};
 use pj_base::NoMemory;
 use pj_names::{ClassName, ClassNames};
-use pj_nodes::{child_of, is_kind};
 use pj_symbols::{Symbols, class_around};
-use pj_tree::{Kind, Node, SyntaxTree};
+use pj_tree::{Kind, Node, SyntaxTree, child_of, is_kind};
 use std::alloc::Global;
 
 /// Whether a node of the kind is a bound.

@@ -6,8 +6,7 @@ ghost use Rattle.pj_written.specs.Fits.{argument_by, bare, brackets, fits, fits_
 ghost use Rattle.pj_tree.specs.Tree.{children_of};
 
 use crate::nodes::{bracket_count, last_child, without_brackets};
-use pj_nodes::{child_count, child_of, has_word, is_kind};
-use pj_tree::{Kind, Node, SyntaxTree};
+use pj_tree::{Kind, Node, SyntaxTree, child_count, child_of, has_word, is_kind};
 
 /// The most signs that are open at one place of a signature, and the most arguments in one list (JVMS 4.7.9.1 has no bound;
 /// the readers of signatures have these).

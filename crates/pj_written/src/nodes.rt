@@ -5,8 +5,7 @@ ghost use Rattle.std.specs.List.{All};
 ghost use Rattle.pj_written.specs.Words.{below_child, is_interface, is_plain_interface, is_type, last_child, last_in, own_brackets, type_child, without_brackets, writes_type};
 
 use pj_base::{ListOf, NoMemory};
-use pj_nodes::{child_of, has_word, is_kind};
-use pj_tree::{Children, Kind, Node, SyntaxTree};
+use pj_tree::{Children, Kind, Node, SyntaxTree, child_of, has_word, is_kind};
 use std::alloc::Global;
 
 /// Nodes, in the order in which they are looked at.

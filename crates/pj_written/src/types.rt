@@ -2,7 +2,7 @@
 
 ghost use Rattle.std.specs.Prelude.{◌≡◌, ◌<◌, IfOk, length, map};
 ghost use Rattle.pj_names.specs.JavaType.{java_type, java_types, type_list};
-ghost use Rattle.pj_nodes.specs.Words.{words_of};
+ghost use Rattle.pj_tree.specs.Words.{words_of};
 ghost use Rattle.pj_signatures.specs.Types.{arguments_of};
 ghost use Rattle.pj_written.specs.Types.{arrays, as_argument, class_of_text, object_type, primitive_of, primitive_word};
 

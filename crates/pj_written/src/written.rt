@@ -5,8 +5,7 @@ ghost use Rattle.pj_written.specs.Written.{extended, innermost, name_of_text, na
 
 use crate::names::{begins_package, parts_of, put_parts};
 use pj_base::{Names, NoMemory};
-use pj_nodes::{child_of, has_word};
-use pj_tree::{Kind, Node, SyntaxTree};
+use pj_tree::{Kind, Node, SyntaxTree, child_of, has_word};
 use std::alloc::Global;
 
 /// A name with dots, as it is written.

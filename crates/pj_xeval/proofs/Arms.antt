@@ -5,10 +5,10 @@ use Rattle.pj_xvalue.specs.declared.fault.XFault.{XFault}
 use Rattle.pj_xvalue.specs.Items.{ItemValue, Integer}
 use Rattle.pj_xvalue.specs.OfTree.{OfTree}
 use Rattle.pj_xvalue.proofs.OfTreeLaws.{of_tree-one}
-use Rattle.pj_xdenotes.specs.Arithmetic.{literal}
-use Rattle.pj_xdenotes.specs.Context.{Around, Context}
-use Rattle.pj_xdenotes.specs.Denotes.{denotes}
-use Rattle.pj_xdenotes.specs.Means.{Means}
+use Rattle.pj_xsteps.specs.Arithmetic.{literal}
+use Rattle.pj_xsteps.specs.Context.{Around, Context}
+use Rattle.pj_xsteps.specs.Denotes.{denotes}
+use Rattle.pj_xsteps.specs.Means.{Means}
 use Rattle.pj_xframes.specs.declared.frame.Binder.{Binder}
 use Rattle.pj_xframes.specs.declared.frame.Binding.{Binding}
 use Rattle.pj_xframes.specs.declared.frame.Frame.{Frame}

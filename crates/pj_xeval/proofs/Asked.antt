@@ -7,7 +7,7 @@ use Rattle.pj_xvalue.specs.declared.fault.XFault.{XFault}
 use Rattle.pj_xvalue.specs.declared.fault.XFault.TheVariants.{Code, Ask}
 use Rattle.pj_xvalue.specs.Items.{ItemValue}
 use Rattle.pj_xvalue.specs.Replies.{outcome}
-use Rattle.pj_xdenotes.specs.Means.{Means, give, after, ◌>>=◌}
+use Rattle.pj_xsteps.specs.Means.{Means, give, after, ◌>>=◌}
 use Rattle.pj_xeval.specs.Whole.{ComesIf}
 
 module _ {K : Type 0} {m : Means (List ItemValue)} {t0 t : Told K} (S : Means (List ItemValue)) (rest : ComesTo m t0 S t) where

@@ -7,11 +7,11 @@ use Rattle.pj_tree.specs.declared.node.Node.{Node}
 use Rattle.pj_xexpressions.specs.declared.expr.Expr.{Expr}
 use Rattle.pj_xvalue.specs.Items.{ItemValue, Document, Element, Attribute, String, Integer, Boolean, IsOfTree}
 use Rattle.pj_xvalue.specs.OfTree.{VariablesOfTree}
-use Rattle.pj_xdenotes.specs.Means.{Means, ◌>>=◌}
-use Rattle.pj_xdenotes.specs.Context.{Around, Context, Variables}
-use Rattle.pj_xdenotes.specs.Calls.{node_in}
-use Rattle.pj_xdenotes.specs.Denotes.{denotes}
-use Rattle.pj_xdenotes.proofs.Sequences.{then-give}
+use Rattle.pj_xsteps.specs.Means.{Means, ◌>>=◌}
+use Rattle.pj_xsteps.specs.Context.{Around, Context, Variables}
+use Rattle.pj_xsteps.specs.Calls.{node_in}
+use Rattle.pj_xsteps.specs.Denotes.{denotes}
+use Rattle.pj_xsteps.proofs.Sequences.{then-give}
 use Rattle.pj_xframes.specs.declared.frame.Frame.{Frame}
 use Rattle.pj_xframes.specs.Scopes.{Scoped, variables_of}
 use Rattle.pj_xframes.specs.Frames.{Replies}

@@ -4,13 +4,13 @@ use Rattle.std.proofs.lemmas.List.{reverse-reverse, map-append}
 use Rattle.pj_xexpressions.specs.declared.expr.Expr.{Expr}
 use Rattle.pj_xvalue.specs.declared.item.Item.{Item}
 use Rattle.pj_xvalue.specs.Items.{ItemValue, value_of_item, values_of}
-use Rattle.pj_xdenotes.specs.Means.{give, ◌>>=◌, chain, decided, decides, one_boolean}
-use Rattle.pj_xdenotes.specs.Context.{Around, Context, Variables}
-use Rattle.pj_xdenotes.specs.Turns.{with_all}
-use Rattle.pj_xdenotes.specs.Bindings.{with_item, for_in, quantified, let_in}
-use Rattle.pj_xdenotes.specs.Parts.{bindings_of}
-use Rattle.pj_xdenotes.specs.Denotes.{denotes}
-use Rattle.pj_xdenotes.proofs.Sequences.{then-give}
+use Rattle.pj_xsteps.specs.Means.{give, ◌>>=◌, chain, decided, decides, one_boolean}
+use Rattle.pj_xsteps.specs.Context.{Around, Context, Variables}
+use Rattle.pj_xsteps.specs.Turns.{with_all}
+use Rattle.pj_xsteps.specs.Bindings.{with_item, for_in, quantified, let_in}
+use Rattle.pj_xsteps.specs.Parts.{bindings_of}
+use Rattle.pj_xsteps.specs.Denotes.{denotes}
+use Rattle.pj_xsteps.proofs.Sequences.{then-give}
 use Rattle.pj_xframes.specs.declared.frame.Task.TheVariants as task
 use Rattle.pj_xframes.specs.declared.frame.ForTurns.{ForTurns}
 use Rattle.pj_xframes.specs.declared.frame.QuantifiedTurns.{QuantifiedTurns}

@@ -7,7 +7,7 @@ use Rattle.pj_xvalue.specs.declared.item.Item.{Item}
 use Rattle.pj_xvalue.specs.Items.{ItemValue, value_of_item, values_of}
 use Rattle.pj_xvalue.specs.OfTree.{OfTree, VariablesOfTree}
 use Rattle.pj_xvalue.proofs.OfTreeLaws.{of_tree-nil, of_tree-one}
-use Rattle.pj_xdenotes.specs.Means.{Means, give, after, decides, one_boolean}
+use Rattle.pj_xsteps.specs.Means.{Means, give, after, decides, one_boolean}
 use Rattle.pj_xframes.specs.Scopes.{Scoped, variables_of, with_variable, without}
 use Rattle.pj_xeval.proofs.OfTree.{of_tree-last, variables-with, variables-without}
 

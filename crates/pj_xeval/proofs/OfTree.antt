@@ -11,7 +11,7 @@ use Rattle.pj_xvalue.specs.Items.{ItemValue, Document, Element, Attribute, Strin
 use Rattle.pj_xvalue.specs.OfTree.{OfTree, VariablesOfTree}
 use Rattle.pj_xvalue.proofs.OfTreeLaws.{of_tree-nil, of_tree-one, of_tree-append, of_tree-atomic, of_tree-each, each-of_tree, arguments-nil, variables-more}
 use Rattle.pj_xvalue.specs.Replies.{is_one_boolean, is_type_test, may_give}
-use Rattle.pj_xdenotes.specs.Context.{Variables, value_of_variable}
+use Rattle.pj_xsteps.specs.Context.{Variables, value_of_variable}
 use Rattle.pj_xframes.specs.declared.frame.Frame.{Frame}
 use Rattle.pj_xframes.specs.Scopes.{Scoped, variables_of, with_variable, without}
 use Rattle.pj_xframes.specs.Going.{FrameOfTree}

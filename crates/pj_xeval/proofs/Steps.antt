@@ -2,11 +2,11 @@
 use Rattle.std.proofs.Common.{◌≡◌, List, [], ◌∷◌, length, Result, true, false, refl, sym}
 use Rattle.pj_xvalue.specs.declared.fault.XCode.{XCode}
 use Rattle.pj_xvalue.specs.Items.{ItemValue}
-use Rattle.pj_xdenotes.specs.Means.{Means, give, judged, ◌>>=◌, chain}
-use Rattle.pj_xdenotes.specs.Context.{Variables, Denotation}
-use Rattle.pj_xdenotes.specs.Turns.{narrowed, through, walked, passing, numbered, step_in_turn, with_all, united}
-use Rattle.pj_xdenotes.specs.Steps.{in_document_order}
-use Rattle.pj_xdenotes.proofs.Sequences.{then-assoc, then-give}
+use Rattle.pj_xsteps.specs.Means.{Means, give, judged, ◌>>=◌, chain}
+use Rattle.pj_xsteps.specs.Context.{Variables, Denotation}
+use Rattle.pj_xsteps.specs.Turns.{narrowed, through, walked, passing, numbered, step_in_turn, with_all, united}
+use Rattle.pj_xsteps.specs.Steps.{in_document_order}
+use Rattle.pj_xsteps.proofs.Sequences.{then-assoc, then-give}
 use Rattle.pj_xframes.specs.declared.frame.Turn.{Turn}
 use Rattle.pj_xframes.specs.declared.frame.Turn.TheVariants as turn
 use Rattle.pj_xframes.specs.Frames.{over, evaluated, taken, finished}

@@ -12,10 +12,10 @@ use Rattle.pj_xvalue.specs.Items.{ItemValue, is_node, value_of_item, values_of, 
 use Rattle.pj_xvalue.specs.OfTree.{OfTree}
 use Rattle.pj_xvalue.specs.Replies.{outcome}
 use Rattle.pj_xvalue.specs.Arguments.{IsGiven}
-use Rattle.pj_xdenotes.specs.Means.{fail, judged, ◌>>=◌, chain}
-use Rattle.pj_xdenotes.specs.Context.{Around, Context, Variables, at}
-use Rattle.pj_xdenotes.specs.Turns.{numbered}
-use Rattle.pj_xdenotes.specs.Denotes.{denotes}
+use Rattle.pj_xsteps.specs.Means.{fail, judged, ◌>>=◌, chain}
+use Rattle.pj_xsteps.specs.Context.{Around, Context, Variables, at}
+use Rattle.pj_xsteps.specs.Turns.{numbered}
+use Rattle.pj_xsteps.specs.Denotes.{denotes}
 use Rattle.pj_xframes.specs.declared.frame.Turn.{Turn}
 use Rattle.pj_xframes.specs.declared.frame.Turns.{Turns}
 use Rattle.pj_xframes.specs.declared.frame.Task.TheVariants as task

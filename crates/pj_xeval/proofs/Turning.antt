@@ -7,10 +7,10 @@ use Rattle.pj_xvalue.specs.declared.fault.XCode.TheVariants.{XPTY0019}
 use Rattle.pj_xvalue.specs.declared.item.Item.{Item}
 use Rattle.pj_xvalue.specs.Boolean.{effective_boolean}
 use Rattle.pj_xvalue.specs.Items.{ItemValue, is_node, value_of_item, values_of}
-use Rattle.pj_xdenotes.specs.Means.{Means, give, fail, judged, ◌>>=◌, chain, decided, decides, one_boolean}
-use Rattle.pj_xdenotes.specs.Context.{Context, Variables, Denotation, at}
-use Rattle.pj_xdenotes.specs.Turns.{numbered, in_turn, with_all}
-use Rattle.pj_xdenotes.specs.Bindings.{with_item}
+use Rattle.pj_xsteps.specs.Means.{Means, give, fail, judged, ◌>>=◌, chain, decided, decides, one_boolean}
+use Rattle.pj_xsteps.specs.Context.{Context, Variables, Denotation, at}
+use Rattle.pj_xsteps.specs.Turns.{numbered, in_turn, with_all}
+use Rattle.pj_xsteps.specs.Bindings.{with_item}
 use Rattle.pj_xframes.specs.declared.frame.Turn.{Turn}
 use Rattle.pj_xframes.specs.declared.frame.Turn.TheVariants as turn
 use Rattle.pj_xframes.specs.Frames.{evaluated, taken, may_turn}

@@ -4,9 +4,9 @@ use Rattle.std.proofs.lemmas.List.{reverse-append}
 use Rattle.pj_xvalue.specs.declared.fault.XCode.{XCode}
 use Rattle.pj_xvalue.specs.declared.item.Item.{Item}
 use Rattle.pj_xvalue.specs.Items.{ItemValue, values_of}
-use Rattle.pj_xdenotes.specs.Means.{Means, give, fail, ◌>>=◌}
-use Rattle.pj_xdenotes.specs.Context.{Around, Context}
-use Rattle.pj_xdenotes.proofs.Sequences.{then-assoc}
+use Rattle.pj_xsteps.specs.Means.{Means, give, fail, ◌>>=◌}
+use Rattle.pj_xsteps.specs.Context.{Around, Context}
+use Rattle.pj_xsteps.proofs.Sequences.{then-assoc}
 use Rattle.pj_xframes.specs.declared.frame.Task.{Task}
 use Rattle.pj_xframes.specs.declared.frame.Frame.{Frame}
 use Rattle.pj_xframes.specs.declared.frame.Next.{Next}

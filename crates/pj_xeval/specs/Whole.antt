@@ -6,9 +6,9 @@ use Rattle.pj_xvalue.specs.declared.fault.XFault.{XFault}
 use Rattle.pj_xvalue.specs.declared.fault.XFault.TheVariants.{Code, Ask}
 use Rattle.pj_xvalue.specs.Items.{ItemValue, values_of}
 use Rattle.pj_xvalue.specs.OfTree.{OfTree}
-use Rattle.pj_xdenotes.specs.Means.{Means, give, fail, ◌>>=◌}
-use Rattle.pj_xdenotes.specs.Calls.{node_in}
-use Rattle.pj_xdenotes.specs.Context.{Around, Context}
+use Rattle.pj_xsteps.specs.Means.{Means, give, fail, ◌>>=◌}
+use Rattle.pj_xsteps.specs.Calls.{node_in}
+use Rattle.pj_xsteps.specs.Context.{Around, Context}
 use Rattle.pj_xframes.specs.declared.frame.Frame.{Frame}
 use Rattle.pj_xframes.specs.declared.frame.Next.{Next}
 use Rattle.pj_xframes.specs.Scopes.{Scoped}

@@ -3,11 +3,11 @@ ghost use Rattle.std.specs.Prelude.{◌≡◌, ℕ, ◌∷◌, [], IfOk, length,
 ghost use Rattle.pj_xvalue.specs.Items.{Document as DocumentValue, values_of, IsOfTree};
 ghost use Rattle.pj_xvalue.specs.OfTree.{OfTree, VariablesOfTree};
 ghost use Rattle.pj_xaxes.specs.Axes.{is_reverse};
-ghost use Rattle.pj_xdenotes.specs.Means.{give};
-ghost use Rattle.pj_xdenotes.specs.Context.{Around, Context, around};
-ghost use Rattle.pj_xdenotes.specs.Steps.{attributes as attributes_of, from_node, in_document_order, stepped as stepped_of};
-ghost use Rattle.pj_xdenotes.specs.Turns.{narrowed, path, simple_map};
-ghost use Rattle.pj_xdenotes.specs.Denotes.{denotes};
+ghost use Rattle.pj_xsteps.specs.Means.{give};
+ghost use Rattle.pj_xsteps.specs.Context.{Around, Context, around};
+ghost use Rattle.pj_xsteps.specs.Steps.{attributes as attributes_of, from_node, in_document_order, stepped as stepped_of};
+ghost use Rattle.pj_xsteps.specs.Turns.{narrowed, path, simple_map};
+ghost use Rattle.pj_xsteps.specs.Denotes.{denotes};
 ghost use Rattle.pj_xframes.specs.Frames.{◌▷◌, Replies, context_left, reacted, scope_left, task_meaning};
 ghost use Rattle.pj_xframes.specs.Going.{FrameOfTree, Goes, GoesIf, NextOfTree};
 ghost use Rattle.pj_xframes.specs.Scopes.{Scoped, variables_of};
@@ -120,7 +120,7 @@ fn valued<'e, 't>(items: Sequence<'t>) -> Result<Next<'e, 't>, XFault>
 }
 
 /// How an expression begins.
-#[tactic(auto, using(pj_xdenotes::proofs::Forms::forms, crate::proofs::OfTree::of_tree))]
+#[tactic(auto, using(pj_xsteps::proofs::Forms::forms, crate::proofs::OfTree::of_tree))]
 fn expression<'e, 't, A: Attributes>(
     setting: &Setting<'t, A>,
     expr: &'e Expr,

@@ -3,12 +3,12 @@ ghost use Rattle.std.specs.Prelude.{◌≡◌, ℕ, ◌+◌, ◌∷◌, ◌++◌
 ghost use Rattle.pj_xvalue.specs.Boolean.{effective_boolean};
 ghost use Rattle.pj_xvalue.specs.Items.{values_of};
 ghost use Rattle.pj_xvalue.specs.OfTree.{OfTree, VariablesOfTree};
-ghost use Rattle.pj_xdenotes.specs.Means.{give, judged, chain, decided, decides as decides_meaning, one_boolean};
-ghost use Rattle.pj_xdenotes.specs.Context.{Around, Context};
-ghost use Rattle.pj_xdenotes.specs.Turns.{with_all};
-ghost use Rattle.pj_xdenotes.specs.Bindings.{for_in, let_in, quantified as quantified_in, with_item};
-ghost use Rattle.pj_xdenotes.specs.Parts.{bindings_of};
-ghost use Rattle.pj_xdenotes.specs.Denotes.{denotes};
+ghost use Rattle.pj_xsteps.specs.Means.{give, judged, chain, decided, decides as decides_meaning, one_boolean};
+ghost use Rattle.pj_xsteps.specs.Context.{Around, Context};
+ghost use Rattle.pj_xsteps.specs.Turns.{with_all};
+ghost use Rattle.pj_xsteps.specs.Bindings.{for_in, let_in, quantified as quantified_in, with_item};
+ghost use Rattle.pj_xsteps.specs.Parts.{bindings_of};
+ghost use Rattle.pj_xsteps.specs.Denotes.{denotes};
 ghost use Rattle.pj_xframes.specs.Frames.{◌▷◌, Replies, for_left, quantified_left};
 ghost use Rattle.pj_xframes.specs.Going.{ForTurnsOfTree, Goes, GoesIf, NextOfTree};
 ghost use Rattle.pj_xframes.specs.Scopes.{Scoped, variables_of, without};

@@ -4,8 +4,8 @@ ghost use Rattle.pj_names.specs.Told.{Asks};
 ghost use Rattle.pj_xvalue.specs.Items.{value_of_item, values_of, IsOfTree};
 ghost use Rattle.pj_xvalue.specs.OfTree.{OfTree, VariablesOfTree};
 ghost use Rattle.pj_xvalue.specs.Replies.{outcome};
-ghost use Rattle.pj_xdenotes.specs.Context.{around, given_of};
-ghost use Rattle.pj_xdenotes.specs.Denotes.{denotes};
+ghost use Rattle.pj_xsteps.specs.Context.{around, given_of};
+ghost use Rattle.pj_xsteps.specs.Denotes.{denotes};
 ghost use Rattle.pj_xframes.specs.Scopes.{variables_of};
 
 use crate::machine::{Pause, settle};

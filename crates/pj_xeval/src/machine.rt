@@ -2,7 +2,7 @@
 ghost use Rattle.std.specs.Prelude.{◌≡◌, IfOk, OnOk, length};
 ghost use Rattle.pj_xvalue.specs.Items.{IsOfTree};
 ghost use Rattle.pj_xvalue.specs.OfTree.{VariablesOfTree};
-ghost use Rattle.pj_xdenotes.specs.Context.{around};
+ghost use Rattle.pj_xsteps.specs.Context.{around};
 ghost use Rattle.pj_xframes.specs.Frames.{Replies};
 ghost use Rattle.pj_xframes.specs.Going.{NextOfTree};
 ghost use Rattle.pj_xframes.specs.Scopes.{variables_of};

@@ -2,7 +2,7 @@
 ghost use Rattle.std.specs.Prelude.{◌≡◌, ℕ, IfOk, OnOk, length};
 ghost use Rattle.pj_xvalue.specs.Items.{values_of, IsOfTree};
 ghost use Rattle.pj_xvalue.specs.OfTree.{OfTree, VariablesOfTree};
-ghost use Rattle.pj_xdenotes.specs.Context.{Around, Context, around};
+ghost use Rattle.pj_xsteps.specs.Context.{Around, Context, around};
 ghost use Rattle.pj_xframes.specs.declared.frame.Frame.TheVariants.{Source as SourceFrame};
 ghost use Rattle.pj_xframes.specs.Frames.{Replies, context_left, reacted, scope_left};
 ghost use Rattle.pj_xframes.specs.Going.{FrameOfTree, GoesIf, NextOfTree};

@@ -4,9 +4,9 @@ ghost use Rattle.pj_xvalue.specs.Items.{Document as DocumentValue, value_of_item
 ghost use Rattle.pj_xvalue.specs.OfTree.{OfTree};
 ghost use Rattle.pj_xvalue.specs.Replies.{outcome};
 ghost use Rattle.pj_xvalue.specs.Arguments.{IsGiven};
-ghost use Rattle.pj_xdenotes.specs.Means.{judged};
-ghost use Rattle.pj_xdenotes.specs.Context.{Around, Context, Variables, at as at_item};
-ghost use Rattle.pj_xdenotes.specs.Denotes.{denotes};
+ghost use Rattle.pj_xsteps.specs.Means.{judged};
+ghost use Rattle.pj_xsteps.specs.Context.{Around, Context, Variables, at as at_item};
+ghost use Rattle.pj_xsteps.specs.Denotes.{denotes};
 ghost use Rattle.pj_xframes.specs.Frames.{Replies, finished, may_turn, over, taken as taken_by, turns_after, turns_left};
 ghost use Rattle.pj_xframes.specs.Going.{Goes, GoesIf, NextOfTree, TurnsOfTree};
 ghost use Rattle.pj_xframes.specs.Scopes.{Scoped, variables_of};

@@ -9,10 +9,10 @@ use Rattle.pj_xvalue.specs.Items.{ItemValue, Integer, are_atomic}
 use Rattle.pj_xvalue.specs.OfTree.{OfTree}
 use Rattle.pj_xvalue.proofs.OfTreeLaws.{of_tree-nil, of_tree-atomic}
 use Rattle.pj_xvalue.specs.Arguments.{and_then}
-use Rattle.pj_xdenotes.specs.Arithmetic.{integers, natural, range}
-use Rattle.pj_xdenotes.specs.Context.{Around, Context}
-use Rattle.pj_xdenotes.specs.Means.{Means, give, judged, ◌>>=◌, chain, decided, decides, one_boolean}
-use Rattle.pj_xdenotes.proofs.Sequences.{then-assoc}
+use Rattle.pj_xsteps.specs.Arithmetic.{integers, natural, range}
+use Rattle.pj_xsteps.specs.Context.{Around, Context}
+use Rattle.pj_xsteps.specs.Means.{Means, give, judged, ◌>>=◌, chain, decided, decides, one_boolean}
+use Rattle.pj_xsteps.proofs.Sequences.{then-assoc}
 use Rattle.pj_xframes.specs.declared.frame.Next.{Next}
 use Rattle.pj_xframes.specs.Frames.{Replies}
 use Rattle.pj_xframes.specs.Going.{GoesIf}

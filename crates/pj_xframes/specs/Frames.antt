@@ -7,16 +7,16 @@ use Rattle.pj_xvalue.specs.Boolean.{effective_boolean}
 use Rattle.pj_xvalue.specs.Comparison.{general_comparison}
 use Rattle.pj_xvalue.specs.Items.{ItemValue, String, values_of}
 use Rattle.pj_xaxes.specs.Order.{ordered}
-use Rattle.pj_xdenotes.specs.Means.{Means, give, judged, ◌>>=◌, chain, decides, decided, one_boolean}
-use Rattle.pj_xdenotes.specs.Context.{Around, Context, Variables, Denotation}
-use Rattle.pj_xdenotes.specs.Operands.{with_values, operand, only_nodes}
-use Rattle.pj_xdenotes.specs.Arithmetic.{signed, range, number_items}
-use Rattle.pj_xdenotes.specs.Turns.{numbered, in_turn, step_in_turn, with_kept, with_all, walked, mapped, through, narrowed, united}
-use Rattle.pj_xdenotes.specs.Steps.{in_document_order}
-use Rattle.pj_xdenotes.specs.Bindings.{with_item, for_in, quantified, let_in}
-use Rattle.pj_xdenotes.specs.Calls.{call, pmd_call, node_in}
-use Rattle.pj_xdenotes.specs.Parts.{bindings_of, operated_by}
-use Rattle.pj_xdenotes.specs.Denotes.{here, behind, with_text, with_nodes, with_term, with_factor, with_set, with_argument, denotes}
+use Rattle.pj_xsteps.specs.Means.{Means, give, judged, ◌>>=◌, chain, decides, decided, one_boolean}
+use Rattle.pj_xsteps.specs.Context.{Around, Context, Variables, Denotation}
+use Rattle.pj_xsteps.specs.Operands.{with_values, operand, only_nodes}
+use Rattle.pj_xsteps.specs.Arithmetic.{signed, range, number_items}
+use Rattle.pj_xsteps.specs.Turns.{numbered, in_turn, step_in_turn, with_kept, with_all, walked, mapped, through, narrowed, united}
+use Rattle.pj_xsteps.specs.Steps.{in_document_order}
+use Rattle.pj_xsteps.specs.Bindings.{with_item, for_in, quantified, let_in}
+use Rattle.pj_xsteps.specs.Calls.{call, pmd_call, node_in}
+use Rattle.pj_xsteps.specs.Parts.{bindings_of, operated_by}
+use Rattle.pj_xsteps.specs.Denotes.{here, behind, with_text, with_nodes, with_term, with_factor, with_set, with_argument, denotes}
 use Rattle.pj_xframes.specs.declared.frame.Task.{Task}
 use Rattle.pj_xframes.specs.declared.frame.Task.TheVariants as task
 use Rattle.pj_xframes.specs.declared.frame.Turn.{Turn}

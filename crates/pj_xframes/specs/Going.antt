@@ -8,8 +8,8 @@ use Rattle.pj_xexpressions.specs.Functions.{pmd_takes}
 use Rattle.pj_xvalue.specs.declared.item.Item.{Item}
 use Rattle.pj_xexpressions.specs.declared.pmd_function.PmdFunction.{PmdFunction}
 use Rattle.pj_xvalue.specs.OfTree.{OfTree, ArgumentsOfTree}
-use Rattle.pj_xdenotes.specs.Means.{Means, fail}
-use Rattle.pj_xdenotes.specs.Context.{Around, Context}
+use Rattle.pj_xsteps.specs.Means.{Means, fail}
+use Rattle.pj_xsteps.specs.Context.{Around, Context}
 use Rattle.pj_xframes.specs.declared.frame.Turns.{Turns}
 use Rattle.pj_xframes.specs.declared.frame.ForTurns.{ForTurns}
 use Rattle.pj_xframes.specs.declared.frame.Frame.{Frame}

@@ -1,7 +1,7 @@
 -- The variables as the code holds them.
 use Rattle.std.specs.Prelude.{ℕ, List, ◌∷◌, ◌++◌, drop, map, reverse}
 use Rattle.pj_xvalue.specs.Items.{ItemValue, values_of}
-use Rattle.pj_xdenotes.specs.Context.{Variables}
+use Rattle.pj_xsteps.specs.Context.{Variables}
 use Rattle.pj_xframes.specs.declared.scope.Binding.{Binding}
 
 -- the variables that expressions bind, the last one first, and those that are given

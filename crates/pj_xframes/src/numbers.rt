@@ -2,12 +2,12 @@
 ghost use Rattle.std.specs.Prelude.{◌≡◌, ℕ, IfOk, length, map};
 ghost use Rattle.pj_xvalue.specs.Items.{values_of};
 ghost use Rattle.pj_xvalue.specs.OfTree.{OfTree};
-ghost use Rattle.pj_xdenotes.specs.Means.{give, judged, chain};
-ghost use Rattle.pj_xdenotes.specs.Context.{Around, Context, around};
-ghost use Rattle.pj_xdenotes.specs.Operands.{operand as operand_of};
-ghost use Rattle.pj_xdenotes.specs.Arithmetic.{number_items as number_items_of, range as range_of, signed as signed_of};
-ghost use Rattle.pj_xdenotes.specs.Parts.{operated_by};
-ghost use Rattle.pj_xdenotes.specs.Denotes.{behind, denotes, with_factor, with_term};
+ghost use Rattle.pj_xsteps.specs.Means.{give, judged, chain};
+ghost use Rattle.pj_xsteps.specs.Context.{Around, Context, around};
+ghost use Rattle.pj_xsteps.specs.Operands.{operand as operand_of};
+ghost use Rattle.pj_xsteps.specs.Arithmetic.{number_items as number_items_of, range as range_of, signed as signed_of};
+ghost use Rattle.pj_xsteps.specs.Parts.{operated_by};
+ghost use Rattle.pj_xsteps.specs.Denotes.{behind, denotes, with_factor, with_term};
 ghost use Rattle.pj_xframes.specs.Frames.{◌▷◌, Replies};
 ghost use Rattle.pj_xframes.specs.Going.{Goes, GoesIf, NextOfTree};
 ghost use Rattle.pj_xframes.specs.Scopes.{Scoped, variables_of};

@@ -1,7 +1,7 @@
 //! The variables of an evaluation.
 ghost use Rattle.std.specs.Prelude.{◌≡◌, ◌++◌, [], IfOk, OnOk};
 ghost use Rattle.pj_xvalue.specs.Items.{values_of};
-ghost use Rattle.pj_xdenotes.specs.Context.{given_of, value_of_variable};
+ghost use Rattle.pj_xsteps.specs.Context.{given_of, value_of_variable};
 ghost use Rattle.pj_xframes.specs.Scopes.{bound_of, variables_of, with_variable, without};
 
 use pj_base::{NoMemory, Text};
@@ -27,7 +27,7 @@ pub struct Scope<'e, 't> {
 impl<'e, 't> Model for Scope<'e, 't> {
     ghost use Rattle.pj_xframes.specs.Scopes.{Scoped};
     ghost use Rattle.pj_xframes.specs.Scopes.{bound_of};
-    ghost use Rattle.pj_xdenotes.specs.Context.{given_of};
+    ghost use Rattle.pj_xsteps.specs.Context.{given_of};
 
     ghost Value = { Scoped };
 

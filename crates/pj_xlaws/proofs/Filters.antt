@@ -5,13 +5,13 @@ use Rattle.pj_xexpressions.specs.declared.expr.Expr.{Expr}
 use Rattle.pj_xexpressions.specs.declared.expr.Expr.TheVariants as expr
 use Rattle.pj_xexpressions.specs.declared.function.Function.TheVariants as f
 use Rattle.pj_xvalue.specs.Items.{ItemValue, Boolean}
-use Rattle.pj_xdenotes.specs.Means.{Means, give, judged, ◌>>=◌, chain}
-use Rattle.pj_xdenotes.specs.Context.{Context, Variables, Denotation, at}
-use Rattle.pj_xdenotes.specs.Turns.{numbered, in_turn, with_kept, narrowed}
-use Rattle.pj_xdenotes.specs.Calls.{call}
-use Rattle.pj_xdenotes.specs.Denotes.{denotes, arguments_of}
-use Rattle.pj_xdenotes.proofs.Forms.{denotes_filter, denotes_call}
-use Rattle.pj_xdenotes.proofs.Sequences.{then-give}
+use Rattle.pj_xsteps.specs.Means.{Means, give, judged, ◌>>=◌, chain}
+use Rattle.pj_xsteps.specs.Context.{Context, Variables, Denotation, at}
+use Rattle.pj_xsteps.specs.Turns.{numbered, in_turn, with_kept, narrowed}
+use Rattle.pj_xsteps.specs.Calls.{call}
+use Rattle.pj_xsteps.specs.Denotes.{denotes, arguments_of}
+use Rattle.pj_xsteps.proofs.Forms.{denotes_filter, denotes_call}
+use Rattle.pj_xsteps.proofs.Sequences.{then-give}
 use Rattle.pj_xlaws.specs.Laws.{FilteredByTrue}
 
 all_kept : (d : Denotation) (size : ℕ) (v : Variables) → ((c : Context) → d c v ≡ give (Boolean true ∷ [])) → (p : ℕ) (items found : List ItemValue)

@@ -14,9 +14,9 @@ use Rattle.pj_xvalue.specs.Items.{ItemValue, is_node, are_nodes}
 use Rattle.pj_xaxes.specs.Order.{document_order, ordered, has_item}
 use Rattle.pj_xaxes.proofs.Ordered.{ordered-filter, sorted-ordered, has_item-ordered}
 use Rattle.pj_xvalue.specs.Arguments.{and_then}
-use Rattle.pj_xdenotes.specs.Means.{Means, give, judged, after, ◌>>=◌, chain}
-use Rattle.pj_xdenotes.specs.Denotes.{denotes, here, with_nodes}
-use Rattle.pj_xdenotes.proofs.Forms.{denotes_union}
+use Rattle.pj_xsteps.specs.Means.{Means, give, judged, after, ◌>>=◌, chain}
+use Rattle.pj_xsteps.specs.Denotes.{denotes, here, with_nodes}
+use Rattle.pj_xsteps.proofs.Forms.{denotes_union}
 use Rattle.pj_xsteps.proofs.Sets.{are_nodes-ordered}
 use Rattle.pj_xlaws.specs.Laws.{in_order, UnitedWithItself}
 

@@ -14,10 +14,10 @@ use Rattle.pj_xexpressions.specs.declared.pmd_function.PmdFunction.{PmdFunction}
 use Rattle.pj_xvalue.specs.Items.{ItemValue}
 use Rattle.pj_xaxes.specs.Order.{ordered}
 use Rattle.pj_xvalue.specs.Arguments.{and_then}
-use Rattle.pj_xdenotes.specs.Means.{Means}
-use Rattle.pj_xdenotes.specs.Operands.{only_nodes}
-use Rattle.pj_xdenotes.specs.Context.{Around, Context, Variables}
-use Rattle.pj_xdenotes.specs.Denotes.{denotes}
+use Rattle.pj_xsteps.specs.Means.{Means}
+use Rattle.pj_xsteps.specs.Operands.{only_nodes}
+use Rattle.pj_xsteps.specs.Context.{Around, Context, Variables}
+use Rattle.pj_xsteps.specs.Denotes.{denotes}
 
 -- what the functions of PMD reply
 abbrev pub Reply : Type 0

@@ -7,8 +7,8 @@ use Rattle.pj_xexpressions.specs.Trees.{Tree, tree_of}
 use Rattle.pj_xreadings.specs.Operands.{Operand}
 use Rattle.pj_xmeaning.specs.Reads.{AreRead}
 use Rattle.pj_xparse.specs.NameFaults.{first_fault}
-use Rattle.pj_xshape.specs.Shapes.{part_of_tree}
-use Rattle.pj_xshape.specs.Nesting.{nesting_of_tree}
+use Rattle.pj_xreadings.specs.Shapes.{part_of_tree}
+use Rattle.pj_xreadings.specs.Nesting.{nesting_of_tree}
 
 -- where what is read fits and nests at most 200, expressions have the shapes of their trees, and the nesting that is said of a tree is at least
 -- that of its expression

@@ -7,8 +7,8 @@ use Rattle.pj_xexpressions.specs.Trees as tree
 use Rattle.pj_xexpressions.specs.Trees.{Tree, Construct, node, alone}
 use Rattle.pj_xreadings.specs.Mentions.{Mention}
 use Rattle.pj_xparse.specs.NameFaults.{first_fault_from}
-use Rattle.pj_xshape.specs.Shapes.{written_by, fits_by, part_of_tree, operators_fit, exactly}
-use Rattle.pj_xshape.specs.Nodes.{part_of_node}
+use Rattle.pj_xreadings.specs.Shapes.{written_by, fits_by, part_of_tree, operators_fit, exactly}
+use Rattle.pj_xreadings.specs.Nodes.{part_of_node}
 use Rattle.pj_xparse.proofs.Faultless.{AreBalanced, none_balanced, both_balanced, both_none}
 
 -- The expression may stand wherever what it names has no fault.

@@ -17,8 +17,8 @@ use Rattle.pj_xreadings.specs.declared.role.Role.TheVariants as role
 use Rattle.pj_xreadings.specs.Mentions.{Mention, Call, Argument, roles_of, roles_in, roles_named}
 use Rattle.pj_xparse.specs.NameFaults as fault
 use Rattle.pj_xparse.specs.NameFaults.{Fault, Form, unless, fits_role, callee_takes, first_fault_from}
-use Rattle.pj_xshape.specs.Shapes.{part_of_tree}
-use Rattle.pj_xshape.specs.Nodes.{part_of_node}
+use Rattle.pj_xreadings.specs.Shapes.{part_of_tree}
+use Rattle.pj_xreadings.specs.Nodes.{part_of_node}
 use Rattle.pj_xreadings.specs.Operands.{Operand, Arguments, Closed, Open, Next, trees_of, names_of, arguments_in, is_closed, in_roles, told, call}
 use Rattle.pj_xparse.proofs.Faultless.{AreBalanced, none_balanced, both_balanced, one_balanced, both_none, first_none}
 use Rattle.pj_xparse.proofs.Fit.{IsFit, AreFit, more_fit, chain_fit, filter_chain}

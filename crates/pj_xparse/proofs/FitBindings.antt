@@ -7,8 +7,8 @@ use Rattle.pj_xexpressions.specs.Trees as tree
 use Rattle.pj_xexpressions.specs.Trees.{Tree, Construct}
 use Rattle.pj_xreadings.specs.Mentions.{Mention, Binds, Ends, scoped}
 use Rattle.pj_xparse.specs.NameFaults.{first_fault_from}
-use Rattle.pj_xshape.specs.Shapes.{part_of_tree, scoped_fit, binder_fits, fits_by}
-use Rattle.pj_xshape.specs.Nodes.{part_of_node}
+use Rattle.pj_xreadings.specs.Shapes.{part_of_tree, scoped_fit, binder_fits, fits_by}
+use Rattle.pj_xreadings.specs.Nodes.{part_of_node}
 use Rattle.pj_xexpressions.specs.declared.operator.Quantifier.{Quantifier}
 use Rattle.pj_xreadings.specs.Operands.{Operand, Binding, bindings_of, scopes_of, bound}
 use Rattle.pj_xparse.proofs.Faultless.{scope_after, after-append, AreBalanced, first_none, both_none}

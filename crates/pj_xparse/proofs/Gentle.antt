@@ -4,9 +4,9 @@ use Rattle.std.specs.Prelude.{⊤, cond, nat_lt, nat_eq}
 use Rattle.std.proofs.lemmas.Bool.Decides.{leb_tells}
 use Rattle.pj_xexpressions.specs.Trees as tree
 use Rattle.pj_xexpressions.specs.Trees.{Tree, Trees, Construct, Node, NoMore, More, node}
-use Rattle.pj_xshape.specs.Shapes.{level_by}
-use Rattle.pj_xshape.specs.Nodes.{nested_as, nested_of_node}
-use Rattle.pj_xshape.specs.Nesting.{Nested, operand_before, chain_before, clauses_before, choice_before, enclosed, filter_inside, step_before, further_before, steps_before, axis_nesting, test_nesting, nested_by, nested_of, nested_each}
+use Rattle.pj_xreadings.specs.Shapes.{level_by}
+use Rattle.pj_xreadings.specs.Nodes.{nested_as, nested_of_node}
+use Rattle.pj_xreadings.specs.Nesting.{Nested, operand_before, chain_before, clauses_before, choice_before, enclosed, filter_inside, step_before, further_before, steps_before, axis_nesting, test_nesting, nested_by, nested_of, nested_each}
 
 -- The number is one more at most where a word or a `*` stands behind, and not less.
 pub record IsGentle (f : Bool → ℕ) : Type 0 where

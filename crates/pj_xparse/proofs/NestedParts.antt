@@ -14,8 +14,8 @@ use Rattle.pj_xexpressions.specs.Trees.{Tree, Construct, node, alone}
 use Rattle.pj_xtokens.specs.Tokens.{Lexed}
 use Rattle.pj_xgrammar.specs.declared.terminal.Behind.TheVariants as b
 use Rattle.pj_xgrammar.specs.Terminals.{first_behind, begins_step}
-use Rattle.pj_xshape.specs.Shapes.{level_by}
-use Rattle.pj_xshape.specs.Nesting.{Nested, operand_before, chain_before, clauses_before, nested_by, nested_of}
+use Rattle.pj_xreadings.specs.Shapes.{level_by}
+use Rattle.pj_xreadings.specs.Nesting.{Nested, operand_before, chain_before, clauses_before, nested_by, nested_of}
 use Rattle.pj_xreadings.specs.Operands.{Operand, Binding, trees_of, chain, operations, mixed, compared, ranging, signed, bindings_of, bound, chosen}
 use Rattle.pj_xparse.proofs.Gentle.{lower_operand, least_operand, marked_operand, node_operand, open_operand}
 

@@ -13,8 +13,8 @@ use Rattle.pj_xexpressions.specs.Trees as tree
 use Rattle.pj_xexpressions.specs.Trees.{Tree, Node, NoMore, More, node, alone}
 use Rattle.pj_xtokens.specs.Tokens.{Lexed}
 use Rattle.pj_xreadings.specs.Steps as forms
-use Rattle.pj_xshape.specs.Nesting.{Nested, operand_before, chain_before, step_before, further_before, enclosed, axis_nesting, test_nesting, nested_of, nested_each}
-use Rattle.pj_xshape.specs.Nodes.{nested_of_node}
+use Rattle.pj_xreadings.specs.Nesting.{Nested, operand_before, chain_before, step_before, further_before, enclosed, axis_nesting, test_nesting, nested_of, nested_each}
+use Rattle.pj_xreadings.specs.Nodes.{nested_of_node}
 use Rattle.pj_xreadings.specs.Operands.{Operand, Arguments, Closed, Next, Behind, Test, Called, Predicates, trees_of, rooted, descendants, path, filtered, arguments_in, named}
 use Rattle.pj_xparse.proofs.Gentle.{lower_operand, least_operand, enclosed_operand, node_operand, plain_operand, least_chain}
 use Rattle.pj_xparse.proofs.NestedParts.{flag, Stands, IsInside, lower, node_stands, Further}

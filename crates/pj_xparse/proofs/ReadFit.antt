@@ -21,8 +21,8 @@ use Rattle.pj_xexpressions.specs.Trees.{Tree, Construct, alone, operated}
 use Rattle.pj_xreadings.specs.Mentions.{Mention, Variable}
 use Rattle.pj_xparse.specs.NameFaults as fault
 use Rattle.pj_xparse.specs.NameFaults.{is_bound, first_fault}
-use Rattle.pj_xshape.specs.Shapes.{part_of_tree, operators_fit, fits_by}
-use Rattle.pj_xshape.specs.Nodes.{part_of_node}
+use Rattle.pj_xreadings.specs.Shapes.{part_of_tree, operators_fit, fits_by}
+use Rattle.pj_xreadings.specs.Nodes.{part_of_node}
 use Rattle.pj_xreadings.specs.Operands.{Operand, Binding, Behind, Test, Called, Predicates, operations, other, chain, mixed, compared, ranging, signed, chosen, integer_literal, string_literal, variable, rooted, descendants, path, step, child_step, attribute_step, filtered, kind_test, named}
 use Rattle.pj_xmeaning.specs.RuleMeanings.{Value}
 use Rattle.pj_xmeaning.specs.Reach.{All}

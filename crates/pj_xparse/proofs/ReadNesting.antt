@@ -16,7 +16,7 @@ use Rattle.pj_xtokens.specs.Literals.{integer_of, string_of}
 use Rattle.pj_xgrammar.specs.declared.rule.Rule.{Rule}
 use Rattle.pj_xgrammar.specs.declared.rule.Rule.TheVariants as r
 use Rattle.pj_xgrammar.specs.Notation.{lone_slash}
-use Rattle.pj_xshape.specs.Nesting.{test_nesting, nesting_of_tree}
+use Rattle.pj_xreadings.specs.Nesting.{test_nesting, nesting_of_tree}
 use Rattle.pj_xreadings.specs.Operands.{Operand, other, trees_of, kind_test, arguments_in}
 use Rattle.pj_xmeaning.specs.RuleMeanings.{Value}
 use Rattle.pj_xmeaning.specs.Reach.{All}

@@ -15,7 +15,7 @@ use Rattle.pj_xtokens.specs.Literals.{integer_of, string_of}
 use Rattle.pj_xgrammar.specs.declared.rule.Rule.{Rule}
 use Rattle.pj_xgrammar.specs.declared.rule.Rule.TheVariants as r
 use Rattle.pj_xgrammar.specs.XPath.{xpath}
-use Rattle.pj_xshape.specs.Spelled.{IsText, IsName, IsSpelled}
+use Rattle.pj_xreadings.specs.Spelled.{IsText, IsName, IsSpelled}
 use Rattle.pj_xreadings.specs.Operands.{Operand, other, descendants, kind_test}
 use Rattle.pj_xmeaning.specs.RuleMeanings.{Value}
 use Rattle.pj_xmeaning.specs.Reach.{All}

@@ -16,7 +16,7 @@ use Rattle.pj_xtokens.specs.Tokens.{Lexed}
 use Rattle.pj_xgrammar.specs.declared.rule.Rule.{Rule}
 use Rattle.pj_xgrammar.specs.declared.rule.Rule.TheVariants as r
 use Rattle.pj_xreadings.specs.Steps as forms
-use Rattle.pj_xshape.specs.Spelled.{IsName, AreNames, IsTestSpelled, IsConstructSpelled, IsSpelled, AreSpelled}
+use Rattle.pj_xreadings.specs.Spelled.{IsName, AreNames, IsTestSpelled, IsConstructSpelled, IsSpelled, AreSpelled}
 use Rattle.pj_xreadings.specs.Operands.{Operand, Binding, Arguments, Behind, Test, Called, Predicates, trees_of, operations, bindings_of, arguments_in, chain, mixed, compared, ranging, bound, chosen, rooted, path, filtered, kind_test, named}
 use Rattle.pj_xmeaning.specs.RuleMeanings.{Value}
 

@@ -10,7 +10,7 @@ use Rattle.pj_xtokens.specs.Tokens.{Lexed}
 use Rattle.pj_xtokens.specs.declared.token.TokenKind.{TokenKind}
 use Rattle.pj_xtokens.specs.declared.token.TokenKind.TheVariants as kind
 use Rattle.pj_xtokens.specs.Literals.{unquoted, kept, is_left_out, characters_of, string_of, number_from, integer_of}
-use Rattle.pj_xshape.specs.Spelled.{IsText, IsName, IsInteger}
+use Rattle.pj_xreadings.specs.Spelled.{IsText, IsName, IsInteger}
 use Rattle.pj_xparse.specs.WellSpelled.{IsWellSpelled}
 
 text_of : (cs : List ℕ) → all_scalars cs ≡ true → IsText (encode_utf8_all cs)

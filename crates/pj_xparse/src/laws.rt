@@ -18,9 +18,9 @@ ghost use Rattle.pj_xreadings.specs.Operands.{Operand};
 ghost use Rattle.pj_xmeaning.specs.Begun.{AreBegun};
 ghost use Rattle.pj_xmeaning.specs.Reads.{AreRead};
 ghost use Rattle.pj_xmeaning.specs.SoFar.{SayUpTo};
-ghost use Rattle.pj_xshape.specs.Nesting.{nesting_of_tree};
-ghost use Rattle.pj_xshape.specs.Shapes.{part_of_tree};
-ghost use Rattle.pj_xshape.specs.Spelled.{IsSpelled};
+ghost use Rattle.pj_xreadings.specs.Nesting.{nesting_of_tree};
+ghost use Rattle.pj_xreadings.specs.Shapes.{part_of_tree};
+ghost use Rattle.pj_xreadings.specs.Spelled.{IsSpelled};
 ghost use Rattle.pj_xparse.specs.Faults.{IsFault};
 ghost use Rattle.pj_xparse.specs.NameFaults.{first_fault};
 ghost use Rattle.pj_xparse.specs.Outcomes.{IsOutcome, IsWhole, SaySoFar};
@@ -31,7 +31,7 @@ ghost use Rattle.pj_xparse.specs.declared.fault.XSyntax.{XSyntax};
 use pj_ll::{derived_is_not_left_out, one_end};
 use pj_xderive::{beginnings_lead, grammar_is_predictive, one_outcome, one_run};
 use pj_xmeaning::{depths_are_read, readings_are_whole, what_is_left_out_is_read};
-use pj_xshape::{expressions_have_shapes, nesting_is_least};
+use pj_xreadings::{expressions_have_shapes, nesting_is_least};
 use pj_xtokens::{each_text_has_tokens, gaps_stand_in_front, tokens_are_one};
 
 /// A text spells one expression at most.

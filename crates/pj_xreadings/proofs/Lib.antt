@@ -4,3 +4,12 @@ pub mod Chains
 pub mod StepForms
 pub mod Calls
 pub mod Scopes
+-- proofs of the laws of shapes
+pub mod Fitted
+pub mod Bound
+pub mod Seen
+pub mod LayerForms
+pub mod SameShape
+pub mod Within
+pub mod Least
+pub mod Grows

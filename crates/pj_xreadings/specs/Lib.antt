@@ -6,3 +6,9 @@ pub mod Operands
 pub mod Seen
 -- for the arguments of the code
 pub mod Constructs
+-- definitions
+pub mod Shapes
+pub mod Nesting
+pub mod Spelled
+-- laws
+pub mod Nodes

@@ -14,8 +14,8 @@ use Rattle.pj_xvalue.specs.OfTree.{OfTree, ArgumentsOfTree}
 use Rattle.pj_xvalue.proofs.OfTreeLaws.{of_tree-nil, of_tree-one, of_tree-cons, of_tree-append, arguments-tail}
 use Rattle.pj_xaxes.specs.Axes.{axis_nodes}
 use Rattle.pj_xaxes.proofs.Inside.{axis-inside}
-use Rattle.pj_xdenotes.specs.Context.{Around}
-use Rattle.pj_xdenotes.specs.Steps.{elements, root, document_behind, of_element, of_document, of_attribute, axis_items, passes, stepped, passes_name, has_value, attributes}
+use Rattle.pj_xsteps.specs.Context.{Around}
+use Rattle.pj_xsteps.specs.Steps.{elements, root, document_behind, of_element, of_document, of_attribute, axis_items, passes, stepped, passes_name, has_value, attributes}
 
 -- the items from the last to the first
 pub of_tree-reverse : (n : ℕ) (xs : List ItemValue) → OfTree n xs → OfTree n (reverse xs)

@@ -6,7 +6,7 @@ use Rattle.std.proofs.lemmas.List.{map-append}
 use Rattle.std.proofs.lemmas.List.FromFn.{map-range_with_len_more}
 use Rattle.pj_xvalue.specs.declared.item.Item.{Item}
 use Rattle.pj_xvalue.specs.Items.{Integer, value_of_item, values_of}
-use Rattle.pj_xdenotes.specs.Arithmetic.{natural}
+use Rattle.pj_xsteps.specs.Arithmetic.{natural}
 
 no_less : (z : ℤ) → z <ℤ pos 1 → natural z ≡ 0
 no_less (pos n) h = omega (arith, ints)

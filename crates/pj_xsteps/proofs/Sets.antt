@@ -7,7 +7,7 @@ use Rattle.pj_xvalue.specs.declared.item.Item.{Item}
 use Rattle.pj_xvalue.specs.Items.{ItemValue, are_nodes, value_of_item, values_of}
 use Rattle.pj_xaxes.specs.Order.{has_item, ordered}
 use Rattle.pj_xaxes.proofs.Ordered.{has_item-ordered, places-ordered, places_from, IsNode}
-use Rattle.pj_xdenotes.specs.Sets.{stays, chosen}
+use Rattle.pj_xsteps.specs.Sets.{stays, chosen}
 use Rattle.pj_xsteps.proofs.Values.{values_more}
 
 are_from : (xs : List ItemValue) → AllByRecursion IsNode xs → IsTrue (are_nodes xs)

@@ -8,12 +8,12 @@ use Rattle.pj_tree.specs.declared.node.Node.{Node}
 use Rattle.pj_xexpressions.specs.declared.expr.NodeTest.{NodeTest}
 use Rattle.pj_xvalue.specs.declared.item.Item.{Item}
 use Rattle.pj_xvalue.specs.Items.{ItemValue, Attribute, value_of_item, values_of}
-use Rattle.pj_xdenotes.specs.Steps.{named_attributes, passes_name, has_value}
+use Rattle.pj_xsteps.specs.Steps.{named_attributes, passes_name, has_value}
 use Rattle.pj_xexpressions.specs.declared.function.Function.{Function}
 use Rattle.pj_xfuncs.specs.Library.{called as given}
-use Rattle.pj_xdenotes.specs.Context.{Around, Context}
-use Rattle.pj_xdenotes.specs.Calls.{of_text}
-use Rattle.pj_xdenotes.specs.Operands.{valued, with_values}
+use Rattle.pj_xsteps.specs.Context.{Around, Context}
+use Rattle.pj_xsteps.specs.Calls.{of_text}
+use Rattle.pj_xsteps.specs.Operands.{valued, with_values}
 
 pub values_more : (items : List Item) (i : ℕ) (x : Item) → i < length items → x ≡ get_or items i x → values_of (take (i + 1) items) ≡ values_of (take i items) ++ value_of_item x ∷ []
 values_more items i x lt is =

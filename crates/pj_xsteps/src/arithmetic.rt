@@ -3,7 +3,7 @@ ghost use Rattle.std.specs.Prelude.{◌≡◌, IfOk, pos, ◌+ℤ◌, ◌-ℤ◌
 ghost use Rattle.pj_xvalue.specs.Items.{values_of};
 ghost use Rattle.pj_xvalue.specs.Replies.{outcome};
 ghost use Rattle.pj_xvalue.specs.Arguments.{IsGiven};
-ghost use Rattle.pj_xdenotes.specs.Arithmetic.{integers as integers_between, literal as literal_of, natural, number_items as number_items_of, plus, product as product_of, range as range_of, signed as signed_of, sum as sum_of, times};
+ghost use Rattle.pj_xsteps.specs.Arithmetic.{integers as integers_between, literal as literal_of, natural, number_items as number_items_of, plus, product as product_of, range as range_of, signed as signed_of, sum as sum_of, times};
 
 use crate::sequences::one;
 use pj_base::NoMemory;

@@ -12,7 +12,7 @@ pub struct At<'t> {
 
 impl<'t> Model for At<'t> {
     ghost use Rattle.pj_xvalue.specs.Items.{value_of_item};
-    ghost use Rattle.pj_xdenotes.specs.Context.{Context};
+    ghost use Rattle.pj_xsteps.specs.Context.{Context};
 
     ghost Value = { Context };
 

@@ -4,8 +4,8 @@ ghost use Rattle.pj_tree.specs.Tree.{Tree};
 ghost use Rattle.pj_xvalue.specs.Items.{Attribute as AttributeValue, Document as DocumentValue, Element as ElementValue, value_of_item, values_of, IsOfTree};
 ghost use Rattle.pj_xvalue.specs.OfTree.{OfTree};
 ghost use Rattle.pj_xaxes.specs.Axes.{axis_nodes, is_reverse};
-ghost use Rattle.pj_xdenotes.specs.Context.{around};
-ghost use Rattle.pj_xdenotes.specs.Steps.{attributes as attributes_of_item, attributes_of, document_behind, elements, has_value, named_attributes, of_attribute, of_document, of_element, passes, passes_name, stepped as stepped_of};
+ghost use Rattle.pj_xsteps.specs.Context.{around};
+ghost use Rattle.pj_xsteps.specs.Steps.{attributes as attributes_of_item, attributes_of, document_behind, elements, has_value, named_attributes, of_attribute, of_document, of_element, passes, passes_name, stepped as stepped_of};
 
 use crate::setting::Setting;
 use pj_base::NoMemory;

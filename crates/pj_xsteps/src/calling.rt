@@ -5,9 +5,9 @@ ghost use Rattle.pj_xvalue.specs.OfTree.{OfTree, ArgumentsOfTree};
 ghost use Rattle.pj_xvalue.specs.Replies.{outcome};
 ghost use Rattle.pj_xvalue.specs.Arguments.{IsGiven};
 ghost use Rattle.pj_xfuncs.specs.Library.{called as given};
-ghost use Rattle.pj_xdenotes.specs.Context.{around};
-ghost use Rattle.pj_xdenotes.specs.Operands.{with_values as with_values_of};
-ghost use Rattle.pj_xdenotes.specs.Calls.{call as call_of, called, first_as_it_is, name_in as name_in_of, node_in, node_name as node_name_of, of_text, or_context, root_in as root_in_of};
+ghost use Rattle.pj_xsteps.specs.Context.{around};
+ghost use Rattle.pj_xsteps.specs.Operands.{with_values as with_values_of};
+ghost use Rattle.pj_xsteps.specs.Calls.{call as call_of, called, first_as_it_is, name_in as name_in_of, node_in, node_name as node_name_of, of_text, or_context, root_in as root_in_of};
 
 use crate::at::At;
 use crate::operands::with_values;

@@ -1,7 +1,7 @@
-//! XPath: the parts of evaluation that do not go down the expression.
+//! XPath: what expressions denote, and the parts of evaluation that do not go down the expression.
 //!
 //! Operands and arithmetic, sets of nodes, axis and attribute steps, what a predicate keeps and what a path's steps give, and
-//! calls of functions. Nothing here asks for a class.
+//! calls of functions. The definitions of what an expression denotes are in `specs/`. Nothing here asks for a class.
 #![tactic(auto)]
 
 mod arithmetic;

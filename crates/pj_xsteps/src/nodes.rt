@@ -5,8 +5,8 @@ ghost use Rattle.pj_xvalue.specs.Items.{value_of_item, values_of};
 ghost use Rattle.pj_xvalue.specs.OfTree.{OfTree};
 ghost use Rattle.pj_xvalue.specs.Arguments.{seen_as};
 ghost use Rattle.pj_xaxes.specs.Order.{document_order, has_item, ordered};
-ghost use Rattle.pj_xdenotes.specs.Operands.{only_nodes};
-ghost use Rattle.pj_xdenotes.specs.Sets.{chosen, stays as stays_by};
+ghost use Rattle.pj_xsteps.specs.Operands.{only_nodes};
+ghost use Rattle.pj_xsteps.specs.Sets.{chosen, stays as stays_by};
 
 use pj_base::{Copied, NoMemory};
 use pj_xaxes::{in_order, is_among};

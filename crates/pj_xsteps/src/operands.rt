@@ -7,8 +7,8 @@ ghost use Rattle.pj_xvalue.specs.Items.{value_of_item, values_of, have_no_attrib
 ghost use Rattle.pj_xvalue.specs.OfTree.{OfTree};
 ghost use Rattle.pj_xvalue.specs.Replies.{outcome};
 ghost use Rattle.pj_xvalue.specs.Arguments.{IsGiven, integer_or_nothing, text_in};
-ghost use Rattle.pj_xdenotes.specs.Context.{around};
-ghost use Rattle.pj_xdenotes.specs.Operands.{operand as operand_of, text_operand as text_operand_of, valued, value_at, with_values};
+ghost use Rattle.pj_xsteps.specs.Context.{around};
+ghost use Rattle.pj_xsteps.specs.Operands.{operand as operand_of, text_operand as text_operand_of, valued, value_at, with_values};
 
 use crate::setting::Setting;
 use pj_base::{Copied, NoMemory};

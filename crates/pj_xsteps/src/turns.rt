@@ -3,7 +3,7 @@ ghost use Rattle.std.specs.Prelude.{◌≡◌, ℕ, IfOk};
 ghost use Rattle.pj_xvalue.specs.Items.{values_of};
 ghost use Rattle.pj_xvalue.specs.OfTree.{OfTree};
 ghost use Rattle.pj_xvalue.specs.Arguments.{seen_as};
-ghost use Rattle.pj_xdenotes.specs.Turns.{keeps, united as united_of};
+ghost use Rattle.pj_xsteps.specs.Turns.{keeps, united as united_of};
 
 use pj_xaxes::in_order;
 use pj_xvalue::{Item, Sequence, XCode, are_nodes, boolean_value, has_node};

@@ -23,9 +23,9 @@ use Rattle.pj_xreadings.specs.Operands.{Operand, Binding, bindings_of, scopes_of
 use Rattle.pj_xmeaning.specs.Reach.{All}
 use Rattle.pj_xmeaning.specs.Reads as relation
 use Rattle.pj_xmeaning.specs.Reads.{Takes, token, for_expr, let_expr, some_expr, every_expr, in_binding, in_more, in_end, let_binding, let_more, let_end, in_clause, assign_clause, return_clause, satisfies_clause}
-use Rattle.pj_xshape.specs.Shapes.{part_of_tree}
-use Rattle.pj_xshape.specs.Spelled.{IsText}
-use Rattle.pj_xshape.specs.Nesting.{Nested, operand_before, clauses_before, nested_of, nested_each}
+use Rattle.pj_xreadings.specs.Shapes.{part_of_tree}
+use Rattle.pj_xreadings.specs.Spelled.{IsText}
+use Rattle.pj_xreadings.specs.Nesting.{Nested, operand_before, clauses_before, nested_of, nested_each}
 use Rattle.pj_xsyntax_laws.specs.Printed.{operand, clauses, dollar, comma, name, sign, keyword, printed_of, printed_each}
 use Rattle.pj_xsyntax_laws.proofs.Follows.{follows, follows-phrase}
 use Rattle.pj_xsyntax_laws.proofs.Mentions.{Clean, CleanBound, bound_none, bound_more, clean-bound}

@@ -22,8 +22,8 @@ use Rattle.pj_xparse.specs.NameFaults.{callee_takes, is_function}
 use Rattle.pj_xreadings.specs.Mentions.{Mention, Call, roles_in, roles_named}
 use Rattle.pj_xreadings.specs.Operands.{Arguments, Called, arguments_in, is_closed, in_roles, told, names_of, trees_of}
 use Rattle.pj_xmeaning.specs.Reads.{token, here, plain_name, plain_step, name_call}
-use Rattle.pj_xshape.specs.Shapes.{part_of_tree}
-use Rattle.pj_xshape.specs.Nesting.{nested_of, nested_each, chain_before}
+use Rattle.pj_xreadings.specs.Shapes.{part_of_tree}
+use Rattle.pj_xreadings.specs.Nesting.{nested_of, nested_each, chain_before}
 use Rattle.pj_xsyntax_laws.specs.Printed.{enclosed, joined, left, right, comma, named, printed_of, printed_each, function_name, pmd_function_name}
 use Rattle.pj_xsyntax_laws.proofs.Mentions.{Clean, clean-append, clean-call}
 use Rattle.pj_xsyntax_laws.proofs.Primaries.{primary_alone}

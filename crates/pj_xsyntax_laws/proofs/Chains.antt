@@ -16,7 +16,7 @@ use Rattle.pj_xreadings.specs.Operands.{Operand, names_of}
 use Rattle.pj_xmeaning.specs.Reach.{All}
 use Rattle.pj_xmeaning.specs.Reads as x
 use Rattle.pj_xmeaning.specs.Reads.{token}
-use Rattle.pj_xshape.specs.Nesting.{nested_of, nested_each, chain_before}
+use Rattle.pj_xreadings.specs.Nesting.{nested_of, nested_each, chain_before}
 use Rattle.pj_xsyntax_laws.specs.Printed.{Printed, joined, enclosed, printed_of, printed_each, comma, sign, keyword}
 use Rattle.pj_xsyntax_laws.proofs.Follows.{follows}
 use Rattle.pj_xsyntax_laws.proofs.Mentions.{clean-append}

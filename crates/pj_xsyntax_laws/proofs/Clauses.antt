@@ -16,7 +16,7 @@ use Rattle.pj_xreadings.specs.Operands.{Operand}
 use Rattle.pj_xmeaning.specs.Reach.{All}
 use Rattle.pj_xmeaning.specs.Reads as relation
 use Rattle.pj_xmeaning.specs.Reads.{Takes, token, if_expr, test_clause, then_clause, else_clause}
-use Rattle.pj_xshape.specs.Nesting.{operand_before, nested_of}
+use Rattle.pj_xreadings.specs.Nesting.{operand_before, nested_of}
 use Rattle.pj_xsyntax_laws.specs.Printed.{operand, enclosed, left, right, printed_of, printed_each, words_of, keyword}
 use Rattle.pj_xsyntax_laws.proofs.Follows.{follows}
 use Rattle.pj_xsyntax_laws.proofs.Mentions.{clean-append}

@@ -4,8 +4,8 @@ use Rattle.std.specs.Prelude.{nat_le}
 use Rattle.std.proofs.lemmas.Bool.{leb-true, leb-false}
 use Rattle.pj_xexpressions.specs.Expressions.{Scope}
 use Rattle.pj_xexpressions.specs.Trees.{Trees, Construct, Node}
-use Rattle.pj_xshape.specs.Shapes.{level_by, written_by, part_of_tree}
-use Rattle.pj_xshape.specs.Nesting.{nested_of, nested_each, nested_by}
+use Rattle.pj_xreadings.specs.Shapes.{level_by, written_by, part_of_tree}
+use Rattle.pj_xreadings.specs.Nesting.{nested_of, nested_each, nested_by}
 use Rattle.pj_xsyntax_laws.specs.Printed.{printed_of, printed_each, words_by}
 use Rattle.pj_xsyntax_laws.proofs.Readings.{ReadsAt, Reads}
 

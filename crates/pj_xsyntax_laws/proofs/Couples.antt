@@ -17,8 +17,8 @@ use Rattle.pj_xreadings.specs.Operands.{Operand, other}
 use Rattle.pj_xmeaning.specs.Reach.{All}
 use Rattle.pj_xmeaning.specs.Reads as x
 use Rattle.pj_xmeaning.specs.Reads.{token}
-use Rattle.pj_xshape.specs.Shapes.{part_of_tree}
-use Rattle.pj_xshape.specs.Nesting.{operand_before, nested_of}
+use Rattle.pj_xreadings.specs.Shapes.{part_of_tree}
+use Rattle.pj_xreadings.specs.Nesting.{operand_before, nested_of}
 use Rattle.pj_xsyntax_laws.specs.Printed.{operand, printed_of, printed_each, compare_word, signed_word, keyword}
 use Rattle.pj_xsyntax_laws.proofs.Follows.{follows}
 use Rattle.pj_xsyntax_laws.proofs.Mentions.{clean-append}

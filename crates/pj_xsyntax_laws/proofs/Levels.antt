@@ -5,8 +5,8 @@ use Rattle.std.proofs.lemmas.Bool.{false≢true}
 use Rattle.pj_xexpressions.specs.Expressions.{Other}
 use Rattle.pj_xexpressions.specs.Trees.{Tree, Trees, Construct, Node, NoMore, More}
 use Rattle.pj_xexpressions.specs.Trees as tree
-use Rattle.pj_xshape.specs.Shapes.{level_by, written_by, part_of_tree, parts_of_trees}
-use Rattle.pj_xshape.specs.Nesting.{nested_of, nested_each}
+use Rattle.pj_xreadings.specs.Shapes.{level_by, written_by, part_of_tree, parts_of_trees}
+use Rattle.pj_xreadings.specs.Nesting.{nested_of, nested_each}
 use Rattle.pj_xsyntax_laws.specs.Printed.{printed_of, printed_each}
 
 pub printed-length : (ts : Trees) → length (printed_each ts) ≡ length (nested_each ts)

@@ -12,7 +12,7 @@ use Rattle.std.proofs.lemmas.Str.Parse.{digit_from_value}
 use lib.Utf8.{encode, scalar, scalars}
 use Rattle.pj_xsyntax_laws.specs.Spaced.{written, doubled, literal}
 use Rattle.pj_xtokens.specs.Literals.{number_from, if_it_fits, integer_of, unquoted, characters_of, string_of}
-use Rattle.pj_xshape.specs.Spelled.{IsInteger}
+use Rattle.pj_xreadings.specs.Spelled.{IsInteger}
 use Rattle.pj_xsyntax_laws.specs.Printed.{integer_text}
 
 -- ---- integers

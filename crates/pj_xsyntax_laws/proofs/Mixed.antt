@@ -20,7 +20,7 @@ use Rattle.pj_xreadings.specs.Operands.{Operand, operations, names_behind}
 use Rattle.pj_xmeaning.specs.Reach.{All}
 use Rattle.pj_xmeaning.specs.Reads as x
 use Rattle.pj_xmeaning.specs.Reads.{token}
-use Rattle.pj_xshape.specs.Nesting.{nested_of, nested_each, chain_before}
+use Rattle.pj_xreadings.specs.Nesting.{nested_of, nested_each, chain_before}
 use Rattle.pj_xsyntax_laws.specs.Printed.{chain, printed_of, printed_each, sum_word, product_word, set_word}
 use Rattle.pj_xsyntax_laws.proofs.Follows.{follows}
 use Rattle.pj_xsyntax_laws.proofs.Mentions.{Clean, clean-nil, clean-append}

@@ -25,8 +25,8 @@ use Rattle.pj_xexpressions.specs.declared.expr.NodeTest.{NodeTest}
 use Rattle.pj_xexpressions.specs.declared.expr.NodeTest.TheVariants as test
 use Rattle.pj_xmeaning.specs.Reach.{All}
 use Rattle.pj_xmeaning.specs.Reads.{Takes, token, IsAmong, here, further, Reads, variable_name, axis_variable, node_variable, element_variable, plain_name, name_test, axis_name_test, any_name_test, node_test, element_test, kind_parentheses, no_parentheses}
-use Rattle.pj_xshape.specs.Spelled.{IsText, IsTestSpelled}
-use Rattle.pj_xshape.specs.Nesting.{test_nesting}
+use Rattle.pj_xreadings.specs.Spelled.{IsText, IsTestSpelled}
+use Rattle.pj_xreadings.specs.Nesting.{test_nesting}
 use Rattle.pj_xsyntax_laws.specs.Printed.{name, test_words}
 use Rattle.pj_xsyntax_laws.proofs.Follows.{no_phrase, makes_none}
 use Rattle.pj_xsyntax_laws.proofs.WholeReadings.{reading}

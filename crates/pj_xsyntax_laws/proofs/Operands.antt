@@ -11,8 +11,8 @@ use Rattle.pj_xexpressions.specs.Expressions.{Scope, Written}
 use Rattle.pj_xexpressions.specs.Trees.{Tree}
 use Rattle.pj_xmeaning.specs.Reach.{All}
 use Rattle.pj_xmeaning.specs.Reads as relation
-use Rattle.pj_xshape.specs.Shapes.{part_of_tree}
-use Rattle.pj_xshape.specs.Nesting.{nested_of, operand_before}
+use Rattle.pj_xreadings.specs.Shapes.{part_of_tree}
+use Rattle.pj_xreadings.specs.Nesting.{nested_of, operand_before}
 use Rattle.pj_xsyntax_laws.specs.Printed.{enclosed, operand, printed_of, words_of}
 use Rattle.pj_xsyntax_laws.proofs.Follows.{follows-phrase}
 use Rattle.pj_xsyntax_laws.proofs.Levels.{nested-level, written-low}

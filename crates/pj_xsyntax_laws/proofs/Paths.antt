@@ -21,8 +21,8 @@ use Rattle.pj_xreadings.specs.Operands.{Operand, names_of, trees_of}
 use Rattle.pj_xmeaning.specs.Reach.{All}
 use Rattle.pj_xmeaning.specs.Reads as relation
 use Rattle.pj_xmeaning.specs.Reads.{Takes, token, from_root, from_descendants, relative, path_steps, next_step, next_descendants, steps_end}
-use Rattle.pj_xshape.specs.Nesting.{operand_before, step_before, further_before, is_descendants_by, nested_of, nested_each}
-use Rattle.pj_xshape.specs.Shapes.{part_of_tree}
+use Rattle.pj_xreadings.specs.Nesting.{operand_before, step_before, further_before, is_descendants_by, nested_of, nested_each}
+use Rattle.pj_xreadings.specs.Shapes.{part_of_tree}
 use Rattle.pj_xsyntax_laws.specs.Printed.{operand, enclosed, from_step, further_steps, printed_of, printed_each, slash, slashes}
 use Rattle.pj_xsyntax_laws.proofs.Follows.{follows, follows-step}
 use Rattle.pj_xsyntax_laws.proofs.Levels.{nested-level, printed-length}

@@ -18,10 +18,10 @@ use Rattle.pj_xreadings.specs.Mentions as mention
 use Rattle.pj_xmeaning.specs.Reach.{All}
 use Rattle.pj_xmeaning.specs.Reads as relation
 use Rattle.pj_xmeaning.specs.Reads.{token, variable_expr, integer_expr, string_expr, context_item, parenthesized, empty}
-use Rattle.pj_xshape.specs.Shapes.{part_of_tree}
-use Rattle.pj_xshape.specs.Spelled.{IsText, IsInteger}
-use Rattle.pj_xshape.specs.Nesting as nesting
-use Rattle.pj_xshape.specs.Nesting.{operand_before, nested_of, nested_each}
+use Rattle.pj_xreadings.specs.Shapes.{part_of_tree}
+use Rattle.pj_xreadings.specs.Spelled.{IsText, IsInteger}
+use Rattle.pj_xreadings.specs.Nesting as nesting
+use Rattle.pj_xreadings.specs.Nesting.{operand_before, nested_of, nested_each}
 use Rattle.pj_xsyntax_laws.specs.Printed.{operand, enclosed, integer_text, printed_of, printed_each, predicates, dollar, name, sign}
 use Rattle.pj_xsyntax_laws.proofs.Follows.{follows-phrase}
 use Rattle.pj_xsyntax_laws.proofs.Mentions.{clean-nil, clean-variable}

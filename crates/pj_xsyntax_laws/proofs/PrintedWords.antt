@@ -34,8 +34,8 @@ use Rattle.pj_xexpressions.specs.declared.operator.Sign.{Sign}
 use Rattle.pj_xexpressions.specs.declared.operator.Sign.TheVariants as signed
 use Rattle.pj_xexpressions.specs.Trees as tree
 use Rattle.pj_xexpressions.specs.Trees.{Tree, Trees, Construct, Node, NoMore, More}
-use Rattle.pj_xshape.specs.Spelled as shape
-use Rattle.pj_xshape.specs.Spelled.{IsSpelled, IsConstructSpelled, IsTestSpelled, IsInteger, AreNames}
+use Rattle.pj_xreadings.specs.Spelled as shape
+use Rattle.pj_xreadings.specs.Spelled.{IsSpelled, IsConstructSpelled, IsTestSpelled, IsInteger, AreNames}
 use Rattle.pj_xsyntax_laws.specs.Printed.{Printed, printed_of, printed_each, words_by, words_of, operand, enclosed, chain, joined, clauses, choice, predicates, filter, from_step, further_steps, steps, step_words, keyword, sign, named, comma, left, right, slash, slashes, dollar, axis_name, function_name, pmd_function_name, test_words, compare_word, sum_word, product_word, set_word, signed_word, quantifier_word, integer_text}
 
 abbrev IsWordSpelled : Word → Type 0

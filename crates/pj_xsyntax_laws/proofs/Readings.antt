@@ -14,8 +14,8 @@ use Rattle.pj_xreadings.specs.Mentions.{Mention}
 use Rattle.pj_xreadings.specs.Operands.{Operand, trees_of, names_of}
 use Rattle.pj_xmeaning.specs.Reach.{All}
 use Rattle.pj_xmeaning.specs.Reads as relation
-use Rattle.pj_xshape.specs.Shapes.{part_of_tree}
-use Rattle.pj_xshape.specs.Nesting.{nested_of}
+use Rattle.pj_xreadings.specs.Shapes.{part_of_tree}
+use Rattle.pj_xreadings.specs.Nesting.{nested_of}
 use Rattle.pj_xsyntax_laws.specs.Printed.{printed_of, words_of}
 use Rattle.pj_xsyntax_laws.proofs.Appending.{placed-append}
 use Rattle.pj_xsyntax_laws.proofs.Follows.{no_phrase, follows}

@@ -17,9 +17,9 @@ use Rattle.pj_xreadings.specs.Operands.{Operand}
 use Rattle.pj_xmeaning.specs.Reads.{AreRead}
 use Rattle.pj_xparse.specs.WellSpelled.{AreWellSpelled}
 use Rattle.pj_xparse.specs.Spells.{Spells}
-use Rattle.pj_xshape.specs.Nesting.{nesting_of_tree}
-use Rattle.pj_xshape.specs.Shapes.{part_of_tree}
-use Rattle.pj_xshape.specs.Spelled.{IsSpelled}
+use Rattle.pj_xreadings.specs.Nesting.{nesting_of_tree}
+use Rattle.pj_xreadings.specs.Shapes.{part_of_tree}
+use Rattle.pj_xreadings.specs.Spelled.{IsSpelled}
 use Rattle.pj_xsyntax_laws.specs.Printed.{printed, printed_of, words_of}
 use Rattle.pj_xsyntax_laws.proofs.Climbing.{descend}
 use Rattle.pj_xsyntax_laws.proofs.Readings.{operand_of}

@@ -12,7 +12,7 @@ use Rattle.pj_xreadings.specs.Mentions.{Mention, Argument, roles_of}
 use Rattle.pj_xreadings.specs.declared.role.Role.{Role}
 use Rattle.pj_xreadings.specs.declared.role.Role.TheVariants as role
 use Rattle.pj_xreadings.specs.Operands.{Arguments, Closed, Next, arguments_in, is_closed, judged, in_roles, trees_of}
-use Rattle.pj_xshape.specs.Shapes.{part_of_tree}
+use Rattle.pj_xreadings.specs.Shapes.{part_of_tree}
 use Rattle.pj_xsyntax_laws.proofs.Mentions.{Clean, clean-nil, clean-append, clean-argument}
 use Rattle.pj_xsyntax_laws.proofs.Readings.{operand_of}
 

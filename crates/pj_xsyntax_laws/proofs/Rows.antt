@@ -13,8 +13,8 @@ use Rattle.pj_xreadings.specs.Operands.{Operand, Arguments, Closed, Next}
 use Rattle.pj_xmeaning.specs.Reach.{All}
 use Rattle.pj_xmeaning.specs.Reads as relation
 use Rattle.pj_xmeaning.specs.Reads.{token, some_arguments, more_arguments, arguments_end}
-use Rattle.pj_xshape.specs.Nesting.{operand_before, nested_of, nested_each, chain_before}
-use Rattle.pj_xshape.specs.Shapes.{part_of_tree}
+use Rattle.pj_xreadings.specs.Nesting.{operand_before, nested_of, nested_each, chain_before}
+use Rattle.pj_xreadings.specs.Shapes.{part_of_tree}
 use Rattle.pj_xsyntax_laws.specs.Printed.{Printed, operand, chain, joined, printed_of, printed_each, comma}
 use Rattle.pj_xsyntax_laws.proofs.Follows.{follows}
 use Rattle.pj_xsyntax_laws.proofs.Operands.{operand_reads}

@@ -26,10 +26,10 @@ use Rattle.pj_xreadings.specs.Operands.{Test, names_of, trees_of}
 use Rattle.pj_xmeaning.specs.Reach.{All}
 use Rattle.pj_xmeaning.specs.Reads as relation
 use Rattle.pj_xmeaning.specs.Reads.{Takes, token, predicate, no_predicate, parent, axis_name, axis_test}
-use Rattle.pj_xshape.specs.Shapes.{part_of_tree}
-use Rattle.pj_xshape.specs.Spelled.{IsTestSpelled}
-use Rattle.pj_xshape.specs.Nesting as nesting
-use Rattle.pj_xshape.specs.Nesting.{nested_of, nested_each, axis_nesting, test_nesting}
+use Rattle.pj_xreadings.specs.Shapes.{part_of_tree}
+use Rattle.pj_xreadings.specs.Spelled.{IsTestSpelled}
+use Rattle.pj_xreadings.specs.Nesting as nesting
+use Rattle.pj_xreadings.specs.Nesting.{nested_of, nested_each, axis_nesting, test_nesting}
 use Rattle.pj_xsyntax_laws.specs.Printed.{printed_of, printed_each, predicates, step_words, test_words, named, axis_name as name_of_axis, sign, words_of}
 use Rattle.pj_xsyntax_laws.proofs.Follows.{no_phrase, follows-phrase}
 use Rattle.pj_xsyntax_laws.proofs.Names.{test_reads}

@@ -10,8 +10,8 @@ use Rattle.pj_xexpressions.specs.Expressions.{Scope}
 use Rattle.pj_xexpressions.specs.Trees.{Tree, Trees, NoMore, More}
 use Rattle.pj_xreadings.specs.Mentions.{Mention}
 use Rattle.pj_xreadings.specs.Operands.{Operand}
-use Rattle.pj_xshape.specs.Shapes.{part_of_tree}
-use Rattle.pj_xshape.specs.Nesting.{operand_before, nested_of, nested_each, chain_before}
+use Rattle.pj_xreadings.specs.Shapes.{part_of_tree}
+use Rattle.pj_xreadings.specs.Nesting.{operand_before, nested_of, nested_each, chain_before}
 use Rattle.pj_xsyntax_laws.specs.Printed.{operand, chain, printed_of, printed_each}
 use Rattle.pj_xsyntax_laws.proofs.Follows.{follows}
 use Rattle.pj_xsyntax_laws.proofs.Mentions.{Clean}

@@ -8,8 +8,8 @@ use Rattle.pj_xexpressions.specs.Functions.{takes, pmd_takes}
 use Rattle.pj_xexpressions.specs.Expressions.{Part, Scope, with_variable, all_fit, chain_fits, arguments_fit, is_digits}
 use Rattle.pj_xexpressions.specs.Trees as tree
 use Rattle.pj_xexpressions.specs.Trees.{Tree, Trees, Construct, Node, NoMore, More}
-use Rattle.pj_xshape.specs.Shapes.{part_of_tree, parts_of_trees, fits_by, exactly, operators_fit, scoped_fit, binder_fits, level_by}
-use Rattle.pj_xshape.specs.Spelled.{IsSpelled, AreSpelled, IsConstructSpelled, AreNames}
+use Rattle.pj_xreadings.specs.Shapes.{part_of_tree, parts_of_trees, fits_by, exactly, operators_fit, scoped_fit, binder_fits, level_by}
+use Rattle.pj_xreadings.specs.Spelled.{IsSpelled, AreSpelled, IsConstructSpelled, AreNames}
 use Rattle.pj_xsyntax_laws.specs.Printed.{printed_of, printed_each}
 use Rattle.pj_xsyntax_laws.proofs.Levels.{parts-length}
 use Rattle.pj_xsyntax_laws.proofs.Readings.{Reads, EachReads, no_parts, more_parts, list_of}

@@ -35,8 +35,8 @@ use Rattle.pj_xsyntax_laws.specs.Spaced.{Word, word, spaced, literal}
 use Rattle.pj_xexpressions.specs.Names.{functions, pmd_functions, axes}
 use Rattle.pj_xexpressions.specs.Trees as tree
 use Rattle.pj_xexpressions.specs.Trees.{Tree, Trees, Construct, Node, NoMore, More}
-use Rattle.pj_xshape.specs.Nesting.{is_descendants_by}
-use Rattle.pj_xshape.specs.Shapes.{level_by}
+use Rattle.pj_xreadings.specs.Nesting.{is_descendants_by}
+use Rattle.pj_xreadings.specs.Shapes.{level_by}
 
 -- ---- words
 

@@ -1,7 +1,7 @@
 //! The table of expressions over the small tree.
 ghost use Rattle.std.specs.Prelude.{◌≡◌, ℕ, IfOk, length};
 ghost use Rattle.pj_xvalue.specs.OfTree.{VariablesOfTree};
-ghost use Rattle.pj_xdenotes.specs.Context.{given_of};
+ghost use Rattle.pj_xsteps.specs.Context.{given_of};
 
 use crate::facts::Facts;
 use crate::given::{is_setting, text_of};

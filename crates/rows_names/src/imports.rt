@@ -2,8 +2,8 @@
 use crate::noted::Over;
 use crate::shown::put_type;
 use pj_base::Text;
-use pj_imports::{File, dotted_class, outside};
 use pj_names::{AskFault, Oracle};
+use pj_outer_names::{File, dotted_class, outside};
 use std::alloc::Global;
 
 /// Puts what a simple name is behind the scopes of the file.

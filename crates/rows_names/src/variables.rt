@@ -3,11 +3,11 @@ use crate::noted::Over;
 use crate::question::Asked;
 use crate::shown::primitive_word;
 use pj_base::{NoMemory, Text};
-use pj_imports::File;
 use pj_marked::{place_of, put_declaration};
 use pj_names::{AskFault, Oracle, Ty};
+use pj_outer_names::File;
+use pj_scopes::{Variable, variable_name};
 use pj_types::Field;
-use pj_variables::{Variable, variable_name};
 use std::alloc::Global;
 
 /// The word of a type: its class or its variable without arguments and bound, and `[]` for every array.

@@ -4,8 +4,7 @@ use crate::files::{failing_call, put_file, tree_of};
 use pj_base::NoMemory;
 use pj_outside::{Files, MemTree};
 use pj_rows::{Row, Section, Table};
-use pj_rule_files::{FileFault, FileRefused, read_ruleset};
-use pj_rule_texts::{Part, WrittenRule, WrittenRuleset};
+use pj_rule_texts::{FileFault, FileRefused, Part, WrittenRule, WrittenRuleset, read_ruleset};
 use std::alloc::Global;
 
 /// The table of `rule_files.rows`.

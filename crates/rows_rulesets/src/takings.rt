@@ -1,6 +1,6 @@
 //! What is taken into a list of rules.
 use pj_base::{ListOf, NoMemory, Text};
-use pj_rule_rows::{ConfigError, RuleRow};
+use pj_names::{ConfigError, RuleRow};
 use pj_rule_sets::{Entry, Origin, RuleTable, Unusable, UsableRule};
 use pj_rule_texts::{Properties, RuleTexts};
 use pj_xparse::Parser;

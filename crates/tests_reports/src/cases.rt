@@ -1,10 +1,10 @@
 //! Reports as rows, with the three texts that are wanted of each.
 use pj_base::{Bytes, Copied, NoMemory, Text};
+use pj_names::{ConfigError, ConfigErrors, RuleRow, RuleRowList};
 use pj_reports::{
     FileError, FileErrors, FileRows, Finding, Findings, PathRows, Reason, Report, csv_of, json_of,
     text_of,
 };
-use pj_rule_rows::{ConfigError, ConfigErrors, RuleRow, RuleRowList};
 use pj_tree::Place;
 use std::alloc::{AllocError, Global};
 use std::process::Abort;

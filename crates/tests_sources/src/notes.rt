@@ -1,6 +1,6 @@
 //! The lines of notes.
 use pj_base::{Numbers, Text};
-use pj_notes::{Note, put_note};
+use pj_check::{Note, put_note};
 use pj_outside::MemSink;
 use pj_settings::UsageFault;
 use pj_sources::LimitKind;

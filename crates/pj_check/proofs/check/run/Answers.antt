@@ -4,7 +4,7 @@ use Rattle.pj_check.specs.Outcome.{CountsSinkFaults, CountsTreeFaults, KeepsSink
 use Rattle.pj_check.specs.declared.outcome.Outcome.{Outcome}
 use Rattle.pj_check.specs.declared.outcome.Outcome.TheVariants.{TreeFault}
 use Rattle.pj_check.specs.declared.refusal.Refusal.{Refusal}
-use Rattle.pj_writing.specs.declared.written.Written.{Written}
+use Rattle.pj_check.specs.declared.report_rendering.Written.{Written}
 use Rattle.pj_check.proofs.Ending.{all_say_before, counts_before, ends_before, keeps_before, no_fault_before, put_counts, put_keeps, put_says, put_steady, put_tree, put_words, tree_counts_before, words_before}
 use Rattle.pj_check.proofs.check.run.Goals as goal
 

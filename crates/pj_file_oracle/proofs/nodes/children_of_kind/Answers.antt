@@ -1,7 +1,7 @@
 use Rattle.std.proofs.Common.{filter, length}
-use Rattle.pj_nodes.specs.Kinds.{is_kind}
+use Rattle.pj_tree.specs.Kinds.{is_kind}
 use Rattle.pj_tree.specs.Tree.{children_of}
-use Rattle.pj_imports.proofs.Inside.{filtered_inside}
+use Rattle.pj_outer_names.proofs.Inside.{filtered_inside}
 use Rattle.pj_written.proofs.Inside.{children_inside, inside_by}
 use Rattle.pj_file_oracle.proofs.nodes.children_of_kind.Goals as goal
 

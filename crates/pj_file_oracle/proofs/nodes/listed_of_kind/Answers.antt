@@ -1,6 +1,6 @@
 use Rattle.std.proofs.Common.{◌++◌, ◌∙◌, ap, filter, length, subst, sym}
-use Rattle.pj_nodes.proofs.Inside.{AreInside, are_inside}
-use Rattle.pj_nodes.specs.Kinds.{is_kind}
+use Rattle.pj_tree.proofs.Inside.{AreInside, are_inside}
+use Rattle.pj_tree.specs.Kinds.{is_kind}
 use Rattle.pj_file_oracle.proofs.nodes.listed_of_kind.Goals as goal
 
 pub loop-child-init : goal.loop-child-init

@@ -1,6 +1,6 @@
 use Rattle.std.proofs.Common.{◌≡◌, ◌++◌, filter, length}
-use Rattle.pj_nodes.specs.Kinds.{is_kind}
-use Rattle.pj_nodes.proofs.Inside.{AreInside}
+use Rattle.pj_tree.specs.Kinds.{is_kind}
+use Rattle.pj_tree.proofs.Inside.{AreInside}
 use Rattle.pj_tree.specs.Tree.{children_of}
 use Rattle.pj_file_oracle.proofs.nodes.listed_of_kind.Given as goal
 

@@ -1,6 +1,6 @@
 use Rattle.std.proofs.Common.{◌≡◌, length}
 use Rattle.std.specs.List.{list_any}
-use Rattle.pj_nodes.proofs.Inside.{AreInside}
+use Rattle.pj_tree.proofs.Inside.{AreInside}
 use Rattle.pj_modifiers.specs.Implied.{is_constant_body, constant_body_among}
 use Rattle.pj_modifiers.proofs.interface.constant_body_among.Given as goal
 

@@ -2,7 +2,7 @@ use Rattle.std.proofs.Common.{◌≡◌, []}
 use Rattle.std.specs.Prelude.{filter}
 use denote.Text.{Utf8}
 use denote.Shadow.{shadow}
-use Rattle.pj_nodes.specs.Words.{last_of}
+use Rattle.pj_tree.specs.Words.{last_of}
 use Rattle.pj_properties.specs.Texts.{is_sign}
 use Rattle.pj_properties.proofs.operators.last_sign.Given as goal
 

@@ -1,6 +1,6 @@
 use Rattle.std.proofs.Common.{ap, ◌∙◌, subst, sym, length}
 use Rattle.std.specs.List.{list_any}
-use Rattle.pj_nodes.proofs.Inside.{AreInside, are_inside}
+use Rattle.pj_tree.proofs.Inside.{AreInside, are_inside}
 use Rattle.pj_properties.specs.Flags.{is_varargs}
 use Rattle.pj_properties.proofs.types.varargs_among.Goals as goal
 

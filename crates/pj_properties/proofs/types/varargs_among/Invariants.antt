@@ -1,6 +1,6 @@
 use Rattle.std.proofs.Common.{◌≡◌, length}
 use Rattle.std.specs.List.{list_any}
-use Rattle.pj_nodes.proofs.Inside.{AreInside}
+use Rattle.pj_tree.proofs.Inside.{AreInside}
 use Rattle.pj_properties.specs.Flags.{is_varargs, varargs_among}
 use Rattle.pj_properties.proofs.types.varargs_among.Given as goal
 

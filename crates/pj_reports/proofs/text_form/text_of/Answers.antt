@@ -1,5 +1,5 @@
 use Rattle.std.proofs.Common.{◌≡◌, ◌∙◌, ◌++◌, List, ap, append_assoc, flat_map, map, rules, sym}
-use Rattle.pj_rule_rows.specs.declared.rule_row.ConfigError.{ConfigError}
+use Rattle.pj_names.specs.declared.rule_row.ConfigError.{ConfigError}
 use Rattle.pj_reports.specs.Borrowed.{problem_seen}
 use Rattle.pj_reports.specs.ReportText.{fault_line, problem_line}
 use Rattle.pj_reports.specs.Shown.{Bytes, PathError, Problem, errors, problems}

@@ -1,6 +1,6 @@
 use Rattle.std.proofs.Common.{sym, ap₂, subst, ◌∙◌, ◌≡◌, false}
 use Rattle.std.proofs.lemmas.Result.{IfErr-weaker}
-use Rattle.pj_rule_files.specs.Files.{is_there}
+use Rattle.pj_rule_texts.specs.Files.{is_there}
 use Rattle.pj_rule_texts.specs.References.{beside}
 use Rattle.pj_rules.specs.Finding.{IsFoundFault, IsNewFault}
 use Rattle.pj_rules.specs.Refusals.{IfFault}

@@ -1,6 +1,6 @@
 use Rattle.std.proofs.Common.{ap, sym, subst, ◌∙◌}
-use Rattle.pj_rule_files.specs.Files as file
-use Rattle.pj_rule_files.specs.Files.{IsUnreadable}
+use Rattle.pj_rule_texts.specs.Files as file
+use Rattle.pj_rule_texts.specs.Files.{IsUnreadable}
 use Rattle.pj_rules.specs.Finding.{IsFaultAt}
 use Rattle.pj_rules.specs.Refusals.{IfFault, refused_file}
 use Rattle.pj_rules.proofs.Finding.{refused_unreadable}

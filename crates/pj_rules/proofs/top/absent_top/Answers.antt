@@ -1,6 +1,6 @@
 use Rattle.std.proofs.Common.{◌≡◌, ◌∙◌, true, false, ap, sym, subst}
 use Rattle.pj_outside.specs.Files.{Files}
-use Rattle.pj_rule_files.specs.Files.{is_there}
+use Rattle.pj_rule_texts.specs.Files.{is_there}
 use Rattle.pj_rule_texts.specs.References.{is_from_elsewhere}
 use Rattle.pj_rule_texts.specs.Values.{Text}
 use Rattle.pj_rules.specs.Load.{IsTopFault}

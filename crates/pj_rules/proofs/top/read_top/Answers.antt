@@ -1,7 +1,7 @@
 use Rattle.std.proofs.Common.{◌≡◌, ◌∙◌, true, false, Some, None, [], ◌∷◌}
 use Rattle.std.proofs.lemmas.Result.{IfErr-weaker, IfOk-weaker}
 use Rattle.pj_outside.specs.Files.{Files}
-use Rattle.pj_rule_files.specs.Files.{GivesRead, is_there}
+use Rattle.pj_rule_texts.specs.Files.{GivesRead, is_there}
 use Rattle.pj_rules.specs.Finding.{IsFaultAt}
 use Rattle.pj_rules.specs.Load.{IsTop, IsTopFault}
 use Rattle.pj_rules.specs.Refusals.{IfFault, IfOwn}

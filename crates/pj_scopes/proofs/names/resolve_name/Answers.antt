@@ -1,6 +1,6 @@
 use Rattle.pj_names.proofs.ExpandLaws.{asks-inner}
 use Rattle.pj_file_oracle.specs.FileAnswer.{file_answer}
-use Rattle.pj_variables.specs.VariableName.{variable_name}
+use Rattle.pj_scopes.specs.VariableName.{variable_name}
 use Rattle.pj_scopes.proofs.names.resolve_name.Goals as goal
 
 pub returns-clause-asks : goal.returns-clause-asks

@@ -1,5 +1,5 @@
 use Rattle.std.proofs.Common.{◌≡◌, ◌∙◌, List, ℕ, Bor, ap, map, rules}
-use Rattle.pj_nodes.specs.Words.{words_of}
+use Rattle.pj_tree.specs.Words.{words_of}
 use Rattle.pj_suppress.specs.Annotation.{qualified_name}
 use Rattle.pj_suppress.specs.Words.{same_texts}
 use Rattle.pj_suppress.proofs.annotation.has_qualified_name.Goals as goal

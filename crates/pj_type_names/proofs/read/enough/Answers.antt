@@ -1,5 +1,5 @@
 use Rattle.std.proofs.Common.{arith, ◌≤◌, length}
-use Rattle.pj_imports.specs.Candidates.{file_classes}
+use Rattle.pj_outer_names.specs.Candidates.{file_classes}
 use Rattle.pj_type_names.proofs.Turns.{classes_few}
 use Rattle.pj_type_names.proofs.read.enough.Goals as goal
 

@@ -7,10 +7,10 @@ use Rattle.pj_names.specs.JavaType.{Variable, java_type, type_list}
 use Rattle.pj_names.proofs.MeaningLaws.{each-gather, gather}
 use Rattle.pj_names.specs.Told.{longest, longest_is}
 use Rattle.pj_names.specs.declared.ty.Ty.{Ty}
-use Rattle.pj_imports.specs.Candidates.{file_classes}
-use Rattle.pj_inherited.specs.Inherited.{member_in}
-use Rattle.pj_inherited.specs.NameWalks.{Standing, left_out}
-use Rattle.pj_inherited.proofs.NameTurns.{names-begin, names-end, names-missed, names-turn, to_come}
+use Rattle.pj_outer_names.specs.Candidates.{file_classes}
+use Rattle.pj_outer_names.specs.Inherited.{member_in}
+use Rattle.pj_outer_names.specs.NameWalks.{Standing, left_out}
+use Rattle.pj_outer_names.proofs.NameTurns.{names-begin, names-end, names-missed, names-turn, to_come}
 use Rattle.pj_written.specs.Fits.{fits, most_signs_is}
 use Rattle.pj_written.specs.Headers.{all_bounds, written_supertypes}
 use Rattle.pj_type_names.specs.Searching as resolution

@@ -4,11 +4,11 @@ use Rattle.pj_names.proofs.AskingLaws.{ComesTo}
 use Rattle.pj_names.specs.JavaType.{java_type, type_list}
 use Rattle.pj_names.proofs.MeaningLaws.{gather}
 use Rattle.pj_type_names.specs.Searching as resolution
-use Rattle.pj_imports.specs.Candidates.{file_classes}
-use Rattle.pj_inherited.specs.Around.{searched}
-use Rattle.pj_inherited.specs.Inherited.{member_in}
-use Rattle.pj_inherited.specs.NameWalks.{left_out}
-use Rattle.pj_inherited.proofs.NameTurns.{to_come}
+use Rattle.pj_outer_names.specs.Candidates.{file_classes}
+use Rattle.pj_outer_names.specs.Around.{searched}
+use Rattle.pj_outer_names.specs.Inherited.{member_in}
+use Rattle.pj_outer_names.specs.NameWalks.{left_out}
+use Rattle.pj_outer_names.proofs.NameTurns.{to_come}
 use Rattle.pj_type_names.proofs.resolve.+resolving.Given as goal
 
 -- A header within a header counts 7,000 less; within one of them a bound counts 3,000, and a list of type arguments 10.

@@ -3,8 +3,8 @@ use Rattle.std.proofs.lemmas.Result.{err_from_is_err_and}
 use Rattle.pj_names.proofs.AskingLaws.{asks-return, asks-then}
 use Rattle.pj_names.specs.Told.{Asks}
 use Rattle.pj_reports.specs.declared.rows.Reason.{Reason}
-use Rattle.pj_xdenotes.specs.Context.{at}
-use Rattle.pj_xdenotes.specs.Means.{Means, after}
+use Rattle.pj_xsteps.specs.Context.{at}
+use Rattle.pj_xsteps.specs.Means.{Means, after}
 use Rattle.pj_xvalue.specs.Boolean.{effective_boolean}
 use Rattle.pj_xvalue.specs.Items.{Element, values_of}
 use Rattle.pj_workers.specs.Reasons.{xpath_reason}

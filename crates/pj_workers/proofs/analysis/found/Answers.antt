@@ -5,7 +5,7 @@ use Rattle.pj_findings.specs.declared.found.Found.{Found}
 use Rattle.pj_names.proofs.AskingLaws.{asks-return, asks-stop, asks-then}
 use Rattle.pj_names.specs.Told.{Asks}
 use Rattle.pj_tree.specs.declared.node.Node.{Node}
-use Rattle.pj_xdenotes.specs.Means.{Means, after, judged, ◌>>=◌}
+use Rattle.pj_xsteps.specs.Means.{Means, after, judged, ◌>>=◌}
 use Rattle.pj_xvalue.specs.Items.{ItemValue, values_of}
 use Rattle.pj_xvalue.specs.Replies.{outcome}
 use Rattle.pj_workers.specs.RuleMeaning.{Reply, found_at, items}

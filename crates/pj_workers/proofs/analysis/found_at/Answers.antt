@@ -4,7 +4,7 @@ use Rattle.pj_findings.specs.declared.found.Found.{Found}
 use Rattle.pj_findings.specs.declared.spot.Spot.{Spot}
 use Rattle.pj_names.proofs.AskingLaws.{asks-return, asks-then}
 use Rattle.pj_reports.specs.declared.rows.Reason.{Reason}
-use Rattle.pj_xdenotes.specs.Means.{after, give}
+use Rattle.pj_xsteps.specs.Means.{after, give}
 use Rattle.pj_workers.specs.RuleMeaning.{found_of, reason_at, spot_at}
 use Rattle.pj_workers.specs.Views.{file_seen, rule_seen}
 use Rattle.pj_workers.proofs.Evaluating.{refused}

@@ -4,7 +4,7 @@ use Rattle.pj_findings.specs.declared.found.Found.{Found}
 use Rattle.pj_names.proofs.AskingLaws.{ComesTo, asks-stop, comes-begin, comes-ends, comes-then}
 use Rattle.pj_names.specs.Told.{Asks}
 use Rattle.pj_tree.specs.declared.node.Node.{Node}
-use Rattle.pj_xdenotes.specs.Means.{Means, after}
+use Rattle.pj_xsteps.specs.Means.{Means, after}
 use Rattle.pj_xvalue.specs.Replies.{outcome}
 use Rattle.pj_workers.specs.RuleMeaning.{Reply, found_at}
 use Rattle.pj_workers.specs.Views.{file_seen, found_there, rule_seen}

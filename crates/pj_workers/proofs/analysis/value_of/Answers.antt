@@ -1,7 +1,7 @@
 use Rattle.std.proofs.Common.{List, length, subst, sym}
 use Rattle.pj_names.specs.Told.{Asks}
-use Rattle.pj_xdenotes.specs.Context.{Variables, at, given_of}
-use Rattle.pj_xdenotes.specs.Means.{Means}
+use Rattle.pj_xsteps.specs.Context.{Variables, at, given_of}
+use Rattle.pj_xsteps.specs.Means.{Means}
 use Rattle.pj_xvalue.specs.Items.{ItemValue, value_of_item, values_of}
 use Rattle.pj_xvalue.specs.OfTree.{VariablesOfTree}
 use Rattle.pj_xvalue.specs.Replies.{outcome}

@@ -1,6 +1,6 @@
 use Rattle.std.proofs.Common.{◌≡◌, length}
 use Rattle.std.specs.List.{list_any}
-use Rattle.pj_nodes.proofs.Inside.{AreInside}
+use Rattle.pj_tree.proofs.Inside.{AreInside}
 use Rattle.pj_tree.specs.Tree.{children_of}
 use Rattle.pj_written.specs.Flags.{is_ellipsis}
 use Rattle.pj_written.proofs.flags.has_ellipsis.Given as goal

@@ -1,5 +1,5 @@
 use Rattle.std.proofs.Common.{ap, ◌∙◌, false, subst, sym, length}
-use Rattle.pj_nodes.proofs.Inside.{AreInside, are_inside}
+use Rattle.pj_tree.proofs.Inside.{AreInside, are_inside}
 use Rattle.pj_written.specs.Flags.{last_parameter}
 use Rattle.pj_written.proofs.flags.last_has_variable_arity.Goals as goal
 

@@ -1,5 +1,5 @@
 use Rattle.std.proofs.Common.{◌≡◌, false, length}
-use Rattle.pj_nodes.proofs.Inside.{AreInside}
+use Rattle.pj_tree.proofs.Inside.{AreInside}
 use Rattle.pj_tree.specs.Tree.{children_of}
 use Rattle.pj_written.specs.Flags.{last_parameter}
 use Rattle.pj_written.proofs.flags.last_has_variable_arity.Given as goal

@@ -1,5 +1,5 @@
 use Rattle.std.proofs.Common.{◌≡◌, ◌++◌, length}
-use Rattle.pj_nodes.proofs.Inside.{AreInside}
+use Rattle.pj_tree.proofs.Inside.{AreInside}
 use Rattle.pj_written.specs.Headers.{bounds_among, bounds_of}
 use Rattle.pj_written.proofs.headers.put_bounds.Given as goal
 

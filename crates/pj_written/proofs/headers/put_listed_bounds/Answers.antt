@@ -1,5 +1,5 @@
 use Rattle.std.proofs.Common.{ap, ◌∙◌, ◌++◌, subst, sym, length}
-use Rattle.pj_nodes.proofs.Inside.{AreInside, are_inside}
+use Rattle.pj_tree.proofs.Inside.{AreInside, are_inside}
 use Rattle.pj_written.specs.Headers.{listed_bounds}
 use Rattle.pj_written.proofs.headers.put_listed_bounds.Goals as goal
 

@@ -1,6 +1,6 @@
 use Rattle.std.proofs.Common.{arith, ap, ◌∙◌, subst, sym, length}
 use Rattle.std.specs.List.{list_all}
-use Rattle.pj_nodes.proofs.Inside.{AreInside, are_inside}
+use Rattle.pj_tree.proofs.Inside.{AreInside, are_inside}
 use Rattle.pj_written.specs.Fits.{argument_by, fits_within}
 use Rattle.pj_written.proofs.Deeper.{fits-none, fits-some}
 use Rattle.pj_written.proofs.limits.+fitting.Goals as goal

@@ -1,6 +1,6 @@
 use Rattle.std.proofs.Common.{◌≡◌, ◌+◌, ◌*◌, length}
 use Rattle.std.specs.List.{list_all}
-use Rattle.pj_nodes.proofs.Inside.{AreInside}
+use Rattle.pj_tree.proofs.Inside.{AreInside}
 use Rattle.pj_tree.specs.Tree.{children_of}
 use Rattle.pj_written.specs.Fits.{argument_by, fits_within}
 use Rattle.pj_written.proofs.limits.+fitting.Given as goal

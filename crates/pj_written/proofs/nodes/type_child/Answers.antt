@@ -1,6 +1,6 @@
 use Rattle.std.proofs.Common.{ap, ◌∙◌, subst, sym, length}
 use Rattle.std.specs.Prelude.{find}
-use Rattle.pj_nodes.proofs.Inside.{AreInside, are_inside}
+use Rattle.pj_tree.proofs.Inside.{AreInside, are_inside}
 use Rattle.pj_written.specs.Words.{writes_type}
 use Rattle.pj_written.proofs.nodes.type_child.Goals as goal
 

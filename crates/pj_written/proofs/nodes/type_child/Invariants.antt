@@ -1,6 +1,6 @@
 use Rattle.std.proofs.Common.{◌≡◌, length}
 use Rattle.std.specs.Prelude.{find}
-use Rattle.pj_nodes.proofs.Inside.{AreInside}
+use Rattle.pj_tree.proofs.Inside.{AreInside}
 use Rattle.pj_written.specs.Words.{type_child, writes_type}
 use Rattle.pj_written.proofs.nodes.type_child.Given as goal
 

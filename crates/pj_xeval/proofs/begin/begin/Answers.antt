@@ -1,5 +1,5 @@
 use Rattle.std.proofs.Common.{Ok, length}
-use Rattle.pj_xdenotes.specs.Context.{around}
+use Rattle.pj_xsteps.specs.Context.{around}
 use Rattle.pj_xeval.proofs.Arms.{goes-task}
 use Rattle.pj_xeval.proofs.begin.begin.Goals as goal
 

@@ -9,17 +9,17 @@ use Rattle.pj_xvalue.specs.OfTree.{OfTree, ArgumentsOfTree}
 use Rattle.pj_xvalue.proofs.OfTreeLaws.{arguments-nil, of_tree-one}
 use Rattle.pj_xaxes.specs.Axes.{is_reverse}
 use Rattle.pj_xaxes.specs.Order.{ordered}
-use Rattle.pj_xdenotes.specs.Arithmetic.{number_items, range, signed}
-use Rattle.pj_xdenotes.specs.Bindings.{for_in, let_in, quantified}
-use Rattle.pj_xdenotes.specs.Calls.{call, pmd_call}
-use Rattle.pj_xdenotes.specs.Context.{Context, around}
-use Rattle.pj_xdenotes.specs.Denotes.{behind, denotes, here, with_argument, with_factor, with_nodes, with_set, with_term, with_text}
-use Rattle.pj_xdenotes.specs.Means.{◌>>=◌, chain, decided, give, judged, one_boolean}
-use Rattle.pj_xdenotes.specs.Operands.{only_nodes, operand, with_values}
-use Rattle.pj_xdenotes.specs.Parts.{bindings_of, operated_by}
-use Rattle.pj_xdenotes.specs.Steps.{attributes, from_node, in_document_order, stepped}
-use Rattle.pj_xdenotes.specs.Turns.{narrowed, path, simple_map, with_all}
-use Rattle.pj_xdenotes.proofs.Forms.{denotes_additive, denotes_and, denotes_attribute, denotes_call, denotes_comma, denotes_comparison, denotes_concatenation, denotes_context, denotes_filter, denotes_for, denotes_if, denotes_integer, denotes_intersect, denotes_let, denotes_map, denotes_multiplicative, denotes_or, denotes_path, denotes_pmd, denotes_quantified, denotes_range, denotes_root, denotes_step, denotes_string, denotes_unary, denotes_union, denotes_variable}
+use Rattle.pj_xsteps.specs.Arithmetic.{number_items, range, signed}
+use Rattle.pj_xsteps.specs.Bindings.{for_in, let_in, quantified}
+use Rattle.pj_xsteps.specs.Calls.{call, pmd_call}
+use Rattle.pj_xsteps.specs.Context.{Context, around}
+use Rattle.pj_xsteps.specs.Denotes.{behind, denotes, here, with_argument, with_factor, with_nodes, with_set, with_term, with_text}
+use Rattle.pj_xsteps.specs.Means.{◌>>=◌, chain, decided, give, judged, one_boolean}
+use Rattle.pj_xsteps.specs.Operands.{only_nodes, operand, with_values}
+use Rattle.pj_xsteps.specs.Parts.{bindings_of, operated_by}
+use Rattle.pj_xsteps.specs.Steps.{attributes, from_node, in_document_order, stepped}
+use Rattle.pj_xsteps.specs.Turns.{narrowed, path, simple_map, with_all}
+use Rattle.pj_xsteps.proofs.Forms.{denotes_additive, denotes_and, denotes_attribute, denotes_call, denotes_comma, denotes_comparison, denotes_concatenation, denotes_context, denotes_filter, denotes_for, denotes_if, denotes_integer, denotes_intersect, denotes_let, denotes_map, denotes_multiplicative, denotes_or, denotes_path, denotes_pmd, denotes_quantified, denotes_range, denotes_root, denotes_step, denotes_string, denotes_unary, denotes_union, denotes_variable}
 use Rattle.pj_xframes.specs.Scopes.{variables_of}
 use Rattle.pj_xeval.proofs.Arms.{goes-form, literal-of_tree}
 use Rattle.pj_xeval.proofs.Kept.{none-of_tree}

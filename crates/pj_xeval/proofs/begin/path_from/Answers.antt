@@ -1,7 +1,7 @@
 use Rattle.std.proofs.Common.{List, map, ap, refl, sym}
 use Rattle.pj_xexpressions.specs.declared.expr.Expr.{Expr}
-use Rattle.pj_xdenotes.specs.Denotes.{denotes}
-use Rattle.pj_xdenotes.specs.Turns.{path}
+use Rattle.pj_xsteps.specs.Denotes.{denotes}
+use Rattle.pj_xsteps.specs.Turns.{path}
 use Rattle.pj_xframes.specs.Scopes.{variables_of}
 use Rattle.pj_xeval.proofs.Fronts.{whole}
 use Rattle.pj_xeval.proofs.begin.path_from.Goals as goal

@@ -2,7 +2,7 @@ use Rattle.std.proofs.Common.{List, sym, subst, ◌∙◌}
 use Rattle.pj_xvalue.specs.Boolean.{effective_boolean}
 use Rattle.pj_xvalue.specs.Items.{ItemValue, values_of}
 use Rattle.pj_xvalue.specs.OfTree.{VariablesOfTree}
-use Rattle.pj_xdenotes.specs.Means.{Means, give, one_boolean}
+use Rattle.pj_xsteps.specs.Means.{Means, give, one_boolean}
 use Rattle.pj_xframes.specs.Frames.{quantified_left}
 use Rattle.pj_xframes.specs.Going.{GoesIf}
 use Rattle.pj_xframes.specs.Scopes.{Scoped, variables_of, without}

@@ -1,8 +1,8 @@
 use Rattle.std.proofs.Common.{ℕ, List, refl, sym, ap}
 use Rattle.pj_xexpressions.specs.declared.expr.Expr.{Expr}
-use Rattle.pj_xdenotes.specs.Bindings.{quantified}
-use Rattle.pj_xdenotes.specs.Parts.{bindings_of}
-use Rattle.pj_xdenotes.specs.Denotes.{denotes}
+use Rattle.pj_xsteps.specs.Bindings.{quantified}
+use Rattle.pj_xsteps.specs.Parts.{bindings_of}
+use Rattle.pj_xsteps.specs.Denotes.{denotes}
 use Rattle.pj_xframes.specs.Scopes.{variables_of}
 use Rattle.pj_xeval.proofs.Fronts.{whole}
 use Rattle.pj_xeval.proofs.bindings.quantified_from.Goals as goal

@@ -1,6 +1,6 @@
 use Rattle.std.proofs.Common.{List, subst}
 use Rattle.pj_xvalue.specs.Items.{ItemValue}
-use Rattle.pj_xdenotes.specs.Means.{Means}
+use Rattle.pj_xsteps.specs.Means.{Means}
 use Rattle.pj_xframes.specs.declared.frame.QuantifiedTurns.{QuantifiedTurns}
 use Rattle.pj_xframes.specs.Going.{GoesIf}
 use Rattle.pj_xframes.specs.Scopes.{variables_of}

@@ -1,6 +1,6 @@
 use Rattle.std.proofs.Common.{Bool, List, not, subst, ap, ◌∙◌}
 use Rattle.pj_xvalue.specs.Items.{ItemValue}
-use Rattle.pj_xdenotes.specs.Means.{Means, give, one_boolean}
+use Rattle.pj_xsteps.specs.Means.{Means, give, one_boolean}
 use Rattle.pj_xframes.specs.Going.{GoesIf}
 use Rattle.pj_xframes.specs.Scopes.{variables_of}
 use Rattle.pj_xeval.proofs.Binding.{quantified-ended, quantified-taken}

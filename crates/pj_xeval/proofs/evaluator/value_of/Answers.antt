@@ -6,9 +6,9 @@ use Rattle.pj_tree.specs.declared.node.Node.{Node}
 use Rattle.pj_xvalue.specs.Items.{ItemValue, IsOfTree, value_of_item, values_of}
 use Rattle.pj_xvalue.specs.OfTree.{ArgumentsOfTree}
 use Rattle.pj_xvalue.specs.Replies.{outcome}
-use Rattle.pj_xdenotes.specs.Calls.{node_in}
-use Rattle.pj_xdenotes.specs.Context.{Context, around, given_of}
-use Rattle.pj_xdenotes.specs.Means.{Means}
+use Rattle.pj_xsteps.specs.Calls.{node_in}
+use Rattle.pj_xsteps.specs.Context.{Context, around, given_of}
+use Rattle.pj_xsteps.specs.Means.{Means}
 use Rattle.pj_xframes.specs.declared.frame.Frame.{Frame}
 use Rattle.pj_xeval.specs.Whole.{resumed, FramesOfTree, PauseOfTree, pause_meaning, state_meaning}
 use Rattle.pj_xeval.specs.declared.machine.Pause.{Pause}

@@ -2,8 +2,8 @@ use Rattle.std.proofs.Common.{◌≡◌, length}
 use Rattle.pj_names.proofs.AskingLaws.{ComesTo}
 use Rattle.pj_xvalue.specs.Items.{IsOfTree}
 use Rattle.pj_xvalue.specs.OfTree.{VariablesOfTree}
-use Rattle.pj_xdenotes.specs.Context.{around, given_of}
-use Rattle.pj_xdenotes.specs.Denotes.{denotes}
+use Rattle.pj_xsteps.specs.Context.{around, given_of}
+use Rattle.pj_xsteps.specs.Denotes.{denotes}
 use Rattle.pj_xframes.specs.Going.{NextOfTree}
 use Rattle.pj_xframes.specs.Scopes.{variables_of}
 use Rattle.pj_xeval.specs.Whole.{FramesOfTree, state_meaning}

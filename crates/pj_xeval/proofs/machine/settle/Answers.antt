@@ -1,6 +1,6 @@
 use Rattle.std.proofs.Common.{ap, length, subst, sym, ◌∙◌}
 use Rattle.std.proofs.lemmas.Result.{err_from_is_err_and}
-use Rattle.pj_xdenotes.specs.Context.{around}
+use Rattle.pj_xsteps.specs.Context.{around}
 use Rattle.pj_xeval.specs.declared.machine.Stepped.{Stepped}
 use Rattle.pj_xeval.specs.Whole.{SteppedOfTree, stepped_meaning}
 use Rattle.pj_xeval.proofs.Stepping.{stops-alike}

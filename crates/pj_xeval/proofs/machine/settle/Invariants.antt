@@ -1,7 +1,7 @@
 use Rattle.std.proofs.Common.{◌≡◌, length}
 use Rattle.pj_xvalue.specs.Items.{IsOfTree}
 use Rattle.pj_xvalue.specs.OfTree.{VariablesOfTree}
-use Rattle.pj_xdenotes.specs.Context.{around}
+use Rattle.pj_xsteps.specs.Context.{around}
 use Rattle.pj_xframes.specs.Frames.{Replies}
 use Rattle.pj_xframes.specs.Going.{NextOfTree}
 use Rattle.pj_xframes.specs.Scopes.{variables_of}

@@ -1,8 +1,8 @@
 use Rattle.std.proofs.Common.{ap, length, map, subst, sym, ◌∙◌}
 use Rattle.std.proofs.lemmas.Result.{err_from_is_err_and}
 use Rattle.pj_xvalue.specs.Items.{values_of}
-use Rattle.pj_xdenotes.specs.Context.{around}
-use Rattle.pj_xdenotes.specs.Denotes.{denotes}
+use Rattle.pj_xsteps.specs.Context.{around}
+use Rattle.pj_xsteps.specs.Denotes.{denotes}
 use Rattle.pj_xframes.specs.declared.frame.Next.{Next}
 use Rattle.pj_xeval.specs.declared.machine.Stepped.{Stepped}
 use Rattle.pj_xframes.specs.Frames.{over, task_meaning}

@@ -1,7 +1,7 @@
 use Rattle.std.proofs.Common.{Ok, length, refl}
 use Rattle.pj_xvalue.specs.Items.{IsOfTree, values_of}
 use Rattle.pj_xvalue.specs.OfTree.{VariablesOfTree}
-use Rattle.pj_xdenotes.specs.Context.{around}
+use Rattle.pj_xsteps.specs.Context.{around}
 use Rattle.pj_xframes.specs.declared.frame.Frame.TheVariants as frame
 use Rattle.pj_xframes.specs.declared.frame.Next.TheVariants as next
 use Rattle.pj_xframes.specs.declared.frame.Task.TheVariants as task

@@ -1,8 +1,8 @@
 use Rattle.std.proofs.Common.{List, subst, sym, map}
 use Rattle.pj_xvalue.specs.Items.{ItemValue, values_of, IsOfTree}
-use Rattle.pj_xdenotes.specs.Means.{Means}
-use Rattle.pj_xdenotes.specs.Context.{Context}
-use Rattle.pj_xdenotes.specs.Denotes.{denotes}
+use Rattle.pj_xsteps.specs.Means.{Means}
+use Rattle.pj_xsteps.specs.Context.{Context}
+use Rattle.pj_xsteps.specs.Denotes.{denotes}
 use Rattle.pj_xframes.specs.Frames.{over}
 use Rattle.pj_xframes.specs.Going.{GoesIf}
 use Rattle.pj_xframes.specs.Scopes.{variables_of}

@@ -1,9 +1,9 @@
 use Rattle.std.proofs.Common.{map, refl}
 use Rattle.pj_xvalue.specs.Items.{values_of}
-use Rattle.pj_xdenotes.specs.Calls.{call}
-use Rattle.pj_xdenotes.specs.Context.{around}
-use Rattle.pj_xdenotes.specs.Denotes.{denotes, here, with_argument}
-use Rattle.pj_xdenotes.specs.Means.{judged}
+use Rattle.pj_xsteps.specs.Calls.{call}
+use Rattle.pj_xsteps.specs.Context.{around}
+use Rattle.pj_xsteps.specs.Denotes.{denotes, here, with_argument}
+use Rattle.pj_xsteps.specs.Means.{judged}
 use Rattle.pj_xframes.specs.Scopes.{variables_of}
 use Rattle.pj_xframes.proofs.ListGoals.{front-then}
 use Rattle.pj_xframes.proofs.lists.arguments.Goals as goal

@@ -1,10 +1,10 @@
 use Rattle.std.proofs.Common.{◌∙◌, ◌∷◌, [], List, length, map, ap}
 use Rattle.std.proofs.lemmas.List.{map-append}
 use Rattle.pj_xvalue.specs.Items.{ItemValue, values_of}
-use Rattle.pj_xdenotes.specs.Calls.{call}
-use Rattle.pj_xdenotes.specs.Context.{around}
-use Rattle.pj_xdenotes.specs.Denotes.{denotes, here, with_argument}
-use Rattle.pj_xdenotes.specs.Means.{◌>>=◌, chain, judged}
+use Rattle.pj_xsteps.specs.Calls.{call}
+use Rattle.pj_xsteps.specs.Context.{around}
+use Rattle.pj_xsteps.specs.Denotes.{denotes, here, with_argument}
+use Rattle.pj_xsteps.specs.Means.{◌>>=◌, chain, judged}
 use Rattle.pj_xframes.specs.Scopes.{variables_of}
 use Rattle.pj_xframes.proofs.ListGoals.{goes-same}
 use Rattle.pj_xframes.proofs.OfTree.{arguments-pushed}

@@ -1,9 +1,9 @@
 use Rattle.std.proofs.Common.{◌∙◌, List, map, ap, subst}
 use Rattle.std.proofs.lemmas.List.{map-append}
 use Rattle.pj_xvalue.specs.Items.{ItemValue, value_of_item, values_of}
-use Rattle.pj_xdenotes.specs.Denotes.{denotes, here}
-use Rattle.pj_xdenotes.specs.Means.{chain}
-use Rattle.pj_xdenotes.specs.Turns.{with_all}
+use Rattle.pj_xsteps.specs.Denotes.{denotes, here}
+use Rattle.pj_xsteps.specs.Means.{chain}
+use Rattle.pj_xsteps.specs.Turns.{with_all}
 use Rattle.pj_xframes.specs.Going.{Goes}
 use Rattle.pj_xframes.specs.Scopes.{variables_of}
 use Rattle.pj_xframes.proofs.OfTree.{of_tree-behind}

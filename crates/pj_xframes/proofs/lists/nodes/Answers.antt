@@ -1,8 +1,8 @@
 use Rattle.std.proofs.Common.{refl}
 use Rattle.pj_xvalue.specs.Items.{values_of}
 use Rattle.pj_xaxes.specs.Order.{ordered}
-use Rattle.pj_xdenotes.specs.Denotes.{denotes, here, with_nodes}
-use Rattle.pj_xdenotes.specs.Means.{give}
+use Rattle.pj_xsteps.specs.Denotes.{denotes, here, with_nodes}
+use Rattle.pj_xsteps.specs.Means.{give}
 use Rattle.pj_xframes.specs.Scopes.{variables_of}
 use Rattle.pj_xframes.proofs.ListGoals.{front-then}
 use Rattle.pj_xframes.proofs.lists.nodes.Goals as goal

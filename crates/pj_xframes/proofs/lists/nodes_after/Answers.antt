@@ -6,9 +6,9 @@ use Rattle.pj_xvalue.specs.Items.{ItemValue, value_of_item, values_of}
 use Rattle.pj_xvalue.specs.OfTree.{OfTree}
 use Rattle.pj_xaxes.specs.Order.{ordered}
 use Rattle.pj_xvalue.specs.Arguments.{and_then}
-use Rattle.pj_xdenotes.specs.Denotes.{denotes, here, with_nodes}
-use Rattle.pj_xdenotes.specs.Means.{◌>>=◌, chain, give, judged}
-use Rattle.pj_xdenotes.specs.Operands.{only_nodes}
+use Rattle.pj_xsteps.specs.Denotes.{denotes, here, with_nodes}
+use Rattle.pj_xsteps.specs.Means.{◌>>=◌, chain, give, judged}
+use Rattle.pj_xsteps.specs.Operands.{only_nodes}
 use Rattle.pj_xframes.specs.Scopes.{variables_of}
 use Rattle.pj_xframes.proofs.ListGoals.{goes-made, made-as}
 use Rattle.pj_xframes.proofs.OfTree.{of_tree-behind}

@@ -1,7 +1,7 @@
 use Rattle.std.proofs.Common.{map, refl}
 use Rattle.pj_xvalue.specs.Items.{values_of}
-use Rattle.pj_xdenotes.specs.Calls.{pmd_call}
-use Rattle.pj_xdenotes.specs.Denotes.{denotes, here, with_argument}
+use Rattle.pj_xsteps.specs.Calls.{pmd_call}
+use Rattle.pj_xsteps.specs.Denotes.{denotes, here, with_argument}
 use Rattle.pj_xframes.specs.Scopes.{variables_of}
 use Rattle.pj_xframes.proofs.ListGoals.{front-then}
 use Rattle.pj_xframes.proofs.lists.pmd_arguments.Goals as goal

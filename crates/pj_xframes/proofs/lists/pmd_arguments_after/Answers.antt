@@ -1,9 +1,9 @@
 use Rattle.std.proofs.Common.{◌∙◌, ◌∷◌, [], List, map, ap}
 use Rattle.std.proofs.lemmas.List.{map-append}
 use Rattle.pj_xvalue.specs.Items.{ItemValue, values_of}
-use Rattle.pj_xdenotes.specs.Calls.{pmd_call}
-use Rattle.pj_xdenotes.specs.Denotes.{denotes, here, with_argument}
-use Rattle.pj_xdenotes.specs.Means.{◌>>=◌, chain}
+use Rattle.pj_xsteps.specs.Calls.{pmd_call}
+use Rattle.pj_xsteps.specs.Denotes.{denotes, here, with_argument}
+use Rattle.pj_xsteps.specs.Means.{◌>>=◌, chain}
 use Rattle.pj_xframes.specs.Scopes.{variables_of}
 use Rattle.pj_xframes.proofs.ListGoals.{goes-same}
 use Rattle.pj_xframes.proofs.OfTree.{arguments-pushed}

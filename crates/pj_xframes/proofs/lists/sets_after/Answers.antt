@@ -2,11 +2,11 @@ use Rattle.std.proofs.Common.{List, Result, Ok}
 use Rattle.pj_xvalue.specs.declared.fault.XCode.{XCode}
 use Rattle.pj_xvalue.specs.Items.{ItemValue, values_of}
 use Rattle.pj_xvalue.specs.Arguments.{and_then}
-use Rattle.pj_xdenotes.specs.Denotes.{denotes, behind, with_set}
-use Rattle.pj_xdenotes.specs.Means.{◌>>=◌, chain, judged}
-use Rattle.pj_xdenotes.specs.Operands.{only_nodes}
-use Rattle.pj_xdenotes.specs.Parts.{operated_by}
-use Rattle.pj_xdenotes.specs.Sets.{chosen}
+use Rattle.pj_xsteps.specs.Denotes.{denotes, behind, with_set}
+use Rattle.pj_xsteps.specs.Means.{◌>>=◌, chain, judged}
+use Rattle.pj_xsteps.specs.Operands.{only_nodes}
+use Rattle.pj_xsteps.specs.Parts.{operated_by}
+use Rattle.pj_xsteps.specs.Sets.{chosen}
 use Rattle.pj_xframes.specs.Scopes.{variables_of}
 use Rattle.pj_xframes.proofs.ListGoals.{goes-made, made-as}
 use Rattle.pj_xframes.proofs.lists.sets_after.Goals as goal

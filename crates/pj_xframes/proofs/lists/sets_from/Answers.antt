@@ -3,9 +3,9 @@ use Rattle.pj_xvalue.specs.declared.fault.XCode.{XCode}
 use Rattle.pj_xvalue.specs.declared.item.Item.{Item}
 use Rattle.pj_xvalue.specs.Items.{ItemValue, values_of}
 use Rattle.pj_xvalue.specs.OfTree.{OfTree}
-use Rattle.pj_xdenotes.specs.Denotes.{denotes, behind, with_set}
-use Rattle.pj_xdenotes.specs.Means.{Means, ◌>>=◌, chain, judged}
-use Rattle.pj_xdenotes.specs.Parts.{operated_by}
+use Rattle.pj_xsteps.specs.Denotes.{denotes, behind, with_set}
+use Rattle.pj_xsteps.specs.Means.{Means, ◌>>=◌, chain, judged}
+use Rattle.pj_xsteps.specs.Parts.{operated_by}
 use Rattle.pj_xframes.specs.Going.{Goes}
 use Rattle.pj_xframes.specs.Scopes.{variables_of}
 use Rattle.pj_xframes.proofs.lists.sets_from.Goals as goal

@@ -1,7 +1,7 @@
 use Rattle.std.proofs.Common.{◌∷◌, [], string_bytes, refl}
 use Rattle.pj_xvalue.specs.Items.{String}
-use Rattle.pj_xdenotes.specs.Denotes.{denotes, here, with_text}
-use Rattle.pj_xdenotes.specs.Means.{give}
+use Rattle.pj_xsteps.specs.Denotes.{denotes, here, with_text}
+use Rattle.pj_xsteps.specs.Means.{give}
 use Rattle.pj_xframes.specs.Scopes.{variables_of}
 use Rattle.pj_xframes.proofs.ListGoals.{front-then}
 use Rattle.pj_xframes.proofs.lists.texts.Goals as goal

@@ -2,10 +2,10 @@ use Rattle.std.proofs.Common.{◌≡◌, ◌∙◌, ◌++◌, ◌∷◌, [], ℕ
 use Rattle.pj_xvalue.specs.declared.fault.XCode.{XCode}
 use Rattle.pj_xvalue.specs.Items.{String, values_of}
 use Rattle.pj_xvalue.specs.Arguments.{and_then}
-use Rattle.pj_xdenotes.specs.Context.{around}
-use Rattle.pj_xdenotes.specs.Denotes.{denotes, here, with_text}
-use Rattle.pj_xdenotes.specs.Means.{◌>>=◌, chain, give, judged}
-use Rattle.pj_xdenotes.specs.Operands.{text_operand}
+use Rattle.pj_xsteps.specs.Context.{around}
+use Rattle.pj_xsteps.specs.Denotes.{denotes, here, with_text}
+use Rattle.pj_xsteps.specs.Means.{◌>>=◌, chain, give, judged}
+use Rattle.pj_xsteps.specs.Operands.{text_operand}
 use Rattle.pj_xframes.specs.Scopes.{variables_of}
 use Rattle.pj_xframes.proofs.ListGoals.{goes-made, made-as}
 use Rattle.pj_xframes.proofs.lists.texts_after.Goals as goal

@@ -2,9 +2,9 @@ use Rattle.std.proofs.Common.{Bool, Result}
 use Rattle.pj_xvalue.specs.declared.fault.XCode.{XCode}
 use Rattle.pj_xvalue.specs.Comparison.{general_comparison}
 use Rattle.pj_xvalue.specs.Items.{values_of}
-use Rattle.pj_xdenotes.specs.Context.{around}
-use Rattle.pj_xdenotes.specs.Means.{◌>>=◌, give, judged, one_boolean}
-use Rattle.pj_xdenotes.specs.Operands.{with_values}
+use Rattle.pj_xsteps.specs.Context.{around}
+use Rattle.pj_xsteps.specs.Means.{◌>>=◌, give, judged, one_boolean}
+use Rattle.pj_xsteps.specs.Operands.{with_values}
 use Rattle.pj_xframes.proofs.ListGoals.{goes-made}
 use Rattle.pj_xframes.proofs.logic.comparison.Goals as goal
 

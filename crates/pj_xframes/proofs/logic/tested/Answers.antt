@@ -1,6 +1,6 @@
 use Rattle.std.proofs.Common.{Bool, Result, ap}
 use Rattle.pj_xvalue.specs.declared.fault.XCode.{XCode}
-use Rattle.pj_xdenotes.specs.Means.{◌>>=◌, give, judged, one_boolean}
+use Rattle.pj_xsteps.specs.Means.{◌>>=◌, give, judged, one_boolean}
 use Rattle.pj_xframes.proofs.ListGoals.{goes-same}
 use Rattle.pj_xframes.proofs.logic.tested.Goals as goal
 

@@ -1,7 +1,7 @@
 use Rattle.std.proofs.Common.{map}
 use Rattle.std.specs.Prelude.{not}
-use Rattle.pj_xdenotes.specs.Denotes.{denotes, here}
-use Rattle.pj_xdenotes.specs.Means.{decided, give, one_boolean}
+use Rattle.pj_xsteps.specs.Denotes.{denotes, here}
+use Rattle.pj_xsteps.specs.Means.{decided, give, one_boolean}
 use Rattle.pj_xframes.specs.Scopes.{variables_of}
 use Rattle.pj_xframes.proofs.ListGoals.{decided-none, goes-same}
 use Rattle.pj_xframes.proofs.logic.truths.Goals as goal

@@ -3,8 +3,8 @@ use Rattle.std.specs.Prelude.{if◌then◌else◌}
 use Rattle.pj_xvalue.specs.declared.fault.XCode.{XCode}
 use Rattle.pj_xvalue.specs.Boolean.{effective_boolean}
 use Rattle.pj_xvalue.specs.Items.{values_of}
-use Rattle.pj_xdenotes.specs.Denotes.{denotes, here}
-use Rattle.pj_xdenotes.specs.Means.{◌>>=◌, decided, decides, give, judged, one_boolean}
+use Rattle.pj_xsteps.specs.Denotes.{denotes, here}
+use Rattle.pj_xsteps.specs.Means.{◌>>=◌, decided, decides, give, judged, one_boolean}
 use Rattle.pj_xframes.specs.Scopes.{variables_of}
 use Rattle.pj_xframes.proofs.ListGoals.{goes-else, goes-made, goes-then}
 use Rattle.pj_xframes.proofs.logic.truths_after.Goals as goal

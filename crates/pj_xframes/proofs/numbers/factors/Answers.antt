@@ -1,9 +1,9 @@
 use Rattle.std.proofs.Common.{refl}
 use Rattle.pj_xexpressions.specs.declared.operator.Multiplicative.{Multiplicative}
 use Rattle.pj_xexpressions.specs.declared.expr.Expr.{Expr}
-use Rattle.pj_xdenotes.specs.Arithmetic.{number_items}
-use Rattle.pj_xdenotes.specs.Denotes.{denotes, behind, with_factor}
-use Rattle.pj_xdenotes.specs.Means.{give}
+use Rattle.pj_xsteps.specs.Arithmetic.{number_items}
+use Rattle.pj_xsteps.specs.Denotes.{denotes, behind, with_factor}
+use Rattle.pj_xsteps.specs.Means.{give}
 use Rattle.pj_xframes.specs.Scopes.{variables_of}
 use Rattle.pj_xframes.proofs.ListGoals.{front-then}
 use Rattle.pj_xframes.proofs.numbers.factors.Goals as goal

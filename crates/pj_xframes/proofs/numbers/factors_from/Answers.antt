@@ -1,12 +1,12 @@
 use Rattle.std.proofs.Common.{Result, Option, ℤ}
 use Rattle.pj_xvalue.specs.declared.fault.XCode.{XCode}
 use Rattle.pj_xvalue.specs.Items.{values_of}
-use Rattle.pj_xdenotes.specs.Arithmetic.{number_items}
-use Rattle.pj_xdenotes.specs.Context.{around}
-use Rattle.pj_xdenotes.specs.Denotes.{behind, denotes, with_factor}
-use Rattle.pj_xdenotes.specs.Means.{◌>>=◌, chain, give, judged}
-use Rattle.pj_xdenotes.specs.Operands.{operand}
-use Rattle.pj_xdenotes.specs.Parts.{operated_by}
+use Rattle.pj_xsteps.specs.Arithmetic.{number_items}
+use Rattle.pj_xsteps.specs.Context.{around}
+use Rattle.pj_xsteps.specs.Denotes.{behind, denotes, with_factor}
+use Rattle.pj_xsteps.specs.Means.{◌>>=◌, chain, give, judged}
+use Rattle.pj_xsteps.specs.Operands.{operand}
+use Rattle.pj_xsteps.specs.Parts.{operated_by}
 use Rattle.pj_xframes.specs.Scopes.{variables_of}
 use Rattle.pj_xframes.proofs.ListGoals.{goes-made}
 use Rattle.pj_xframes.proofs.numbers.factors_from.Goals as goal

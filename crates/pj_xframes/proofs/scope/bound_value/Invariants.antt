@@ -1,5 +1,5 @@
 use Rattle.std.proofs.Common.{◌≡◌, ◌≤◌, ◌++◌, take, length}
-use Rattle.pj_xdenotes.specs.Context.{value_of_variable, given_of}
+use Rattle.pj_xsteps.specs.Context.{value_of_variable, given_of}
 use Rattle.pj_xframes.specs.Scopes.{bound_of}
 use Rattle.pj_xframes.proofs.scope.bound_value.Given as goal
 

@@ -1,5 +1,5 @@
 use Rattle.std.proofs.Common.{◌≡◌, drop}
-use Rattle.pj_xdenotes.specs.Context.{value_of_variable, given_of}
+use Rattle.pj_xsteps.specs.Context.{value_of_variable, given_of}
 use Rattle.pj_xframes.proofs.scope.given_value.Given as goal
 
 abbrev pub invariant-loop-variable : goal.invariant-loop-variable

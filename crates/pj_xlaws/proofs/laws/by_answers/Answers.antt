@@ -1,5 +1,5 @@
 use Rattle.pj_names.proofs.MeaningLaws.{agreement}
-use Rattle.pj_xdenotes.specs.Denotes.{denotes}
+use Rattle.pj_xsteps.specs.Denotes.{denotes}
 use Rattle.pj_xlaws.proofs.laws.by_answers.Goals as goal
 
 pub returns : goal.returns

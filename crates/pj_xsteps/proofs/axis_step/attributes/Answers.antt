@@ -1,7 +1,7 @@
 use Rattle.std.proofs.Common.{sym, subst, length, List}
 use Rattle.pj_xvalue.specs.Items.{ItemValue, Element}
 use Rattle.pj_xvalue.specs.OfTree.{OfTree}
-use Rattle.pj_xdenotes.specs.Context.{around}
+use Rattle.pj_xsteps.specs.Context.{around}
 use Rattle.pj_xsteps.proofs.OfTree.{attributes-of_tree}
 use Rattle.pj_xsteps.proofs.axis_step.attributes.Goals as goal
 

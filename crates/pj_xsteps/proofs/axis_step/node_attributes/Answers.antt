@@ -2,7 +2,7 @@ use Rattle.std.proofs.Common.{ℕ, ◌<◌, List, get_or, length, ap, ◌∙◌,
 use Rattle.std.specs.List.{enumerate_from}
 use Rattle.std.proofs.lemmas.List.{length-map}
 use Rattle.pj_xvalue.specs.Items.{values_of}
-use Rattle.pj_xdenotes.specs.Steps.{named_attributes}
+use Rattle.pj_xsteps.specs.Steps.{named_attributes}
 use Rattle.pj_xsteps.proofs.Values.{named-more}
 use Rattle.pj_xsteps.proofs.axis_step.node_attributes.Goals as goal
 

@@ -1,7 +1,7 @@
 use Rattle.std.proofs.Common.{◌≡◌, ◌++◌, drop}
 use Rattle.std.specs.List.{enumerate_from}
 use Rattle.pj_xvalue.specs.Items.{values_of}
-use Rattle.pj_xdenotes.specs.Steps.{named_attributes}
+use Rattle.pj_xsteps.specs.Steps.{named_attributes}
 use Rattle.pj_xsteps.proofs.axis_step.node_attributes.Given as goal
 
 abbrev pub invariant-loop-i : goal.invariant-loop-i

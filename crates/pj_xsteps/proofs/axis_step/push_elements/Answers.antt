@@ -3,7 +3,7 @@ use Rattle.std.specs.List.{AllByRecursion}
 use Rattle.std.proofs.lemmas.List.Elements.{recursion_from_All}
 use Rattle.pj_tree.specs.declared.node.Node.{Node}
 use Rattle.pj_xvalue.specs.Items.{values_of}
-use Rattle.pj_xdenotes.specs.Steps.{passes, elements}
+use Rattle.pj_xsteps.specs.Steps.{passes, elements}
 use Rattle.pj_xsteps.proofs.axis_step.push_elements.Goals as goal
 
 pub loop-m-init : goal.loop-m-init

@@ -2,7 +2,7 @@ use Rattle.std.proofs.Common.{◌≡◌, ◌++◌, ◌<◌, length, filter}
 use Rattle.std.specs.List.{AllByRecursion}
 use Rattle.pj_xvalue.specs.Items.{values_of}
 use Rattle.pj_xaxes.specs.Axes.{axis_nodes}
-use Rattle.pj_xdenotes.specs.Steps.{passes, elements}
+use Rattle.pj_xsteps.specs.Steps.{passes, elements}
 use Rattle.pj_xsteps.proofs.axis_step.push_elements.Given as goal
 
 abbrev pub invariant-loop-m : goal.invariant-loop-m

@@ -2,7 +2,7 @@ use Rattle.std.proofs.Common.{◌++◌, ◌∙◌, ap, sym, filter, append_assoc
 use Rattle.std.proofs.lemmas.List.Elements.{filter-append}
 use Rattle.pj_xvalue.specs.Items.{ItemValue, values_of}
 use Rattle.pj_xaxes.specs.Axes.{axis_nodes}
-use Rattle.pj_xdenotes.specs.Steps.{passes, elements, document_behind}
+use Rattle.pj_xsteps.specs.Steps.{passes, elements, document_behind}
 use Rattle.pj_xsteps.proofs.axis_step.push_of_element.Goals as goal
 
 pub returns : goal.returns

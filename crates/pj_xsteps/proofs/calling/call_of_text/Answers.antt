@@ -3,7 +3,7 @@ use Rattle.pj_xvalue.specs.declared.fault.XCode.{XCode}
 use Rattle.pj_xvalue.specs.Items.{ItemValue, values_of}
 use Rattle.pj_xvalue.specs.Replies.{outcome}
 use Rattle.pj_xvalue.specs.Arguments.{IsGiven}
-use Rattle.pj_xdenotes.specs.Context.{around}
+use Rattle.pj_xsteps.specs.Context.{around}
 use Rattle.pj_xsteps.proofs.Values.{of_text-some}
 use Rattle.pj_xsteps.proofs.calling.call_of_text.Goals as goal
 

@@ -3,8 +3,8 @@ use Rattle.pj_xvalue.specs.declared.item.Item.{Item}
 use Rattle.pj_xvalue.specs.Items.{ItemValue, values_of}
 use Rattle.pj_xvalue.specs.OfTree.{OfTree, ArgumentsOfTree}
 use Rattle.pj_xvalue.proofs.OfTreeLaws.{arguments-more}
-use Rattle.pj_xdenotes.specs.Context.{around}
-use Rattle.pj_xdenotes.specs.Operands.{with_values}
+use Rattle.pj_xsteps.specs.Context.{around}
+use Rattle.pj_xsteps.specs.Operands.{with_values}
 use Rattle.pj_xsteps.proofs.OfTree.{arguments-at}
 use Rattle.pj_xsteps.proofs.Values.{pushed, arguments_more}
 use Rattle.pj_xsteps.proofs.calling.valued_behind.Goals as goal

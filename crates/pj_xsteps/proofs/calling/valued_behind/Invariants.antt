@@ -1,8 +1,8 @@
 use Rattle.std.proofs.Common.{◌≡◌, ◌++◌, map, take, length}
 use Rattle.pj_xvalue.specs.Items.{values_of}
 use Rattle.pj_xvalue.specs.OfTree.{ArgumentsOfTree}
-use Rattle.pj_xdenotes.specs.Context.{around}
-use Rattle.pj_xdenotes.specs.Operands.{with_values}
+use Rattle.pj_xsteps.specs.Context.{around}
+use Rattle.pj_xsteps.specs.Operands.{with_values}
 use Rattle.pj_xsteps.proofs.calling.valued_behind.Given as goal
 
 abbrev pub invariant-loop-argument : goal.invariant-loop-argument

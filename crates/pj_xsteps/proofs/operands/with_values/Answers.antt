@@ -1,8 +1,8 @@
 use Rattle.std.proofs.Common.{◌++◌, sym, ap, ◌∙◌, arith, length, List}
 use Rattle.pj_xvalue.specs.Items.{ItemValue, value_of_item}
 use Rattle.pj_xvalue.proofs.OfTreeLaws.{of_tree-at}
-use Rattle.pj_xdenotes.specs.Context.{around}
-use Rattle.pj_xdenotes.specs.Operands.{valued}
+use Rattle.pj_xsteps.specs.Context.{around}
+use Rattle.pj_xsteps.specs.Operands.{valued}
 use Rattle.pj_xsteps.proofs.Values.{valued_more}
 use Rattle.pj_xsteps.proofs.operands.with_values.Goals as goal
 

@@ -1,8 +1,8 @@
 use Rattle.std.proofs.Common.{◌≡◌, take, length, IsTrue}
 use Rattle.pj_xvalue.specs.Items.{values_of, have_no_attribute}
 use Rattle.pj_xvalue.specs.OfTree.{OfTree}
-use Rattle.pj_xdenotes.specs.Context.{around}
-use Rattle.pj_xdenotes.specs.Operands.{with_values}
+use Rattle.pj_xsteps.specs.Context.{around}
+use Rattle.pj_xsteps.specs.Operands.{with_values}
 use Rattle.pj_xsteps.proofs.operands.with_values.Given as goal
 
 abbrev pub invariant-loop-item : goal.invariant-loop-item

@@ -3,7 +3,7 @@ use Rattle.pj_xvalue.specs.declared.item.Item.{Item}
 use Rattle.pj_xvalue.specs.Items.{ItemValue, values_of, are_nodes}
 use Rattle.pj_xvalue.specs.OfTree.{OfTree}
 use Rattle.pj_xaxes.specs.Order.{has_item, ordered}
-use Rattle.pj_xdenotes.specs.Sets.{stays, chosen}
+use Rattle.pj_xsteps.specs.Sets.{stays, chosen}
 use Rattle.pj_xsteps.proofs.OfTree.{of_tree-filter}
 use Rattle.pj_xsteps.proofs.Sets.{are_nodes-filter, are_nodes-ordered, chosen-ordered}
 use Rattle.pj_xsteps.proofs.nodes.NodeItems.chosen.Goals as goal

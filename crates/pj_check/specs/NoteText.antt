@@ -1,0 +1,45 @@
+-- The lines of notes.
+use Rattle.std.specs.Prelude.{List, [], ◌∷◌, ◌++◌, codes, flat_map}
+use Rattle.std.specs.Borrow.{Bor}
+use Rattle.pj_outside.specs.Files.{Bytes}
+use Rattle.pj_check.specs.declared.note_kind.Note.{Note}
+use Rattle.pj_check.specs.declared.note_kind.Note.TheVariants.{Usage, Rules, TreeFault, ClassFault, SinkFault, Missing, Limit, Memory}
+use Rattle.pj_settings.specs.declared.usage.UsageFault.{UsageFault}
+use Rattle.pj_settings.specs.declared.usage.UsageFault.TheVariants as usage
+use Rattle.pj_sources.specs.declared.limits.LimitKind.{LimitKind}
+use Rattle.pj_sources.specs.declared.limits.LimitKind.TheVariants as limit
+
+-- a line: the program's name before the text, a line feed behind it
+abbrev pub line_of : Bytes → Bytes
+line_of text = codes "pmd: " ++ text ++ 10 ∷ []
+
+-- what is wrong with the words; of an option its long name is told
+abbrev pub usage_text : UsageFault → Bytes
+usage_text usage.Command = codes "usage: no such command"
+usage_text usage.Line = codes "usage: the words cannot be read"
+usage_text (usage.Value option word) = codes "usage: bad value for " ++ option
+
+abbrev pub limit_text : LimitKind → Bytes
+limit_text limit.Files = codes "limit: files"
+limit_text limit.Rules = codes "limit: rules"
+limit_text (limit.FileBytes path) = codes "limit: bytes of " ++ path
+limit_text limit.AllBytes = codes "limit: bytes"
+
+abbrev pub note_text : Note → Bytes
+note_text (Usage fault) = usage_text fault.now
+note_text (Rules path what) = codes "rules refused: " ++ path.now ++ codes ": " ++ what.now
+note_text TreeFault = codes "sources cannot be read"
+note_text ClassFault = codes "class folders cannot be read"
+note_text SinkFault = codes "report cannot be written"
+note_text (Missing path) = codes "no such path: " ++ path.now
+note_text (Limit kind) = limit_text kind.now
+note_text Memory = codes "out of memory"
+
+abbrev pub note_line : Note → Bytes
+note_line note = line_of (note_text note)
+
+-- ---- for the private clauses
+
+-- pieces, one behind the other
+abbrev pub joined : List (Bor Bytes) → Bytes
+joined pieces = flat_map (λ piece. piece.now) pieces

@@ -1,3 +1,0 @@
-pub mod ByName
-pub mod Inside
-pub mod Turns

@@ -1,5 +1,0 @@
--- definitions
-pub mod Candidates
-pub mod Imports
--- for private clauses
-pub mod ByName

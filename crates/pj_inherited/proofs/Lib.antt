@@ -1,5 +1,0 @@
-pub mod Enclosing
-pub mod Listed
-pub mod Looked
-pub mod NameTurns
-pub mod Taken

@@ -1,7 +1,0 @@
-use Rattle.std.proofs.Common.{◌≡◌, ◌++◌}
-use Rattle.pj_names.specs.JavaType.{type_list}
-use Rattle.pj_inherited.specs.Inherited.{class_names}
-use Rattle.pj_inherited.proofs.supertypes.with_classes.Given as goal
-
-abbrev pub invariant-loop-ty : goal.invariant-loop-ty
-invariant-loop-ty l = l.names ++ class_names (type_list l.ty-iterator.rest.items) ≡ l.fn.names ++ class_names (type_list l.fn.types)

@@ -1,4 +1,0 @@
--- definitions
-pub mod Around
-pub mod Inherited
-pub mod NameWalks

@@ -1,4 +1,0 @@
--- definitions
-pub mod Children
-pub mod Kinds
-pub mod Words

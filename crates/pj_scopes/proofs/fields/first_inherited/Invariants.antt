@@ -1,0 +1,17 @@
+use Rattle.std.proofs.Common.{◌<◌, length}
+use Rattle.pj_names.specs.Asking.{first_hit}
+use Rattle.pj_names.proofs.AskingLaws.{ComesTo}
+use Rattle.pj_outer_names.specs.Around.{searched}
+use Rattle.pj_scopes.specs.VariableName.{field_around}
+use Rattle.pj_scopes.proofs.fields.first_inherited.Given as goal
+
+abbrev pub invariant-loop-class : goal.invariant-loop-class
+invariant-loop-class g l = record {
+  so_far :
+      ComesTo (first_hit (field_around l.fn.file l.fn.name) (searched l.fn.file l.fn.place l.fn.found)) (g.O.Oracle.tells l.fn.oracle)
+      (first_hit (field_around l.file l.name) (searched l.file l.inside l.found)) (g.O.Oracle.tells l.oracle);
+  inside : l.inside.0 < length l.file.nodes;
+}
+
+abbrev pub decreases-loop-class : goal.decreases-loop-class
+decreases-loop-class g l = l.inside.0

@@ -1,8 +1,0 @@
-use Rattle.std.proofs.Common.{rules}
-use Rattle.pj_variables.specs.VariableName.{imported_field}
-use Rattle.pj_variables.proofs.Turns.{refused-at}
-use Rattle.pj_variables.proofs.fields.by_each.Goals as goal
-
-pub returns-in_err-hit : goal.returns-in_err-hit
-returns-in_err-hit g c =
-    refused-at (imported_field c.args.file.now c.args.name.now) c.args.imports.now c.loop-import.import-index _ c.loop-import-test.true c.loop-import.invariant c.in_err-hit.ensures (search rules)

@@ -1,6 +1,0 @@
-use Rattle.pj_names.proofs.MeaningLaws.{agreement}
-use Rattle.pj_variables.specs.VariableName.{variable_name}
-use Rattle.pj_variables.proofs.laws.sources_agree.Goals as goal
-
-pub returns : goal.returns
-returns c = λ first second t place name. agreement first second (variable_name t place name)

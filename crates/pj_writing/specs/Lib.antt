@@ -1,5 +1,0 @@
--- definitions
-pub mod Formats
-pub mod Verdicts
--- laws
-pub mod Laws

@@ -1,2 +1,0 @@
-//! XPath: what expressions denote. The definitions are in `specs/`, and the equations of the forms in `proofs/`.
-#![tactic(auto)]

@@ -1,9 +1,0 @@
--- proofs of the laws of shapes
-pub mod Fitted
-pub mod Bound
-pub mod Seen
-pub mod LayerForms
-pub mod SameShape
-pub mod Within
-pub mod Least
-pub mod Grows

@@ -1,6 +1,0 @@
-use Rattle.std.proofs.Common.{false}
-use Rattle.pj_xshape.proofs.Least.{nesting_least}
-use Rattle.pj_xshape.proofs.laws.nesting_is_least.Goals as goal
-
-pub returns : goal.returns
-returns c = λ t. nesting_least t false

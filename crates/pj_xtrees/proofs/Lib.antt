@@ -1,4 +1,0 @@
-pub mod DenotedTrees
-pub mod KnownPatterns
-pub mod Related
-pub mod Facts

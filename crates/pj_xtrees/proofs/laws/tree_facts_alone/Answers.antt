@@ -1,5 +1,0 @@
-use Rattle.pj_xtrees.proofs.Facts.{denotes_by_facts, denotes_of_tree}
-use Rattle.pj_xtrees.proofs.laws.tree_facts_alone.Goals as goal
-
-pub returns : goal.returns
-returns c = record { of_tree = denotes_of_tree; facts = denotes_by_facts }
