@@ -15,7 +15,7 @@ set -euo pipefail
 folder=$(cd "$1" && pwd)
 all_names=$(readlink -f "${2:-/dev/null}")
 . "$(dirname "$0")/scratch.sh"
-libraries='pj_base pj_classfile pj_declared pj_grammar pj_imports pj_names pj_parse pj_peg pj_peg_grammar pj_symbols pj_tree pj_type_names pj_written'
+libraries='pj_base pj_classfile pj_declared pj_grammar pj_outer_names pj_names pj_parse pj_peg pj_peg_grammar pj_symbols pj_tree pj_type_names pj_written'
 # shellcheck disable=SC2046,SC2086 # names of crates have no spaces
 scratch_repository names_bench "anyhow $libraries" $(with_lower_crates $libraries)
 home=$(dirname "$(dirname "$(readlink -f "$(command -v jimage)")")")
@@ -36,7 +36,7 @@ use pj_base::{Copied, NoMemory, Text};
 use pj_classfile::{ClassRefused, parse};
 use pj_declared::Declarations;
 use pj_grammar::java_17;
-use pj_imports::File;
+use pj_outer_names::File;
 use pj_names::{Answer, AskFault, ClassName, Oracle, Ty};
 use pj_parse::{parse_file_by, read_file};
 use pj_peg::WellFormed;

@@ -8,7 +8,7 @@
 # with what its csv writes of the rows, of the JSON with what its json writes of the values, and of the text with its own lines.
 set -euo pipefail
 . "$(dirname "$0")/scratch.sh"
-scratch_repository report_readers 'anyhow pj_base pj_reports pj_rule_rows pj_tree' pj_base pj_tree pj_rule_rows pj_reports
+scratch_repository report_readers 'anyhow pj_base pj_reports pj_names pj_tree' pj_base pj_names pj_tree pj_reports
 cat > "$bench/src/main.rt" <<'PROGRAM'
 // Reports of drawn rows, in the three forms.
 #![tactic(auto)]
@@ -18,7 +18,7 @@ use pj_reports::{
     FileError, FileErrors, FileRows, Finding, Findings, PathRows, Reason, Report, csv_of, json_of,
     text_of,
 };
-use pj_rule_rows::{ConfigError, ConfigErrors, RuleRow, RuleRowList};
+use pj_names::{ConfigError, ConfigErrors, RuleRow, RuleRowList};
 use pj_tree::Place;
 use std::alloc::Global;
 use std::io::{self, Write};

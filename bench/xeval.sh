@@ -10,7 +10,7 @@
 set -euo pipefail
 . "$(dirname "$0")/scratch.sh"
 . "$(dirname "$0")/trees.sh"
-libraries='pj_attrs pj_base pj_names pj_parse pj_source pj_symbols pj_tree pj_xdenotes pj_xeval pj_xexpressions pj_xfuncs pj_xparse pj_xvalue'
+libraries='pj_attrs pj_base pj_names pj_parse pj_source pj_symbols pj_tree pj_xsteps pj_xeval pj_xexpressions pj_xfuncs pj_xparse pj_xvalue'
 scratch_repository xeval_bench "$libraries" $(with_lower_crates $libraries)
 trees_of_chains
 for part in $(cd "$here/crates/rows_evaluation" && find src/replies.rt src/facts.rt specs proofs/facts -type f ! -name Lib.antt); do
@@ -35,7 +35,7 @@ ghost use Rattle.std.specs.Prelude.{◌≡◌, ℕ, Ok, length};
 ghost use Rattle.pj_parse.specs.Parses.{Parses, file_parsed};
 ghost use Rattle.pj_parse.specs.PoolText.{IsPoolOf};
 ghost use Rattle.pj_xvalue.specs.OfTree.{VariablesOfTree};
-ghost use Rattle.pj_xdenotes.specs.Context.{given_of};
+ghost use Rattle.pj_xsteps.specs.Context.{given_of};
 
 mod facts;
 mod replies;

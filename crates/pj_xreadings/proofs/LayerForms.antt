@@ -9,7 +9,7 @@ use Rattle.pj_xexpressions.specs.Expressions.{Part, Number, Name, is_digits, par
 use Rattle.pj_xexpressions.specs.Trees as tree
 use Rattle.pj_xexpressions.specs.Trees.{Tree, Construct, tree_step}
 use Rattle.pj_xreadings.specs.Shapes.{part_by, part_of_tree}
-use Rattle.pj_xreadings.proofs.Bound.{names_of, parts_of}
+use Rattle.pj_xreadings.proofs.BoundForms.{names_of, parts_of}
 use Rattle.pj_xreadings.specs.Nodes.{part_of_node}
 use Rattle.pj_xreadings.proofs.Seen.{seen_binder, seen_choice, seen_pair, seen_signed, seen_operated, seen_filter, seen_alone}
 

@@ -6,7 +6,7 @@ pub mod Calls
 pub mod Scopes
 -- proofs of the laws of shapes
 pub mod Fitted
-pub mod Bound
+pub mod BoundForms
 pub mod Seen
 pub mod LayerForms
 pub mod SameShape

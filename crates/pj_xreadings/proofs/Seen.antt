@@ -4,7 +4,7 @@ use Rattle.pj_xexpressions.specs.Expressions.{Part, Scope, Written, Other, opera
 use Rattle.pj_xexpressions.specs.Expressions as expressions
 use Rattle.pj_xreadings.specs.Shapes.{clauses_nesting, choice_nesting, filter_nesting, signed_nesting, binder_fits, exactly, operators_fit}
 use Rattle.pj_xreadings.proofs.Fitted.{and_only, and_both, and_each, operated_fit, filtered_fit}
-use Rattle.pj_xreadings.proofs.Bound.{names_of, parts_of, clauses_nest, binder_fit}
+use Rattle.pj_xreadings.proofs.BoundForms.{names_of, parts_of, clauses_nest, binder_fit}
 
 abbrev pub seen : Written → ℕ → ℕ → (Scope → Bool) → Part
 seen written level nesting fits = record { written = written; level = level; nesting = nesting; fits = fits }
