@@ -83,3 +83,14 @@ pub fn folder_of(
     put_of_row(alloc, &mut files, shorts, given)?;
     Ok(files)
 }
+
+/// The files and the command of a row: its last line behind `$ `, or that of the setting `run` of its section.
+pub fn split_command<'r>(section: &'r Section, given: &'r str) -> (&'r str, &'r str) {
+    if let Some(command) = given.strip_prefix("$ ") {
+        return ("", command);
+    }
+    match given.rsplit_once("\n$ ") {
+        Some(parts) => parts,
+        None => (given, section.setting("run").unwrap_or("")),
+    }
+}

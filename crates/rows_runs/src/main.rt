@@ -1,4 +1,4 @@
-//! The rows of whole runs, each a folder, a command line and what comes, and of the sources of a run.
+//! The rows of whole runs, each a folder, a command line and what comes; and of the settings, the sources and the notes of a run.
 #![tactic(auto)]
 
 mod calls;
@@ -7,11 +7,13 @@ mod outcome;
 mod put;
 mod ran;
 mod runs;
+mod settings;
 mod sources;
 
 use notes::Notes;
 use pj_rows::Run;
 use runs::Runs;
+use settings::SettingsTable;
 use sources::Sources;
 use std::process::ExitCode;
 
@@ -32,6 +34,7 @@ fn main(rt: HostRuntime) -> ExitCode {
     for file in RUNS {
         run.table(file, &Runs);
     }
+    run.table("settings.rows", &SettingsTable);
     run.table("notes.rows", &Notes);
     run.table("sources.rows", &Sources);
     run.end()

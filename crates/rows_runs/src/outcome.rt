@@ -8,7 +8,7 @@ use pj_sources::LimitKind;
 use std::fmt::Write;
 
 /// Puts what is wrong with words.
-fn put_usage(out: &mut String, fault: &UsageFault) -> Result<(), NoMemory> {
+pub fn put_usage(out: &mut String, fault: &UsageFault) -> Result<(), NoMemory> {
     match fault {
         UsageFault::Command => put(out, &["command"]),
         UsageFault::Line => put(out, &["line"]),
@@ -74,7 +74,7 @@ fn put_words(out: &mut String, outcome: &Outcome) -> Result<(), NoMemory> {
             put(out, &["! Limit "])?;
             put_limit(out, kind)
         }
-        Outcome::Memory => Err(NoMemory),
+        Outcome::Memory => put(out, &["! Memory"]),
     }
 }
 

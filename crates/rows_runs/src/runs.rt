@@ -5,7 +5,7 @@ use crate::put::{put, put_lines, put_names, text_in};
 use crate::ran::{Ran, run};
 use pj_base::NoMemory;
 use pj_outside::MemSink;
-use pj_row_folders::{Short, folder_of, words_of};
+use pj_row_folders::{Short, folder_of, split_command, words_of};
 use pj_rows::{Row, Section, Table};
 use pj_workers::Work;
 use std::alloc::Global;
@@ -68,16 +68,6 @@ fn told(alloc: Global, section: &Section, ran: &Ran) -> Result<String, NoMemory>
         _ => put_ran(&mut out, ran)?,
     }
     Ok(out)
-}
-
-/// The files and the command of a row: its last line behind `$ `, or that of its section.
-fn split_command<'r>(section: &'r Section, given: &'r str) -> (&'r str, &'r str) {
-    if let Some(command) = given.strip_prefix("$ ") {
-        return ("", command);
-    }
-    given
-        .rsplit_once("\n$ ")
-        .unwrap_or((given, section.setting("run").unwrap_or("")))
 }
 
 /// Which calls fail in a row.

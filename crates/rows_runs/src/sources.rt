@@ -54,7 +54,7 @@ fn put_listed(
         Ok(listing) => put_listing(out, &listing),
         Err(ListRefused::Failed) => put(out, &["! failed"]),
         Err(ListRefused::Missing(item)) => put(out, &["! missing ", item.as_str()]),
-        Err(ListRefused::Memory) => Err(NoMemory),
+        Err(ListRefused::Memory) => put(out, &["! memory"]),
     }
 }
 
@@ -89,7 +89,7 @@ fn put_read(
         Err(ReadRefused::Failed) => put(out, &["! failed"]),
         Err(ReadRefused::Missing(path)) => put(out, &["! missing ", path.as_str()]),
         Err(ReadRefused::Limit(kind)) => put_limit(out, &kind),
-        Err(ReadRefused::Memory) => Err(NoMemory),
+        Err(ReadRefused::Memory) => put(out, &["! memory"]),
     }
 }
 

@@ -1,0 +1,106 @@
+//! What rules come to in a file, with the rows of the file.
+use crate::fields::number_of;
+use crate::put::put;
+use pj_base::{NoMemory, Text};
+use pj_findings::{Found, FoundList, RuleResult, RuleResults, error_rows, file_rows};
+use pj_reports::{FileError, FileRows};
+use pj_rows::{Row, Section, Table};
+use pj_tree::Place;
+use std::alloc::Global;
+use std::fmt::Write;
+
+/// The table of what rules come to.
+pub struct Results;
+
+/// The table of files without a tree.
+pub struct Faults;
+
+/// The finding at a node.
+fn found_at(node: u32) -> Found {
+    let line = node.saturating_add(1);
+    Found {
+        node,
+        begin: Place { line, column: 2 },
+        end: Place { line, column: 3 },
+        reason: None,
+    }
+}
+
+/// Findings at the nodes of these numbers.
+fn found_of(alloc: Global, numbers: &str) -> Result<FoundList, NoMemory> {
+    let mut found = FoundList::new(alloc);
+    for number in numbers.split_whitespace() {
+        found.push(found_at(number_of(number)))?;
+    }
+    Ok(found)
+}
+
+/// What a rule comes to: findings at nodes, or a message behind `!`.
+fn result_of(alloc: Global, written: &str) -> Result<RuleResult, NoMemory> {
+    match written.strip_prefix("!") {
+        Some(message) => Ok(RuleResult::Error(Text::from_str(alloc, message)?)),
+        None => Ok(RuleResult::Findings(found_of(alloc, written)?)),
+    }
+}
+
+/// What rules come to, each in brackets.
+fn results_of(alloc: Global, given: &str) -> Result<RuleResults, NoMemory> {
+    let mut results = RuleResults::new(alloc);
+    for written in given.split(']') {
+        if let Some(inside) = written.trim_start_matches(' ').strip_prefix("[") {
+            results.push(result_of(alloc, inside)?)?;
+        }
+    }
+    Ok(results)
+}
+
+/// Puts an error: its rule, or `-`, and its message.
+fn put_error(out: &mut String, error: &FileError) -> Result<(), NoMemory> {
+    match error.rule {
+        Some(rule) => write!(out, " {rule}=")?,
+        None => put(out, &[" -="])?,
+    }
+    put(out, &[error.message.as_str()])
+}
+
+/// Puts the errors.
+fn put_errors(out: &mut String, rows: &FileRows) -> Result<(), NoMemory> {
+    for error in rows.errors.as_slice() {
+        put_error(out, error)?;
+    }
+    Ok(())
+}
+
+/// Puts each finding as its node and its rule.
+fn put_findings(out: &mut String, rows: &FileRows) -> Result<(), NoMemory> {
+    for finding in rows.findings.as_slice() {
+        let (node, rule) = (finding.node, finding.rule);
+        write!(out, " {node}/{rule}")?;
+    }
+    Ok(())
+}
+
+/// The package in brackets, the findings, and the errors.
+fn rows_shown(alloc: Global, rows: &FileRows) -> Result<String, NoMemory> {
+    let package = rows.package.as_str();
+    let mut out = format!(in alloc; "[{package}]")?;
+    put_findings(&mut out, rows)?;
+    put_errors(&mut out, rows)?;
+    Ok(out)
+}
+
+impl Table for Results {
+    fn answer(&self, alloc: Global, _section: &Section, row: &Row) -> Result<String, NoMemory> {
+        let results = results_of(alloc, row.given.as_str())?;
+        let rows = file_rows(alloc, Text::from_str(alloc, "p.q")?, &results)?;
+        rows_shown(alloc, &rows)
+    }
+}
+
+impl Table for Faults {
+    fn answer(&self, alloc: Global, _section: &Section, row: &Row) -> Result<String, NoMemory> {
+        let message = Text::from_str(alloc, row.given.as_str())?;
+        let rows = error_rows(alloc, message)?;
+        rows_shown(alloc, &rows)
+    }
+}
