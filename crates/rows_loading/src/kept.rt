@@ -1,6 +1,7 @@
 //! What a set keeps of its rules.
-use crate::put::{put, put_number};
+use crate::put::put_number;
 use pj_base::NoMemory;
+use pj_rows::put;
 use pj_rule_sets::{Rule, RuleSet};
 use pj_xpatterns::PatternFlags;
 use std::alloc::Global;

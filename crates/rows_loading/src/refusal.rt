@@ -1,6 +1,7 @@
 //! Refusals of loads in words.
-use crate::put::{put, put_number};
+use crate::put::put_number;
 use pj_base::NoMemory;
+use pj_rows::put;
 use pj_rules::{RuleFault, RuleRefused, RuleWhat};
 use std::alloc::Global;
 use std::fmt::Write;

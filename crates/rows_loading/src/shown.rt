@@ -1,6 +1,7 @@
 //! Rules and configuration errors in words.
-use crate::put::{or_nothing, put, put_blank, put_number};
+use crate::put::{or_nothing, put_number};
 use pj_base::NoMemory;
+use pj_rows::{put, put_between};
 use pj_rule_sets::{Rule, RuleSet};
 use std::alloc::Global;
 
@@ -24,7 +25,7 @@ fn put_properties(out: &mut String, rule: &Rule) -> Result<(), NoMemory> {
 
 /// Puts a rule: the number of its top ruleset, its row, its query and its properties.
 fn put_rule(out: &mut String, rule: &Rule) -> Result<(), NoMemory> {
-    put_blank(out)?;
+    put_between(out, " ")?;
     put_row(out, rule)?;
     put(out, &[" ", rule.xpath.as_str()])?;
     put_properties(out, rule)?;
@@ -33,7 +34,7 @@ fn put_rule(out: &mut String, rule: &Rule) -> Result<(), NoMemory> {
 
 /// Puts a configuration error.
 fn put_error(out: &mut String, rule: &str, message: &str) -> Result<(), NoMemory> {
-    put_blank(out)?;
+    put_between(out, " ")?;
     put(out, &["!", rule, ": ", message, ";"])
 }
 

@@ -4,7 +4,6 @@
 mod draft;
 mod fields;
 mod nodes;
-mod put;
 mod reports;
 mod results;
 

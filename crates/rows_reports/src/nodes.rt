@@ -1,9 +1,8 @@
 //! Items with the nodes that a query of them finds, and messages of errors.
 use crate::fields::number_of;
-use crate::put::{put, put_between};
 use pj_base::{NoMemory, Text, value_in};
 use pj_findings::{code_name, denoted_nodes, rule_message};
-use pj_rows::{Row, Section, Table};
+use pj_rows::{Row, Section, Table, put, put_between};
 use pj_tree::Node;
 use pj_xvalue::{Item, Sequence, XCode};
 use std::alloc::Global;

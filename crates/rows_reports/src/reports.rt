@@ -1,9 +1,8 @@
 //! The three texts of reports.
 use crate::draft::report_of;
-use crate::put::{put, put_between};
 use pj_base::{Bytes, NoMemory};
 use pj_reports::{Report, csv_of, json_of, text_of};
-use pj_rows::{Row, Section, Table};
+use pj_rows::{Row, Section, Table, put, put_between};
 use std::alloc::Global;
 
 /// The tables of reports.

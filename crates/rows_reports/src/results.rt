@@ -1,10 +1,9 @@
 //! What rules come to in a file, with the rows of the file.
 use crate::fields::number_of;
-use crate::put::put;
 use pj_base::{NoMemory, Text};
 use pj_findings::{Found, FoundList, RuleResult, RuleResults, error_rows, file_rows};
 use pj_reports::{FileError, FileRows};
-use pj_rows::{Row, Section, Table};
+use pj_rows::{Row, Section, Table, put};
 use pj_tree::Place;
 use std::alloc::Global;
 use std::fmt::Write;

@@ -1,7 +1,7 @@
 //! Outcomes in words. Those without a report begin with `! `.
-use crate::put::put;
 use pj_base::NoMemory;
 use pj_check::Outcome;
+use pj_rows::put;
 use pj_rules::{RuleFault, RuleWhat};
 use pj_settings::UsageFault;
 use pj_sources::LimitKind;

@@ -1,14 +1,7 @@
 //! What is put behind an answer.
 use pj_base::{Names, NoMemory};
 use pj_outside::MemSink;
-
-/// Puts pieces behind what there is.
-pub fn put(out: &mut String, pieces: &[&str]) -> Result<(), NoMemory> {
-    for piece in pieces {
-        out.push_str(piece)?;
-    }
-    Ok(())
-}
+use pj_rows::put;
 
 /// Puts each name behind a blank.
 pub fn put_names(out: &mut String, names: &Names) -> Result<(), NoMemory> {

@@ -1,12 +1,12 @@
 //! Whole runs.
 use crate::calls::Failing;
 use crate::outcome::put_outcome;
-use crate::put::{put, put_lines, put_names, text_in};
+use crate::put::{put_lines, put_names, text_in};
 use crate::ran::{Ran, run};
 use pj_base::NoMemory;
 use pj_outside::MemSink;
 use pj_row_folders::{Short, folder_of, split_command, words_of};
-use pj_rows::{Row, Section, Table};
+use pj_rows::{Row, Section, Table, put};
 use pj_workers::Work;
 use std::alloc::Global;
 use std::fmt::Write;

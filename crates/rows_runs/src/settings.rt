@@ -1,9 +1,8 @@
 //! The words of a check with the settings that they ask for, or with what is wrong with them.
 use crate::outcome::put_usage;
-use crate::put::put;
 use pj_base::{Names, NoMemory};
 use pj_row_folders::words_of;
-use pj_rows::{Row, Section, Table};
+use pj_rows::{Row, Section, Table, put};
 use pj_settings::{Format, Settings, UsageRefused, read};
 use std::alloc::Global;
 use std::fmt::Write;

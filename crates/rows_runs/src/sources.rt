@@ -1,9 +1,9 @@
 //! What items list, and what is read of that.
-use crate::put::{put, put_names};
+use crate::put::put_names;
 use pj_base::{Names, NoMemory, Text};
 use pj_outside::{Files, MemTree};
 use pj_row_folders::{failing_call, put_file, tree_of, words_of};
-use pj_rows::{Row, Section, Table};
+use pj_rows::{Row, Section, Table, put};
 use pj_sources::{
     LimitKind, ListRefused, Listing, ReadRefused, list_sources, read_sources, test_files,
 };
