@@ -1,5 +1,5 @@
 //! Files in memory.
-use crate::repeated::repeated;
+use crate::repetition::repeated;
 use pj_base::{Bytes, NoMemory, Text};
 use pj_outside::Files;
 use std::alloc::Global;

@@ -9,12 +9,12 @@
 
 mod files;
 mod folder;
-mod repeated;
+mod repetition;
 mod tree;
 mod words;
 
 pub use files::put_file;
 pub use folder::{Short, folder_of, split_command};
-pub use repeated::repeated;
+pub use repetition::repeated;
 pub use tree::{failing_call, tree_of};
 pub use words::words_of;

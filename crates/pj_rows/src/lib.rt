@@ -13,7 +13,7 @@
 mod escapes;
 mod fault;
 mod file;
-mod put;
+mod pieces;
 mod reader;
 mod report;
 mod run;
@@ -22,7 +22,7 @@ mod table;
 pub use escapes::{escape, unescape};
 pub use fault::{LineFault, RowsFault};
 pub use file::{Row, Section, Setting};
-pub use put::{put, put_between};
+pub use pieces::{put, put_between};
 pub use reader::read_rows;
 pub use report::{Report, report_on};
 pub use run::Run;

@@ -11,5 +11,8 @@ pub fn put(out: &mut String, pieces: &[&str]) -> Result<(), NoMemory> {
 
 /// Puts a sign behind what there is, if there is something.
 pub fn put_between(out: &mut String, sign: &str) -> Result<(), NoMemory> {
-    put(out, &[if out.is_empty() { "" } else { sign }])
+    if out.is_empty() {
+        return Ok(());
+    }
+    put(out, &[sign])
 }
