@@ -43,25 +43,39 @@ fn put_csv(out: &mut String, csv: &str) -> Result<(), NoMemory> {
     }
 }
 
-/// What stands in the lists `configurationErrors`, `files`, `processingErrors` and `suppressedViolations` of a report in JSON.
-fn lists_of(json: &str) -> Option<[&str; 4]> {
+/// What stands in the lists of a report in JSON.
+#[derive(Clone, Copy)]
+struct Lists<'j> {
+    config_errors: &'j str,
+    files: &'j str,
+    errors: &'j str,
+    suppressed: &'j str,
+}
+
+/// The lists of a report in JSON, if it has their form.
+fn lists_of(json: &str) -> Option<Lists<'_>> {
     let rest = json.strip_prefix("{\"configurationErrors\":[")?;
     let (config_errors, rest) = rest.split_once("],\"files\":[")?;
     let (files, rest) = rest.split_once("],\"formatVersion\":0,\"processingErrors\":[")?;
     let (errors, rest) = rest.split_once("],\"suppressedViolations\":[")?;
     let suppressed = rest.strip_suffix("]}\n")?;
-    Some([config_errors, files, errors, suppressed])
+    Some(Lists {
+        config_errors,
+        files,
+        errors,
+        suppressed,
+    })
 }
 
 /// Puts the lists of a report in JSON.
 fn put_json(out: &mut String, json: &str) -> Result<(), NoMemory> {
-    let Some([config_errors, files, errors, suppressed]) = lists_of(json) else {
+    let Some(lists) = lists_of(json) else {
         return put_part(out, "json of another form", json);
     };
-    put_part(out, "configurationErrors", config_errors)?;
-    put_part(out, "files", files)?;
-    put_part(out, "processingErrors", errors)?;
-    put_part(out, "suppressedViolations", suppressed)
+    put_part(out, "configurationErrors", lists.config_errors)?;
+    put_part(out, "files", lists.files)?;
+    put_part(out, "processingErrors", lists.errors)?;
+    put_part(out, "suppressedViolations", lists.suppressed)
 }
 
 /// Puts a report in the three forms.
