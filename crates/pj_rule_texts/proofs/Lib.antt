@@ -2,4 +2,4 @@ pub mod Numerals
 pub mod Slashes
 pub mod Spacing
 pub mod Steps
-pub mod Reading
+pub mod FileReading

@@ -11,7 +11,7 @@ use Rattle.pj_xsteps.specs.Means.{Means, ◌>>=◌}
 use Rattle.pj_xsteps.specs.Context.{Around, Context, Variables}
 use Rattle.pj_xsteps.specs.Calls.{node_in}
 use Rattle.pj_xsteps.specs.Denotes.{denotes}
-use Rattle.pj_xsteps.proofs.Sequences.{then-give}
+use Rattle.pj_xsteps.proofs.SequenceLaws.{then-give}
 use Rattle.pj_xframes.specs.declared.frame.Frame.{Frame}
 use Rattle.pj_xframes.specs.Scopes.{Scoped, variables_of}
 use Rattle.pj_xframes.specs.Frames.{Replies}

@@ -10,7 +10,7 @@ use Rattle.pj_xsteps.specs.Turns.{with_all}
 use Rattle.pj_xsteps.specs.Bindings.{with_item, for_in, quantified, let_in}
 use Rattle.pj_xsteps.specs.Parts.{bindings_of}
 use Rattle.pj_xsteps.specs.Denotes.{denotes}
-use Rattle.pj_xsteps.proofs.Sequences.{then-give}
+use Rattle.pj_xsteps.proofs.SequenceLaws.{then-give}
 use Rattle.pj_xframes.specs.declared.frame.Task.TheVariants as task
 use Rattle.pj_xframes.specs.declared.frame.ForTurns.{ForTurns}
 use Rattle.pj_xframes.specs.declared.frame.QuantifiedTurns.{QuantifiedTurns}

@@ -6,7 +6,7 @@ use Rattle.pj_xsteps.specs.Means.{Means, give, judged, ◌>>=◌, chain}
 use Rattle.pj_xsteps.specs.Context.{Variables, Denotation}
 use Rattle.pj_xsteps.specs.Turns.{narrowed, through, walked, passing, numbered, step_in_turn, with_all, united}
 use Rattle.pj_xsteps.specs.Steps.{in_document_order}
-use Rattle.pj_xsteps.proofs.Sequences.{then-assoc, then-give}
+use Rattle.pj_xsteps.proofs.SequenceLaws.{then-assoc, then-give}
 use Rattle.pj_xframes.specs.declared.frame.Turn.{Turn}
 use Rattle.pj_xframes.specs.declared.frame.Turn.TheVariants as turn
 use Rattle.pj_xframes.specs.Frames.{over, evaluated, taken, finished}

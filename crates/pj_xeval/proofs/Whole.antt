@@ -6,7 +6,7 @@ use Rattle.pj_xvalue.specs.declared.item.Item.{Item}
 use Rattle.pj_xvalue.specs.Items.{ItemValue, values_of}
 use Rattle.pj_xsteps.specs.Means.{Means, give, fail, ◌>>=◌}
 use Rattle.pj_xsteps.specs.Context.{Around, Context}
-use Rattle.pj_xsteps.proofs.Sequences.{then-assoc}
+use Rattle.pj_xsteps.proofs.SequenceLaws.{then-assoc}
 use Rattle.pj_xframes.specs.declared.frame.Task.{Task}
 use Rattle.pj_xframes.specs.declared.frame.Frame.{Frame}
 use Rattle.pj_xframes.specs.declared.frame.Next.{Next}

@@ -12,7 +12,7 @@ use Rattle.pj_xvalue.specs.Arguments.{and_then}
 use Rattle.pj_xsteps.specs.Arithmetic.{integers, natural, range}
 use Rattle.pj_xsteps.specs.Context.{Around, Context}
 use Rattle.pj_xsteps.specs.Means.{Means, give, judged, ◌>>=◌, chain, decided, decides, one_boolean}
-use Rattle.pj_xsteps.proofs.Sequences.{then-assoc}
+use Rattle.pj_xsteps.proofs.SequenceLaws.{then-assoc}
 use Rattle.pj_xframes.specs.declared.frame.Next.{Next}
 use Rattle.pj_xframes.specs.Frames.{Replies}
 use Rattle.pj_xframes.specs.Going.{GoesIf}

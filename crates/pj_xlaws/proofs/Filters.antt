@@ -11,7 +11,7 @@ use Rattle.pj_xsteps.specs.Turns.{numbered, in_turn, with_kept, narrowed}
 use Rattle.pj_xsteps.specs.Calls.{call}
 use Rattle.pj_xsteps.specs.Denotes.{denotes, arguments_of}
 use Rattle.pj_xsteps.proofs.Forms.{denotes_filter, denotes_call}
-use Rattle.pj_xsteps.proofs.Sequences.{then-give}
+use Rattle.pj_xsteps.proofs.SequenceLaws.{then-give}
 use Rattle.pj_xlaws.specs.Laws.{FilteredByTrue}
 
 all_kept : (d : Denotation) (size : ℕ) (v : Variables) → ((c : Context) → d c v ≡ give (Boolean true ∷ [])) → (p : ℕ) (items found : List ItemValue)

@@ -3,4 +3,4 @@ pub mod Sets
 pub mod Values
 pub mod OfTree
 pub mod Forms
-pub mod Sequences
+pub mod SequenceLaws

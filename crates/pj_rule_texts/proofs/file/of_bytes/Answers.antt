@@ -1,7 +1,7 @@
 use Rattle.std.proofs.Common.{sym, subst, ◌∙◌}
 use Rattle.pj_rule_texts.specs.Files.{AreFault}
 use Rattle.pj_rule_texts.specs.declared.file_fault.FileFault.TheVariants.{Markup}
-use Rattle.pj_rule_texts.proofs.Reading.{of_chars}
+use Rattle.pj_rule_texts.proofs.FileReading.{of_chars}
 use Rattle.pj_rule_texts.proofs.file.of_bytes.Goals as goal
 
 pub returns-in-Ok-clause-fault : goal.returns-in-Ok-clause-fault

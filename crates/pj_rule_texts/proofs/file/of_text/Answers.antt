@@ -1,7 +1,7 @@
 use Rattle.std.proofs.Common.{sym, subst}
 use Rattle.std.specs.Str.{chars}
 use Rattle.pj_rule_texts.specs.Files.{IfUnread, IsTextFault}
-use Rattle.pj_rule_texts.proofs.Reading.{of_markup_fault, of_root}
+use Rattle.pj_rule_texts.proofs.FileReading.{of_markup_fault, of_root}
 use Rattle.pj_rule_texts.proofs.file.of_text.Goals as goal
 
 pub returns-in-Ok-clause-fault : goal.returns-in-Ok-clause-fault

@@ -1,6 +1,6 @@
 use Rattle.std.proofs.Common.{sym, subst, IfSome}
 use Rattle.pj_rule_texts.specs.Files.{IfFault, IsUnreadable}
-use Rattle.pj_rule_texts.proofs.Reading.{refuses_told}
+use Rattle.pj_rule_texts.proofs.FileReading.{refuses_told}
 use Rattle.pj_rule_texts.proofs.file.read_ruleset.Goals as goal
 
 pub returns-in-Err-clause-fault : goal.returns-in-Err-clause-fault
