@@ -22,8 +22,9 @@ fn put_source(alloc: Global, files: &mut Files, written: &str) -> Result<(), NoM
 /// Files that stand between blanks.
 fn files_of(alloc: Global, written: &str) -> Result<Files, NoMemory> {
     let mut files = Files::new(alloc);
-    for file in words_of(alloc, written)?.as_slice() {
-        put_source(alloc, &mut files, file.as_str())?;
+    let words = words_of(alloc, written)?;
+    for word in words.as_slice() {
+        put_source(alloc, &mut files, word.as_str())?;
     }
     Ok(files)
 }
@@ -134,11 +135,13 @@ fn put_asked(
         Some("calls") => put_both(out, alloc, section, failing_call(given)),
         Some("reading") => {
             let paths = words_of(alloc, written)?;
-            put_read(out, alloc, &mut tree(alloc, words, None)?, &paths)
+            let mut tree = tree(alloc, words, None)?;
+            put_read(out, alloc, &mut tree, &paths)
         }
         _ => {
             let items = words_of(alloc, written)?;
-            put_listed(out, alloc, &mut tree(alloc, words, None)?, &items)
+            let mut tree = tree(alloc, words, None)?;
+            put_listed(out, alloc, &mut tree, &items)
         }
     }
 }
