@@ -2,7 +2,7 @@
 
 use pj_base::{NoMemory, Text};
 use pj_parse::FileFault;
-use std::alloc::AllocError;
+use std::alloc::{AllocError, AllocFailed};
 use std::fmt::{Display, Formatter, Write};
 use std::{fmt, io};
 
@@ -53,6 +53,12 @@ impl From<NoMemory> for Fault {
 
 impl From<AllocError> for Fault {
     fn from(_: AllocError) -> Self {
+        Fault::Memory
+    }
+}
+
+impl<T: Drop> From<AllocFailed<T>> for Fault {
+    fn from(_: AllocFailed<T>) -> Self {
         Fault::Memory
     }
 }

@@ -13,7 +13,6 @@ mod tree;
 
 use command::{Command, command_of};
 use fault::Fault;
-use pj_base::Text;
 use pj_real::RealTree;
 use std::env::Env;
 use std::io::{BufWriter, Write};
@@ -22,7 +21,7 @@ use std::rt::Files;
 use std::{env, io};
 
 /// How the program is called.
-const USAGE: &str = "usage: pmd_show tree FILE [--attributes]\n       pmd_show rules RULESETS\n";
+const USAGE: &str = "usage: pmd tree FILE [--attributes]\n       pmd rules RULESETS\n";
 
 /// The words behind the program's name.
 fn read_words(rt: &(impl Env + AllocGlobal)) -> Result<Vec<String>, Fault> {
@@ -51,7 +50,10 @@ fn show<R: Files + AllocGlobal + Clone + Drop, W: Write>(
 }
 
 /// Does what the words ask for.
-fn run<R: Files + Env + AllocGlobal + Clone + Drop, W: Write>(rt: R, out: W) -> Result<(), Fault> {
+fn run<R: Files + Env + AllocGlobal + Clone + Drop, W: Write + Drop>(
+    rt: R,
+    out: W,
+) -> Result<(), Fault> {
     let words = read_words(&rt)?;
     let command = match command_of(rt.alloc(), words.as_slice())? {
         Some(command) => command,

@@ -14,10 +14,12 @@ use std::io::Write;
 /// The highest number of a priority: all rules are loaded.
 const LOWEST_PRIORITY: u8 = 5;
 
-/// Writes a text of several lines, each set in.
+/// Writes a text of several lines, each set in, but those that have only blanks.
 fn write_lines<W: Write>(out: &mut W, text: &str) -> io::Result<()> {
     for line in text.split('\n') {
-        write!(out, "    {line}\n")?;
+        if !line.trim().is_empty() {
+            write!(out, "    {line}\n")?;
+        }
     }
     Ok(())
 }
