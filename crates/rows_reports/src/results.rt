@@ -1,8 +1,9 @@
 //! What rules come to in a file, with the rows of the file.
 use crate::fields::number_of;
 use pj_base::{NoMemory, Text};
-use pj_findings::{Found, FoundList, RuleResult, RuleResults, error_rows, file_rows};
-use pj_reports::{FileError, FileRows};
+use pj_findings::{RuleRun, RuleRuns, file_rows};
+use pj_names::ClassNames;
+use pj_reports::{FileError, FileRows, Head, Ruled, Spot, Spots};
 use pj_rows::{Row, Section, Table, put};
 use pj_tree::Place;
 use std::alloc::Global;
@@ -15,9 +16,9 @@ pub struct Results;
 pub struct Faults;
 
 /// The finding at a node.
-fn found_at(node: u32) -> Found {
+fn spot_at(node: u32) -> Spot {
     let line = node.saturating_add(1);
-    Found {
+    Spot {
         node,
         begin: Place { line, column: 2 },
         end: Place { line, column: 3 },
@@ -26,31 +27,34 @@ fn found_at(node: u32) -> Found {
 }
 
 /// Findings at the nodes of these numbers.
-fn found_of(alloc: Global, numbers: &str) -> Result<FoundList, NoMemory> {
-    let mut found = FoundList::new(alloc);
+fn spots_of(alloc: Global, numbers: &str) -> Result<Spots, NoMemory> {
+    let mut spots = Spots::new(alloc);
     for number in numbers.split_whitespace() {
-        found.push(found_at(number_of(number)))?;
+        spots.push(spot_at(number_of(number)))?;
     }
-    Ok(found)
+    Ok(spots)
 }
 
 /// What a rule comes to: findings at nodes, or a message behind `!`.
-fn result_of(alloc: Global, written: &str) -> Result<RuleResult, NoMemory> {
+fn ruled_of(alloc: Global, written: &str) -> Result<Ruled, NoMemory> {
     match written.strip_prefix("!") {
-        Some(message) => Ok(RuleResult::Error(Text::from_str(alloc, message)?)),
-        None => Ok(RuleResult::Findings(found_of(alloc, written)?)),
+        Some(message) => Ok(Ruled::Message(Text::from_str(alloc, message)?)),
+        None => Ok(Ruled::Spots(spots_of(alloc, written)?)),
     }
 }
 
 /// What rules come to, each in brackets.
-fn results_of(alloc: Global, given: &str) -> Result<RuleResults, NoMemory> {
-    let mut results = RuleResults::new(alloc);
+fn runs_of(alloc: Global, given: &str) -> Result<RuleRuns, NoMemory> {
+    let mut runs = RuleRuns::new(alloc);
     for written in given.split(']') {
         if let Some(inside) = written.trim_start_matches(' ').strip_prefix("[") {
-            results.push(result_of(alloc, inside)?)?;
+            runs.push(RuleRun {
+                rows: ruled_of(alloc, inside)?,
+                names: ClassNames::new(alloc),
+            })?;
         }
     }
-    Ok(results)
+    Ok(runs)
 }
 
 /// Puts an error: its rule, or `-`, and its message.
@@ -90,8 +94,8 @@ fn rows_shown(alloc: Global, rows: &FileRows) -> Result<String, NoMemory> {
 
 impl Table for Results {
     fn answer(&self, alloc: Global, _section: &Section, row: &Row) -> Result<String, NoMemory> {
-        let results = results_of(alloc, row.given.as_str())?;
-        let rows = file_rows(alloc, Text::from_str(alloc, "p.q")?, &results)?;
+        let runs = runs_of(alloc, row.given.as_str())?;
+        let rows = file_rows(alloc, Head::Package(Text::from_str(alloc, "p.q")?), &runs)?;
         rows_shown(alloc, &rows)
     }
 }
@@ -99,7 +103,7 @@ impl Table for Results {
 impl Table for Faults {
     fn answer(&self, alloc: Global, _section: &Section, row: &Row) -> Result<String, NoMemory> {
         let message = Text::from_str(alloc, row.given.as_str())?;
-        let rows = error_rows(alloc, message)?;
+        let rows = file_rows(alloc, Head::Message(message), &RuleRuns::new(alloc))?;
         rows_shown(alloc, &rows)
     }
 }

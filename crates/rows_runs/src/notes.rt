@@ -1,12 +1,11 @@
 //! The notes of outcomes.
 use crate::put::{put_lines, text_in};
 use pj_base::{NoMemory, Numbers, Text};
-use pj_check::{Outcome, put_outcome};
+use pj_check::{LimitKind, Outcome, put_outcome};
 use pj_outside::MemSink;
 use pj_rows::{Row, Section, Table};
 use pj_rules::{RuleFault, RuleWhat};
 use pj_settings::UsageFault;
-use pj_sources::LimitKind;
 use std::alloc::Global;
 
 /// The table of notes.

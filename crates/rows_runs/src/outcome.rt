@@ -1,10 +1,9 @@
 //! Outcomes in words. Those without a report begin with `! `.
 use pj_base::NoMemory;
-use pj_check::Outcome;
+use pj_check::{LimitKind, Outcome};
 use pj_rows::put;
 use pj_rules::{RuleFault, RuleWhat};
 use pj_settings::UsageFault;
-use pj_sources::LimitKind;
 use std::fmt::Write;
 
 /// Puts what is wrong with words.

@@ -5,7 +5,7 @@ use pj_outside::{Files, MemTree};
 use pj_row_folders::{failing_call, put_file, tree_of, words_of};
 use pj_rows::{Row, Section, Table, put};
 use pj_sources::{
-    LimitKind, ListRefused, Listing, ReadRefused, list_sources, read_sources, test_files,
+    ListRefused, Listing, ReadRefused, SourceLimit, list_sources, read_sources, test_files,
 };
 use std::alloc::Global;
 use std::fmt::Write;
@@ -69,10 +69,10 @@ fn put_sizes(out: &mut String, files: &Files) -> Result<(), NoMemory> {
 }
 
 /// Puts of what there is too much.
-fn put_limit(out: &mut String, kind: &LimitKind) -> Result<(), NoMemory> {
+fn put_limit(out: &mut String, kind: &SourceLimit) -> Result<(), NoMemory> {
     match kind {
-        LimitKind::FileBytes(path) => put(out, &["! bytes of ", path.as_str()]),
-        LimitKind::Files => put(out, &["! files"]),
+        SourceLimit::FileBytes(path) => put(out, &["! bytes of ", path.as_str()]),
+        SourceLimit::Files => put(out, &["! files"]),
         _ => put(out, &["! another limit"]),
     }
 }
