@@ -1,2 +1,2 @@
-pub mod Answered
-pub mod Lists
+pub mod Tables
+pub mod Held
