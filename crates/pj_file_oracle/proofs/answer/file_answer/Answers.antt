@@ -1,6 +1,6 @@
 use Rattle.pj_file_oracle.specs.FileAnswer.{file_answer}
 use Rattle.pj_file_oracle.proofs.Answered.{all-stay}
-use Rattle.pj_file_oracle.proofs.Held.{all-held-stay}
+use Rattle.pj_file_oracle.proofs.Holding.{all-held-stay}
 use Rattle.pj_file_oracle.proofs.answer.file_answer.Goals as goal
 
 pub returns-in-None-clause-answered : goal.returns-in-None-clause-answered

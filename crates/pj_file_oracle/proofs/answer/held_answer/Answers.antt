@@ -1,6 +1,6 @@
 use Rattle.std.proofs.Common.{sym}
 use Rattle.pj_file_oracle.specs.FileAnswer.{file_answer}
-use Rattle.pj_file_oracle.proofs.Held.{all-held-stay, held-found}
+use Rattle.pj_file_oracle.proofs.Holding.{all-held-stay, held-found}
 use Rattle.pj_file_oracle.proofs.answer.held_answer.Goals as goal
 
 pub returns-in-Some-clause-asks : goal.returns-in-Some-clause-asks

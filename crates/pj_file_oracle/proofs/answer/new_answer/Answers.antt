@@ -3,7 +3,7 @@ use Rattle.pj_names.proofs.Held.{asks-late}
 use Rattle.pj_file_oracle.specs.declared.held.HeldAnswer.{HeldAnswer}
 use Rattle.pj_file_oracle.specs.FileAnswer.{file_answer}
 use Rattle.pj_file_oracle.proofs.Answered.{asks-named}
-use Rattle.pj_file_oracle.proofs.Held.{all-held-stay, held-made, held-put}
+use Rattle.pj_file_oracle.proofs.Holding.{all-held-stay, held-made, held-put}
 use Rattle.pj_file_oracle.proofs.answer.new_answer.Goals as goal
 
 pub returns-in_err-answer-clause-asks : goal.returns-in_err-answer-clause-asks

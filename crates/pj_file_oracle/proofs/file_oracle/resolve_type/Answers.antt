@@ -1,6 +1,6 @@
 use Rattle.pj_file_oracle.specs.FileAnswer.{file_answer}
 use Rattle.pj_file_oracle.proofs.Answered.{all-stay}
-use Rattle.pj_file_oracle.proofs.Held.{all-held-stay}
+use Rattle.pj_file_oracle.proofs.Holding.{all-held-stay}
 use Rattle.pj_file_oracle.proofs.file_oracle.resolve_type.Goals as goal
 
 pub invariant_of-oracle : goal.invariant_of-oracle
