@@ -11,7 +11,7 @@ use crate::question::{Asked, Asking, Lookup, Question, question_of};
 use crate::{imports, inherited, type_names, variables};
 use pj_base::{NoMemory, Text};
 use pj_declared::Declarations;
-use pj_file_oracle::FileOracle;
+use pj_file_oracle::{FileOracle, Held};
 use pj_marked::{Java, expanded, named};
 use pj_names::{AskFault, Oracle};
 use pj_outer_names::File;
@@ -194,7 +194,8 @@ fn answer_over(
     asked: &Asked<'_>,
 ) -> Result<Text, NoMemory> {
     let mut beneath = Classes::of(alloc, asked.classes)?;
-    let mut oracle = FileOracle::new(alloc, &*file, &mut beneath);
+    let mut held = Held::new(alloc);
+    let mut oracle = FileOracle::new(alloc, &*file, &mut beneath, &mut held);
     answer_by(alloc, file, &mut oracle, lookup, asked)
 }
 
