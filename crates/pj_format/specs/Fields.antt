@@ -55,6 +55,26 @@ several_from item (suc n) s = do
   others ← several_from item n one.1
   Done (one.0 ∷ others)
 
+-- Each member of a list fits what the ones before it leave, from some state on.
+abbrev pub Chain : {A S : Type 0} → (S → A → Type 0) → (S → A → S) → S → List A → Type 0
+Chain Fits step s [] = Unit {0}
+Chain Fits step s (x ∷ xs) = Fits s x × Chain Fits step (step s x) xs
+
+-- Each member of a list fits the one at its place in another list, and both are as long.
+abbrev pub Along : {A B : Type 0} → (B → A → Type 0) → List B → List A → Type 0
+Along Fits [] [] = Unit {0}
+Along Fits [] (x ∷ xs) = ⊥
+Along Fits (b ∷ bs) [] = ⊥
+Along Fits (b ∷ bs) (x ∷ xs) = Fits b x × Along Fits bs xs
+
+-- one for each member of a list, one after the other
+unfoldable pub each : {A B : Type 0} → (B → Format A) → List B → Format (List A)
+each item [] = Done []
+each item (x ∷ xs) = do
+  one ← item x
+  others ← each item xs
+  Done (one ∷ others)
+
 -- What a function returns, seen by a view, is what reading gives, but for want of memory.
 
 abbrev pub Fails : {Y : Type 0} → Refused → Result Y Fault → Type 0
