@@ -1,7 +1,7 @@
 //! The answer for a row, and the file that its text is.
 
 ghost use Rattle.std.specs.Prelude.{◌≡◌};
-ghost use Rattle.pj_symbols.specs.Symbols.{FindsClasses, symbols_of};
+ghost use Rattle.pj_symbols.specs.Symbols.{symbols_of};
 
 use crate::classes::Classes;
 use crate::file_oracle::put_asked;
@@ -139,7 +139,6 @@ fn answer_with(
     asked: &Asked<'_>,
 ) -> Result<Text, NoMemory>
     requires symbols { symbols.now ≡ symbols_of tree.now }
-    requires finds { FindsClasses tree.now symbols.now.classes }
 {
     let declarations = Declarations::of(alloc, tree)?;
     let file = File::new(alloc, tree, symbols, &declarations)?;
