@@ -1,17 +1,17 @@
 -- Each step keeps the rule of the whole table.
-use Rattle.std.proofs.Common.{◌≡◌, ℕ, zero, suc, ◌+◌, ◌*◌, ◌%◌, ◌^◌, ◌<◌, ◌≤◌, ◌≢◌, ◌⊎◌, eqb, ◌==◌, cond, List, [], ◌∷◌, ◌++◌, map, filter, length, get_or, set, sym, refl, ap, ◌∙◌, subst, inl, inr, ⊎_elim, arith, length-set, eq-eqb, ne_eqb, length-append, get_or-set_other, get_or-set_same, Bool, true, false}
+use Rattle.std.proofs.Common.{◌≡◌, ℕ, ◌+◌, ◌*◌, ◌%◌, ◌^◌, ◌<◌, ◌≤◌, ◌≢◌, ◌⊎◌, ◌==◌, cond, List, [], ◌∷◌, ◌++◌, map, length, get_or, set, sym, refl, ap, ◌∙◌, subst, inl, inr, ⊎_elim, arith, length-set, eq-eqb, ne_eqb, get_or-set_other, get_or-set_same, Bool, true, false}
 use lib.Seq.{set-get_or}
 use Rattle.std.proofs.lemmas.List.{map-set, length-map, append-nil}
 use Rattle.std.proofs.lemmas.List.Elements.{filter-append}
 use mathlib.Core.Logic.{dite}
-use mathlib.Core.Option.{Option, none, some, some-injective, some-ne-none}
-use native.Mathlib.Decide.{ℕ_discrete, dec_le}
+use mathlib.Core.Option.{Option, none, some, some-ne-none}
+use native.Mathlib.Decide.{ℕ_discrete}
 use lib.ListN.{get_elem?}
-use Rattle.atomic_table.proofs.Lists.{at_set, set_here, set_else, set_again, at_map}
+use Rattle.atomic_table.proofs.Lists.{set_here, set_else, set_again, at_map}
 use Rattle.atomic_table.specs.Table.{State, Me, step, Act, keeps, takes, gives, Valid, carried_after, stepped, Allows, rest}
-use Rattle.pj_table.specs.Book.{Good, Told', Grows, looks_of, look_of}
-use Rattle.pj_table.specs.Rule.{Hand, Tale, At, waits, total, tale, masked, hand, PartKept, SeatKept, Kept, ClaimsKept, gone, claimed, line_claims, times, mark, marks, numbers, ticket_word, serving_word, count_word}
-use Rattle.pj_table.specs.Plays.{drew, loaded, entered, served, waiting, turning, entering, idle, plus, Turns}
+use Rattle.pj_table.specs.Book.{IsSound, Grows}
+use Rattle.pj_table.specs.Rule.{Hand, Tale, At, total, tale, masked, hand, PartKept, SeatKept, Kept, ClaimsKept, gone, claimed, line_claims, times, mark, marks, numbers, ticket_word, serving_word, count_word}
+use Rattle.pj_table.specs.Plays.{drew, loaded, entered, served, waiting, turning, entering, idle, with_asked, Turns}
 use Rattle.pj_table.proofs.Parts.{draws, turns, at_home, ticket_is, serves, enters, at_each, at_below, total_set}
 use Rattle.pj_table.proofs.Books.{at_unmap, one_asked}
 use Rattle.pj_table.specs.Worlds.{World}
@@ -165,7 +165,7 @@ module _ (k : ℕ) (s : State Part View) (o : Kept k s) (id : ℕ) (m : Me Part 
             (subst (λ (slot : Option (Option Part)). PartKept o.world t v c slot (set hs id (hand p w))) (sym (set_here s.homes p none inside))
             (turns o.world t v c (get_elem? s.homes p) hs kept id (hand p m.0) (hand p w) at_hand refl refl wait
             (ap (λ (y : Hand). y.phase) whole) (ticket_same ∙ sym (ap (λ (y : Hand). y.ticket) whole)) (ap (λ (y : Hand). y.entries) whole ∙ home.2) (ap (λ (y : Hand). y.looks) whole ∙ home.3) is))),
-        (x, refl, subst (λ (z : List Entry). Good m.0.world z x.looks.items) (sym home.2) (subst (λ (z : List Look). Good m.0.world kept.es z) (sym home.3) (subst (λ (z : World). Good z kept.es kept.ls) (sym (o.seats id m.0 at alive).same_world) kept.good))),
+        (x, refl, subst (λ (z : List Entry). IsSound m.0.world z x.looks.items) (sym home.2) (subst (λ (z : List Look). IsSound m.0.world kept.es z) (sym home.3) (subst (λ (z : World). IsSound z kept.es kept.ls) (sym (o.seats id m.0 at alive).same_world) kept.good))),
       )
 
   -- a load that tells nothing
@@ -229,10 +229,10 @@ module _ (k : ℕ) (s : State Part View) (o : Kept k s) (id : ℕ) (v : View) (a
   number_below : (hand p v).own.number < length (map (hand p) s.views)
   number_below = let b = at_below s.views id v at in let e = me.own in let f = length-map s.views (hand p) in omega arith
 
-asked_after : (p : ℕ) (a : Asked) (l : Line) → a.part ≡ p → (tale p (plus a l)).asked ≡ (tale p l).asked ++ a ∷ []
+asked_after : (p : ℕ) (a : Asked) (l : Line) → a.part ≡ p → (tale p (with_asked a l)).asked ≡ (tale p l).asked ++ a ∷ []
 asked_after p a l e = filter-append (λ (y : Asked). y.part == p) l.asked (a ∷ []) ∙ ap (λ (b : Bool). (tale p l).asked ++ cond b (a ∷ []) []) (eq-eqb a.part p e)
 
-asked_else : (q : ℕ) (a : Asked) (l : Line) → a.part ≢ q → (tale q (plus a l)) ≡ tale q l
+asked_else : (q : ℕ) (a : Asked) (l : Line) → a.part ≢ q → (tale q (with_asked a l)) ≡ tale q l
 asked_else q a l ne = ap (λ (z : List Asked). record { number = l.number; asked = z })
     (filter-append (λ (y : Asked). y.part == q) l.asked (a ∷ []) ∙ ap (λ (b : Bool). (tale q l).asked ++ cond b (a ∷ []) []) (ne_eqb a.part q ne) ∙ append-nil (tale q l).asked)
 

@@ -1,11 +1,11 @@
 -- A history that grows by one look.
-use Rattle.std.proofs.Common.{◌≡◌, ℕ, zero, suc, ◌+◌, ◌<◌, ◌≤◌, ◌≢◌, ◌⊎◌, eqb, ◌==◌, cond, List, [], ◌∷◌, ◌++◌, map, filter, length, sym, refl, ap, ◌∙◌, subst, inl, inr, ⊎_elim, arith, eq-eqb, ne_eqb, length-append, Bool, true, false, MatchBool, Result, Ok, Err, IfOk, get_or, set, take}
+use Rattle.std.proofs.Common.{◌≡◌, ℕ, zero, suc, ◌<◌, ◌≢◌, ◌⊎◌, ◌==◌, cond, List, [], ◌∷◌, ◌++◌, map, length, sym, refl, ap, ◌∙◌, subst, inl, inr, ⊎_elim, arith, eq-eqb, ne_eqb, length-append, Bool, true, false, Result, Ok, Err, IfOk, get_or, set, take}
 use Rattle.std.proofs.lemmas.List.{map-append, append-nil}
 use Rattle.std.proofs.lemmas.List.Elements.{filter-append}
-use mathlib.Core.Option.{Option, none, some, some-injective, some-ne-none}
+use mathlib.Core.Option.{some, some-injective, some-ne-none}
 use lib.ListN.{get_elem?}
 use Rattle.atomic_table.proofs.Lists.{at_longer, at_last}
-use Rattle.pj_table.specs.Book.{Good, Told', Grows, looks_of, look_of, Legal, fills, next, Fits}
+use Rattle.pj_table.specs.Book.{IsSound, IsTold, Grows, looks_of, look_of, IsLegal, fills, next, Fits}
 use Rattle.pj_names.specs.ClassName.{Name}
 use Rattle.pj_table.specs.Worlds.{World, IsAnswer}
 use Rattle.pj_table.specs.declared.view.Entry.{Entry}
@@ -16,7 +16,7 @@ use Rattle.pj_names.specs.declared.answer.Answer.{Answer}
 use Rattle.pj_table.specs.declared.view.Look.{Look}
 use Rattle.pj_table.specs.declared.view.Asked.{Asked}
 
-legal_snoc : (n : ℕ) (ls : List Look) (l : Look) → Legal n ls → Fits (fills n ls) l → Legal n (ls ++ l ∷ [])
+legal_snoc : (n : ℕ) (ls : List Look) (l : Look) → IsLegal n ls → Fits (fills n ls) l → IsLegal n (ls ++ l ∷ [])
 legal_snoc n [] l h fits = (fits, tt)
 legal_snoc n (x ∷ xs) l h fits = (h.0, legal_snoc (next n x) xs l h.1 fits)
 
@@ -43,7 +43,7 @@ looks_else : (n : ℕ) (ls : List Look) (l : Look) → l.seat ≢ n → looks_of
 looks_else n ls l e = filter-append (λ (y : Look). y.seat == n) ls (l ∷ []) ∙ ap (λ (b : Bool). looks_of n ls ++ cond b (l ∷ []) []) (ne_eqb l.seat n e) ∙ append-nil (looks_of n ls)
 
 module _ (world : World) (number : ℕ) (es : List Entry) (ls : List Look) (name : Name) (place part : ℕ) where
-  pub hits : Good world es ls → (e : Entry) → get_elem? es place ≡ some e → e.name ≡ name
+  pub hits : IsSound world es ls → (e : Entry) → get_elem? es place ≡ some e → e.name ≡ name
       → Grows world number es ls (record { part = part; place = place; fill = false; name = name }) es (ls ++ record { seat = number; place = place; fill = false } ∷ [])
   hits good e at is = let l : Look = record { seat = number; place = place; fill = false } in let f : fills 0 ls ≡ length es = good.filled in record {
     look = refl;
@@ -57,7 +57,7 @@ module _ (world : World) (number : ℕ) (es : List Entry) (ls : List Look) (name
     };
   }
 
-  pub grows : Good world es ls → (answer : Arc Answer Global) → IsAnswer world name (arc_value answer) → ((k : ℕ) (e : Entry) → get_elem? es k ≡ some e → e.name ≢ name) → place ≡ length es
+  pub grows : IsSound world es ls → (answer : Arc Answer Global) → IsAnswer world name (arc_value answer) → ((k : ℕ) (e : Entry) → get_elem? es k ≡ some e → e.name ≢ name) → place ≡ length es
       → Grows world number es ls (record { part = part; place = place; fill = true; name = name }) (es ++ record { name = name; answer = answer } ∷ []) (ls ++ record { seat = number; place = place; fill = true } ∷ [])
   grows good answer is absent here = let l : Look = record { seat = number; place = place; fill = true } in let e : Entry = record { name = name; answer = answer } in let f : fills 0 ls ≡ length es = good.filled in record {
     look = refl;
@@ -76,13 +76,13 @@ module _ (world : World) (number : ℕ) (es : List Entry) (ls : List Look) (name
 
 -- what was told of another number, or of this one with the look
 module _ (world : World) (number : ℕ) (es : List Entry) (ls : List Look) (a : Asked) (es' : List Entry) (ls' : List Look) (g : Grows world number es ls a es' ls') where
-  pub told_else : (n : ℕ) (asked : List Asked) → n ≢ number → Told' es ls n asked → Told' es' ls' n asked
+  pub told_else : (n : ℕ) (asked : List Asked) → n ≢ number → IsTold es ls n asked → IsTold es' ls' n asked
   told_else n asked ne t = record {
     same = ap (looks_of n) g.look ∙ looks_else n ls (look_of number a) (λ e. ne (sym e)) ∙ t.same;
     named = λ k b at. let u = t.named k b at in (u.0, g.kept b.place u.0 u.1, u.2);
   }
 
-  pub told_here : (asked : List Asked) → Told' es ls number asked → Told' es' ls' number (asked ++ a ∷ [])
+  pub told_here : (asked : List Asked) → IsTold es ls number asked → IsTold es' ls' number (asked ++ a ∷ [])
   told_here asked t = record {
     same = ap (looks_of number) g.look ∙ looks_here number ls (look_of number a) refl ∙ ap (λ (z : List Look). z ++ look_of number a ∷ []) t.same ∙ sym (map-append (look_of number) asked (a ∷ []));
     named = λ k b at. ⊎_elim (λ h. let u = t.named k b h in (u.0, g.kept b.place u.0 u.1, u.2)) (λ h. subst (λ (y : Asked). (e : Entry) × (get_elem? es' y.place ≡ some e) × (e.name ≡ y.name)) h.1 g.named) (at_snoc_is asked a b k at);

@@ -1,18 +1,17 @@
 -- The claim step keeps the rule.
-use Rattle.std.proofs.Common.{◌≡◌, ℕ, zero, suc, ◌+◌, ◌-◌, ◌*◌, ◌%◌, ◌^◌, ◌<◌, ◌≤◌, ◌≢◌, ◌⊎◌, min, eqb, ◌==◌, nat_lt, cond, List, [], ◌∷◌, ◌++◌, map, filter, length, get_or, set, sym, refl, ap, ◌∙◌, subst, inl, inr, ⊎_elim, arith, length-set, eq-eqb, ne_eqb, lt-ltb, le-ltb, length-append, get_or-set_other, get_or-set_same, Bool, true, false}
+use Rattle.std.proofs.Common.{◌≡◌, ℕ, suc, ◌+◌, ◌%◌, ◌^◌, ◌<◌, ◌≤◌, min, ◌==◌, cond, List, [], ◌∷◌, ◌++◌, map, length, get_or, set, sym, refl, ap, ◌∙◌, subst, arith, length-set, eq-eqb, ne_eqb, lt-ltb, le-ltb, get_or-set_other, get_or-set_same, true, false}
 use Rattle.std.proofs.lemmas.List.{map-set}
 use Rattle.std.proofs.Math.Nat.{mod-eq_of_lt}
 use mathlib.Core.Logic.{dite}
-use mathlib.Core.Option.{Option, none, some}
+use mathlib.Core.Option.{none}
 use native.Mathlib.Decide.{ℕ_discrete, dec_le}
 use lib.ListN.{get_elem?}
 use Rattle.atomic_table.proofs.Lists.{set_again, at_map}
-use Rattle.atomic_table.specs.Table.{State, Me, step, Act, keeps, Valid, carried_after, stepped, Allows}
-use Rattle.pj_table.specs.Rule.{Hand, At, total, hand, PartKept, SeatKept, Kept, ClaimsKept, gone, claimed, line_claims, times, once_below, mark, marks, numbers, ticket_word, serving_word, count_word}
-use Rattle.pj_table.specs.Plays.{claiming, ended, claimed_one}
-use Rattle.pj_table.proofs.Parts.{at_each, at_below, total_set, total_most}
+use Rattle.atomic_table.specs.Table.{State, Me, step, keeps, Allows}
+use Rattle.pj_table.specs.Rule.{At, total, hand, PartKept, SeatKept, Kept, ClaimsKept, gone, claimed, once_below, mark, marks, numbers, ticket_word, serving_word, count_word}
+use Rattle.pj_table.specs.Plays.{with_claim, with_end, claimed_one}
+use Rattle.pj_table.proofs.Parts.{at_each, total_set, total_most}
 use Rattle.pj_table.proofs.Allowed.{Three}
-use Rattle.pj_table.specs.declared.view.Entry.{Entry}
 use Rattle.pj_table.specs.declared.view.Line.{Line}
 use Rattle.pj_table.specs.declared.view.View.{View}
 use Rattle.pj_table.specs.declared.part.Part.{Part}
@@ -83,7 +82,7 @@ claim_allowed k n id m alive fresh s o slots at _ =
     let files = seat.same_files in
     let unmarked : mark v.own ≡ 0 = ap (λ b. cond b 1 0) fresh in
     dite (dec_le (x + 1) k)
-    (λ more. let w : View = claiming x v in (
+    (λ more. let w : View = with_claim x v in (
       w,
       keeps,
       tt,
@@ -100,7 +99,7 @@ claim_allowed k n id m alive fresh s o slots at _ =
           }),
       (λ zero-word. ((λ below. refl), (λ above. absurd (omega arith)))),
     ))
-    (λ none-left. let w : View = ended v in (
+    (λ none-left. let w : View = with_end v in (
       w,
       keeps,
       tt,

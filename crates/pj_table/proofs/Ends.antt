@@ -1,22 +1,21 @@
 -- The first state meets the rule, and what the last one shows.
-use Rattle.std.proofs.Common.{◌≡◌, ℕ, zero, suc, ◌+◌, ◌*◌, ◌%◌, ◌^◌, ◌<◌, ◌≤◌, ◌≢◌, ◌⊎◌, min, eqb, ◌==◌, nat_lt, cond, List, [], ◌∷◌, ◌++◌, map, filter, length, get_or, set, sym, refl, ap, ◌∙◌, subst, inl, inr, ⊎_elim, arith, eq-eqb, ne_eqb, le-ltb, Bool, true, false}
-use Rattle.std.proofs.lemmas.List.{map-set, map-append, length-map}
+use Rattle.std.proofs.Common.{◌≡◌, ℕ, zero, suc, ◌+◌, ◌*◌, ◌^◌, ◌<◌, ◌≤◌, ◌≢◌, min, cond, List, [], ◌∷◌, map, length, get_or, sym, refl, ap, ◌∙◌, subst, inl, ⊎_elim, arith, le-ltb, true, false}
+use Rattle.std.proofs.lemmas.List.{length-map}
 use Rattle.std.specs.Prelude.{None}
 use mathlib.Core.Logic.{dite}
-use mathlib.Core.Option.{Option, none, some, some-injective, some-ne-none}
-use native.Mathlib.Decide.{ℕ_discrete, dec_le}
+use mathlib.Core.Option.{Option, some, some-injective, some-ne-none}
+use native.Mathlib.Decide.{ℕ_discrete}
 use lib.ListN.{get_elem?}
 use Rattle.atomic_table.proofs.Lists.{at_map}
 use Rattle.atomic_table.specs.Table.{State, opening}
-use Rattle.pj_table.specs.Book.{Good, Told', looks_of, look_of}
-use Rattle.pj_table.specs.Rule.{Hand, Tale, At, waits, total, tale, masked, hand, PartKept, SeatKept, Kept, ClaimsKept, gone, newcomer, opened, claimed, line_claims, times, once_below, mark, marks, numbers, ticket_word, serving_word, count_word, HasAll, Shows}
-use Rattle.pj_table.proofs.Books.{at_unmap, at_there}
+use Rattle.pj_table.specs.Book.{IsSound, IsTold, looks_of}
+use Rattle.pj_table.specs.Rule.{Hand, Tale, At, total, tale, hand, PartKept, SeatKept, Kept, gone, opened, claimed, once_below, marks, ticket_word, serving_word, count_word, HasAll, Shows}
+use Rattle.pj_table.proofs.Books.{at_unmap}
 use Rattle.pj_table.proofs.Parts.{at_below, waits_not}
-use Rattle.pj_table.proofs.Allowed.{Three, hand_away, live_or_gone}
+use Rattle.pj_table.proofs.Allowed.{hand_away, live_or_gone}
 use Rattle.pj_table.specs.Worlds.{World}
 use Rattle.pj_table.specs.declared.view.Entry.{Entry}
 use Rattle.pj_table.specs.declared.view.Look.{Look}
-use Rattle.pj_table.specs.declared.view.Asked.{Asked}
 use Rattle.pj_table.specs.declared.view.Line.{Line}
 use Rattle.pj_table.specs.declared.view.View.{View}
 use Rattle.pj_table.specs.declared.part.Part.{Part}
@@ -45,8 +44,8 @@ no_tickets world x h es ls idle own joined = record {
   slot_is = inl (x, refl, es, ls, at_first (λ j y. y.phase ≤ 1) h (omega arith));
   count = refl;
   good = record { legal = tt; filled = refl; answers = λ k e at. absurd (some-ne-none e (sym at)); apart = λ j k d e at. absurd (some-ne-none d (sym at)) };
-  mine = at_first (λ j y. Told' [] [] y.own.number y.own.asked) h (subst (λ (w : Tale). Told' [] [] w.number w.asked) (sym own) record { same = refl; named = λ k a at. absurd (some-ne-none a (sym at)) });
-  others = λ i k y w at atk. at_first (λ i y. (k : ℕ) (w : Tale) → At y.joined k w → Told' [] [] w.number w.asked) h (subst (λ (ws : List Tale). (k : ℕ) (w : Tale) → At ws k w → Told' [] [] w.number w.asked) (sym joined) (λ k w at. absurd (some-ne-none w (sym at)))) i y at k w atk;
+  mine = at_first (λ j y. IsTold [] [] y.own.number y.own.asked) h (subst (λ (w : Tale). IsTold [] [] w.number w.asked) (sym own) record { same = refl; named = λ k a at. absurd (some-ne-none a (sym at)) });
+  others = λ i k y w at atk. at_first (λ i y. (k : ℕ) (w : Tale) → At y.joined k w → IsTold [] [] w.number w.asked) h (subst (λ (ws : List Tale). (k : ℕ) (w : Tale) → At ws k w → IsTold [] [] w.number w.asked) (sym joined) (λ k w at. absurd (some-ne-none w (sym at)))) i y at k w atk;
   fresh = λ n le. refl;
 }
 
@@ -93,10 +92,10 @@ module _ (k : ℕ) (s : State Part View) (o : Kept k s) (id : ℕ) (v : View) (a
   pub shows : (p : ℕ) → p < length s.homes → (x : Part) × (get_elem? s.homes p ≡ some (some x)) × Shows v p x
   shows p below = let part = o.parts p below in ⊎_elim
       (λ q. let es = q.2 in let ls = q.3 in
-      let T : List Entry × List Look → Type 0 = λ z. Good o.world z.0 z.1 × Told' z.0 z.1 v.own.number (tale p v.own).asked × ((j : ℕ) (l : Line) → At v.joined j l → Told' z.0 z.1 l.number (tale p l).asked) × ((n : ℕ) → v.given ≤ n → looks_of n z.1 ≡ []) in
+      let T : List Entry × List Look → Type 0 = λ z. IsSound o.world z.0 z.1 × IsTold z.0 z.1 v.own.number (tale p v.own).asked × ((j : ℕ) (l : Line) → At v.joined j l → IsTold z.0 z.1 l.number (tale p l).asked) × ((n : ℕ) → v.given ≤ n → looks_of n z.1 ≡ []) in
       let all' : T (part.es, part.ls) = (part.good, part.mine id (hand p v) (at_map (hand p) s.views id v at), (λ j l atl. part.others id j (hand p v) (tale p l) (at_map (hand p) s.views id v at) (at_map (tale p) v.joined j l atl)), (λ n le. part.fresh n (let g = seat.opener first in let f = length-map s.views (hand p) in omega arith))) in
       let t : T (q.0.entries.items, q.0.looks.items) = subst T (λ i. (sym es i, sym ls i)) all' in
-      (q.0, q.1, record { good = subst (λ (w : World). Good w q.0.entries.items q.0.looks.items) (sym seat.same_world) t.0; own = t.1; joined = t.2; others = t.3 }))
+      (q.0, q.1, record { good = subst (λ (w : World). IsSound w q.0.entries.items q.0.looks.items) (sym seat.same_world) t.0; own = t.1; joined = t.2; others = t.3 }))
       (λ q. let e = idle_hand p q.0 q.1 q.2 in let n = q.3 in absurd (omega arith))
       part.slot_is
 

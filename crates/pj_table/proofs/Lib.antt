@@ -8,3 +8,5 @@ pub mod Ends
 pub mod Worlds
 pub mod Places
 pub mod Lies
+pub mod OracleLaws
+pub mod Indexes

@@ -1,11 +1,11 @@
 -- At the end each entry stands in the part of its name.
-use Rattle.std.proofs.Common.{◌≡◌, ℕ, zero, suc, ◌+◌, ◌<◌, ◌≤◌, ◌≢◌, ◌==◌, cond, List, [], ◌∷◌, map, filter, length, sym, refl, ap, ◌∙◌, subst, arith, eq-eqb, eqb-true, Bool, true, false, MatchBool}
+use Rattle.std.proofs.Common.{◌≡◌, ℕ, zero, suc, ◌+◌, ◌<◌, ◌≤◌, ◌==◌, cond, List, [], ◌∷◌, filter, sym, refl, ap, ◌∙◌, arith, eq-eqb, eqb-true, Bool, true, false, MatchBool}
 use mathlib.Core.Logic.{dite}
-use mathlib.Core.Option.{Option, none, some, some-injective, some-ne-none}
+use mathlib.Core.Option.{some-injective, some-ne-none}
 use native.Mathlib.Decide.{ℕ_discrete, dec_le}
 use lib.ListN.{get_elem?}
 use Rattle.pj_table.specs.Names.{part_of}
-use Rattle.pj_table.specs.Book.{Told', looks_of, look_of, Legal, fills, next, Fits}
+use Rattle.pj_table.specs.Book.{IsTold, look_of, IsLegal, fills}
 use Rattle.pj_table.specs.Rule.{At, tale, HasAll, Shows}
 use Rattle.pj_table.specs.Placed.{AtHome, Placed}
 use Rattle.pj_table.proofs.Books.{at_unmap, same_entry, at_there}
@@ -20,12 +20,12 @@ abbrev Found : List Look → ℕ → Type 0
 Found ls k = (j : ℕ) × (l : Look) × At ls j l × (l.place ≡ k)
 
 -- each place below the number of fills was filled
-fill_found : (ls : List Look) (n k : ℕ) → n ≤ k → k < fills n ls → Legal n ls → Found ls k
+fill_found : (ls : List Look) (n k : ℕ) → n ≤ k → k < fills n ls → IsLegal n ls → Found ls k
 fill_found [] n k lo hi legal = absurd (omega arith)
 fill_found (l ∷ ls) n k lo hi legal =
     let on : Found ls k → Found (l ∷ ls) k = λ t. (suc t.0, t.1, t.2, t.3) in
-    let step : (b : Bool) → MatchBool b (l.place ≡ n) (l.place < n) → Legal (cond b (n + 1) n) ls → k < fills (cond b (n + 1) n) ls → Found (l ∷ ls) k =
-    λ b. elim b as (λ b. MatchBool b (l.place ≡ n) (l.place < n) → Legal (cond b (n + 1) n) ls → k < fills (cond b (n + 1) n) ls → Found (l ∷ ls) k) [
+    let step : (b : Bool) → MatchBool b (l.place ≡ n) (l.place < n) → IsLegal (cond b (n + 1) n) ls → k < fills (cond b (n + 1) n) ls → Found (l ∷ ls) k =
+    λ b. elim b as (λ b. MatchBool b (l.place ≡ n) (l.place < n) → IsLegal (cond b (n + 1) n) ls → k < fills (cond b (n + 1) n) ls → Found (l ∷ ls) k) [
       | true ↦ (λ fits rest below. dite (ℕ_discrete n k) (λ e. (0, l, refl, fits ∙ e)) (λ ne. on (fill_found ls (n + 1) k (omega arith) below rest)))
       | false ↦ (λ fits rest below. on (fill_found ls n k lo below rest))
     ] in
@@ -50,7 +50,7 @@ module _ {A : Type 0} where
       step (f x) refl i at
 
 -- a look of the list's number, at a place, tells the part of the name there
-by_line : (es : List Entry) (ls : List Look) (p : ℕ) (line : Line) → Told' es ls line.number (tale p line).asked → AtHome line → (j : ℕ) (l : Look) → At ls j l → l.seat ≡ line.number → (k : ℕ) (e : Entry) → l.place ≡ k → At es k e → part_of e.name ≡ p
+by_line : (es : List Entry) (ls : List Look) (p : ℕ) (line : Line) → IsTold es ls line.number (tale p line).asked → AtHome line → (j : ℕ) (l : Look) → At ls j l → l.seat ≡ line.number → (k : ℕ) (e : Entry) → l.place ≡ k → At es k e → part_of e.name ≡ p
 by_line es ls p line told home j l at is k e place ate =
     let r = kept_at (λ (y : Look). y.seat == line.number) ls j l at (eq-eqb l.seat line.number is) in
     let u = at_unmap (look_of line.number) (tale p line).asked r.0 l (ap (λ (z : List Look). get_elem? z r.0) (sym told.same) ∙ r.1) in

@@ -1,12 +1,12 @@
 -- Each step on one part keeps what the rule says of it, over the words, the slot and the hands as plain data.
-use Rattle.std.proofs.Common.{◌≡◌, ℕ, zero, suc, ◌+◌, ◌*◌, ◌%◌, ◌^◌, ◌<◌, ◌≤◌, ◌≢◌, ◌⊎◌, eqb, cond, List, [], ◌∷◌, ◌++◌, map, length, get_or, set, sym, refl, ap, ◌∙◌, subst, inl, inr, ⊎_elim, arith, length-set, eq-eqb, ne_eqb, length-append, Bool, true, false}
+use Rattle.std.proofs.Common.{◌≡◌, ℕ, zero, suc, ◌+◌, ◌%◌, ◌^◌, ◌<◌, ◌≤◌, ◌≢◌, eqb, cond, List, [], ◌∷◌, ◌++◌, length, set, sym, refl, ap, ◌∙◌, subst, inl, inr, ⊎_elim, arith, length-set, eq-eqb, ne_eqb, length-append, true, false}
 use Rattle.std.proofs.Math.Nat.{mod-add-mod, mod-eq_of_lt}
 use mathlib.Core.Logic.{dite}
 use mathlib.Core.Option.{Option, none, some, some-injective, some-ne-none}
-use native.Mathlib.Decide.{ℕ_discrete, dec_le}
+use native.Mathlib.Decide.{dec_le}
 use lib.ListN.{get_elem?}
 use Rattle.atomic_table.proofs.Lists.{at_set, set_here, set_else, one_turn}
-use Rattle.pj_table.specs.Book.{Good, Told', Grows, looks_of, look_of}
+use Rattle.pj_table.specs.Book.{IsTold, Grows, looks_of, look_of}
 use Rattle.pj_table.proofs.Books.{told_here, told_else, none_else}
 use Rattle.pj_table.specs.Rule.{Hand, Tale, At, waits, total, PartKept}
 use Rattle.pj_table.specs.Worlds.{World}
@@ -53,12 +53,12 @@ module _ (world : World) (t v c : ℕ) (slot : Option (Option Part)) (hs : List 
 
 module _ (world : World) (t v c : ℕ) (slot : Option (Option Part)) (hs : List Hand) (o : PartKept world t v c slot hs) (i : ℕ) (h g : Hand) (me : At hs i h) (own : h.own ≡ g.own) (joined : h.joined ≡ g.joined) where
   -- the lists stay, where the history does
-  still_mine : (j : ℕ) (x : Hand) → At (set hs i g) j x → Told' o.es o.ls x.own.number x.own.asked
-  still_mine = at_each (λ j x. Told' o.es o.ls x.own.number x.own.asked) hs i g (subst (λ (w : Tale). Told' o.es o.ls w.number w.asked) own (o.mine i h me)) (λ j x ne at. o.mine j x at)
+  still_mine : (j : ℕ) (x : Hand) → At (set hs i g) j x → IsTold o.es o.ls x.own.number x.own.asked
+  still_mine = at_each (λ j x. IsTold o.es o.ls x.own.number x.own.asked) hs i g (subst (λ (w : Tale). IsTold o.es o.ls w.number w.asked) own (o.mine i h me)) (λ j x ne at. o.mine j x at)
 
-  still_others : (j k : ℕ) (x : Hand) (w : Tale) → At (set hs i g) j x → At x.joined k w → Told' o.es o.ls w.number w.asked
-  still_others j k x w at = at_each (λ j x. (k : ℕ) (w : Tale) → At x.joined k w → Told' o.es o.ls w.number w.asked) hs i g
-      (subst (λ (ws : List Tale). (k : ℕ) (w : Tale) → At ws k w → Told' o.es o.ls w.number w.asked) joined (λ k w. o.others i k h w me))
+  still_others : (j k : ℕ) (x : Hand) (w : Tale) → At (set hs i g) j x → At x.joined k w → IsTold o.es o.ls w.number w.asked
+  still_others j k x w at = at_each (λ j x. (k : ℕ) (w : Tale) → At x.joined k w → IsTold o.es o.ls w.number w.asked) hs i g
+      (subst (λ (ws : List Tale). (k : ℕ) (w : Tale) → At ws k w → IsTold o.es o.ls w.number w.asked) joined (λ k w. o.others i k h w me))
       (λ j x ne at k w. o.others j k x w at) j x at k w
 
   still_fresh : (n : ℕ) → length (set hs i g) ≤ n → looks_of n o.ls ≡ []
@@ -162,10 +162,10 @@ module _ (world : World) (t v c : ℕ) (slot : Option (Option Part)) (hs : List 
         slot_is = ⊎_elim (λ q. let n = q.4 i h me in absurd (omega arith)) (λ q. inr (i, g, set_here hs i g (at_below hs i h me), omega arith)) o.slot_is;
         count = let e : c ≡ length o.ls = o.count in ap (λ (n : ℕ). (n + 1) % 2 ^ 64) e ∙ ap (λ (n : ℕ). n % 2 ^ 64) (sym long) ∙ mod-eq_of_lt fits;
         good = grown.good;
-        mine = at_each (λ j x. Told' g.entries g.looks x.own.number x.own.asked) hs i g
-            (let new = told_here world h.own.number o.es o.ls a g.entries g.looks grown h.own.asked (o.mine i h me) in subst (λ (z : ℕ × List Asked). Told' g.entries g.looks z.0 z.1) (λ k. (sym number k, sym asked k)) new)
+        mine = at_each (λ j x. IsTold g.entries g.looks x.own.number x.own.asked) hs i g
+            (let new = told_here world h.own.number o.es o.ls a g.entries g.looks grown h.own.asked (o.mine i h me) in subst (λ (z : ℕ × List Asked). IsTold g.entries g.looks z.0 z.1) (λ k. (sym number k, sym asked k)) new)
             (λ j x ne at. told_else world h.own.number o.es o.ls a g.entries g.looks grown x.own.number x.own.asked (mine j x ne at) (o.mine j x at));
-        others = λ j k x w at atk. at_each (λ j x. (k : ℕ) (w : Tale) → At x.joined k w → Told' g.entries g.looks w.number w.asked) hs i g
+        others = λ j k x w at atk. at_each (λ j x. (k : ℕ) (w : Tale) → At x.joined k w → IsTold g.entries g.looks w.number w.asked) hs i g
             (λ k w atk. let old : At h.joined k w = subst (λ (ws : List Tale). At ws k w) (sym joined) atk in told_else world h.own.number o.es o.ls a g.entries g.looks grown w.number w.asked (others i k h w me old) (o.others i k h w me old))
             (λ j x ne at k w atk. told_else world h.own.number o.es o.ls a g.entries g.looks grown w.number w.asked (others j k x w at atk) (o.others j k x w at atk)) j x at k w atk;
         fresh = λ n le. none_else world h.own.number o.es o.ls a g.entries g.looks grown n (λ e. let b = length-set hs i g in omega arith) (o.fresh n (omega (arith, length-set hs i g)));

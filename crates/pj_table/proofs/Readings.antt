@@ -1,6 +1,6 @@
 -- What a door read is the world's answer.
-use Rattle.std.proofs.Common.{◌≡◌, ◌≤◌, ℕ, arith, subst}
-use Rattle.std.specs.Prelude.{List, Option, Some, None}
+use Rattle.std.proofs.Common.{◌≡◌, arith, subst}
+use Rattle.std.specs.Prelude.{List, Some, None}
 use Rattle.std.specs.Option.{IfSome}
 use Rattle.pj_names.specs.ClassName.{Name}
 use Rattle.pj_names.specs.declared.answer.Answer.{Answer}

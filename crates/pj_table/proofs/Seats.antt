@@ -1,23 +1,18 @@
 -- Seats that are split and joined keep the rule.
-use Rattle.std.proofs.Common.{◌≡◌, ℕ, zero, suc, ◌+◌, ◌*◌, ◌%◌, ◌^◌, ◌<◌, ◌≤◌, ◌≢◌, ◌⊎◌, eqb, ◌==◌, cond, List, [], ◌∷◌, ◌++◌, map, filter, length, get_or, set, sym, refl, ap, ◌∙◌, subst, inl, inr, ⊎_elim, arith, length-set, eq-eqb, ne_eqb, length-append, Bool, true, false}
+use Rattle.std.proofs.Common.{◌≡◌, ℕ, zero, suc, ◌+◌, ◌^◌, ◌<◌, ◌≤◌, ◌≢◌, ◌==◌, cond, List, [], ◌∷◌, ◌++◌, map, length, set, sym, refl, ap, ◌∙◌, subst, inl, inr, ⊎_elim, arith, length-set, eq-eqb, ne_eqb, length-append, true, false}
 use Rattle.std.proofs.lemmas.List.{map-set, map-append, length-map}
-use mathlib.Core.Logic.{dite}
-use mathlib.Core.Option.{Option, none, some, some-injective, some-ne-none}
-use native.Mathlib.Decide.{ℕ_discrete, dec_le}
+use mathlib.Core.Option.{Option, some, some-injective, some-ne-none}
 use lib.ListN.{get_elem?}
-use Rattle.atomic_table.proofs.Lists.{at_set, set_here, set_else, set_again, at_map, at_longer}
-use Rattle.atomic_table.specs.Table.{State, Splits, Joins}
-use Rattle.pj_table.specs.Book.{Good, Told', looks_of, look_of}
-use Rattle.pj_table.specs.Rule.{Hand, Tale, At, waits, total, tale, masked, hand, PartKept, SeatKept, Kept, ClaimsKept, gone, newcomer, claimed, line_claims, times, once_below, mark, marks, numbers, ticket_word, serving_word, count_word}
-use Rattle.pj_table.specs.Plays.{giving, given_to, uniting}
-use Rattle.pj_table.proofs.Books.{at_snoc_is, at_there}
+use Rattle.atomic_table.proofs.Lists.{set_else, set_again, at_map, at_longer}
+use Rattle.atomic_table.specs.Table.{Splits, Joins}
+use Rattle.pj_table.specs.Book.{IsTold}
+use Rattle.pj_table.specs.Rule.{Hand, Tale, At, waits, tale, hand, PartKept, SeatKept, Kept, gone, claimed, line_claims, mark, marks, numbers}
+use Rattle.pj_table.specs.Plays.{with_number_given, new_view, united}
+use Rattle.pj_table.proofs.Books.{at_snoc_is}
 use Rattle.pj_table.proofs.Parts.{at_each, at_below, total_set, waits_not}
 use Rattle.pj_table.proofs.Claims.{total_append}
 use Rattle.pj_table.proofs.Allowed.{Three, hand_away}
 use Rattle.pj_table.specs.Worlds.{World}
-use Rattle.pj_table.specs.declared.view.Entry.{Entry}
-use Rattle.pj_table.specs.declared.view.Look.{Look}
-use Rattle.pj_table.specs.declared.view.Asked.{Asked}
 use Rattle.pj_table.specs.declared.view.Line.{Line}
 use Rattle.pj_table.specs.declared.view.View.{View}
 use Rattle.pj_table.specs.declared.part.Part.{Part}
@@ -54,16 +49,16 @@ adds world t v c slot hs h idle own joined o = record {
   slot_is = ⊎_elim (λ q. inl (q.0, q.1, q.2, q.3, at_plus (λ j x. x.phase ≤ 1) hs h (omega arith) q.4)) (λ q. inr (q.0, q.1, at_longer hs (h ∷ []) q.0 q.1 q.2, q.3)) o.slot_is;
   count = o.count;
   good = o.good;
-  mine = at_plus (λ j x. Told' o.es o.ls x.own.number x.own.asked) hs h
-      (subst (λ (w : Tale). Told' o.es o.ls w.number w.asked) (sym own) record { same = o.fresh (length hs) (omega arith); named = λ k a at. absurd (some-ne-none a (sym at)) }) o.mine;
-  others = λ i k x w at atk. at_plus (λ i x. (k : ℕ) (w : Tale) → At x.joined k w → Told' o.es o.ls w.number w.asked) hs h
-      (subst (λ (ws : List Tale). (k : ℕ) (w : Tale) → At ws k w → Told' o.es o.ls w.number w.asked) (sym joined) (λ k w at. absurd (some-ne-none w (sym at)))) (λ i x at k w atk. o.others i k x w at atk) i x at k w atk;
+  mine = at_plus (λ j x. IsTold o.es o.ls x.own.number x.own.asked) hs h
+      (subst (λ (w : Tale). IsTold o.es o.ls w.number w.asked) (sym own) record { same = o.fresh (length hs) (omega arith); named = λ k a at. absurd (some-ne-none a (sym at)) }) o.mine;
+  others = λ i k x w at atk. at_plus (λ i x. (k : ℕ) (w : Tale) → At x.joined k w → IsTold o.es o.ls w.number w.asked) hs h
+      (subst (λ (ws : List Tale). (k : ℕ) (w : Tale) → At ws k w → IsTold o.es o.ls w.number w.asked) (sym joined) (λ k w at. absurd (some-ne-none w (sym at)))) (λ i x at k w atk. o.others i k x w at atk) i x at k w atk;
   fresh = λ n le. o.fresh n (let a = length-append hs (h ∷ []) in omega arith);
 }
 
 -- a hand with no ticket, in the place of another
 rests : (world : World) (t v c : ℕ) (slot : Option (Option Part)) (hs : List Hand) (i : ℕ) (h g : Hand) → At hs i h → h.phase ≡ 0 → g.phase ≡ 0
-    → (o : PartKept world t v c slot hs) → Told' o.es o.ls g.own.number g.own.asked → ((k : ℕ) (w : Tale) → At g.joined k w → Told' o.es o.ls w.number w.asked)
+    → (o : PartKept world t v c slot hs) → IsTold o.es o.ls g.own.number g.own.asked → ((k : ℕ) (w : Tale) → At g.joined k w → IsTold o.es o.ls w.number w.asked)
     → (r : PartKept world t v c slot (set hs i g)) × (r.es ≡ o.es) × (r.ls ≡ o.ls)
 rests world t v c slot hs i h g me idle idle' o own joined = (
   record {
@@ -83,18 +78,18 @@ rests world t v c slot hs i h g me idle idle' o own joined = (
         (λ q. inr (q.0, q.1, set_else hs i q.0 g (λ e. let same : some h ≡ some q.1 = sym me ∙ ap (get_elem? hs) (sym e) ∙ q.2 in let r : h.phase ≡ q.1.phase = ap (λ (y : Hand). y.phase) (some-injective h q.1 same) in let n = q.3 in omega arith) ∙ q.2, q.3)) o.slot_is;
     count = o.count;
     good = o.good;
-    mine = at_each (λ j x. Told' o.es o.ls x.own.number x.own.asked) hs i g own (λ j x ne at. o.mine j x at);
-    others = λ j k x w at atk. at_each (λ j x. (k : ℕ) (w : Tale) → At x.joined k w → Told' o.es o.ls w.number w.asked) hs i g joined (λ j x ne at k w atk. o.others j k x w at atk) j x at k w atk;
+    mine = at_each (λ j x. IsTold o.es o.ls x.own.number x.own.asked) hs i g own (λ j x ne at. o.mine j x at);
+    others = λ j k x w at atk. at_each (λ j x. (k : ℕ) (w : Tale) → At x.joined k w → IsTold o.es o.ls w.number w.asked) hs i g joined (λ j x ne at k w atk. o.others j k x w at atk) j x at k w atk;
     fresh = λ n le. o.fresh n (omega (arith, length-set hs i g));
   },
   (λ _. o.es),
   (λ _. o.ls),
 )
 
-pub split_allowed : (k : ℕ) (id : ℕ) (v : View) → v.live ≡ true → v.own.number ≡ 0 → v.given + 1 < 2 ^ 32 → Splits (Kept k) id v (giving v) (given_to v)
+pub split_allowed : (k : ℕ) (id : ℕ) (v : View) → v.live ≡ true → v.own.number ≡ 0 → v.given + 1 < 2 ^ 32 → Splits (Kept k) id v (with_number_given v) (new_view v)
 split_allowed k id v alive opening room s o at =
     let seat = o.seats id v at alive in let first : id ≡ 0 = sym seat.own ∙ opening in let count : v.given ≡ length s.views = seat.opener first in
-    let w : View = giving v in let new : View = given_to v in let vs : List View = set s.views id w in
+    let w : View = with_number_given v in let new : View = new_view v in let vs : List View = set s.views id w in
     let long : length vs ≡ length s.views = length-set s.views id w in
     let longer : length (vs ++ new ∷ []) ≡ length s.views + 1 = length-append vs (new ∷ []) ∙ ap (λ (n : ℕ). n + 1) long in
     let owner : ℕ → ℕ = λ n. cond (n == length s.views) (length s.views) (o.owner n) in
@@ -144,16 +139,16 @@ tales : (world : World) (t v c : ℕ) (slot : Option (Option Part)) (hs : List H
     → h.phase ≡ 0 → g.phase ≡ 0 → h'.phase ≡ 0 → g'.phase ≡ 0 → h'.own ≡ h.own → h'.joined ≡ h.joined ++ g.own ∷ g.joined → g'.own ≡ record { number = 2 ^ 32; asked = [] } → g'.joined ≡ [] → length hs < 2 ^ 32
     → PartKept world t v c slot hs → PartKept world t v c slot (set (set hs i h') j g')
 tales world t v c slot hs i j h g h' g' ath atg ne hi gi hi' gi' own joined none-own none-joined few o =
-    let first = rests world t v c slot hs i h h' ath hi hi' o (subst (λ (w : Tale). Told' o.es o.ls w.number w.asked) (sym own) (o.mine i h ath))
-    (subst (λ (ws : List Tale). (k : ℕ) (w : Tale) → At ws k w → Told' o.es o.ls w.number w.asked) (sym joined)
-    (at_either (λ w. Told' o.es o.ls w.number w.asked) h.joined (g.own ∷ g.joined) (λ k w at. o.others i k h w ath at) (at_cons (λ w. Told' o.es o.ls w.number w.asked) g.own g.joined (o.mine j g atg) (λ k w at. o.others j k g w atg at)))) in
+    let first = rests world t v c slot hs i h h' ath hi hi' o (subst (λ (w : Tale). IsTold o.es o.ls w.number w.asked) (sym own) (o.mine i h ath))
+    (subst (λ (ws : List Tale). (k : ℕ) (w : Tale) → At ws k w → IsTold o.es o.ls w.number w.asked) (sym joined)
+    (at_either (λ w. IsTold o.es o.ls w.number w.asked) h.joined (g.own ∷ g.joined) (λ k w at. o.others i k h w ath at) (at_cons (λ w. IsTold o.es o.ls w.number w.asked) g.own g.joined (o.mine j g atg) (λ k w at. o.others j k g w atg at)))) in
     (rests world t v c slot (set hs i h') j g g' (set_else hs i j h' ne ∙ atg) gi gi' first.0
-    (subst (λ (w : Tale). Told' first.0.es first.0.ls w.number w.asked) (sym none-own) record { same = first.0.fresh (2 ^ 32) (omega (arith, length-set hs i h')); named = λ k a at. absurd (some-ne-none a (sym at)) })
-    (subst (λ (ws : List Tale). (k : ℕ) (w : Tale) → At ws k w → Told' first.0.es first.0.ls w.number w.asked) (sym none-joined) (λ k w at. absurd (some-ne-none w (sym at))))).0
+    (subst (λ (w : Tale). IsTold first.0.es first.0.ls w.number w.asked) (sym none-own) record { same = first.0.fresh (2 ^ 32) (omega (arith, length-set hs i h')); named = λ k a at. absurd (some-ne-none a (sym at)) })
+    (subst (λ (ws : List Tale). (k : ℕ) (w : Tale) → At ws k w → IsTold first.0.es first.0.ls w.number w.asked) (sym none-joined) (λ k w at. absurd (some-ne-none w (sym at))))).0
 
-pub join_allowed : (k : ℕ) (id : ℕ) (v : View) (other : ℕ) (w : View) → v.live ≡ true → w.live ≡ true → v.at ≡ 0 → w.at ≡ 0 → Joins (Kept k) id v other w (uniting v w) gone
+pub join_allowed : (k : ℕ) (id : ℕ) (v : View) (other : ℕ) (w : View) → v.live ≡ true → w.live ≡ true → v.at ≡ 0 → w.at ≡ 0 → Joins (Kept k) id v other w (united v w) gone
 join_allowed k id v other w alive alive' idle idle' s o at apart at' =
-    let both : View = uniting v w in let vs : List View = set s.views id both in let new : List View = set vs other gone in
+    let both : View = united v w in let vs : List View = set s.views id both in let new : List View = set vs other gone in
     let there : At s.views other w = sym (set_else s.views id other both apart) ∙ at' in
     let seat = o.seats id v at alive in let seat' = o.seats other w there alive' in
     let long : length new ≡ length s.views = length-set vs other gone ∙ length-set s.views id both in

@@ -1,16 +1,16 @@
 -- The opening seat of a new table tells the rule its world.
-use Rattle.std.proofs.Common.{◌≡◌, ℕ, zero, suc, ◌+◌, ◌*◌, ◌%◌, ◌^◌, ◌<◌, ◌≤◌, ◌≢◌, ◌⊎◌, eqb, ◌==◌, cond, List, [], ◌∷◌, ◌++◌, map, filter, length, get_or, set, sym, refl, ap, ◌∙◌, subst, inl, inr, ⊎_elim, arith, length-set, eq-eqb, ne_eqb, Bool, true, false}
+use Rattle.std.proofs.Common.{◌≡◌, ℕ, ◌<◌, ◌==◌, cond, List, [], ◌∷◌, map, filter, length, set, sym, refl, ap, ◌∙◌, subst, arith, length-set, eq-eqb, Bool, true, false}
 use Rattle.std.proofs.lemmas.List.{map-set, length-map}
 use lib.Seq.{set-get_or}
 use mathlib.Core.Logic.{dite}
-use mathlib.Core.Option.{Option, none, some, some-injective, some-ne-none}
-use native.Mathlib.Decide.{ℕ_discrete, dec_le}
+use mathlib.Core.Option.{Option, some-injective, some-ne-none}
+use native.Mathlib.Decide.{ℕ_discrete}
 use lib.ListN.{get_elem?}
 use Rattle.atomic_table.proofs.Lists.{set_again, at_map}
-use Rattle.atomic_table.specs.Table.{State, Me, step, Act, keeps, Valid, carried_after, stepped, Allows}
-use Rattle.pj_table.specs.Book.{Good, Told', looks_of, look_of, fills}
-use Rattle.pj_table.specs.Rule.{Hand, Tale, At, total, hand, PartKept, SeatKept, Kept, ClaimsKept, gone, claimed, marks, numbers, ticket_word, serving_word, count_word}
-use Rattle.pj_table.specs.Plays.{told}
+use Rattle.atomic_table.specs.Table.{Me, keeps, Allows}
+use Rattle.pj_table.specs.Book.{looks_of, look_of, fills}
+use Rattle.pj_table.specs.Rule.{Hand, At, hand, PartKept, SeatKept, Kept, gone, claimed, marks, numbers}
+use Rattle.pj_table.specs.Plays.{with_world}
 use Rattle.pj_table.proofs.Parts.{at_each, at_below, total_set}
 use Rattle.pj_table.proofs.Allowed.{Three}
 use Rattle.pj_table.specs.Worlds.{World}
@@ -58,9 +58,9 @@ at_zero [] h = absurd (omega arith)
 at_zero (x ∷ xs) h = (x, refl)
 
 -- the Play is a parameter of the caller's: M n w is to hold of what was found and of the seat that was told
-pub told_allowed : (k : ℕ) (n id : ℕ) (m : Me Part View) (world : World) → m.0.live ≡ true → m.0.own.number ≡ 0 → m.0.own.asked ≡ [] → m.0.given ≡ 1 → Allows (Kept k) n id m 0 (λ x. x) (λ _ w. w ≡ (told world m.0, m.1))
+pub told_allowed : (k : ℕ) (n id : ℕ) (m : Me Part View) (world : World) → m.0.live ≡ true → m.0.own.number ≡ 0 → m.0.own.asked ≡ [] → m.0.given ≡ 1 → Allows (Kept k) n id m 0 (λ x. x) (λ _ w. w ≡ (with_world world m.0, m.1))
 told_allowed k n id m world alive opening fresh given s o slots at _ =
-    let v : View = m.0 in let w : View = told world v in let seat = o.seats id v at alive in let first : id ≡ 0 = sym seat.own ∙ opening in let one : length s.views ≡ 1 = sym (seat.opener first) ∙ given in
+    let v : View = m.0 in let w : View = with_world world v in let seat = o.seats id v at alive in let first : id ≡ 0 = sym seat.own ∙ opening in let one : length s.views ≡ 1 = sym (seat.opener first) ∙ given in
     let vs : List View = set s.views id w in let c = o.claims in
     let here : (j : ℕ) (x : View) → At s.views j x → j ≡ id = λ j x atx. let b = at_below s.views j x atx in omega arith in (
       w,

@@ -5,5 +5,9 @@ pub mod Book
 pub mod Rule
 pub mod Plays
 pub mod Seats
+pub mod ClassWorld
+pub mod Telling
 -- for private clauses
 pub mod Placed
+pub mod Held
+pub mod Index

@@ -1,10 +1,10 @@
 -- The rule of the table. Word 0 is the claim word, and the part p has the words ticket_word p, serving_word p and count_word p, and the slot p.
-use Rattle.std.specs.Prelude.{◌≡◌, ℕ, ◌+◌, ◌*◌, ◌%◌, ◌^◌, ◌<◌, ◌≤◌, List, [], ◌∷◌, ◌++◌, map, filter, length, slice_index, cond, ◌==◌, nat_lt, min, Bool, true, false, ◌⊎◌, ◌≢◌}
+use Rattle.std.specs.Prelude.{◌≡◌, ℕ, ◌+◌, ◌*◌, ◌%◌, ◌^◌, ◌<◌, ◌≤◌, List, [], ◌∷◌, map, filter, length, slice_index, cond, ◌==◌, nat_lt, min, Bool, true, false, ◌⊎◌, ◌≢◌}
 use Rattle.std.specs.Prelude.{None}
-use mathlib.Core.Option.{Option, none, some}
+use mathlib.Core.Option.{Option, some}
 use lib.ListN.{get_elem?}
-use Rattle.atomic_table.specs.Table.{State, Me, Step}
-use Rattle.pj_table.specs.Book.{Good, Told', looks_of}
+use Rattle.atomic_table.specs.Table.{State}
+use Rattle.pj_table.specs.Book.{IsSound, IsTold, looks_of}
 use Rattle.pj_table.specs.Worlds.{World}
 use Rattle.pj_table.specs.declared.view.Entry.{Entry}
 use Rattle.pj_table.specs.declared.view.Look.{Look}
@@ -70,9 +70,9 @@ pub record PartKept (world : World) (t v c : ℕ) (slot : Option (Option Part)) 
   pub slot_is : ((x : Part) × (slot ≡ some (some x)) × (x.entries.items ≡ es) × (x.looks.items ≡ ls) × ((i : ℕ) (h : Hand) → At hs i h → h.phase ≤ 1))
       ⊎ ((i : ℕ) × (h : Hand) × At hs i h × (1 < h.phase))
   pub count : c ≡ length ls
-  pub good : Good world es ls
-  pub mine : (i : ℕ) (h : Hand) → At hs i h → Told' es ls h.own.number h.own.asked
-  pub others : (i k : ℕ) (h : Hand) (x : Tale) → At hs i h → At h.joined k x → Told' es ls x.number x.asked
+  pub good : IsSound world es ls
+  pub mine : (i : ℕ) (h : Hand) → At hs i h → IsTold es ls h.own.number h.own.asked
+  pub others : (i k : ℕ) (h : Hand) (x : Tale) → At hs i h → At h.joined k x → IsTold es ls x.number x.asked
   pub fresh : (n : ℕ) → length hs ≤ n → looks_of n ls ≡ []
 
 abbrev pub no_line : ℕ → Line
@@ -144,7 +144,7 @@ HasAll v = (n : ℕ) → 0 < n → n < v.given → (j : ℕ) × (l : Line) × At
 
 -- what a part shows at the end: one legal history with the world's answers, in which the looks of each number are those of its list
 pub record Shows (v : View) (p : ℕ) (x : Part) : Type 0 where
-  pub good : Good v.world x.entries.items x.looks.items
-  pub own : Told' x.entries.items x.looks.items v.own.number (tale p v.own).asked
-  pub joined : (j : ℕ) (l : Line) → At v.joined j l → Told' x.entries.items x.looks.items l.number (tale p l).asked
+  pub good : IsSound v.world x.entries.items x.looks.items
+  pub own : IsTold x.entries.items x.looks.items v.own.number (tale p v.own).asked
+  pub joined : (j : ℕ) (l : Line) → At v.joined j l → IsTold x.entries.items x.looks.items l.number (tale p l).asked
   pub others : (n : ℕ) → v.given ≤ n → looks_of n x.looks.items ≡ []

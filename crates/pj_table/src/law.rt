@@ -1,7 +1,7 @@
 //! The rule of the table, and what each kind of step tells.
 ghost use Rattle.std.specs.Prelude.{◌≡◌, None};
 ghost use Rattle.pj_table.specs.Rule.{Kept, opened, gone};
-ghost use Rattle.pj_table.specs.Plays.{drew, loaded, entered, served, claimed_one, giving, given_to, uniting, told};
+ghost use Rattle.pj_table.specs.Plays.{drew, loaded, entered, served, claimed_one, with_number_given, new_view, united, with_world};
 ghost use Rattle.pj_table.specs.Worlds.{World};
 
 use crate::part::Part;
@@ -57,16 +57,16 @@ impl Play<Part, View> for Claim {
 pub struct Give;
 
 impl Split<View> for Give {
-    ghost left = { giving };
+    ghost left = { with_number_given };
 
-    ghost right = { given_to };
+    ghost right = { new_view };
 }
 
 /// Joins a seat into another.
 pub struct Unite;
 
 impl Join<View> for Unite {
-    ghost both = { uniting };
+    ghost both = { united };
 
     ghost spent = { gone };
 }
@@ -84,5 +84,5 @@ impl Naming for Brand {
 pub struct Learn<W: Naming>(PhantomData<W>);
 
 impl<W: Naming> Play<Part, View> for Learn<W> {
-    ghost then = { λ s m n w. w ≡ (told W.world m.0, m.1) };
+    ghost then = { λ s m n w. w ≡ (with_world W.world m.0, m.1) };
 }

@@ -2,6 +2,8 @@
 //! rule holds between any two steps of any threads.
 #![tactic(auto)]
 
+mod counted_door;
+mod door_oracle;
 mod law;
 mod name_part;
 mod part;
@@ -11,6 +13,8 @@ mod steps;
 mod type_table;
 mod view;
 
+pub use counted_door::CountedDoor;
+pub use door_oracle::DoorOracle;
 pub use part::Part;
 pub use seat::{TableSeat, TypeTable};
 pub use type_table::Closed;

@@ -1,18 +1,20 @@
 //! What a slot of the table holds.
-ghost use Rattle.std.specs.Prelude.{◌≡◌, ◌≢◌, ℕ, ◌+◌, ◌<◌, ◌^◌, ◌==◌, List, Bool, true, false, cond, length, IfSome, IfNone, IfOk, IfErr, vec_len, vec_capacity};
+ghost use Rattle.std.specs.Prelude.{◌≡◌, ◌≢◌, ℕ, ◌+◌, ◌<◌, ◌^◌, ◌==◌, [], List, Bool, true, false, cond, length, IfSome, IfNone, IfOk, IfErr, vec_len, vec_capacity};
 ghost use mathlib.Core.Option.{some};
 ghost use lib.ListN.{get_elem?};
 ghost use Rattle.std.specs.Arc.{arc_value};
 ghost use Rattle.pj_table.specs.Worlds.{CountsFaults, CountsFind, IsAnswer};
-ghost use Rattle.pj_table.specs.Book.{Good, Grows, asked, Lacks, Stands};
+ghost use Rattle.pj_table.specs.Book.{IsSound, Grows, asked, Lacks, Stands};
+ghost use Rattle.pj_table.specs.Index.{IsIndex};
 ghost use Rattle.pj_table.specs.declared.view.Entry.{Entry};
 
 use crate::reading::read_answer;
 use crate::view::{Entry, Look};
-use pj_base::{Copied, Exact};
+use pj_base::Copied;
 use pj_names::{Answer, AskFault, ClassName};
 use pj_outside::ClassDoor;
 use std::alloc::Global;
+use std::collections::BTreeMap;
 use std::sync::Arc;
 
 /// A part: the names in the order of their fills, with their answers, and the history of looks.
@@ -22,20 +24,32 @@ pub struct Part {
     pub entries: Vec<Entry>,
     /// The looks, in their order.
     pub looks: Vec<Look>,
+    /// The place of each name among the entries.
+    places: BTreeMap<ClassName, usize>,
+    ghost indexed: { IsIndex entries.items places.entries },
 }
 
 impl Part {
-    /// The place of a name, by a walk along the entries.
+    /// A part without names. It takes no memory.
+    pub(crate) fn new(alloc: Global) -> Part
+        ensures { (result.entries.items ≡ []) × (result.looks.items ≡ []) }
+    {
+        Part {
+            entries: Vec::new(alloc),
+            looks: Vec::new(alloc),
+            places: BTreeMap::new(alloc),
+        }
+    }
+
+    /// The place of a name.
     fn place_of(&self, name: &ClassName) -> Option<usize>
         ensures some { IfSome result (λ k. Stands self.now.entries.items k name.now) }
         ensures none { IfNone result (Lacks self.now.entries.items name.now) }
     {
-        for i in 0..self.entries.len() {
-            if self.entries[i].name.is(name) {
-                return Some(i);
-            }
+        match self.places.get(name) {
+            Some(place) => Some(*place),
+            None => None,
         }
-        None
     }
 
     /// One look: at the place of the name, or at a new one with the door's answer.
@@ -46,7 +60,7 @@ impl Part {
         seat: u32,
         name: &ClassName,
     ) -> Result<Arc<Answer, Global>, AskFault>
-        requires { Good (D.holds door.old) self.old.entries.items self.old.looks.items }
+        requires { IsSound (D.holds door.old) self.old.entries.items self.old.looks.items }
         ensures same_folders { D.holds door.new ≡ D.holds door.old }
         ensures ok { IfOk result (λ r. IsAnswer (D.holds door.old) name.now (arc_value r)
             × ((place : ℕ) × (fill : Bool) × (CountsFind (D.finds door.old) (D.finds door.new) fill)
@@ -82,7 +96,7 @@ impl Part {
         seat: u32,
         name: &ClassName,
     ) -> Result<Arc<Answer, Global>, AskFault>
-        requires good { Good (D.holds door.old) self.old.entries.items self.old.looks.items }
+        requires good { IsSound (D.holds door.old) self.old.entries.items self.old.looks.items }
         requires absent { Lacks self.old.entries.items name.now }
         requires room { vec_len self.old.looks < vec_capacity self.old.looks }
         ensures same_folders { D.holds door.new ≡ D.holds door.old }
@@ -99,6 +113,9 @@ impl Part {
         let Ok(copy) = name.copied() else {
             return Err(AskFault::Memory);
         };
+        let Ok(key) = name.copied() else {
+            return Err(AskFault::Memory);
+        };
         let found = match read_answer(alloc, door, name) {
             Ok(found) => found,
             Err(fault) => return Err(fault),
@@ -109,11 +126,14 @@ impl Part {
         let Ok(again) = Arc::try_clone(&answer) else {
             return Err(AskFault::Memory);
         };
-        let place = self.entries.len() as u64;
+        let place = self.entries.len();
+        let Ok(_) = self.places.insert(key, place) else {
+            return Err(AskFault::Memory);
+        };
         self.entries.push_reserved(Entry { name: copy, answer });
         self.looks.push_reserved(Look {
             seat,
-            place,
+            place: place as u64,
             fill: true,
         });
         Ok(again)

@@ -3,8 +3,8 @@
 ghost use Rattle.std.specs.Prelude.{◌≡◌, ◌≢◌, ℕ, ◌+◌, ◌*◌, ◌%◌, ◌^◌, ◌<◌, ◌≤◌, true, [], ◌∷◌, length, cond, IfOk, IfErr};
 ghost use Rattle.std.specs.Arc.{arc_value};
 ghost use Rattle.pj_table.specs.Worlds.{CountsFaults, CountsFind, IsAnswer};
-ghost use Rattle.pj_table.specs.Book.{Good, Grows};
-ghost use Rattle.pj_table.specs.Plays.{Shaped, Turns, waiting, entering, idle, Asks, Refuses, Holds, Grew};
+ghost use Rattle.pj_table.specs.Book.{IsSound, Grows};
+ghost use Rattle.pj_table.specs.Plays.{Shaped, Turns, waiting, entering, idle, AddsLook, AddsNothing, Holds, Grew};
 ghost use Rattle.pj_table.specs.declared.view.Asked.{Asked};
 ghost use Rattle.pj_table.specs.declared.part.Part.{Part};
 
@@ -88,7 +88,7 @@ fn visit<D: ClassDoor>(
 ) -> Result<Arc<Answer, Global>, AskFault>
     requires table { seat.old.table_id ≡ table.now.table_id }
     requires seat { (number ≡ seat.old.me.0.own.number) × (D.holds door.old ≡ seat.old.me.0.world) }
-    requires part { Holds part seat.old.me × Good seat.old.me.0.world seat.old.me.0.entries seat.old.me.0.looks }
+    requires part { Holds part seat.old.me × IsSound seat.old.me.0.world seat.old.me.0.entries seat.old.me.0.looks }
     ensures table { (seat.new.table_id ≡ seat.old.table_id) × (seat.new.id ≡ seat.old.id) × (seat.new.me.0 ≡ seat.old.me.0) }
     ensures same_folders { D.holds door.new ≡ D.holds door.old }
     ensures ok { IfOk result (λ r. IsAnswer seat.old.me.0.world name.now (arc_value r) × Grew part seat.new.me name.now (CountsFind (D.finds door.old) (D.finds door.new))) }
@@ -117,8 +117,8 @@ pub(crate) fn look<D: ClassDoor, R: Wait>(
     ensures table { (seat.new.table_id ≡ seat.old.table_id) × (seat.new.id ≡ seat.old.id) }
     ensures rests { (seat.new.me.0.at ≡ 0) × (seat.new.me.1 ≡ []) }
     ensures same_folders { D.holds door.new ≡ D.holds door.old }
-    ensures ok { IfOk result (λ r. IsAnswer seat.old.me.0.world name.now (arc_value r) × Asks seat.old.me.0 seat.new.me.0 part name.now (CountsFind (D.finds door.old) (D.finds door.new))) }
-    ensures err { IfErr result (λ _. Refuses seat.old.me.0 seat.new.me.0) }
+    ensures ok { IfOk result (λ r. IsAnswer seat.old.me.0.world name.now (arc_value r) × AddsLook seat.old.me.0 seat.new.me.0 part name.now (CountsFind (D.finds door.old) (D.finds door.new))) }
+    ensures err { IfErr result (λ _. AddsNothing seat.old.me.0 seat.new.me.0) }
     ensures faults { CountsFaults (D.faults door.old) (D.faults door.new) result }
 {
     let ticket = draw(table, seat, part);

@@ -8,10 +8,10 @@ ghost use Rattle.pj_table.specs.Worlds.{CountsFaults, CountsFind, IsAnswer};
 ghost use Rattle.pj_table.specs.declared.part.Part.{Part};
 ghost use Rattle.pj_table.specs.declared.view.Entry.{Entry};
 ghost use Rattle.std.specs.Arc.{arc_value};
-ghost use Rattle.pj_table.specs.Book.{Good, Grows};
+ghost use Rattle.pj_table.specs.Book.{IsSound, Grows};
 ghost use Rattle.pj_table.specs.Rule.{newcomer, HasAll, Shows, marks, claimed, once_below};
-ghost use Rattle.pj_table.specs.Seats.{IsOf, IsOpening, IsSameSeat, HasEnded, files_of, view_of, world_of};
-ghost use Rattle.pj_table.specs.Plays.{Shaped, Asks, Refuses, claiming, ended, giving, given_to, uniting};
+ghost use Rattle.pj_table.specs.Seats.{AreOfOneTable, IsOf, IsOpening, IsSameSeat, HasEnded, HasNotEnded, files_of, view_of, world_of};
+ghost use Rattle.pj_table.specs.Plays.{Shaped, AddsLook, AddsNothing, with_claim, with_end, with_number_given, new_view, united};
 
 use crate::law::{Claim, Give, Learn, Naming, Unite};
 use crate::name_part::part_of;
@@ -79,8 +79,8 @@ impl TypeTable {
     pub fn claim(&self, seat: &mut TableSeat) -> Option<u32>
         requires { IsOf self.now seat.old }
         ensures table { IsSameSeat seat.old seat.new }
-        ensures some { IfSome result (λ n. (seat.old.past ≡ false) × (n < files_of seat.old) × (view_of seat.new ≡ claiming n (view_of seat.old))) }
-        ensures none { IfNone result (HasEnded seat.new × (view_of seat.new ≡ ended (view_of seat.old))) }
+        ensures some { IfSome result (λ n. HasNotEnded seat.old × (n < files_of seat.old) × (view_of seat.new ≡ with_claim n (view_of seat.old))) }
+        ensures none { IfNone result (HasEnded seat.new × (view_of seat.new ≡ with_end (view_of seat.old))) }
     {
         if seat.past {
             return None;
@@ -110,8 +110,8 @@ impl TypeTable {
         requires world { D.holds door.old ≡ world_of seat.old }
         ensures table { IsSameSeat seat.old seat.new }
         ensures same_folders { D.holds door.new ≡ D.holds door.old }
-        ensures ok { IfOk result (λ r. IsAnswer (world_of seat.old) name.now (arc_value r) × Asks (view_of seat.old) (view_of seat.new) (part_of name.now) name.now (CountsFind (D.finds door.old) (D.finds door.new))) }
-        ensures err { IfErr result (λ _. Refuses (view_of seat.old) (view_of seat.new)) }
+        ensures ok { IfOk result (λ r. IsAnswer (world_of seat.old) name.now (arc_value r) × AddsLook (view_of seat.old) (view_of seat.new) (part_of name.now) name.now (CountsFind (D.finds door.old) (D.finds door.new))) }
+        ensures err { IfErr result (λ _. AddsNothing (view_of seat.old) (view_of seat.new)) }
         ensures faults { CountsFaults (D.faults door.old) (D.faults door.new) result }
     {
         let number = seat.number;
@@ -131,7 +131,9 @@ impl TypeTable {
     pub fn split(&self, seat: &mut TableSeat) -> TableSeat
         requires table { IsOf self.now seat.old }
         requires opening { IsOpening seat.old × ((view_of seat.old).given + 1 < 2 ^ 32) }
-        ensures { (seat.new.seat.table_id ≡ seat.old.seat.table_id) × (view_of seat.new ≡ giving (view_of seat.old)) × (result.seat.table_id ≡ seat.old.seat.table_id) × (view_of result ≡ given_to (view_of seat.old)) }
+        ensures table { IsSameSeat seat.old seat.new }
+        ensures counted { view_of seat.new ≡ with_number_given (view_of seat.old) }
+        ensures new_seat { AreOfOneTable seat.old result × (view_of result ≡ new_view (view_of seat.old)) }
     {
         let new = self.table.shared.split_seat::<Give>(&mut seat.seat);
         let number = seat.given;
@@ -148,7 +150,8 @@ impl TypeTable {
     /// Takes in what another seat knows. It takes no memory.
     pub fn join(&self, seat: &mut TableSeat, other: TableSeat)
         requires table { IsOf self.now seat.old × IsOf self.now other }
-        ensures { (seat.new.seat.table_id ≡ seat.old.seat.table_id) × (view_of seat.new ≡ uniting (view_of seat.old) (view_of other)) }
+        ensures table { IsSameSeat seat.old seat.new }
+        ensures united { view_of seat.new ≡ united (view_of seat.old) (view_of other) }
     {
         let TableSeat { seat: other, .. } = other;
         self.table.shared.join_seat::<Unite>(&mut seat.seat, other);
@@ -204,10 +207,7 @@ fn no_parts(alloc: Global) -> Result<Vec<Part>, NoMemory>
 {
     let mut slots = Vec::with_capacity(alloc, 64)?;
     for _ in 0..64usize {
-        slots.push_reserved(Part {
-            entries: Vec::new(alloc),
-            looks: Vec::new(alloc),
-        });
+        slots.push_reserved(Part::new(alloc));
     }
     Ok(slots)
 }

@@ -1,8 +1,7 @@
-use Rattle.std.proofs.Common.{rules, ◌≡◌, ℕ, ◌+◌, ◌*◌, ◌∷◌, [], ap, ◌∙◌, sym, arith, subst, List}
+use Rattle.std.proofs.Common.{ℕ, ◌+◌, ◌*◌, ap, ◌∙◌, arith, List}
 use Rattle.pj_table.proofs.Allowed.{draw_allowed}
 use Rattle.pj_table.specs.Plays.{waiting}
 use Rattle.pj_table.specs.declared.part.Part.{Part}
-use Rattle.pj_table.specs.declared.view.View.{View}
 use Rattle.pj_table.proofs.steps.draw.Goals as goal
 
 pub fetch_add-requires : goal.fetch_add-requires

@@ -1,4 +1,4 @@
-use Rattle.std.proofs.Common.{rules, ◌≡◌, ℕ, ◌+◌, ◌*◌, ◌∷◌, [], ap, ◌∙◌, sym, arith}
+use Rattle.std.proofs.Common.{arith}
 use Rattle.pj_table.proofs.Allowed.{enter_allowed}
 use Rattle.pj_table.proofs.steps.enter.Goals as goal
 

@@ -1,11 +1,9 @@
-use Rattle.std.proofs.Common.{rules, ◌≡◌, ℕ, ◌+◌, ◌<◌, ◌^◌, ◌∷◌, [], ap, ◌∙◌, sym, arith, List, subst}
+use Rattle.std.proofs.Common.{◌≡◌, ◌∷◌, ap, ◌∙◌, sym, arith, subst}
 use Rattle.atomic_table.specs.Table.{Me}
-use Rattle.pj_table.specs.Book.{Good}
+use Rattle.pj_table.specs.Book.{IsSound}
 use Rattle.std.specs.Arc.{arc_value}
 use Rattle.pj_table.specs.Worlds.{IsAnswer}
-use Rattle.pj_table.specs.Plays.{plus}
-use Rattle.pj_table.specs.declared.view.Entry.{Entry}
-use Rattle.pj_table.specs.declared.view.Line.{Line}
+use Rattle.pj_table.specs.Plays.{with_asked}
 use Rattle.pj_table.specs.declared.view.View.{View}
 use Rattle.pj_table.specs.declared.part.Part.{Part}
 use Rattle.pj_table.proofs.steps.look.Goals as goal
@@ -16,7 +14,7 @@ M = Me Part View
 pub visit-requires-clause-part : goal.visit-requires-clause-part
 visit-requires-clause-part g c = λ κs under. let drawn = c.draw-ticket.ensures.seat in let turn = c.wait_turn.ensures.seat in (
   (turn.0, ap (λ (m : M). m.1) turn.1 ∙ ap (λ (m : M). (c.args.part, turn.0) ∷ m.1) drawn.2, sym (ap (λ (m : M). m.0.entries) turn.1), sym (ap (λ (m : M). m.0.looks) turn.1)),
-  subst (λ (m : M). Good m.0.world m.0.entries m.0.looks) (sym turn.1) turn.2,
+  subst (λ (m : M). IsSound m.0.world m.0.entries m.0.looks) (sym turn.1) turn.2,
 )
 
 pub serve-requires-clause-seat : goal.serve-requires-clause-seat
@@ -37,7 +35,7 @@ returns-in-Ok-clause-ok g c = let drawn = c.draw-ticket.ensures.seat in let turn
         grew.3,
         grew.4,
         grew.5,
-        ap (λ (m : M). m.0.own) idle ∙ ap (λ (m : M). m.0.own) entered ∙ ap (λ (v : View). plus grew.1 v.own) visit ∙ ap (λ (m : M). plus grew.1 m.0.own) turn.1 ∙ ap (λ (m : M). plus grew.1 m.0.own) drawn.2,
+        ap (λ (m : M). m.0.own) idle ∙ ap (λ (m : M). m.0.own) entered ∙ ap (λ (v : View). with_asked grew.1 v.own) visit ∙ ap (λ (m : M). with_asked grew.1 m.0.own) turn.1 ∙ ap (λ (m : M). with_asked grew.1 m.0.own) drawn.2,
         (
           ap (λ (m : M). m.0.live) idle ∙ ap (λ (m : M). m.0.live) entered ∙ ap (λ (v : View). v.live) visit ∙ ap (λ (m : M). m.0.live) turn.1 ∙ ap (λ (m : M). m.0.live) drawn.2,
           ap (λ (m : M). m.0.world) idle ∙ ap (λ (m : M). m.0.world) entered ∙ ap (λ (v : View). v.world) visit ∙ ap (λ (m : M). m.0.world) turn.1 ∙ ap (λ (m : M). m.0.world) drawn.2,

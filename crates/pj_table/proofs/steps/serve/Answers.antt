@@ -1,4 +1,4 @@
-use Rattle.std.proofs.Common.{rules, ◌≡◌, ℕ, ◌+◌, ◌*◌, ◌∷◌, [], ap, ◌∙◌, sym, arith, List}
+use Rattle.std.proofs.Common.{ℕ, ap, ◌∙◌, arith, List}
 use Rattle.atomic_table.specs.Table.{rest}
 use Rattle.pj_table.specs.Plays.{idle}
 use Rattle.pj_table.specs.declared.part.Part.{Part}

@@ -1,7 +1,5 @@
-use Rattle.std.proofs.Common.{rules, ◌≡◌, ℕ, ◌+◌, ◌<◌, ◌^◌, ◌∷◌, [], ap, ◌∙◌, sym, arith, List, subst, get_or, length, cond, Bool, IfErr, Result, Ok, Err}
-use Rattle.atomic_table.specs.Table.{rest, Me}
-use Rattle.pj_names.specs.ClassName.{Name}
-use Rattle.pj_names.specs.declared.answer.Answer.{Answer}
+use Rattle.std.proofs.Common.{◌≡◌, ℕ, ◌<◌, ◌^◌, ◌∷◌, ap, ◌∙◌, sym, List, subst, get_or, length, Bool, IfErr, Result, Ok, Err}
+use Rattle.atomic_table.specs.Table.{rest}
 use Rattle.pj_table.specs.Worlds.{World, IsAnswer, CountsFind}
 use Rattle.pj_table.specs.Book.{asked, Grows}
 use Rattle.pj_table.specs.Plays.{Grew, Holds}
@@ -9,7 +7,6 @@ use Rattle.pj_table.proofs.Books.{if_ok}
 use Rattle.std.specs.Arc.{arc_value}
 use Rattle.pj_table.specs.declared.view.Entry.{Entry}
 use Rattle.pj_table.specs.declared.view.Look.{Look}
-use Rattle.pj_table.specs.declared.view.View.{View}
 use Rattle.pj_table.specs.declared.part.Part.{Part}
 use Rattle.pj_table.proofs.steps.visit.Goals as goal
 

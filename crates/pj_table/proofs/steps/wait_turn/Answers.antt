@@ -1,4 +1,4 @@
-use Rattle.std.proofs.Common.{rules, ◌≡◌, ℕ, ◌+◌, ◌*◌, ◌%◌, ◌^◌, ◌∷◌, [], ap, ◌∙◌, sym, arith, List, subst}
+use Rattle.std.proofs.Common.{rules, ◌+◌, ◌*◌, ◌%◌, ◌^◌, ap, ◌∙◌, sym, arith, subst}
 use Rattle.atomic_table.specs.Table.{Me}
 use Rattle.pj_table.specs.Plays.{Turns}
 use Rattle.pj_table.specs.declared.part.Part.{Part}

@@ -1,4 +1,4 @@
-use Rattle.std.proofs.Common.{◌≡◌, ℕ, suc, ◌+◌, ◌<◌, ◌≤◌, List, ◌++◌, ◌∷◌, [], Bool, false, ap, ◌∙◌, sym, subst, arith, length, get_or, set, get_or-set_other, length-append, add-one, vec_capacity}
+use Rattle.std.proofs.Common.{◌≡◌, ℕ, ◌+◌, List, ◌++◌, ◌∷◌, [], Bool, false, ap, ◌∙◌, sym, subst, arith, length, get_or, set, get_or-set_other, length-append, add-one}
 use mathlib.Core.Logic.{dite}
 use native.Mathlib.Decide.{ℕ_discrete}
 use lib.ListN.{take, get_elem?}

@@ -1,11 +1,12 @@
-use Rattle.std.proofs.Common.{rules, ◌≡◌, ℕ, ◌++◌, ◌∷◌, [], List, ap, ◌∙◌, sym, arith, length, true, subst}
+use Rattle.std.proofs.Common.{◌≡◌, ℕ, ◌++◌, ◌∷◌, [], List, ap, ◌∙◌, sym, arith, length, true, subst}
 use Rattle.pj_names.specs.declared.answer.Answer.{Answer}
 use Rattle.pj_table.specs.Worlds.{IsAnswer}
 use Rattle.pj_table.proofs.Books.{grows, grown}
 use Rattle.std.specs.Arc.{arc_value}
 use Rattle.pj_table.specs.Book.{asked}
 use Rattle.pj_table.specs.declared.view.Entry.{Entry}
-use Rattle.pj_table.specs.declared.view.Look.{Look}
+use Rattle.pj_table.specs.Index.{IsIndex}
+use Rattle.pj_table.proofs.Indexes.{index_push}
 use Rattle.pj_table.proofs.part.Part.fill.Goals as goal
 
 pub returns-clause-ok : goal.returns-clause-ok
@@ -24,3 +25,10 @@ returns-clause-ok g c = let world = g.D.ClassDoor.holds c.args.door.now in let e
       ),
       omega arith,
     )
+
+pub invariant_of-self-2 : goal.invariant_of-self-2
+invariant_of-self-2 g c = let s = c.args.self.now in let es = s.entries.items in
+    let e : Entry = record { name = c.args.name.now; answer = c.in-Ok-new.answer } in
+    let place : c.len-place.result ≡ length es = (let f = c.reserve.new.self.ok in let r = ap (λ (l : List Entry). length l) c.reserve.ensures.items in let h = c.len-place.ensures in omega arith) in
+    let items : c.push_reserved.new.self.items ≡ es ++ e ∷ [] = c.push_reserved.ensures.items ∙ (λ j. c.reserve.ensures.items j ++ record { name = c.in-Ok.ensures j; answer = c.in-Ok-new.answer } ∷ []) in
+    record { indexed = subst (λ (l : List Entry). IsIndex l c.insert.new.self.entries) (sym items) (index_push es e s.places.entries c.insert.new.self.entries c.in-Ok-copied.key c.len-place.result c.in-Ok-copied.ensures place c.requires.absent s.indexed c.in-Ok-insert.ensures.updates.0) }

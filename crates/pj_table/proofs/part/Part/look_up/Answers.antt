@@ -1,11 +1,9 @@
-use Rattle.std.proofs.Common.{rules, ◌≡◌, ℕ, ◌++◌, ◌∷◌, [], List, ap, ◌∙◌, sym, arith, length, false, true, cond, Bool, subst, ◌+◌, ◌<◌, ◌^◌}
-use mathlib.Core.Option.{some}
-use lib.ListN.{get_elem?}
+use Rattle.std.proofs.Common.{rules, ◌≡◌, ℕ, ◌++◌, ◌∷◌, [], List, ap, ◌∙◌, sym, arith, length, false, true, Bool, subst, ◌<◌, ◌^◌}
 use Rattle.atomic_table.proofs.Lists.{at_index}
 use Rattle.pj_table.proofs.Books.{hits, grown, at_there, same_entry, if_ok}
 use Rattle.pj_names.specs.ClassName.{Name}
 use Rattle.pj_names.specs.declared.answer.Answer.{Answer}
-use Rattle.pj_table.specs.Worlds.{World, IsAnswer, CountsFind}
+use Rattle.pj_table.specs.Worlds.{IsAnswer, CountsFind}
 use Rattle.pj_table.specs.Book.{asked, Grows}
 use Rattle.std.specs.Arc.{arc_value}
 use Rattle.pj_table.specs.declared.view.Entry.{Entry}

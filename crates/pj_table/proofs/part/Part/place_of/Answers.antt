@@ -1,18 +1,9 @@
-use Rattle.std.proofs.Common.{rules, ◌≡◌, ℕ, arith, ap, ◌∙◌, sym, subst, IsTrue}
-use mathlib.Core.Logic.{dite}
-use native.Mathlib.Decide.{ℕ_discrete}
-use Rattle.atomic_table.proofs.Lists.{at_index}
-use Rattle.pj_table.proofs.Books.{at_there, same_entry}
-use Rattle.pj_table.specs.declared.view.Entry.{Entry}
+use Rattle.std.proofs.Common.{sym}
+use Rattle.pj_table.proofs.Indexes.{found_stands, missing_lacks}
 use Rattle.pj_table.proofs.part.Part.place_of.Goals as goal
 
-pub returns-then-is-clause-some : goal.returns-then-is-clause-some
-returns-then-is-clause-some c = (c.index.result.now, at_index c.args.self.now.entries.items c.loop-i.i c.index.result.now (let f = c.args.self.now.entries.ok in omega arith) c.index.ensures, c.is.ensures.0 c.if-is.true)
+pub returns-in-Some-clause-some : goal.returns-in-Some-clause-some
+returns-in-Some-clause-some c = let s = c.args.self.now in found_stands s.entries.items s.places.entries c.args.name.now c.in-Some.place.now s.indexed (sym c.in-Some.ensures.value)
 
-pub loop-i-preserved : goal.loop-i-preserved
-loop-i-preserved c = λ k e below at named. let es = c.args.self.now.entries.items in
-    let here = at_index es c.loop-i.i c.index.result.now (let f = c.args.self.now.entries.ok in omega arith) c.index.ensures in
-    dite (ℕ_discrete k c.loop-i.i) (λ same. let yes' = c.is.ensures.1 (ap (λ (y : Entry). y.name) (sym (same_entry es k c.loop-i.i e c.index.result.now at here same)) ∙ named) in cc (yes', c.if-is.false)) (λ ne. c.loop-i.invariant k e (omega arith) at named)
-
-pub returns-clause-none : goal.returns-clause-none
-returns-clause-none c = λ k e at. c.loop-i.invariant k e (let b = at_there c.args.self.now.entries.items k e at in let f = c.args.self.now.entries.ok in omega arith) at
+pub returns-in-None-clause-none : goal.returns-in-None-clause-none
+returns-in-None-clause-none c = let s = c.args.self.now in missing_lacks s.entries.items s.places.entries c.args.name.now s.indexed (sym c.in-None.ensures.value)

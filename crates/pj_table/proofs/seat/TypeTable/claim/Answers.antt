@@ -1,4 +1,4 @@
-use Rattle.std.proofs.Common.{◌≡◌, ◌∙◌, sym, arith}
+use Rattle.std.proofs.Common.{◌∙◌, sym, arith}
 use Rattle.pj_table.proofs.Claims.{claim_allowed}
 use Rattle.pj_table.proofs.seat.TypeTable.claim.Goals as goal
 

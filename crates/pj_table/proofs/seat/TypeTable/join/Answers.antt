@@ -1,4 +1,4 @@
-use Rattle.std.proofs.Common.{◌≡◌, ◌∙◌, sym, arith}
+use Rattle.std.proofs.Common.{sym, arith}
 use Rattle.std.proofs.Common.{subst}
 use Rattle.atomic_table.specs.Table.{Me}
 use Rattle.pj_table.specs.declared.part.Part.{Part}

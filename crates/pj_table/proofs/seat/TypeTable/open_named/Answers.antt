@@ -1,6 +1,5 @@
-use Rattle.std.proofs.Common.{◌≡◌, ℕ, ◌+◌, ◌*◌, ◌∷◌, [], List, ap, ◌∙◌, sym, arith, subst, get_or, length}
-use Rattle.atomic_table.specs.Table.{Me, opening}
-use Rattle.pj_table.specs.Rule.{opened, Kept}
+use Rattle.std.proofs.Common.{◌≡◌, ℕ, List, ap, ◌∙◌, arith, get_or, length}
+use Rattle.atomic_table.specs.Table.{Me}
 use Rattle.pj_table.proofs.Ends.{starts}
 use Rattle.pj_table.proofs.Worlds.{told_allowed}
 use Rattle.pj_table.specs.declared.view.View.{View}
