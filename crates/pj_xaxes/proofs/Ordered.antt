@@ -1,11 +1,12 @@
 -- What `ordered` gives, and what a sort and a `dedup` give.
 use Rattle.std.proofs.Common.{◌≡◌, ℕ, ◌+◌, length, arith, Bool, true, false, ◌||◌, ◌&&◌, cond, List, [], ◌∷◌, map, refl, sym, ◌∙◌, ap, true≢false, IsTrue}
 use Rattle.std.specs.Prelude.{filter}
-use Rattle.std.specs.List.{list_all, AllByRecursion, dedup, dedup_from}
+use Rattle.std.specs.List.{list_all, AllAdjacentBelow, AllByRecursion, dedup, dedup_from}
 use Rattle.std.specs.List.Sorted.{IsStrictlySortedBy, IsSorted, IsPermutation}
-use Rattle.std.specs.Ordering.{nat_cmp, eq_by_cmp, is_eq, ordering_reverse, ordering_then, on}
+use Rattle.std.specs.Ordering.{nat_cmp, eq_by_cmp, is_eq, is_lt, ordering_reverse, ordering_then, on}
 use Rattle.std.specs.FinMap.{nat_cmp-IsAntisymmetric}
 use Rattle.std.proofs.lemmas.Map.Views.{any-filter_same}
+use Rattle.std.proofs.lemmas.Map.Keys.{sorted_from_all_adjacent}
 use Rattle.std.specs.declared.cmp.Ordering.{Ordering}
 use Rattle.std.specs.declared.cmp.Ordering.TheVariants.{Less, Equal, Greater}
 use Rattle.std.proofs.lemmas.List.Sorted.{list_any-IsPermutation, All-permutation, IsPermutation-map}
@@ -225,3 +226,22 @@ ordered-filter xs whole all all_whole up inside =
     unique document_order document_total IsNode one_place (ordered xs) (filter (has_item xs) whole) (places-ordered xs (places_from xs all)) (places-filter (has_item xs) whole (places_from whole all_whole))
     (sorted-ordered xs) (IsStrictlySortedBy-filter document_order (has_item xs) whole up)
     (record { each = λ q. has_item-ordered xs q ∙ both_hold (has_item xs q) (has_item whole q) (inside q) ∙ sym (any-filter_same (eq_by_cmp document_order q) (has_item xs) (has_item xs q) (λ k e. has_item_tied q k xs e) whole) })
+
+-- items that ascend already
+
+less : (r : Ordering) → true ≡ is_lt r → r ≡ Less
+less Less e = refl
+less Equal e = absurd (true≢false e)
+less Greater e = absurd (true≢false e)
+
+-- items of which each stands before the next
+pub ascending-from_adjacent : (xs : List Item) → AllAdjacentBelow (λ x y. true ≡ is_lt (document_order (value_of_item x) (value_of_item y))) xs (length xs) → IsStrictlySortedBy document_order (values_of xs)
+ascending-from_adjacent xs h =
+    sorted_from_all_adjacent document_total (values_of xs) Document (λ k low.
+    let len : length (values_of xs) ≡ length xs = length-map xs value_of_item in
+    rw (get_or-map value_of_item xs k item.Document Document (omega (arith, len)), get_or-map value_of_item xs (k + 1) item.Document Document (omega (arith, len))) (less _ (h k item.Document (omega (arith, len)))))
+
+-- nodes that ascend are in order
+pub ordered-ascending : (xs : List ItemValue) → IsTrue (are_nodes xs) → IsStrictlySortedBy document_order xs → ordered xs ≡ xs
+ordered-ascending xs all up =
+    unique document_order document_total IsNode one_place (ordered xs) xs (places-ordered xs (places_from xs all)) (places_from xs all) (sorted-ordered xs) up (record { each = λ q. has_item-ordered xs q })

@@ -1,7 +1,7 @@
 //! Document order.
 ghost use Rattle.std.specs.Prelude.{◌≡◌, ℕ, map, IsTrue};
 ghost use Rattle.std.specs.List.Sorted.{IsStrictlySortedBy};
-ghost use Rattle.std.specs.Ordering.{eq_by_cmp};
+ghost use Rattle.std.specs.Ordering.{eq_by_cmp, is_lt};
 ghost use Rattle.pj_xaxes.specs.Standing.{standing};
 ghost use Rattle.pj_xvalue.specs.Items.{ItemValue, value_of_item, values_of, are_nodes};
 ghost use Rattle.pj_xvalue.specs.OfTree.{OfTree};
@@ -58,8 +58,33 @@ pub fn is_among(nodes: &[Item<'_>], node: &Item<'_>) -> bool
         .is_ok()
 }
 
+/// Whether the item stands before the other in document order.
+fn stands_before(item: &Item<'_>, other: &Item<'_>) -> bool
+    ensures { result ≡ is_lt (document_order (value_of_item item.now) (value_of_item other.now)) }
+{
+    order_position(item).cmp(&order_position(other)) == Ordering::Less
+}
+
+/// Whether each of the items stands behind the one before it in document order.
+fn is_ascending(items: &[Item<'_>]) -> bool
+    ensures { IsTrue result → IsStrictlySortedBy document_order (values_of items.now) }
+{
+    items.is_sorted_by(|item, next| stands_before(item, next))
+}
+
+/// The nodes, attributes and the document among the items in document order, each once: they are sorted.
+fn sort_nodes(items: Sequence<'_>) -> Sequence<'_>
+    requires { IsTrue (are_nodes (values_of items)) }
+    ensures { values_of result ≡ ordered (values_of items.entry) }
+{
+    let mut held = items.into_vec();
+    held.sort_unstable_by_key(|item| order_position(item));
+    held.dedup_by(|item, last| is_same_position(item, last));
+    Sequence::from_vec(held)
+}
+
 /// The nodes, attributes and the document among the items in document order, each once (XPath 2.0, 2.4.1): the document,
-/// then each node, its attributes, and its children. It takes no memory.
+/// then each node, its attributes, and its children. It takes no memory. Those that ascend are not sorted.
 pub fn in_order(items: Sequence<'_>) -> Sequence<'_>
     requires { IsTrue (are_nodes (values_of items)) }
     ensures value { values_of result ≡ ordered (values_of items.entry) }
@@ -67,8 +92,9 @@ pub fn in_order(items: Sequence<'_>) -> Sequence<'_>
     ensures of_tree { (nodes : ℕ) → OfTree nodes (values_of items.entry) → OfTree nodes (values_of result) }
     ensures members { (x : ItemValue) → has_item (values_of result) x ≡ has_item (values_of items.entry) x }
 {
-    let mut held = items.into_vec();
-    held.sort_unstable_by_key(|item| order_position(item));
-    held.dedup_by(|item, last| is_same_position(item, last));
-    Sequence::from_vec(held)
+    if is_ascending(items.as_slice()) {
+        items
+    } else {
+        sort_nodes(items)
+    }
 }

@@ -4,9 +4,12 @@ pub mod Asking
 pub mod Binding
 pub mod Fronts
 pub mod Kept
+pub mod ManySteps
 pub mod OfTree
+pub mod Parents
 pub mod Stepping
 pub mod Steps
 pub mod Turned
 pub mod Turning
+pub mod Walking
 pub mod Whole

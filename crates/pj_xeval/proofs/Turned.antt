@@ -75,12 +75,11 @@ module _ (a : Around) (reply : Replies) where
   turn-stops turns value c s (Ask Failed) r is h = λ c'. subst (λ (q : Result (List Item) XFault). IsGiven (taken turns.what (turns.position, c.item) (values_of turns.found) value) (outcome values_of q)) is h
 
   -- the first turn
-  pub turns-begin : (what : Turn) (parts : List Expr) (part : Expr) (rest : List Expr) (size : ℕ) (items left found : List Item) (v : Variables) → parts ≡ part ∷ rest → size ≡ length items → values_of left ≡ reverse (values_of items) → found ≡ []
+  pub turns-begin : (what : Turn) (part : Expr) (rest : List Expr) (size : ℕ) (items left found : List Item) (v : Variables) → size ≡ length items → values_of left ≡ reverse (values_of items) → found ≡ []
       → (chain (evaluated what (denotes a reply part) size v) (taken what) (numbered (0 + 1) (reverse (values_of left))) (values_of found) >>= λ all. finished what v (map (denotes a reply) rest) all)
-      ≡ over what v (map (denotes a reply) parts) (values_of items)
-  turns-begin what parts part rest size items left found v is counted back none =
+      ≡ over what v (denotes a reply part ∷ map (denotes a reply) rest) (values_of items)
+  turns-begin what part rest size items left found v counted back none =
       ap (λ (xs : List Item). chain (evaluated what (denotes a reply part) size v) (taken what) (numbered 1 (reverse (values_of left))) (values_of xs) >>= λ all. finished what v (map (denotes a reply) rest) all) none
       ∙ ap (λ (xs : List ItemValue). chain (evaluated what (denotes a reply part) size v) (taken what) (numbered 1 xs) [] >>= λ all. finished what v (map (denotes a reply) rest) all) (ap reverse back ∙ reverse-reverse (values_of items))
       ∙ ap (λ (k : ℕ). chain (evaluated what (denotes a reply part) k v) (taken what) (numbered 1 (values_of items)) [] >>= λ all. finished what v (map (denotes a reply) rest) all) (counted ∙ sym (length-map items value_of_item))
       ∙ over-cons what v (denotes a reply part) (map (denotes a reply) rest) (values_of items)
-      ∙ ap (λ (ps : List Expr). over what v (map (denotes a reply) ps) (values_of items)) (sym is)

@@ -1,2 +1,4 @@
+pub mod Over
+pub mod Plain
 -- for private clauses
 pub mod Whole

@@ -9,6 +9,7 @@ mod begin;
 mod bindings;
 mod evaluator;
 mod machine;
+mod over;
 mod react;
 mod turns;
 

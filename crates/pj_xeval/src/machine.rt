@@ -66,7 +66,7 @@ pub fn step<'e, 't, A: Attributes>(
         }
         Next::Instead(task) => Ok(Stepped::Going(begin(setting, task, at, scope)?)),
         Next::Over(what, parts, items) => {
-            Ok(Stepped::Going(turns_over(setting.alloc, what, parts, items, at)?))
+            Ok(Stepped::Going(turns_over(setting, what, parts, items, at)?))
         }
         Next::Reply(function, arguments) => {
             Ok(Stepped::Paused(Pause::Reply(function, arguments)))

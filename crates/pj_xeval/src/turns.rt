@@ -1,21 +1,26 @@
 //! Constructs whose parts have one item after the other as the context: predicates, paths and simple maps.
-ghost use Rattle.std.specs.Prelude.{◌≡◌, ℕ, pos, ◌+◌, [], IfOk, OnOk, Ok, map};
+ghost use Rattle.std.specs.Prelude.{◌≡◌, ℕ, pos, ◌+◌, ◌∷◌, [], IfOk, OnOk, IsTrue, Ok, length, map};
+ghost use Rattle.pj_xexpressions.specs.declared.axis.Axis.TheVariants.{Child, DescendantOrSelf};
+ghost use Rattle.pj_xexpressions.specs.declared.expr.NodeTest.TheVariants.{AnyNode};
 ghost use Rattle.pj_xvalue.specs.Items.{Document as DocumentValue, value_of_item, values_of, is_node, IsOfTree};
 ghost use Rattle.pj_xvalue.specs.OfTree.{OfTree};
 ghost use Rattle.pj_xvalue.specs.Replies.{outcome};
 ghost use Rattle.pj_xvalue.specs.Arguments.{IsGiven};
 ghost use Rattle.pj_xsteps.specs.Means.{judged};
-ghost use Rattle.pj_xsteps.specs.Context.{Around, Context, Variables, at as at_item};
+ghost use Rattle.pj_xsteps.specs.Context.{Around, Context, Variables, around, at as at_item};
 ghost use Rattle.pj_xsteps.specs.Denotes.{denotes};
+ghost use Rattle.pj_xframes.specs.declared.frame.Turn.TheVariants.{Step as StepTurn};
 ghost use Rattle.pj_xframes.specs.Frames.{Replies, finished, may_turn, over, taken as taken_by, turns_after, turns_left};
 ghost use Rattle.pj_xframes.specs.Going.{Goes, GoesIf, NextOfTree, TurnsOfTree};
 ghost use Rattle.pj_xframes.specs.Scopes.{Scoped, variables_of};
+ghost use Rattle.pj_xeval.specs.Plain.{BeginsBelow, plain_step};
 
+use crate::over::{parents_below, step_from_each};
 use pj_base::NoMemory;
-use pj_xexpressions::Expr;
+use pj_xexpressions::{Axis, Expr, NodeTest};
 use pj_xframes::{Frame, Next, Task, Turn, Turns};
-use pj_xsteps::{At, keeps_at, turned_back, united};
-use pj_xvalue::{Item, Sequence, XCode, XFault};
+use pj_xsteps::{At, Setting, keeps_at, turned_back, united};
+use pj_xvalue::{Attributes, Item, Sequence, XCode, XFault, are_nodes};
 use std::alloc::Global;
 use std::mem;
 
@@ -242,39 +247,179 @@ fn ordered_last<'t>(what: Turn, items: Sequence<'t>) -> Sequence<'t>
     }
 }
 
+/// The first turn of a predicate, a step or a part over items.
+#[tactic(auto, using(crate::proofs::OfTree::of_tree))]
+fn first_turn<'e, 't>(
+    alloc: Global,
+    what: Turn,
+    part: &'e Expr,
+    rest: &'e [Expr],
+    items: Sequence<'t>,
+    at: &mut At<'t>,
+) -> Result<Next<'e, 't>, XFault>
+    ensures goes { (a : Around) (reply : Replies) (s : Scoped) → GoesIf a reply (over what (variables_of s) (denotes a reply part.now ∷ map (denotes a reply) rest.now) (values_of items.entry)) at.new s at.old s result }
+    ensures of_tree { (n : ℕ) → OfTree n (values_of items.entry) → IsOfTree n at.old.item → IfOk result (λ next. NextOfTree n next) }
+    ensures item { (n : ℕ) → OfTree n (values_of items.entry) → IsOfTree n at.old.item → OnOk result (IsOfTree n at.new.item) }
+{
+    let size = items.len() as u64;
+    let left = turned_back(items);
+    let found = Sequence::new(alloc);
+    let outer = taken_out(at);
+    next_turn(
+        Turns {
+            what,
+            part,
+            left,
+            position: 0,
+            size,
+            found,
+            rest,
+            outer,
+        },
+        at,
+    )
+}
+
+/// A step without predicates over items, which gives something at each without asking: all of them in one loop.
+#[tactic(auto, using(crate::proofs::Steps::steps, crate::proofs::OfTree::of_tree))]
+fn plain_step<'e, 't, A: Attributes>(
+    setting: &Setting<'t, A>,
+    along: Axis,
+    test: &NodeTest,
+    rest: &'e [Expr],
+    items: &[Item<'t>],
+) -> Result<Next<'e, 't>, XFault>
+    requires { OfTree (length setting.now.tree.now.nodes) (values_of items.now) }
+    ensures goes { (a : Around) (reply : Replies) (c : Context) (s : Scoped) → GoesIf a reply (plain_step setting.now.tree.now along test.now (variables_of s) (map (denotes a reply) rest.now) (values_of items.now)) c s c s result }
+    ensures of_tree { IfOk result (λ next. NextOfTree (length setting.now.tree.now.nodes) next) }
+{
+    if !are_nodes(items) {
+        return Err(XFault::Code(XCode::XPTY0019));
+    }
+    let found = step_from_each(setting.alloc, setting.tree, along, test, items)?;
+    finish(Turn::Step, rest, found)
+}
+
+/// Whether the step is the one that `//` stands for.
+fn is_descent(along: Axis, test: &NodeTest) -> bool
+    ensures axis { IsTrue result → along ≡ DescendantOrSelf }
+    ensures test { IsTrue result → test.now ≡ AnyNode }
+{
+    match along {
+        Axis::DescendantOrSelf => match test {
+            NodeTest::AnyNode => true,
+            _ => false,
+        },
+        _ => false,
+    }
+}
+
+/// Whether the axis is that of children.
+fn is_child(along: Axis) -> bool
+    ensures { IsTrue result → along ≡ Child }
+{
+    match along {
+        Axis::Child => true,
+        _ => false,
+    }
+}
+
+/// The step that `//` stands for, with a step along `child` behind it, over items: the latter goes over those nodes alone
+/// that have such children.
+#[tactic(auto, using(crate::proofs::OfTree::of_tree))]
+fn descend<'e, 't, A: Attributes>(
+    setting: &Setting<'t, A>,
+    test: &NodeTest,
+    rest: &'e [Expr],
+    items: &[Item<'t>],
+) -> Result<Next<'e, 't>, XFault>
+    requires { OfTree (length setting.now.tree.now.nodes) (values_of items.now) }
+    ensures goes { (reply : Replies) (c : Context) (s : Scoped) →
+        let a = around setting.now.tree.now (A.attribute_of setting.now.facts.now) (A.names_of setting.now.facts.now) setting.now.patterns.now in
+        BeginsBelow test.now rest.now → GoesIf a reply (plain_step setting.now.tree.now DescendantOrSelf AnyNode (variables_of s) (map (denotes a reply) rest.now) (values_of items.now)) c s c s result }
+    ensures of_tree { IfOk result (λ next. NextOfTree (length setting.now.tree.now.nodes) next) }
+{
+    if !are_nodes(items) {
+        return Err(XFault::Code(XCode::XPTY0019));
+    }
+    let parents = parents_below(setting.alloc, setting.tree, test, items)?;
+    Ok(Next::Over(Turn::Step, rest, parents))
+}
+
+/// A step without predicates over items, with what stands behind it in view.
+#[tactic(auto, using(crate::proofs::OfTree::of_tree))]
+fn plain_or_descend<'e, 't, A: Attributes>(
+    setting: &Setting<'t, A>,
+    along: Axis,
+    test: &NodeTest,
+    rest: &'e [Expr],
+    items: &[Item<'t>],
+) -> Result<Next<'e, 't>, XFault>
+    requires { OfTree (length setting.now.tree.now.nodes) (values_of items.now) }
+    ensures goes { (reply : Replies) (c : Context) (s : Scoped) →
+        let a = around setting.now.tree.now (A.attribute_of setting.now.facts.now) (A.names_of setting.now.facts.now) setting.now.patterns.now in
+        GoesIf a reply (plain_step setting.now.tree.now along test.now (variables_of s) (map (denotes a reply) rest.now) (values_of items.now)) c s c s result }
+    ensures of_tree { IfOk result (λ next. NextOfTree (length setting.now.tree.now.nodes) next) }
+{
+    if is_descent(along, test) {
+        if let [next, ..] = rest {
+            if let Expr::Step(beyond, below, _) = next {
+                if is_child(*beyond) {
+                    return descend(setting, below, rest, items);
+                }
+            }
+        }
+    }
+    plain_step(setting, along, test, rest, items)
+}
+
+/// A step of a path over items.
+#[tactic(auto, using(crate::proofs::OfTree::of_tree))]
+fn step_over<'e, 't, A: Attributes>(
+    setting: &Setting<'t, A>,
+    part: &'e Expr,
+    rest: &'e [Expr],
+    items: Sequence<'t>,
+    at: &mut At<'t>,
+) -> Result<Next<'e, 't>, XFault>
+    requires items { OfTree (length setting.now.tree.now.nodes) (values_of items) }
+    requires item { IsOfTree (length setting.now.tree.now.nodes) at.old.item }
+    ensures goes { (reply : Replies) (s : Scoped) →
+        let a = around setting.now.tree.now (A.attribute_of setting.now.facts.now) (A.names_of setting.now.facts.now) setting.now.patterns.now in
+        GoesIf a reply (over StepTurn (variables_of s) (denotes a reply part.now ∷ map (denotes a reply) rest.now) (values_of items.entry)) at.new s at.old s result }
+    ensures of_tree { IfOk result (λ next. NextOfTree (length setting.now.tree.now.nodes) next) }
+    ensures item { OnOk result (IsOfTree (length setting.now.tree.now.nodes) at.new.item) }
+{
+    if let Expr::Step(along, test, predicates) = part {
+        if predicates.is_empty() {
+            return plain_or_descend(setting, *along, test, rest, items.as_slice());
+        }
+    }
+    first_turn(setting.alloc, Turn::Step, part, rest, items, at)
+}
+
 /// Predicates, steps or parts over items.
 #[tactic(auto, using(crate::proofs::OfTree::of_tree))]
-pub fn turns_over<'e, 't>(
-    alloc: Global,
+pub fn turns_over<'e, 't, A: Attributes>(
+    setting: &Setting<'t, A>,
     what: Turn,
     parts: &'e [Expr],
     items: Sequence<'t>,
     at: &mut At<'t>,
 ) -> Result<Next<'e, 't>, XFault>
-    ensures goes { (a : Around) (reply : Replies) (s : Scoped) → GoesIf a reply (over what (variables_of s) (map (denotes a reply) parts.now) (values_of items.entry)) at.new s at.old s result }
-    ensures of_tree { (n : ℕ) → OfTree n (values_of items.entry) → IsOfTree n at.old.item → IfOk result (λ next. NextOfTree n next) }
-    ensures item { (n : ℕ) → OfTree n (values_of items.entry) → IsOfTree n at.old.item → OnOk result (IsOfTree n at.new.item) }
+    requires items { OfTree (length setting.now.tree.now.nodes) (values_of items) }
+    requires item { IsOfTree (length setting.now.tree.now.nodes) at.old.item }
+    ensures goes { (reply : Replies) (s : Scoped) →
+        let a = around setting.now.tree.now (A.attribute_of setting.now.facts.now) (A.names_of setting.now.facts.now) setting.now.patterns.now in
+        GoesIf a reply (over what (variables_of s) (map (denotes a reply) parts.now) (values_of items.entry)) at.new s at.old s result }
+    ensures of_tree { IfOk result (λ next. NextOfTree (length setting.now.tree.now.nodes) next) }
+    ensures item { OnOk result (IsOfTree (length setting.now.tree.now.nodes) at.new.item) }
 {
     match parts {
         [] => Ok(Next::Value(ordered_last(what, items))),
-        [part, rest @ ..] => {
-            let size = items.len() as u64;
-            let left = turned_back(items);
-            let found = Sequence::new(alloc);
-            let outer = taken_out(at);
-            next_turn(
-                Turns {
-                    what,
-                    part,
-                    left,
-                    position: 0,
-                    size,
-                    found,
-                    rest,
-                    outer,
-                },
-                at,
-            )
-        }
+        [part, rest @ ..] => match what {
+            Turn::Step => step_over(setting, part, rest, items, at),
+            _ => first_turn(setting.alloc, what, part, rest, items, at),
+        },
     }
 }

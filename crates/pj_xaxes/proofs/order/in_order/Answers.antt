@@ -1,34 +1,25 @@
-use Rattle.std.proofs.Common.{◌≡◌, sym, subst, ◌∙◌, ap, List, rules}
-use Rattle.std.proofs.lemmas.Fn.{always_returns_same, dedup_same}
-use Rattle.std.specs.Ordering.{eq_by_cmp}
-use Rattle.pj_xvalue.specs.declared.item.Item.{Item}
-use Rattle.pj_xvalue.specs.Items.{value_of_item, values_of, are_nodes}
-use Rattle.pj_xaxes.specs.Order.{position_of, document_order, ordered, has_item}
-use Rattle.pj_xaxes.specs.Standing.{standing}
+use Rattle.std.proofs.Common.{sym, subst, ◌∙◌, ap}
 use Rattle.std.specs.List.Sorted.{IsStrictlySortedBy}
+use Rattle.pj_xvalue.specs.Items.{values_of}
 use Rattle.pj_xvalue.specs.OfTree.{OfTree}
+use Rattle.pj_xaxes.specs.Order.{document_order, has_item}
 use Rattle.pj_xaxes.proofs.Inside.{of_tree-ordered}
-use Rattle.pj_xaxes.proofs.Ordered.{in_order-is, sorted-ordered, has_item-ordered}
+use Rattle.pj_xaxes.proofs.Ordered.{ordered-ascending, sorted-ordered, has_item-ordered}
 use Rattle.pj_xaxes.proofs.order.in_order.Goals as goal
 
-in_order_value : (c : goal.After-from_vec) → values_of c.from_vec.result ≡ ordered (values_of c.args.items)
-in_order_value c =
-    let into = c.into_vec-held.ensures in
-    let up = c.sort_unstable_by_key.ensures.sorted (λ (i : Item). standing (position_of (value_of_item i))) (always_returns_same _ _ _ (λ a r q k. search rules)) in
-    let one = dedup_same _ (λ (x k : Item). eq_by_cmp document_order (value_of_item x) (value_of_item k)) _ (λ x y b f' x' y' k. search rules) _ _ c.dedup_by.ensures.filtered in
-    ap values_of c.from_vec.ensures
-    ∙ in_order-is c.into_vec-held.result.items c.sort_unstable_by_key.new.self.items c.dedup_by.new.self.items c.sort_unstable_by_key.ensures.permutation up one
-    (ap (λ (xs : List Item). are_nodes (values_of xs)) into ∙ c.requires)
-    ∙ ap (λ (xs : List Item). ordered (values_of xs)) into
+pub returns-then-is_ascending-clause-value : goal.returns-then-is_ascending-clause-value
+returns-then-is_ascending-clause-value c =
+    let up = subst (λ l. IsStrictlySortedBy document_order (values_of l)) c.as_slice.ensures (c.is_ascending.ensures c.if-is_ascending.true) in
+    sym (ordered-ascending (values_of c.args.items) c.requires up)
 
-pub returns-clause-value : goal.returns-clause-value
-returns-clause-value c = in_order_value c
+pub returns-then-is_ascending-clause-ascending : goal.returns-then-is_ascending-clause-ascending
+returns-then-is_ascending-clause-ascending c = subst (λ l. IsStrictlySortedBy document_order (values_of l)) c.as_slice.ensures (c.is_ascending.ensures c.if-is_ascending.true)
 
-pub returns-clause-ascending : goal.returns-clause-ascending
-returns-clause-ascending c = subst (λ xs. IsStrictlySortedBy document_order xs) (sym (in_order_value c)) (sorted-ordered (values_of c.args.items))
+pub returns-else-is_ascending-clause-ascending : goal.returns-else-is_ascending-clause-ascending
+returns-else-is_ascending-clause-ascending c = subst (λ xs. IsStrictlySortedBy document_order xs) (sym c.sort_nodes.ensures) (sorted-ordered (values_of c.args.items))
 
-pub returns-clause-members : goal.returns-clause-members
-returns-clause-members c = λ x. ap (λ xs. has_item xs x) (in_order_value c) ∙ has_item-ordered (values_of c.args.items) x
+pub returns-else-is_ascending-clause-members : goal.returns-else-is_ascending-clause-members
+returns-else-is_ascending-clause-members c = λ x. ap (λ xs. has_item xs x) c.sort_nodes.ensures ∙ has_item-ordered (values_of c.args.items) x
 
-pub returns-clause-of_tree : goal.returns-clause-of_tree
-returns-clause-of_tree c = λ n h. subst (λ xs. OfTree n xs) (sym (in_order_value c)) (of_tree-ordered n (values_of c.args.items) h)
+pub returns-else-is_ascending-clause-of_tree : goal.returns-else-is_ascending-clause-of_tree
+returns-else-is_ascending-clause-of_tree c = λ n h. subst (λ xs. OfTree n xs) (sym c.sort_nodes.ensures) (of_tree-ordered n (values_of c.args.items) h)

@@ -52,7 +52,7 @@ returns-in_err-turns_over-in-Over-clause-comes g c = λ reply.
     (stops-alike (λ (stepped : Stepped). stepped_meaning a reply stepped c.args.frames.now c.args.at.now c.args.scope.now) (λ (stepped : Stepped). stepped_meaning a reply stepped c.args.frames.now c.args.at.now c.args.scope.now) _ (state_meaning a reply c.args.next c.args.frames.now c.args.at.now c.args.scope.now) c.in_err-turns_over-in-Over.field-0.0
     (ap (λ (x : Next). state_meaning a reply x c.args.frames.now c.args.at.now c.args.scope.now) (sym c.in-Over.is))
     (same-stops a reply (λ (stepped : Stepped). stepped_meaning a reply stepped c.args.frames.now c.args.at.now c.args.scope.now) (over c.in-Over.what (variables_of c.args.scope.now) (map (denotes a reply) c.in-Over.parts.now) (values_of c.in-Over.items)) c.args.frames.now c.args.at.now c.turns_over.new.at c.args.scope.now c.args.scope.now c.in_err-turns_over-in-Over.field-0.0
-    (c.in_err-turns_over-in-Over.ensures.goes a reply c.args.scope.now)))
+    (c.in_err-turns_over-in-Over.ensures.goes reply c.args.scope.now)))
 
 pub returns-in_ok-react-in-Some-clause-comes : goal.returns-in_ok-react-in-Some-clause-comes
 returns-in_ok-react-in-Some-clause-comes g c = λ reply.
@@ -90,15 +90,8 @@ pub returns-in_ok-turns_over-in-Over-clause-comes : goal.returns-in_ok-turns_ove
 returns-in_ok-turns_over-in-Over-clause-comes g c = λ reply.
     let a = around c.args.setting.now.tree.now (g.A.Attributes.attribute_of c.args.setting.now.facts.now) (g.A.Attributes.names_of c.args.setting.now.facts.now) c.args.setting.now.patterns.now in
     same-goes a reply (over c.in-Over.what (variables_of c.args.scope.now) (map (denotes a reply) c.in-Over.parts.now) (values_of c.in-Over.items)) c.args.frames.now c.args.at.now c.args.scope.now c.turns_over.new.at c.args.scope.now c.in_ok-turns_over-in-Over.field-0
-    (c.in_ok-turns_over-in-Over.ensures.goes a reply c.args.scope.now)
+    (c.in_ok-turns_over-in-Over.ensures.goes reply c.args.scope.now)
     ∙ ap (λ (x : Next). state_meaning a reply x c.args.frames.now c.args.at.now c.args.scope.now) (sym c.in-Over.is)
 
-pub returns-in_ok-turns_over-in-Over-clause-of_tree : goal.returns-in_ok-turns_over-in-Over-clause-of_tree
-returns-in_ok-turns_over-in-Over-clause-of_tree g c =
-    let n = length c.args.setting.now.tree.now.nodes in
-    c.in_ok-turns_over-in-Over.ensures.of_tree n (subst (λ (x : Next). NextOfTree n x) c.in-Over.is c.requires.next) c.requires.item
-
-pub returns-in_ok-turns_over-in-Over-clause-item : goal.returns-in_ok-turns_over-in-Over-clause-item
-returns-in_ok-turns_over-in-Over-clause-item g c =
-    let n = length c.args.setting.now.tree.now.nodes in
-    c.in_ok-turns_over-in-Over.ensures.item n (subst (λ (x : Next). NextOfTree n x) c.in-Over.is c.requires.next) c.requires.item
+pub turns_over-requires-clause-items : goal.turns_over-requires-clause-items
+turns_over-requires-clause-items g c = subst (λ (x : Next). NextOfTree (length c.args.setting.now.tree.now.nodes) x) c.in-Over.is c.requires.next
