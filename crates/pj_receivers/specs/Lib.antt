@@ -1,0 +1,6 @@
+-- definitions
+pub mod Receivers
+pub mod Fields
+pub mod Elements
+-- for clauses
+pub mod Seen

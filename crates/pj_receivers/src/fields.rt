@@ -1,0 +1,163 @@
+//! Fields and member classes of the type of a receiver (JLS 6.5.2, 8.5, 10.7, 15.11.1).
+
+ghost use Rattle.std.specs.Prelude.{◌≡◌};
+ghost use Rattle.pj_names.specs.JavaType.{java_type, java_types};
+ghost use Rattle.pj_names.specs.Told.{Asks, seen};
+ghost use Rattle.pj_members.specs.Seen.{seen_field};
+ghost use Rattle.pj_types.specs.Along.{first_along};
+ghost use Rattle.pj_receivers.specs.Fields.{field_in, field_of, field_of_array, field_of_class, field_or_member, member_class, member_on_list, member_or_unknown};
+
+use crate::receivers::{as_receiver, in_receiver};
+use pj_members::find_field;
+use pj_names::{AskFault, ClassName, Oracle, Prim, Ty, Types};
+use pj_outer_names::{File, member_in};
+use pj_types::{Field, Walk};
+use std::alloc::Global;
+
+/// The most classes that a walk is followed: a list has no more members.
+const MOST_CLASSES: u64 = 4294967294;
+
+/// The member class of a class on a list of supertypes, where it is there.
+#[tactic(auto, using(pj_names::proofs::AskingLaws::asking_steps))]
+fn member_on_list<O: Oracle>(
+    alloc: Global,
+    file: &File<'_>,
+    oracle: &mut O,
+    name: &str,
+    ty: &Ty,
+) -> Result<Option<ClassName>, AskFault>
+    ensures { Asks (member_on_list file.now name.now (java_type ty.now)) (O.tells oracle.old) (O.tells oracle.new) result }
+{
+    match ty {
+        Ty::Class(class, _) => member_in(alloc, file, oracle, true, class, name, class),
+        _ => Ok(None),
+    }
+}
+
+/// The member class of a class, of its own or inherited, where there is one.
+#[tactic(auto, using(pj_types::proofs::AlongTurns::along_loops))]
+fn first_member<O: Oracle>(
+    alloc: Global,
+    file: &File<'_>,
+    oracle: &mut O,
+    class: &ClassName,
+    name: &str,
+) -> Result<Option<ClassName>, AskFault>
+    ensures { Asks (first_along (member_on_list file.now name.now) class.now) (O.tells oracle.old) (O.tells oracle.new) result }
+{
+    let mut walk = Walk::of(alloc, class)?;
+    for _class in 0..MOST_CLASSES {
+        let Some(ty) = walk.next_class(oracle)? else {
+            return Ok(None);
+        };
+        let hit = member_on_list(alloc, file, oracle, name, &ty)?;
+        if let Some(member) = hit {
+            return Ok(Some(member));
+        }
+    }
+    Err(AskFault::Memory)
+}
+
+/// A member class as a type.
+fn member_or_unknown(member: Option<ClassName>) -> Ty
+    ensures { java_type result ≡ member_or_unknown member }
+{
+    match member {
+        Some(class) => Ty::Class(class, Types::End),
+        None => Ty::Unknown,
+    }
+}
+
+/// The member class of a class, of its own or inherited.
+#[tactic(auto, using(pj_names::proofs::AskingLaws::asking_steps), unfolding(crate::specs::Fields::member_class))]
+fn member_class<O: Oracle>(
+    alloc: Global,
+    file: &File<'_>,
+    oracle: &mut O,
+    class: &ClassName,
+    name: &str,
+) -> Result<Ty, AskFault>
+    ensures { Asks (member_class file.now class.now name.now) (O.tells oracle.old) (O.tells oracle.new) (seen java_type result) }
+{
+    let member = first_member(alloc, file, oracle, class, name)?;
+    let ty = member_or_unknown(member);
+    Ok(ty)
+}
+
+/// The type of a field that was found, and else the member class.
+#[tactic(auto, using(pj_names::proofs::AskingLaws::asking_steps))]
+fn field_or_member<O: Oracle>(
+    alloc: Global,
+    file: &File<'_>,
+    oracle: &mut O,
+    class: &ClassName,
+    arguments: &Types,
+    name: &str,
+    found: &Option<Field>,
+) -> Result<Ty, AskFault>
+    ensures { Asks (field_or_member file.now class.now (java_types arguments.now) name.now (seen_field found.now)) (O.tells oracle.old) (O.tells oracle.new) (seen java_type result) }
+{
+    match found {
+        Some(field) => in_receiver(alloc, oracle, class, arguments, &field.ty),
+        None => member_class(alloc, file, oracle, class, name),
+    }
+}
+
+/// The type of a field of a class, and else its member class.
+#[tactic(auto, using(pj_names::proofs::AskingLaws::asking_steps), unfolding(crate::specs::Fields::field_of_class))]
+fn field_of_class<O: Oracle>(
+    alloc: Global,
+    file: &File<'_>,
+    oracle: &mut O,
+    class: &ClassName,
+    arguments: &Types,
+    name: &str,
+) -> Result<Ty, AskFault>
+    ensures { Asks (field_of_class file.now class.now (java_types arguments.now) name.now) (O.tells oracle.old) (O.tells oracle.new) (seen java_type result) }
+{
+    let found = find_field(alloc, oracle, class, name)?;
+    field_or_member(alloc, file, oracle, class, arguments, name, &found)
+}
+
+/// The type of a field of an array: it has its length alone.
+fn field_of_array(name: &str) -> Ty
+    ensures { java_type result ≡ field_of_array name.now }
+{
+    if name == "length" {
+        Ty::Prim(Prim::Int)
+    } else {
+        Ty::Unknown
+    }
+}
+
+/// The type of a field of a type, and else its member class.
+#[tactic(auto, using(pj_names::proofs::AskingLaws::asking_steps))]
+fn field_in<O: Oracle>(
+    alloc: Global,
+    file: &File<'_>,
+    oracle: &mut O,
+    name: &str,
+    ty: &Ty,
+) -> Result<Ty, AskFault>
+    ensures { Asks (field_in file.now name.now (java_type ty.now)) (O.tells oracle.old) (O.tells oracle.new) (seen java_type result) }
+{
+    match ty {
+        Ty::Class(class, arguments) => field_of_class(alloc, file, oracle, class, arguments, name),
+        Ty::Array(_) => Ok(field_of_array(name)),
+        _ => Ok(Ty::Unknown),
+    }
+}
+
+/// The type of a field of a receiver of this type, and else the member class of that name.
+#[tactic(auto, using(pj_names::proofs::AskingLaws::asking_steps))]
+pub fn field_of<O: Oracle>(
+    alloc: Global,
+    file: &File<'_>,
+    oracle: &mut O,
+    name: &str,
+    receiver: &Ty,
+) -> Result<Ty, AskFault>
+    ensures { Asks (field_of file.now name.now (java_type receiver.now)) (O.tells oracle.old) (O.tells oracle.new) (seen java_type result) }
+{
+    field_in(alloc, file, oracle, name, as_receiver(receiver))
+}
