@@ -1,7 +1,7 @@
 //! A keeper over the files of the system.
 ghost use Rattle.std.specs.Prelude.{None};
 
-use crate::real_file::{fault, is_memory, read_at};
+use crate::file::{fault, is_memory, read_at};
 use pj_outside::{Failed, Keeper, Reading, Refused};
 use std::rt::Files;
 use std::{fs, io};

@@ -2,7 +2,7 @@
 ghost use Rattle.std.specs.Prelude.{None, IfOk};
 ghost use Rattle.pj_outside.specs.Files.{IsAtMost};
 
-use crate::real_file::{fault, is_memory, read_at};
+use crate::file::{fault, is_memory, read_at};
 use pj_base::{Copied, Names};
 use pj_names::ClassName;
 use pj_outside::{ClassDoor, ClassPath, Reading, Refused};

@@ -17,9 +17,8 @@ impl<W: Write> RealSink<W> {
         RealSink { stream, faults: 0 }
     }
 
-    #[cfg(test)]
-    /// The stream, to see what it got.
-    pub fn written(&self) -> &W {
+    /// The stream, for a caller that reads what it got.
+    pub fn stream(&self) -> &W {
         &self.stream
     }
 }

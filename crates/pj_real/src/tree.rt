@@ -2,7 +2,7 @@
 ghost use Rattle.std.specs.Prelude.{None, IfOk};
 ghost use Rattle.pj_outside.specs.Files.{HasPath};
 
-use crate::real_file::{fault, if_there, is_memory, read_at};
+use crate::file::{fault, if_there, is_memory, read_at};
 use pj_base::{Names, Text};
 use pj_outside::{Reading, Refused, Tree};
 use std::rt::Files;
