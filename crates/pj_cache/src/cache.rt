@@ -3,9 +3,9 @@ ghost use Rattle.std.specs.Prelude.{◌≡◌, []};
 
 use crate::key::Key;
 use crate::old::OldCache;
-use crate::rows::{Head, Ruled};
 use pj_base::{Bytes, ListOf, Text};
 use pj_names::{Answers, ClassNames};
+use pj_reports::{Head, Ruled};
 use std::alloc::Global;
 
 /// What the rules of one key come to in a file.
@@ -56,20 +56,6 @@ pub struct Cache {
     /// The files.
     pub entries: Entries,
 }
-
-/// What one rule comes to in a file, and the classes that it asked for.
-#[derive(Debug, Drop)]
-pub struct RuleRun {
-    /// The rule, by its number, counted from 0.
-    pub rule: u32,
-    /// What it comes to.
-    pub rows: Ruled,
-    /// The names of the classes, in the order of their bytes.
-    pub names: ClassNames,
-}
-
-/// What some rules come to in a file, in the order of their numbers.
-pub type RuleRuns = ListOf<RuleRun>;
 
 /// A cache as it was read.
 #[derive(Debug, Drop)]

@@ -4,11 +4,7 @@
 mod cache;
 mod key;
 mod old;
-mod rows;
 
-pub use cache::{
-    Cache, CachedResult, Entries, Entry, Group, KeyRows, Results, RuleRun, RuleRuns, Stored,
-};
+pub use cache::{Cache, CachedResult, Entries, Entry, Group, KeyRows, Results, Stored};
 pub use key::{Key, Keys};
 pub use old::{OldCache, OldEntries, OldEntry};
-pub use rows::{Head, Ruled, Spot, Spots};
