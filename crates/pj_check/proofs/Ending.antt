@@ -15,13 +15,13 @@ use Rattle.pj_check.specs.declared.verdict.Verdict.{Verdict}
 use Rattle.pj_check.specs.declared.verdict.Verdict.TheVariants as verdict
 use Rattle.pj_check.specs.declared.report_rendering.Written.{Written}
 use Rattle.pj_check.specs.Cold.{IsColdOf}
-use Rattle.pj_check.specs.Outcome.{AsksFor, CountsSinkFaults, CountsTreeFaults, KeepsSink, Says, SaysOfWords, Worked}
+use Rattle.pj_check.specs.Outcome.{CountsSinkFaults, CountsTreeFaults, GetsSome, KeepsWork, Says, SaysOfSink, SaysOfWords, Worked}
 use Rattle.pj_check.specs.Run.{HasRules, Run}
-use Rattle.pj_check.specs.Steps.{CountsFaults, Explains, IsMade, SaysBefore, SaysRefusal, ended, refused}
+use Rattle.pj_check.specs.Steps.{CountsFaults, Explains, IsMade, IsOfSome, SaysBefore, SaysRefusal, ended, refused}
 use Rattle.pj_check.specs.declared.outcome.Outcome.{Outcome}
 use Rattle.pj_check.specs.declared.outcome.Outcome.TheVariants as outcome
 use Rattle.pj_check.specs.declared.refusal.Refusal.{Refusal}
-use Rattle.pj_check.specs.declared.refusal.Refusal.TheVariants.{Usage, Rules, TreeFault, SinkFault, Missing, Limit, Memory}
+use Rattle.pj_check.specs.declared.refusal.Refusal.TheVariants.{Usage, Rules, TreeFault, ClassFault, SinkFault, Missing, Limit, Memory}
 use Rattle.pj_check.proofs.Told.{all_told, told_both, told_so}
 
 -- ---- the report is made
@@ -60,6 +60,7 @@ pub says_before : (r : Refusal) (words : List Bytes) (held : Files) (old new : O
 says_before (Usage fault) words held old new before after h = h
 says_before (Rules fault) words held old new before after h = h
 says_before TreeFault words held old new before after h = tt
+says_before ClassFault words held old new before after h = absurd h
 says_before SinkFault words held old new before after h = absurd h
 says_before (Missing path) words held old new before after h = h
 says_before (Limit kind) words held old new before after h = h
@@ -73,24 +74,37 @@ pub words_before : (r : Refusal) (words : List Bytes) → SaysBefore r words →
 words_before (Usage fault) words h = h
 words_before (Rules fault) words h = h
 words_before TreeFault words h = h
+words_before ClassFault words h = absurd h
 words_before SinkFault words h = absurd h
 words_before (Missing path) words h = h
 words_before (Limit kind) words h = h
 words_before Memory words h = h
 
-pub keeps_before : (r : Refusal) (old : Option Bytes) → KeepsSink (refused r) old old
-keeps_before (Usage fault) old = refl
-keeps_before (Rules fault) old = refl
-keeps_before TreeFault old = refl
-keeps_before SinkFault old = tt
-keeps_before (Missing path) old = refl
-keeps_before (Limit kind) old = refl
-keeps_before Memory old = refl
+pub sink_before : (r : Refusal) (words : List Bytes) (old : Option Bytes) → SaysBefore r words → SaysOfSink (refused r) words old old
+sink_before (Usage fault) words old h = refl
+sink_before (Rules fault) words old h = refl
+sink_before TreeFault words old h = refl
+sink_before ClassFault words old h = refl
+sink_before SinkFault words old h = absurd h
+sink_before (Missing path) words old h = refl
+sink_before (Limit kind) words old h = refl
+sink_before Memory words old h = refl
+
+pub work_before : (r : Refusal) (old new : Work) → new ≡ old → KeepsWork (refused r) old new
+work_before (Usage fault) old new same = same
+work_before (Rules fault) old new same = same
+work_before TreeFault old new same = same
+work_before ClassFault old new same = same
+work_before SinkFault old new same = tt
+work_before (Missing path) old new same = same
+work_before (Limit kind) old new same = same
+work_before Memory old new same = same
 
 pub counts_before : (r : Refusal) (words : List Bytes) (faults : ℕ) → SaysBefore r words → CountsSinkFaults (refused r) faults faults
 counts_before (Usage fault) words faults h = refl
 counts_before (Rules fault) words faults h = refl
 counts_before TreeFault words faults h = refl
+counts_before ClassFault words faults h = refl
 counts_before SinkFault words faults h = absurd h
 counts_before (Missing path) words faults h = refl
 counts_before (Limit kind) words faults h = refl
@@ -100,6 +114,7 @@ pub tree_counts_before : (A : Type 0) (r : Refusal) (old new : ℕ) → CountsFa
 tree_counts_before A (Usage fault) old new h = h
 tree_counts_before A (Rules fault) old new h = h
 tree_counts_before A TreeFault old new h = h
+tree_counts_before A ClassFault old new h = h
 tree_counts_before A SinkFault old new h = h
 tree_counts_before A (Missing path) old new h = h
 tree_counts_before A (Limit kind) old new h = h
@@ -109,6 +124,7 @@ pub no_fault_before : (r : Refusal) → r ≢ TreeFault → refused r ≢ outcom
 no_fault_before (Usage fault) n e = absurd (cc)
 no_fault_before (Rules fault) n e = absurd (cc)
 no_fault_before TreeFault n e = n refl
+no_fault_before ClassFault n e = absurd (cc)
 no_fault_before SinkFault n e = absurd (cc)
 no_fault_before (Missing path) n e = absurd (cc)
 no_fault_before (Limit kind) n e = absurd (cc)
@@ -136,17 +152,35 @@ put_says (Err r) words told written old new before after is got cut fault made =
     (λ held m. subst (λ (e : Refusal). Says (refused e) words held old new before after) (sym fault)
     (record { run = m.run; is_run = m.is_run; got = subst (λ (t : Bytes). GetsPrefix old new t) m.text cut; worked = m.worked })) made
 
-pub put_words : (r : Result Verdict Refusal) (words : List Bytes) → IfErr r (λ e. e ≡ SinkFault) → AsksFor (λ settings. Unit {0}) words → SaysOfWords (ended r) words
-put_words (Ok verdict.Clean) words fault asks = asks
-put_words (Ok verdict.Violations) words fault asks = asks
-put_words (Ok verdict.Errors) words fault asks = asks
-put_words (Err r) words fault asks = subst (λ (e : Refusal). SaysOfWords (refused e) words) (sym fault) asks
+pub put_words : (r : Result Verdict Refusal) (words : List Bytes) (written : Written) → IfErr r (λ e. e ≡ SinkFault) → IsOfSome words written → SaysOfWords (ended r) words
+put_words (Ok verdict.Clean) words written fault some = (some.settings, some.asked, tt)
+put_words (Ok verdict.Violations) words written fault some = (some.settings, some.asked, tt)
+put_words (Ok verdict.Errors) words written fault some = (some.settings, some.asked, tt)
+put_words (Err r) words written fault some = subst (λ (e : Refusal). SaysOfWords (refused e) words) (sym fault) (some.settings, some.asked, tt)
 
-pub put_keeps : (r : Result Verdict Refusal) (old new : Option Bytes) → IfErr r (λ e. e ≡ SinkFault) → KeepsSink (ended r) old new
-put_keeps (Ok verdict.Clean) old new fault = tt
-put_keeps (Ok verdict.Violations) old new fault = tt
-put_keeps (Ok verdict.Errors) old new fault = tt
-put_keeps (Err r) old new fault = subst (λ (e : Refusal). KeepsSink (refused e) old new) (sym fault) tt
+gets_some : (v : Verdict) (words : List Bytes) (written : Written) (old new : Option Bytes) → v ≡ written.verdict → Gets old new written.text → IsOfSome words written → GetsSome v words old new
+gets_some v words written old new is got some = record {
+  settings = some.settings;
+  asked = some.asked;
+  report = some.report;
+  comes_to = sym (is ∙ some.comes_to);
+  got = subst (λ (t : Bytes). Gets old new t) some.text got;
+}
+
+pub put_sink : (r : Result Verdict Refusal) (words : List Bytes) (written : Written) (old new : Option Bytes) →
+    IfOk r (λ v. v ≡ written.verdict) → OnOk r (Gets old new written.text) → OnErr r (GetsPrefix old new written.text) → IfErr r (λ e. e ≡ SinkFault) → IsOfSome words written → SaysOfSink (ended r) words old new
+put_sink (Ok verdict.Clean) words written old new is got cut fault some = gets_some verdict.Clean words written old new is got some
+put_sink (Ok verdict.Violations) words written old new is got cut fault some = gets_some verdict.Violations words written old new is got some
+put_sink (Ok verdict.Errors) words written old new is got cut fault some = gets_some verdict.Errors words written old new is got some
+put_sink (Err r) words written old new is got cut fault some =
+    subst (λ (e : Refusal). SaysOfSink (refused e) words old new) (sym fault)
+    (record { settings = some.settings; asked = some.asked; report = some.report; got = subst (λ (t : Bytes). GetsPrefix old new t) some.text cut })
+
+pub put_work : (r : Result Verdict Refusal) (old new : Work) → IfErr r (λ e. e ≡ SinkFault) → KeepsWork (ended r) old new
+put_work (Ok verdict.Clean) old new fault = tt
+put_work (Ok verdict.Violations) old new fault = tt
+put_work (Ok verdict.Errors) old new fault = tt
+put_work (Err r) old new fault = subst (λ (e : Refusal). KeepsWork (refused e) old new) (sym fault) tt
 
 pub put_tree : (r : Result Verdict Refusal) (old new : ℕ) → IfErr r (λ e. e ≡ SinkFault) → new ≡ old → CountsTreeFaults (ended r) old new
 put_tree (Ok verdict.Clean) old new fault same = same
@@ -175,6 +209,10 @@ ends_before P r e x is same h = subst (λ (w : Result Verdict Refusal). P (ended
 module _ {A : Type 0} where
   pub explains_on : (words : List Bytes) (told : Option Files) (r : Result A Refusal) (e x : Refusal) → r ≡ Err e → e ≡ x → Explains words told x → IfErr r (Explains words told)
   explains_on words told r e x is same h = subst (λ (w : Result A Refusal). IfErr w (Explains words told)) (sym is) (subst (λ (y : Refusal). Explains words told y) (sym same) h)
+
+  -- memory is wanted where no fault was counted
+  pub counts_on : (old new : ℕ) (r : Result A Refusal) (e : Refusal) → r ≡ Err e → e ≡ Memory → new ≡ old → CountsFaults old new r
+  counts_on old new r e is memory same = subst (λ (w : Result A Refusal). CountsFaults old new w) (sym is) (subst (λ (x : Refusal). CountsFaults {A = A} old new (Err x)) (sym memory) same)
 
 pub explains_later : (words : List Bytes) (o p : Option Files) (r : Refusal) → p ≡ o → Explains words p r → Explains words o r
 explains_later words o p r e h = subst (λ (w : Option Files). Explains words w r) e h

@@ -15,14 +15,15 @@ use Rattle.pj_sources.specs.Limits.{most_files}
 use Rattle.pj_sources.specs.Listing.{AreSourcePaths, IsListing, IsOfItems, SaysNoListing}
 use Rattle.pj_sources.specs.Paths.{is_source}
 use Rattle.pj_sources.specs.Reading.{IsOfPaths, SaysNotRead}
-use Rattle.pj_sources.specs.declared.limits.LimitKind.{LimitKind}
-use Rattle.pj_sources.specs.declared.limits.LimitKind.TheVariants as limit
+use Rattle.pj_sources.specs.declared.limits.SourceLimit.{SourceLimit}
+use Rattle.pj_sources.specs.declared.limits.SourceLimit.TheVariants as limit
 use Rattle.pj_sources.specs.declared.listing.Listing.{Listing}
 use Rattle.pj_sources.specs.declared.refused.ListRefused.{ListRefused}
 use Rattle.pj_sources.specs.declared.refused.ListRefused.TheVariants as unlisted
 use Rattle.pj_sources.specs.declared.refused.ReadRefused.{ReadRefused}
 use Rattle.pj_sources.specs.declared.refused.ReadRefused.TheVariants as unread
 use Rattle.pj_check.specs.Refused.{bad_rules, nothing_there, source_missing, too_many_bytes, too_many_rules, too_many_sources, usage}
+use Rattle.pj_check.specs.Limits.{limit_of}
 use Rattle.pj_check.specs.Run.{HasRules, HasSources}
 use Rattle.pj_check.specs.Steps.{Explains, SaysRefusal, after_listing, after_loading, after_reading, after_words}
 use Rattle.pj_check.specs.declared.refusal.Refusal.TheVariants.{Limit}
@@ -58,11 +59,11 @@ explain_listing words told settings (unlisted.Missing item) asked says named = r
 explain_listing words told settings unlisted.Memory asked says named =
     record { cause = all_told told (λ held. SaysRefusal words held (after_listing unlisted.Memory)) (λ held. tt); of_words = tt }
 
-pub explain_many : (words : List Bytes) (told : Option Files) (settings : Settings) (listing : Listing) (kind : LimitKind) → job words ≡ Ok settings → IfSome told (λ files. IsListing files settings.dirs listing) →
-    kind ≡ limit.Files → most_files < length listing.paths → Explains words told (Limit kind)
+pub explain_many : (words : List Bytes) (told : Option Files) (settings : Settings) (listing : Listing) (kind : SourceLimit) → job words ≡ Ok settings → IfSome told (λ files. IsListing files settings.dirs listing) →
+    kind ≡ limit.Files → most_files < length listing.paths → Explains words told (Limit (limit_of kind))
 explain_many words told settings listing kind asked says is many = record {
-  cause = told_so told (λ files. IsListing files settings.dirs listing) (λ held. SaysRefusal words held (Limit kind))
-      (λ held listed. subst (λ (k : LimitKind). SaysRefusal words held (Limit k)) (sym is) (too_many_sources settings listing asked listed many)) says;
+  cause = told_so told (λ files. IsListing files settings.dirs listing) (λ held. SaysRefusal words held (Limit (limit_of kind)))
+      (λ held listed. subst (λ (k : SourceLimit). SaysRefusal words held (Limit (limit_of k))) (sym is) (too_many_sources settings listing asked listed many)) says;
   of_words = (settings, asked, tt);
 }
 

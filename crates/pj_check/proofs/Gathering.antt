@@ -1,21 +1,27 @@
 -- What is gathered of rules and files, one after the other.
 use Rattle.std.proofs.Common.{◌≡◌, ◌∙◌, ◌+◌, ◌<◌, ℕ, List, [], ◌∷◌, ◌++◌, length, map, take, get_or, Option, None, Some, ap, sym, subst, refl}
-use Rattle.std.proofs.lemmas.List.{append_assoc, map-append, take_more}
-use Rattle.std.specs.List.{AllZip}
-use Rattle.pj_reports.specs.declared.rows.FileRows.{FileRows}
+use Rattle.std.proofs.lemmas.List.{take_more}
+use Rattle.std.specs.Prelude.{IsTrue}
+use Rattle.std.specs.List.{AllByRecursion, AllZip}
+use Rattle.pj_names.specs.ClassName.{Name, name_set}
+use Rattle.pj_names.specs.Held.{IsHeld}
+use Rattle.pj_names.specs.Told.{Told}
 use Rattle.pj_outside.specs.Files.{Bytes, Files}
 use Rattle.pj_rule_sets.specs.Expressions.{AreOf, Both, IsKept, IsSpelledBy, names_of}
 use Rattle.pj_rule_sets.specs.Patterns.{suppression_of}
 use Rattle.pj_rule_sets.specs.declared.expressions.RuleExpressions.{RuleExpressions}
 use Rattle.pj_rule_sets.specs.declared.spelled.Spelled.{Spelled}
-use Rattle.pj_rule_sets.specs.Rules.{EffectiveRule, EffectiveRules, texts_of}
+use Rattle.pj_rule_sets.specs.Rules.{EffectiveRule, texts_of}
 use Rattle.pj_rule_texts.specs.Values.{Text}
 use Rattle.pj_rule_texts.specs.declared.rule.RuleTexts.{RuleTexts}
 use Rattle.pj_workers.specs.Cold.{AreRowsOf, World}
-use Rattle.pj_workers.specs.NoTypes.{no_types}
-use Rattle.pj_workers.specs.Rules.{AreRulesOf, IsRuleOf, Rule, source_of}
+use Rattle.pj_workers.specs.FileMeaning.{file_meaning}
+use Rattle.pj_workers.specs.NoFunctions.{no_functions}
+use Rattle.pj_workers.specs.Results.{IsResultAt}
+use Rattle.pj_workers.specs.Rules.{IsRuleOf, Rule, source_of}
+use Rattle.pj_workers.specs.declared.result.FileResult.{FileResult}
+use Rattle.pj_workers.proofs.Unasked.{means_everywhere}
 use Rattle.pj_xexpressions.specs.declared.expr.Expr.{Expr}
-use Rattle.pj_check.specs.Steps.{AreRows}
 
 module _ {X : Type 0} where
   pub take_next : (xs : List X) (i : ℕ) (x : X) → i < length xs → x ≡ get_or xs i x → take (i + 1) xs ≡ take i xs ++ x ∷ []
@@ -73,16 +79,18 @@ rows_are marker (k ∷ ks) (r ∷ rs) h =
 
 -- ---- files
 
--- one file more
-pub next_rows : (set : EffectiveRules) (files : Files) (i : ℕ) (file : Bytes × Bytes) (rows : List (Bytes × FileRows)) (of_file : Bytes × FileRows) → i < length files → file ≡ get_or files i file →
-    AreRows set (take i files) rows → ((world : World) (all : List Rule) → AreRulesOf set all → AreRowsOf no_types world all file of_file) → AreRows set (take (i + 1) files) (rows ++ of_file ∷ [])
-next_rows set files i file rows of_file within here so_far next = λ world all are.
-    subst (λ (xs : Files). AllZip (AreRowsOf no_types world all) xs (rows ++ of_file ∷ [])) (sym (take_next files i file within here))
-    (AllZip-last (AreRowsOf no_types world all) (take i files) rows file of_file (so_far world all are) (next world all are))
-
--- the paths of the files so far, and one more
-pub next_paths : (before : List Bytes) (files : Files) (i : ℕ) (file : Bytes × Bytes) → i < length files → file ≡ get_or files i file →
-    (before ++ map (λ (f : Bytes × Bytes). f.0) (take i files)) ++ file.0 ∷ [] ≡ before ++ map (λ (f : Bytes × Bytes). f.0) (take (i + 1) files)
-next_paths before files i file within here =
-    append_assoc before (map (λ (f : Bytes × Bytes). f.0) (take i files)) (file.0 ∷ [])
-    ∙ ap (λ (paths : List Bytes). before ++ paths) (sym (ap (map (λ (f : Bytes × Bytes). f.0)) (take_next files i file within here) ∙ map-append (λ (f : Bytes × Bytes). f.0) (take i files) (file ∷ [])))
+-- what came of files where no class was asked for are their rows over every world
+pub rows_everywhere : {K : Type 0} (t : Told K) (world : World) (all : List Rule) (files : Files) (found : List (Bytes × FileResult)) → IsTrue t.is_told → AllZip (IsResultAt t no_functions all) files found
+    → AllByRecursion (λ (of_file : Bytes × FileResult). of_file.1.names ≡ []) found → AllZip (AreRowsOf no_functions world all) files (map (λ (of_file : Bytes × FileResult). (of_file.0, of_file.1.rows)) found)
+rows_everywhere t world all [] [] told h none = tt
+rows_everywhere t world all [] (x ∷ xs) told h none = absurd h
+rows_everywhere t world all (f ∷ fs) [] told h none = absurd h
+rows_everywhere t world all (f ∷ fs) (x ∷ xs) told h none = (
+  record {
+    path = h.0.path;
+    names = name_set [];
+    comes = means_everywhere t.world (file_meaning no_functions f.0 f.1 all) x.1.rows world
+        (subst (λ (names : List Name). IsHeld t.world (file_meaning no_functions f.0 f.1 all) x.1.rows (name_set names)) none.0 (h.0.result.rows.held told));
+  },
+  rows_everywhere t world all fs xs told h.1 none.1,
+)

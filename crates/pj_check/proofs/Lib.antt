@@ -7,3 +7,4 @@ mod OneRefusal
 mod Once
 pub mod Pieces
 pub mod Emptiness
+pub mod InOrder

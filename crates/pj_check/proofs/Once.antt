@@ -18,7 +18,7 @@ use Rattle.pj_sources.specs.Reading.{AreRead}
 use Rattle.pj_sources.specs.declared.listing.Listing.{Listing}
 use Rattle.pj_workers.specs.Cold.{AreRowsOf, World}
 use Rattle.pj_workers.specs.Laws.{AreAlike, ListsAreTexts, OneCold}
-use Rattle.pj_workers.specs.NoTypes.{no_types}
+use Rattle.pj_workers.specs.NoFunctions.{no_functions}
 use Rattle.pj_workers.specs.Rules.{IsRuleOf, Rule}
 use Rattle.pj_check.specs.Cold.{IsColdOf}
 use Rattle.pj_check.specs.Run.{IsRun, Run}
@@ -39,7 +39,7 @@ alike marker (r ∷ rs) (x ∷ xs) [] h k = absurd k
 alike marker (r ∷ rs) (x ∷ xs) (y ∷ ys) h k = ((h.0.source ∙ sym k.0.source, h.0.spelled, k.0.spelled), alike marker rs xs ys h.1 k.1)
 
 module _ (texts : ListsAreTexts) (xs ys : List Rule) (are : AreAlike xs ys) where
-  other_rows : (files : Files) (rows : List (Bytes × FileRows)) → AllZip (AreRowsOf no_types no_classes xs) files rows → AllZip (AreRowsOf no_types no_classes ys) files rows
+  other_rows : (files : Files) (rows : List (Bytes × FileRows)) → AllZip (AreRowsOf no_functions no_classes xs) files rows → AllZip (AreRowsOf no_functions no_classes ys) files rows
   other_rows [] [] h = tt
   other_rows [] (r ∷ rs) h = absurd h
   other_rows (f ∷ fs) [] h = absurd h
@@ -47,7 +47,7 @@ module _ (texts : ListsAreTexts) (xs ys : List Rule) (are : AreAlike xs ys) wher
     record {
       path = h.0.path;
       names = h.0.names;
-      comes = subst (λ (m : Asking FileRows). Means (whole no_classes) m (Gives r.1 h.0.names)) (texts no_types f.0 f.1 xs ys are) h.0.comes;
+      comes = subst (λ (m : Asking FileRows). Means (whole no_classes) m (Gives r.1 h.0.names)) (texts no_functions f.0 f.1 xs ys are) h.0.comes;
     },
     other_rows fs rs h.1,
   )
@@ -58,7 +58,7 @@ one_report texts one sources set a b x y =
     let cold = x.cold no_classes in
     let rows : map (λ (rule : Rule). rule.source.texts.row) x.rules ≡ map (λ (rule : Rule). rule.source.texts.row) y.rules =
     sym (rows_are set.marker set.rules x.rules x.are_rules) ∙ rows_are set.marker set.rules y.rules y.are_rules in
-    one no_types no_classes sources y.rules set.unusable a b
+    one no_functions no_classes sources y.rules set.unusable a b
     (record {
       rules_are = cold.rules_are ∙ rows;
       files_are = other_rows texts x.rules y.rules (alike set.marker set.rules x.rules y.rules x.are_rules y.are_rules) sources a.files cold.files_are;

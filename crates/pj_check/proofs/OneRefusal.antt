@@ -12,11 +12,12 @@ use Rattle.pj_sources.specs.Laws.{OneListing, OneRefusal}
 use Rattle.pj_sources.specs.Limits.{most_files}
 use Rattle.pj_sources.specs.Listing.{IsListing, first_missing}
 use Rattle.pj_sources.specs.Reading as sources
-use Rattle.pj_sources.specs.declared.limits.LimitKind.TheVariants as limit
+use Rattle.pj_check.specs.declared.limit.LimitKind.TheVariants as limit
 use Rattle.pj_sources.specs.declared.listing.Listing.{Listing}
 use Rattle.pj_sources.specs.declared.refused.ReadRefused.{ReadRefused}
 use Rattle.pj_sources.specs.declared.refused.ReadRefused.TheVariants as unread
 use Rattle.pj_check.specs.Refused.{IsRefused, bad_rules, nothing_there, source_missing, too_many_bytes, too_many_rules, too_many_sources, usage}
+use Rattle.pj_check.specs.Limits.{limit_of}
 use Rattle.pj_check.specs.Run.{HasSources}
 use Rattle.pj_check.specs.declared.outcome.Outcome.{Outcome}
 use Rattle.pj_check.specs.declared.outcome.Outcome.TheVariants as outcome
@@ -32,7 +33,7 @@ one_item o a b x y = let e : Some a ≡ Some b = sym x ∙ y in cc
 
 abbrev of_reading : ReadRefused → Outcome
 of_reading (unread.Missing path) = outcome.Missing path
-of_reading (unread.Limit kind) = outcome.Limit kind
+of_reading (unread.Limit kind) = outcome.Limit (limit_of kind)
 of_reading _ = outcome.Memory
 
 data OfRules (held : Files) (settings : Settings) (listing : Listing) (o : Outcome) : Type 0 where

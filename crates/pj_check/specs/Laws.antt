@@ -1,6 +1,11 @@
 -- What follows from the definitions.
-use Rattle.std.specs.Prelude.{◌≡◌, List}
+use Rattle.std.specs.Prelude.{◌≡◌, List, map}
+use Rattle.std.specs.List.{AllByRecursion}
+use Rattle.std.specs.List.Sorted.{IsStrictlySortedBy}
 use Rattle.pj_outside.specs.Files.{Files, Bytes}
+use Rattle.pj_reports.specs.declared.rows.FileRows.{FileRows}
+use Rattle.pj_sources.specs.Paths.{byte_order}
+use Rattle.pj_workers.specs.Laws.{AreInOrder}
 use Rattle.pj_check.specs.Refused.{IsRefused}
 use Rattle.pj_check.specs.Run.{IsRun, Run}
 use Rattle.pj_check.specs.declared.outcome.Outcome.{Outcome}
@@ -17,3 +22,8 @@ OneRefusal = (words : List Bytes) (held : Files) (a b : Outcome) → IsRefused w
 -- Words and files have one run at most.
 abbrev pub OneRun : Type 0
 OneRun = (words : List Bytes) (held : Files) (a b : Run) → IsRun words held a → IsRun words held b → a ≡ b
+
+-- The report of a run has its files by path, in the order of their bytes, each once; and the rows of each file in order.
+abbrev pub ReportIsInOrder : Type 0
+ReportIsInOrder = (words : List Bytes) (held : Files) (run : Run) → IsRun words held run
+    → IsStrictlySortedBy byte_order (map (λ (of_file : Bytes × FileRows). of_file.0) run.report.files) × AllByRecursion (λ (of_file : Bytes × FileRows). AreInOrder of_file.1) run.report.files

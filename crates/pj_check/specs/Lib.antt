@@ -1,17 +1,15 @@
 -- definitions, in the order in which they are read
 pub mod Cold
+pub mod Formats
+pub mod Verdicts
 pub mod Run
+pub mod Limits
 pub mod Refused
 pub mod Outcome
+pub mod NoteText
 pub mod Notes
 -- laws
 pub mod Laws
+pub mod ReportLaws
 -- for private clauses
 pub mod Steps
--- definitions
-pub mod NoteText
--- definitions
-pub mod Formats
-pub mod Verdicts
--- laws
-pub mod ReportLaws

@@ -6,8 +6,8 @@ use Rattle.pj_check.specs.declared.note_kind.Note.{Note}
 use Rattle.pj_check.specs.declared.note_kind.Note.TheVariants.{Usage, Rules, TreeFault, ClassFault, SinkFault, Missing, Limit, Memory}
 use Rattle.pj_settings.specs.declared.usage.UsageFault.{UsageFault}
 use Rattle.pj_settings.specs.declared.usage.UsageFault.TheVariants as usage
-use Rattle.pj_sources.specs.declared.limits.LimitKind.{LimitKind}
-use Rattle.pj_sources.specs.declared.limits.LimitKind.TheVariants as limit
+use Rattle.pj_check.specs.declared.limit.LimitKind.{LimitKind}
+use Rattle.pj_check.specs.declared.limit.LimitKind.TheVariants as limit
 
 -- a line: the program's name before the text, a line feed behind it
 abbrev pub line_of : Bytes → Bytes

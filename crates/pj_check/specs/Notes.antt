@@ -1,5 +1,5 @@
--- The line that tells the user why a run has no report.
-use Rattle.std.specs.Prelude.{◌≡◌, ◌⊎◌, ◌++◌, ℕ, Option, Some, None, codes}
+-- The lines that tell the user why a run has no report.
+use Rattle.std.specs.Prelude.{◌≡◌, ◌⊎◌, ◌++◌, ℕ, List, [], ◌∷◌, Option, codes, flat_map}
 use Rattle.pj_check.specs.NoteText.{limit_text, line_of, usage_text}
 use Rattle.pj_outside.specs.Faults.{Rises}
 use Rattle.pj_outside.specs.Files.{Bytes}
@@ -23,21 +23,22 @@ what_name (what.SameName name) = codes "SameName"
 what_name (what.PatternRefused name) = codes "PatternRefused"
 what_name what.TooLong = codes "TooLong"
 
--- a run that has a report has no note
-abbrev pub note_of : Outcome → Option Bytes
-note_of Clean = None
-note_of Violations = None
-note_of Errors = None
-note_of (Usage fault) = Some (line_of (usage_text fault))
-note_of (Rules fault) = Some (line_of (codes "rules refused: " ++ fault.path ++ codes ": " ++ what_name fault.what))
-note_of TreeFault = Some (line_of (codes "sources cannot be read"))
-note_of ClassFault = Some (line_of (codes "class folders cannot be read"))
-note_of SinkFault = Some (line_of (codes "report cannot be written"))
-note_of (Missing path) = Some (line_of (codes "no such path: " ++ path))
-note_of (Limit kind) = Some (line_of (limit_text kind))
-note_of Memory = Some (line_of (codes "out of memory"))
+-- the lines of an outcome, in their order: a run that has a report has none
+abbrev pub notes_of : Outcome → List Bytes
+notes_of Clean = []
+notes_of Violations = []
+notes_of Errors = []
+notes_of (Usage fault) = line_of (usage_text fault) ∷ []
+notes_of (Rules fault) = line_of (codes "rules refused: " ++ fault.path ++ codes ": " ++ what_name fault.what) ∷ []
+notes_of TreeFault = line_of (codes "sources cannot be read") ∷ []
+notes_of ClassFault = line_of (codes "class folders cannot be read") ∷ []
+notes_of SinkFault = line_of (codes "report cannot be written") ∷ []
+notes_of (Missing path) = line_of (codes "no such path: " ++ path) ∷ []
+notes_of (Limit kind) = line_of (limit_text kind) ∷ []
+notes_of Memory = line_of (codes "out of memory") ∷ []
 
--- The notes got just the note, if there is one; where they failed they got a prefix of it.
-abbrev pub GetNote : Option Bytes → Option Bytes → Option Bytes → ℕ → ℕ → Type 0
-GetNote None old new before after = (new ≡ old) × (after ≡ before)
-GetNote (Some line) old new before after = (Gets old new line × (after ≡ before)) ⊎ (GetsPrefix old new line × Rises before after)
+-- The notes got the lines, one behind the other, and nothing where there are none. Where they failed they got a prefix of the lines:
+-- nothing is put behind a failure.
+abbrev pub GetNotes : List Bytes → Option Bytes → Option Bytes → ℕ → ℕ → Type 0
+GetNotes [] old new before after = (new ≡ old) × (after ≡ before)
+GetNotes (line ∷ lines) old new before after = (Gets old new (flat_map (λ l. l) (line ∷ lines)) × (after ≡ before)) ⊎ (GetsPrefix old new (flat_map (λ l. l) (line ∷ lines)) × Rises before after)

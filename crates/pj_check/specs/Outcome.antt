@@ -3,10 +3,12 @@ use Rattle.std.specs.Prelude.{⊤, ◌≡◌, ◌⊎◌, ◌++◌, ℕ, IsTrue, 
 use Rattle.pj_outside.specs.Faults.{Rises}
 use Rattle.pj_outside.specs.Files.{Files, Bytes}
 use Rattle.pj_outside.specs.Putting.{Gets, GetsPrefix}
+use Rattle.pj_reports.specs.declared.report.Report.{Report}
 use Rattle.pj_settings.specs.Job.{job}
 use Rattle.pj_settings.specs.declared.settings.Settings.{Settings}
 use Rattle.pj_sources.specs.Paths.{is_source}
 use Rattle.pj_workers.specs.declared.work.Work.{Work}
+use Rattle.pj_check.specs.Formats.{report_text}
 use Rattle.pj_check.specs.Verdicts.{verdict_of}
 use Rattle.pj_check.specs.declared.verdict.Verdict.{Verdict}
 use Rattle.pj_check.specs.declared.verdict.Verdict.TheVariants as verdict
@@ -78,13 +80,36 @@ abbrev pub CountsSinkFaults : Outcome → ℕ → ℕ → Type 0
 CountsSinkFaults SinkFault old new = Rises old new
 CountsSinkFaults other old new = new ≡ old
 
--- Nothing is put but by a run that comes to its report.
-abbrev pub KeepsSink : Outcome → Option Bytes → Option Bytes → Type 0
-KeepsSink Clean old new = ⊤
-KeepsSink Violations old new = ⊤
-KeepsSink Errors old new = ⊤
-KeepsSink SinkFault old new = ⊤
-KeepsSink other old new = new ≡ old
+-- The sink got the whole text of some report, in the format that the words ask for, which comes to this verdict.
+pub record GetsSome (verdict : Verdict) (words : List Bytes) (old new : Option Bytes) : Type 0 where
+  pub settings : Settings
+  pub asked : job words ≡ Ok settings
+  pub report : Report
+  pub comes_to : verdict_of report ≡ verdict
+  pub got : Gets old new (report_text settings.format report)
+
+-- It got a prefix of such a text.
+pub record GetsSomePrefix (words : List Bytes) (old new : Option Bytes) : Type 0 where
+  pub settings : Settings
+  pub asked : job words ≡ Ok settings
+  pub report : Report
+  pub got : GetsPrefix old new (report_text settings.format report)
+
+-- What an outcome says of the sink where nothing is known of the files. Nothing is put but by a run that comes to a report.
+abbrev pub SaysOfSink : Outcome → List Bytes → Option Bytes → Option Bytes → Type 0
+SaysOfSink Clean words old new = GetsSome verdict.Clean words old new
+SaysOfSink Violations words old new = GetsSome verdict.Violations words old new
+SaysOfSink Errors words old new = GetsSome verdict.Errors words old new
+SaysOfSink SinkFault words old new = GetsSomePrefix words old new
+SaysOfSink other words old new = new ≡ old
+
+-- The work is as it was but for a run that comes to its report.
+abbrev pub KeepsWork : Outcome → Work → Work → Type 0
+KeepsWork Clean old new = ⊤
+KeepsWork Violations old new = ⊤
+KeepsWork Errors old new = ⊤
+KeepsWork SinkFault old new = ⊤
+KeepsWork other old new = new ≡ old
 
 -- the exit status of a program that ends so
 abbrev pub status_of : Outcome → ℕ

@@ -10,8 +10,9 @@ use Rattle.pj_settings.specs.declared.usage.UsageFault.{UsageFault}
 use Rattle.pj_sources.specs.Limits.{most_files}
 use Rattle.pj_sources.specs.Listing.{IsListing, first_missing}
 use Rattle.pj_sources.specs.Reading as sources
-use Rattle.pj_sources.specs.declared.limits.LimitKind.{LimitKind}
-use Rattle.pj_sources.specs.declared.limits.LimitKind.TheVariants as limit
+use Rattle.pj_sources.specs.declared.limits.SourceLimit.{SourceLimit}
+use Rattle.pj_check.specs.Limits.{limit_of}
+use Rattle.pj_check.specs.declared.limit.LimitKind.TheVariants as limit
 use Rattle.pj_sources.specs.declared.listing.Listing.{Listing}
 use Rattle.pj_sources.specs.declared.refused.ReadRefused.TheVariants as unread
 use Rattle.pj_check.specs.Run.{HasRules, HasSources}
@@ -33,5 +34,5 @@ pub data IsRefused (words : List Bytes) (held : Files) : Outcome → Type 0 wher
   -- a source is not there, too long, or too much with those before it
   source_missing : (settings : Settings) (listing : Listing) (rules : EffectiveRules) {path : Bytes} → HasRules words held settings listing rules →
       sources.IsRefused held listing.paths (unread.Missing path) → IsRefused words held (outcome.Missing path)
-  too_many_bytes : (settings : Settings) (listing : Listing) (rules : EffectiveRules) {kind : LimitKind} → HasRules words held settings listing rules →
-      sources.IsRefused held listing.paths (unread.Limit kind) → IsRefused words held (outcome.Limit kind)
+  too_many_bytes : (settings : Settings) (listing : Listing) (rules : EffectiveRules) {kind : SourceLimit} → HasRules words held settings listing rules →
+      sources.IsRefused held listing.paths (unread.Limit kind) → IsRefused words held (outcome.Limit (limit_of kind))

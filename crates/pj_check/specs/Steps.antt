@@ -1,34 +1,41 @@
 -- The steps of a run, for private clauses: what they give, and what their refusals say.
 use Rattle.std.specs.Prelude.{⊤, ◌≡◌, ℕ, List, Option, Result, Ok, Err, IfSome}
 use Rattle.std.specs.List.{AllZip}
+use Rattle.pj_names.specs.declared.oracle.AskFault.{AskFault}
+use Rattle.pj_names.specs.declared.oracle.AskFault.TheVariants as unanswered
 use Rattle.pj_outside.specs.Faults.{Rises}
 use Rattle.pj_outside.specs.Files.{Files, Bytes}
+use Rattle.pj_reports.specs.declared.report.Report.{Report}
 use Rattle.pj_reports.specs.declared.rows.FileRows.{FileRows}
 use Rattle.pj_rule_sets.specs.Rules.{EffectiveRules}
 use Rattle.pj_rules.specs.declared.fault.RuleRefused.{RuleRefused}
 use Rattle.pj_rules.specs.declared.fault.RuleRefused.TheVariants as unloaded
+use Rattle.pj_settings.specs.Job.{job}
+use Rattle.pj_settings.specs.declared.settings.Settings.{Settings}
 use Rattle.pj_settings.specs.declared.usage.UsageRefused.{UsageRefused}
 use Rattle.pj_settings.specs.declared.usage.UsageRefused.TheVariants as unasked
-use Rattle.pj_sources.specs.declared.limits.LimitKind.TheVariants as limit
+use Rattle.pj_check.specs.declared.limit.LimitKind.TheVariants as limit
 use Rattle.pj_sources.specs.declared.refused.ListRefused.{ListRefused}
 use Rattle.pj_sources.specs.declared.refused.ListRefused.TheVariants as unlisted
 use Rattle.pj_sources.specs.declared.refused.ReadRefused.{ReadRefused}
 use Rattle.pj_sources.specs.declared.refused.ReadRefused.TheVariants as unread
 use Rattle.pj_workers.specs.Cold.{AreRowsOf, World}
-use Rattle.pj_workers.specs.NoTypes.{no_types}
+use Rattle.pj_workers.specs.NoFunctions.{no_functions}
 use Rattle.pj_workers.specs.Rules.{AreRulesOf, Rule}
 use Rattle.pj_workers.specs.declared.work.Work.{Work}
+use Rattle.pj_check.specs.Formats.{report_text}
 use Rattle.pj_check.specs.Verdicts.{verdict_of}
 use Rattle.pj_check.specs.declared.verdict.Verdict.{Verdict}
 use Rattle.pj_check.specs.declared.verdict.Verdict.TheVariants as verdict
 use Rattle.pj_check.specs.declared.report_rendering.Written.{Written}
+use Rattle.pj_check.specs.Limits.{limit_of}
 use Rattle.pj_check.specs.Outcome.{SaysOfWords, Worked}
 use Rattle.pj_check.specs.Refused.{IsRefused}
 use Rattle.pj_check.specs.Run.{IsRun, Run, text_of}
 use Rattle.pj_check.specs.declared.outcome.Outcome.{Outcome}
 use Rattle.pj_check.specs.declared.outcome.Outcome.TheVariants as outcome
 use Rattle.pj_check.specs.declared.refusal.Refusal.{Refusal}
-use Rattle.pj_check.specs.declared.refusal.Refusal.TheVariants.{Usage, Rules, TreeFault, SinkFault, Missing, Limit, Memory}
+use Rattle.pj_check.specs.declared.refusal.Refusal.TheVariants.{Usage, Rules, TreeFault, ClassFault, SinkFault, Missing, Limit, Memory}
 
 -- ---- what refusals of the layers become
 
@@ -50,13 +57,18 @@ after_loading unloaded.Memory = Memory
 abbrev pub after_reading : ReadRefused → Refusal
 after_reading unread.Failed = TreeFault
 after_reading (unread.Missing path) = Missing path
-after_reading (unread.Limit kind) = Limit kind
+after_reading (unread.Limit kind) = Limit (limit_of kind)
 after_reading unread.Memory = Memory
+
+abbrev pub after_asking : AskFault → Refusal
+after_asking unanswered.Failed = ClassFault
+after_asking unanswered.Memory = Memory
 
 abbrev pub refused : Refusal → Outcome
 refused (Usage fault) = outcome.Usage fault
 refused (Rules fault) = outcome.Rules fault
 refused TreeFault = outcome.TreeFault
+refused ClassFault = outcome.ClassFault
 refused SinkFault = outcome.SinkFault
 refused (Missing path) = outcome.Missing path
 refused (Limit kind) = outcome.Limit kind
@@ -78,6 +90,7 @@ abbrev pub SaysRefusal : List Bytes → Files → Refusal → Type 0
 SaysRefusal words held (Usage fault) = IsRefused words held (outcome.Usage fault)
 SaysRefusal words held (Rules fault) = IsRefused words held (outcome.Rules fault)
 SaysRefusal words held TreeFault = ⊤
+SaysRefusal words held ClassFault = ⊥
 SaysRefusal words held SinkFault = ⊥
 SaysRefusal words held (Missing path) = IsRefused words held (outcome.Missing path)
 SaysRefusal words held (Limit kind) = IsRefused words held (outcome.Limit kind)
@@ -104,7 +117,7 @@ module _ {A : Type 0} where
 
 -- the rows of files, of the rules of the set
 abbrev pub AreRows : EffectiveRules → Files → List (Bytes × FileRows) → Type 0
-AreRows set files rows = (world : World) (rules : List Rule) → AreRulesOf set rules → AllZip (AreRowsOf no_types world rules) files rows
+AreRows set files rows = (world : World) (rules : List Rule) → AreRulesOf set rules → AllZip (AreRowsOf no_functions world rules) files rows
 
 -- the report of a run as it is to be put, with the work so far
 pub record IsMade (words : List Bytes) (held : Files) (before after : Work) (written : Written) : Type 0 where
@@ -113,3 +126,11 @@ pub record IsMade (words : List Bytes) (held : Files) (before after : Work) (wri
   pub text : written.text ≡ text_of run
   pub comes_to : written.verdict ≡ verdict_of run.report
   pub worked : Worked run before after
+
+-- it is the text of some report in the format that the words ask for, with what that comes to
+pub record IsOfSome (words : List Bytes) (written : Written) : Type 0 where
+  pub settings : Settings
+  pub asked : job words ≡ Ok settings
+  pub report : Report
+  pub text : written.text ≡ report_text settings.format report
+  pub comes_to : written.verdict ≡ verdict_of report

@@ -1,18 +1,17 @@
 //! A run on one thread.
-ghost use Rattle.std.specs.Prelude.{◌≡◌, ◌≢◌, ⊤, Err, IfOk, IfErr, IfSome, OnErr, OnOk};
+ghost use Rattle.std.specs.Prelude.{◌≡◌, ◌≢◌, Err, IfOk, IfErr, IfSome, OnErr, OnOk};
 ghost use Rattle.pj_outside.specs.Faults.{Rises};
 ghost use Rattle.pj_outside.specs.Putting.{Gets, GetsPrefix};
-ghost use Rattle.pj_check.specs.Notes.{GetNote, note_of};
-ghost use Rattle.pj_check.specs.Outcome.{AsksFor, CountsSinkFaults, CountsTreeFaults, KeepsSink, Says, SaysOfWords};
-ghost use Rattle.pj_check.specs.Steps.{CountsFaults, Explains, IsMade, ended};
+ghost use Rattle.pj_check.specs.Notes.{GetNotes, notes_of};
+ghost use Rattle.pj_check.specs.Outcome.{CountsSinkFaults, CountsTreeFaults, KeepsWork, Says, SaysOfSink, SaysOfWords};
+ghost use Rattle.pj_check.specs.Steps.{CountsFaults, Explains, IsMade, IsOfSome, ended};
 
-use crate::cold::cold_report;
 use crate::note::put_outcome;
 use crate::outcome::Outcome;
 use crate::refusal::{Refusal, ended};
-use crate::steps::{asked, listed, loaded, sources_of};
+use crate::steps::{asked, listed, loaded, reported, sources_of};
 use crate::{Verdict, Written, put_report, written_report};
-use pj_base::Words;
+use pj_base::{Copied, Words};
 use pj_outside::{ClassPath, Keeper, Sink, Tree};
 use pj_workers::Work;
 use std::alloc::Global;
@@ -25,20 +24,23 @@ fn made<T: Tree>(
     work: &mut Work,
 ) -> Result<Written, Refusal>
     ensures made { IfSome (T.holds tree.old) (λ held. IfOk result (IsMade words.now held work.old work.new)) }
-    ensures asked { OnOk result (AsksFor (λ settings. ⊤) words.now) }
+    ensures of_some { IfOk result (IsOfSome words.now) }
     ensures refused { IfErr result (Explains words.now (T.holds tree.old)) }
     ensures same_files { T.holds tree.new ≡ T.holds tree.old }
     ensures counts_faults { CountsFaults (T.faults tree.old) (T.faults tree.new) result }
-    ensures steady { T.never_fails tree.old → result ≢ Err Refusal.TreeFault }
+    ensures steady { T.never_fails tree.old → T.never_fails tree.new × (result ≢ Err Refusal.TreeFault) }
     ensures reused { work.new.reused ≡ work.old.reused }
+    ensures keeps_work { OnErr result (work.new ≡ work.old) }
 {
     let settings = asked(alloc, words)?;
     let listing = listed(alloc, tree, &settings)?;
-    work.skipped = listing.skipped;
     let rules = loaded(alloc, tree, &settings)?;
     let sources = sources_of(alloc, tree, &listing)?;
-    let report = cold_report(alloc, &sources, &rules, work)?;
+    let mut done = work.copied()?;
+    done.skipped = listing.skipped;
+    let report = reported(alloc, &sources, &rules, &mut done)?;
     let written = written_report(alloc, settings.format, &report)?;
+    *work = done;
     Ok(written)
 }
 
@@ -67,12 +69,13 @@ fn run<T: Tree, S: Sink>(
 ) -> Result<Verdict, Refusal>
     ensures says { IfSome (T.holds tree.old) (λ held. Says (ended result) words.now held (S.held out.old) (S.held out.new) work.old work.new) }
     ensures of_words { SaysOfWords (ended result) words.now }
-    ensures keeps_sink { KeepsSink (ended result) (S.held out.old) (S.held out.new) }
+    ensures of_sink { SaysOfSink (ended result) words.now (S.held out.old) (S.held out.new) }
     ensures same_files { T.holds tree.new ≡ T.holds tree.old }
     ensures tree_faults { CountsTreeFaults (ended result) (T.faults tree.old) (T.faults tree.new) }
-    ensures steady { T.never_fails tree.old → ended result ≢ Outcome.TreeFault }
+    ensures steady { T.never_fails tree.old → T.never_fails tree.new × (ended result ≢ Outcome.TreeFault) }
     ensures sink_faults { CountsSinkFaults (ended result) (S.faults out.old) (S.faults out.new) }
     ensures reused { work.new.reused ≡ work.old.reused }
+    ensures keeps_work { KeepsWork (ended result) work.old work.new }
 {
     let written = made(alloc, words, tree, work)?;
     put(out, &written)
@@ -82,8 +85,8 @@ fn run<T: Tree, S: Sink>(
 /// report, as `pmd check -d SOURCES -R RULESETS -f FORMAT` does.
 ///
 /// The words are read, the sources listed and counted, the rulesets loaded, the sources read and analysed, and the report is made
-/// whole in memory before anything of it is put. The first refusal in this order is the outcome, and it leaves one line in the notes;
-/// a fault of the notes changes nothing else. No class is looked for and nothing is kept, so that the class path and the keeper are
+/// whole in memory before anything of it is put. The first refusal in this order is the outcome; it leaves one line in the notes, and `work`
+/// as it was. A fault of the notes changes nothing else. No class is looked for and nothing is kept, so that the class path and the keeper are
 /// not called.
 pub fn check_alone<T: Tree, C: ClassPath, K: Keeper, S: Sink, N: Sink>(
     alloc: Global,
@@ -97,15 +100,16 @@ pub fn check_alone<T: Tree, C: ClassPath, K: Keeper, S: Sink, N: Sink>(
 ) -> Outcome
     ensures says { IfSome (T.holds tree.old) (λ held. Says result words.now held (S.held out.old) (S.held out.new) work.old work.new) }
     ensures of_words { SaysOfWords result words.now }
-    ensures keeps_sink { KeepsSink result (S.held out.old) (S.held out.new) }
-    ensures notes { GetNote (note_of result) (N.held notes.old) (N.held notes.new) (N.faults notes.old) (N.faults notes.new) }
+    ensures of_sink { SaysOfSink result words.now (S.held out.old) (S.held out.new) }
+    ensures notes { GetNotes (notes_of result) (N.held notes.old) (N.held notes.new) (N.faults notes.old) (N.faults notes.new) }
     ensures same_files { T.holds tree.new ≡ T.holds tree.old }
     ensures tree_faults { CountsTreeFaults result (T.faults tree.old) (T.faults tree.new) }
-    ensures steady { T.never_fails tree.old → result ≢ Outcome.TreeFault }
+    ensures steady { T.never_fails tree.old → T.never_fails tree.new × (result ≢ Outcome.TreeFault) }
     ensures sink_faults { CountsSinkFaults result (S.faults out.old) (S.faults out.new) }
     ensures same_classes { classes.new ≡ classes.old }
     ensures same_keeper { keeper.new ≡ keeper.old }
     ensures reused { work.new.reused ≡ work.old.reused }
+    ensures keeps_work { KeepsWork result work.old work.new }
 {
     let outcome = ended(run(alloc, words, tree, out, work));
     put_outcome(notes, &outcome);

@@ -1,23 +1,16 @@
 //! The cold report.
-ghost use Rattle.std.specs.Prelude.{◌≡◌, ◌≤◌, ◌++◌, ◌∷◌, [], List, All, IfOk, OnOk, length, map};
+ghost use Rattle.std.specs.Prelude.{◌≡◌, ◌≢◌, ◌++◌, List, Err, IfOk, OnOk, map};
 ghost use Rattle.std.specs.List.{AllZip};
-ghost use Rattle.pj_grammar.specs.Java17.{java_17_forms};
-ghost use Rattle.pj_peg_grammar.specs.Form.{forms_of};
-ghost use Rattle.pj_sources.specs.Limits.{most_file_bytes};
-ghost use Rattle.pj_workers.specs.Cold.{AreRowsOf, World};
-ghost use Rattle.pj_workers.specs.NoTypes.{no_types};
 ghost use Rattle.pj_workers.specs.Rules.{AreRulesOf, IsRuleOf, Rule as AnyRule};
 ghost use Rattle.pj_check.specs.Cold.{IsColdOf};
 ghost use Rattle.pj_check.specs.Steps.{AreRows};
 
 use pj_base::{Bytes, Copied, NoMemory, Text};
-use pj_grammar::java_17;
-use pj_names::RuleRowList;
+use pj_names::{Answers, AskFault, MapOracle, RuleRowList};
 use pj_outside::Files;
-use pj_peg::WellFormed;
-use pj_reports::{FileRows, PathRows, Report};
+use pj_reports::{PathRows, Report};
 use pj_rule_sets::{Rule, RuleSet};
-use pj_workers::{Work, analyse_file};
+use pj_workers::{PathResults, Work, analyse_files};
 use std::alloc::Global;
 
 /// The texts of these rules spell expressions, since the rules keep them.
@@ -47,47 +40,35 @@ fn rule_rows(alloc: Global, rules: &[Rule]) -> Result<RuleRowList, NoMemory>
     Ok(rows)
 }
 
-/// The rows of a file, with its path.
-fn file_rows(
-    alloc: Global,
-    grammar: &WellFormed,
-    file: &(Text, Bytes),
-    rules: &RuleSet,
-    work: &mut Work,
-) -> Result<(Text, FileRows), NoMemory>
-    requires grammar { forms_of grammar.now ≡ java_17_forms }
-    requires short { length file.now.1 ≤ most_file_bytes }
-    ensures rows { IfOk result (λ rows. (world : World) (all : List AnyRule) → AreRulesOf rules.now all → AreRowsOf no_types world all file.now rows) }
-    ensures analysed { OnOk result (work.new.analysed ≡ work.old.analysed ++ file.now.0 ∷ []) }
-    ensures reused { work.new.reused ≡ work.old.reused }
-    ensures skipped { work.new.skipped ≡ work.old.skipped }
+/// The rows of what came of files, with their paths.
+fn rows_of(alloc: Global, found: PathResults) -> Result<PathRows, NoMemory>
+    ensures { IfOk result (λ rows. rows ≡ map (λ of_file. (of_file.0, of_file.1.rows)) found) }
 {
-    let found = analyse_file(alloc, grammar, &file.0, &file.1, rules, work)?;
-    let path = file.0.copied()?;
-    Ok((path, found.rows))
+    let mut rows = PathRows::new(alloc);
+    for of_file in found.into_vec() {
+        let (path, result) = of_file;
+        rows.push((path, result.rows))?;
+    }
+    Ok(rows)
 }
 
-/// The rows of the files, in their order, one tree at a time.
+/// The rows of the files, in their order. There are no class folders, so that no class is there.
 fn all_rows(
     alloc: Global,
-    grammar: &WellFormed,
     files: &[(Text, Bytes)],
     rules: &RuleSet,
     work: &mut Work,
-) -> Result<PathRows, NoMemory>
-    requires grammar { forms_of grammar.now ≡ java_17_forms }
-    requires short { All (λ file. length file.1 ≤ most_file_bytes) files.now }
+) -> Result<PathRows, AskFault>
     ensures rows { IfOk result (AreRows rules.now files.now) }
+    ensures never_failed { result ≢ Err AskFault.Failed }
     ensures analysed { OnOk result (work.new.analysed ≡ work.old.analysed ++ map (λ file. file.0) files.now) }
     ensures reused { work.new.reused ≡ work.old.reused }
     ensures skipped { work.new.skipped ≡ work.old.skipped }
 {
-    let mut rows = PathRows::new(alloc);
-    for file in files {
-        let of_file = file_rows(alloc, grammar, file, rules, work)?;
-        rows.push(of_file)?;
-    }
-    Ok(rows)
+    rules_are_spelled(rules);
+    let mut oracle = MapOracle::new(alloc, Answers::new(alloc));
+    let found = analyse_files(alloc, &mut oracle, files, rules, work)?;
+    Ok(rows_of(alloc, found)?)
 }
 
 /// The cold report of the rules over the sources.
@@ -96,16 +77,15 @@ pub fn cold_report(
     sources: &Files,
     rules: &RuleSet,
     work: &mut Work,
-) -> Result<Report, NoMemory>
-    requires short { All (λ file. length file.1 ≤ most_file_bytes) sources.now }
+) -> Result<Report, AskFault>
     ensures cold { IfOk result (IsColdOf sources.now rules.now) }
+    ensures never_failed { result ≢ Err AskFault.Failed }
     ensures analysed { OnOk result (work.new.analysed ≡ work.old.analysed ++ map (λ file. file.0) sources.now) }
     ensures reused { work.new.reused ≡ work.old.reused }
     ensures skipped { work.new.skipped ≡ work.old.skipped }
 {
     rules_are_spelled(rules);
-    let grammar = java_17(alloc)?;
-    let files = all_rows(alloc, &grammar, sources.as_slice(), rules, work)?;
+    let files = all_rows(alloc, sources.as_slice(), rules, work)?;
     let errors = rules.unusable().copied()?;
     let rules = rule_rows(alloc, rules.rules().as_slice())?;
     Ok(Report {

@@ -1,9 +1,9 @@
 //! Laws of the definitions, each the contract of a function that does nothing.
-ghost use Rattle.pj_check.specs.Laws.{OneRefusal, OneRun, RunIsNotRefused};
+ghost use Rattle.pj_check.specs.Laws.{OneRefusal, OneRun, ReportIsInOrder, RunIsNotRefused};
 
 use pj_rules::{one_first_fault, one_set, rules_or_fault};
 use pj_sources::{one_listing, one_reading};
-use pj_workers::{one_cold_report, rules_are_their_texts};
+use pj_workers::{cold_reports_are_in_order, one_cold_report, rules_are_their_texts};
 
 /// Words and files that have a run are not refused.
 pub fn runs_are_not_refused()
@@ -35,4 +35,12 @@ pub fn one_run()
     one_reading();
     rules_are_their_texts();
     one_cold_report();
+}
+
+/// The report of a run has its files by path, each once, and in each the findings by node and then by rule, none twice, and the errors by
+/// rule. `files_are_their_rules` of `pj_workers` says which these are.
+pub fn reports_are_in_order()
+    ensures { ReportIsInOrder }
+{
+    cold_reports_are_in_order();
 }

@@ -7,6 +7,7 @@
 mod check;
 mod cold;
 mod laws;
+mod limit;
 mod note;
 mod note_kind;
 mod note_putting;
@@ -19,10 +20,11 @@ mod steps;
 mod verdict;
 
 pub use check::check_alone;
-pub use laws::{one_refusal, one_run, runs_are_not_refused};
+pub use laws::{one_refusal, one_run, reports_are_in_order, runs_are_not_refused};
+pub use limit::LimitKind;
 pub use note::put_outcome;
 pub use note_kind::Note;
-pub use note_putting::put_note;
+pub use note_putting::{put_note, put_notes};
 pub use outcome::Outcome;
 pub use report_laws::clean_is_empty;
 pub use report_putting::put_report;

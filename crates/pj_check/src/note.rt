@@ -1,10 +1,10 @@
 //! The note of an outcome.
-ghost use Rattle.std.specs.Prelude.{◌≡◌, MatchOption, Some, None};
-ghost use Rattle.pj_check.specs.Notes.{GetNote, note_of, what_name};
+ghost use Rattle.std.specs.Prelude.{◌≡◌, ◌∷◌, [], MatchOption};
+ghost use Rattle.pj_check.specs.Notes.{GetNotes, notes_of, what_name};
 ghost use Rattle.pj_check.specs.NoteText.{note_line};
 
 use crate::outcome::Outcome;
-use crate::{Note, put_note};
+use crate::{Note, put_notes};
 use pj_outside::Sink;
 use pj_rules::RuleWhat;
 
@@ -29,7 +29,7 @@ fn what_name(what: &RuleWhat) -> &'static str
 
 /// The note of an outcome. One that has a report has none.
 fn note_of(outcome: &Outcome) -> Option<Note<'_>>
-    ensures { MatchOption result (note_of outcome.now ≡ None) (λ note. note_of outcome.now ≡ Some (note_line note)) }
+    ensures { MatchOption result (notes_of outcome.now ≡ []) (λ note. notes_of outcome.now ≡ note_line note ∷ []) }
 {
     match outcome {
         Outcome::Clean | Outcome::Violations | Outcome::Errors => None,
@@ -44,11 +44,11 @@ fn note_of(outcome: &Outcome) -> Option<Note<'_>>
     }
 }
 
-/// Puts the note of an outcome, if it has one. A fault of the notes changes nothing else.
+/// Puts the notes of an outcome, up to the first that fails. A fault of the notes changes nothing else.
 pub fn put_outcome<N: Sink>(notes: &mut N, outcome: &Outcome)
-    ensures { GetNote (note_of outcome.now) (N.held notes.old) (N.held notes.new) (N.faults notes.old) (N.faults notes.new) }
+    ensures { GetNotes (notes_of outcome.now) (N.held notes.old) (N.held notes.new) (N.faults notes.old) (N.faults notes.new) }
 {
     if let Some(note) = note_of(outcome) {
-        let _ = put_note(notes, note);
+        let _ = put_notes(notes, &[note]);
     }
 }

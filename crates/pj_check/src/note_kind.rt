@@ -1,7 +1,7 @@
 //! Notes.
+use crate::limit::LimitKind;
 use pj_base::Text;
 use pj_settings::UsageFault;
-use pj_sources::LimitKind;
 
 /// Why a run has no report, as its user is told.
 #[derive(Clone, Copy, Drop)]

@@ -1,13 +1,13 @@
 //! Putting notes.
-ghost use Rattle.std.specs.Prelude.{◌≡◌, OnOk, OnErr};
+ghost use Rattle.std.specs.Prelude.{◌≡◌, OnOk, OnErr, flat_map};
 ghost use Rattle.pj_outside.specs.Faults.{CountsFailed};
 ghost use Rattle.pj_outside.specs.Putting.{Gets, GetsPrefix};
 ghost use Rattle.pj_check.specs.NoteText.{joined, note_line, note_text};
 
+use crate::limit::LimitKind;
 use crate::note_kind::Note;
 use pj_outside::{Failed, Sink};
 use pj_settings::UsageFault;
-use pj_sources::LimitKind;
 
 /// Puts the pieces, one behind the other.
 fn put_pieces<S: Sink>(notes: &mut S, pieces: &[&str]) -> Result<(), Failed>
@@ -52,4 +52,17 @@ pub fn put_note<S: Sink>(notes: &mut S, note: Note<'_>) -> Result<(), Failed>
 {
     let [head, name, between, tail] = text_pieces(note);
     put_pieces(notes, &["pmd: ", head, name, between, tail, "\n"])
+}
+
+/// Puts the lines of notes, one behind the other, up to the first that fails, which takes no memory. After a failure the sink got a prefix
+/// of them.
+pub fn put_notes<S: Sink>(sink: &mut S, notes: &[Note<'_>]) -> Result<(), Failed>
+    ensures got { OnOk result (Gets (S.held sink.old) (S.held sink.new) (flat_map note_line notes.now)) }
+    ensures cut { OnErr result (GetsPrefix (S.held sink.old) (S.held sink.new) (flat_map note_line notes.now)) }
+    ensures counts_faults { CountsFailed (S.faults sink.old) (S.faults sink.new) result }
+{
+    for note in notes {
+        put_note(sink, *note)?;
+    }
+    Ok(())
 }

@@ -2,10 +2,10 @@
 ghost use Rattle.std.specs.Prelude.{◌≡◌};
 ghost use Rattle.pj_check.specs.Outcome.{status_of};
 
+use crate::limit::LimitKind;
 use pj_base::Text;
 use pj_rules::RuleFault;
 use pj_settings::UsageFault;
-use pj_sources::LimitKind;
 
 /// What a run comes to.
 #[derive(Debug, Drop)]

@@ -1,13 +1,15 @@
 //! Why a run does not come to its report.
 ghost use Rattle.std.specs.Prelude.{◌≡◌};
-ghost use Rattle.pj_check.specs.Steps.{after_listing, after_loading, after_reading, after_words, ended};
+ghost use Rattle.pj_check.specs.Steps.{after_asking, after_listing, after_loading, after_reading, after_words, ended};
 
 use crate::Verdict;
+use crate::limit::{LimitKind, limit_of};
 use crate::outcome::Outcome;
 use pj_base::{NoMemory, Text};
+use pj_names::AskFault;
 use pj_rules::{RuleFault, RuleRefused};
 use pj_settings::{UsageFault, UsageRefused};
-use pj_sources::{LimitKind, ListRefused, ReadRefused};
+use pj_sources::{ListRefused, ReadRefused};
 
 /// Why a run does not come to its report.
 #[derive(Drop)]
@@ -15,6 +17,7 @@ pub enum Refusal {
     Usage(UsageFault),
     Rules(RuleFault),
     TreeFault,
+    ClassFault,
     SinkFault,
     Missing(Text),
     Limit(LimitKind),
@@ -61,7 +64,7 @@ pub fn after_reading(refused: ReadRefused) -> Refusal
     match refused {
         ReadRefused::Failed => Refusal::TreeFault,
         ReadRefused::Missing(path) => Refusal::Missing(path),
-        ReadRefused::Limit(kind) => Refusal::Limit(kind),
+        ReadRefused::Limit(kind) => Refusal::Limit(limit_of(kind)),
         ReadRefused::Memory => Refusal::Memory,
     }
 }
@@ -77,6 +80,16 @@ impl From<NoMemory> for Refusal {
     }
 }
 
+/// Why there is no report.
+pub fn after_asking(fault: AskFault) -> Refusal
+    ensures { result ≡ after_asking fault }
+{
+    match fault {
+        AskFault::Failed => Refusal::ClassFault,
+        AskFault::Memory => Refusal::Memory,
+    }
+}
+
 /// What a run comes to that ended so.
 pub fn ended(end: Result<Verdict, Refusal>) -> Outcome
     ensures { result ≡ ended end }
@@ -88,6 +101,7 @@ pub fn ended(end: Result<Verdict, Refusal>) -> Outcome
         Err(Refusal::Usage(fault)) => Outcome::Usage(fault),
         Err(Refusal::Rules(fault)) => Outcome::Rules(fault),
         Err(Refusal::TreeFault) => Outcome::TreeFault,
+        Err(Refusal::ClassFault) => Outcome::ClassFault,
         Err(Refusal::SinkFault) => Outcome::SinkFault,
         Err(Refusal::Missing(path)) => Outcome::Missing(path),
         Err(Refusal::Limit(kind)) => Outcome::Limit(kind),

@@ -1,5 +1,5 @@
 -- The findings of a file are those of its rules, in order.
-use Rattle.std.proofs.Common.{◌≡◌, ◌∙◌, ◌+◌, ◌<◌, ◌≤◌, ◌==◌, ◌++◌, ℕ, zero, suc, Bool, true, false, cond, List, [], ◌∷◌, Some, ap, arith, eqb-true, eq-eqb, flat_map, map, ne_eqb, refl, subst, sym, zero-add}
+use Rattle.std.proofs.Common.{◌≡◌, ◌∙◌, ◌+◌, ◌<◌, ◌≤◌, ◌==◌, ◌++◌, ℕ, zero, suc, Bool, true, false, cond, List, [], ◌∷◌, Some, ap, arith, eqb-true, eq-eqb, flat_map, length, map, ne_eqb, refl, subst, sym, zero-add}
 use Rattle.std.specs.Prelude.{filter, slice_get}
 use Rattle.std.specs.List.{AllByRecursion, range_with_len}
 use Rattle.std.specs.List.Sorted.{IsStrictlySortedBy}
@@ -10,8 +10,8 @@ use Rattle.std.specs.declared.cmp.Ordering.TheVariants.{Less, Equal}
 use Rattle.std.proofs.lemmas.Map.Keys.{le_from_is_le}
 use Rattle.std.proofs.lemmas.List.Kept.{IsStrictlySortedBy-filter}
 use Rattle.pj_reports.specs.declared.rows.Finding.{Finding}
-use Rattle.pj_findings.specs.declared.found.Found.{Found}
-use Rattle.pj_findings.specs.declared.found.RuleResult.{RuleResult}
+use Rattle.pj_reports.specs.declared.ruled.Spot.{Spot}
+use Rattle.pj_reports.specs.declared.ruled.Ruled.{Ruled}
 use Rattle.pj_findings.specs.Laws.{IsAscending, finding_order}
 use Rattle.pj_findings.specs.Merged.{at_node, by_node, finding_of, findings_from, found_by, past_nodes}
 use Rattle.pj_findings.proofs.Merging.{AreBetween, Rises, below_past, rising}
@@ -76,7 +76,7 @@ crossing P Q c (x ∷ xs) ys h p q = (one ys q, crossing P Q c xs ys h p.1 q)
     one [] r = tt
     one (z ∷ zs) r = (h x z p.0 r.0, one zs r.1)
 
-less : (m n : ℕ) → m < n → nat_cmp m n ≡ Less
+pub less : (m n : ℕ) → m < n → nat_cmp m n ≡ Less
 less m n h = sym (nat_cmp_is m n Less h)
 
 equal : (m n : ℕ) → m ≡ n → nat_cmp m n ≡ Equal
@@ -92,7 +92,7 @@ earlier_rule x y e h = ap (λ o. ordering_then o (nat_cmp x.rule y.rule)) (equal
 
 -- ---- numbers of rules
 
-own_number : (rule : ℕ) (found : List Found) → AllByRecursion (λ (x : Finding). x.rule ≡ rule) (map (finding_of rule) found)
+own_number : (rule : ℕ) (found : List Spot) → AllByRecursion (λ (x : Finding). x.rule ≡ rule) (map (finding_of rule) found)
 own_number rule [] = tt
 own_number rule (x ∷ xs) = (refl, own_number rule xs)
 
@@ -104,7 +104,7 @@ own_least : (rule : ℕ) (xs : List Finding) → AllByRecursion (λ x. x.rule �
 own_least rule [] h = tt
 own_least rule (x ∷ xs) h = (omega (arith, h.0), own_least rule xs h.1)
 
-least_number : (rule : ℕ) (results : List RuleResult) → AllByRecursion (λ x. rule ≤ x.rule) (findings_from rule results)
+least_number : (rule : ℕ) (results : List Ruled) → AllByRecursion (λ x. rule ≤ x.rule) (findings_from rule results)
 least_number rule [] = tt
 least_number rule (result ∷ results) = all_append (λ (x : Finding). rule ≤ x.rule) (map (finding_of rule) (found_by result)) (findings_from (rule + 1) results)
     (own_least rule _ (own_number rule (found_by result))) (at_least rule (rule + 1) (findings_from (rule + 1) results) (omega arith) (least_number (rule + 1) results))
@@ -119,12 +119,12 @@ at_is n (x ∷ xs) = elim (x.node == n) as (λ b. (x.node == n) ≡ b → AllByR
 ] refl
 
 -- what a rule finds is in order
-own_sorted : (rule : ℕ) (found : List Found) → IsStrictlySortedBy nat_cmp (map (λ (x : Found). x.node) found) → IsStrictlySortedBy finding_order (map (finding_of rule) found)
+own_sorted : (rule : ℕ) (found : List Spot) → IsStrictlySortedBy nat_cmp (map (λ (x : Spot). x.node) found) → IsStrictlySortedBy finding_order (map (finding_of rule) found)
 unfolding IsStrictlySortedBy
 own_sorted rule [] h = tt
 own_sorted rule (x ∷ xs) h = (behind xs h.0, own_sorted rule xs h.1)
   where
-    behind : (ys : List Found) → AllByRecursion (λ n. nat_cmp x.node n ≡ Less) (map (λ (y : Found). y.node) ys) → AllByRecursion (λ (y : Finding). finding_order (finding_of rule x) y ≡ Less) (map (finding_of rule) ys)
+    behind : (ys : List Spot) → AllByRecursion (λ n. nat_cmp x.node n ≡ Less) (map (λ (y : Spot). y.node) ys) → AllByRecursion (λ (y : Finding). finding_order (finding_of rule x) y ≡ Less) (map (finding_of rule) ys)
     behind [] r = tt
     behind (y ∷ ys) r = (ap (λ o. ordering_then o (nat_cmp rule rule)) r.0, behind ys r.1)
 
@@ -133,7 +133,7 @@ pair P Q R [] h p q = tt
 pair P Q R (x ∷ xs) h p q = (h x p.0 q.0, pair P Q R xs h p.1 q.1)
 
 -- at one node the findings stand by the rules
-at_sorted : (rule n : ℕ) (results : List RuleResult) → AllByRecursion IsAscending results → IsStrictlySortedBy finding_order (at_node (findings_from rule results) n)
+at_sorted : (rule n : ℕ) (results : List Ruled) → AllByRecursion IsAscending results → IsStrictlySortedBy finding_order (at_node (findings_from rule results) n)
 unfolding IsStrictlySortedBy
 at_sorted rule n [] h = tt
 at_sorted rule n (result ∷ results) h =
@@ -171,7 +171,7 @@ nodes_sorted xs low (suc count) h = sorted_append finding_order (at_node xs low)
     (crossing (λ (x : Finding). x.node ≡ low) (λ (x : Finding). low + 1 ≤ x.node) finding_order (at_node xs low) (flat_map (at_node xs) (range_with_len (low + 1) count))
     (λ x y p q. earlier_node x y (omega (arith, p, q))) (at_is low xs) (from_low xs (low + 1) count))
 
-pub ascend : (results : List RuleResult) → AllByRecursion IsAscending results → IsStrictlySortedBy finding_order (by_node (findings_from 0 results))
+pub ascend : (results : List Ruled) → AllByRecursion IsAscending results → IsStrictlySortedBy finding_order (by_node (findings_from 0 results))
 ascend results h = nodes_sorted (findings_from 0 results) 0 (past_nodes (findings_from 0 results)) (λ n. at_sorted 0 n results h)
 
 -- ---- each rule's own
@@ -195,10 +195,10 @@ append_nil : {X : Type 0} (xs : List X) → xs ++ [] ≡ xs
 append_nil [] = refl
 append_nil (x ∷ xs) = ap (λ l. x ∷ l) (append_nil xs)
 
-one_result : (a b : RuleResult) → Some a ≡ Some b → a ≡ b
+pub one_result : (a b : Ruled) → Some a ≡ Some b → a ≡ b
 one_result a b e = cc
 
-own_findings : (rule first place : ℕ) (results : List RuleResult) (result : RuleResult) → rule ≡ first + place → slice_get results place ≡ Some result → filter (of_rule rule) (findings_from first results) ≡ map (finding_of rule) (found_by result)
+own_findings : (rule first place : ℕ) (results : List Ruled) (result : Ruled) → rule ≡ first + place → slice_get results place ≡ Some result → filter (of_rule rule) (findings_from first results) ≡ map (finding_of rule) (found_by result)
 own_findings rule first place [] result is there = absurd (cc)
 own_findings rule first zero (r ∷ rs) result is there =
     let same : first ≡ rule = omega (arith, is) in
@@ -217,21 +217,21 @@ less_is : (m n : ℕ) → nat_cmp m n ≡ Less → m ≤ n
 less_is m n e = le_from_is_le m n (ap is_le e)
 
 -- what ascends, rises
-own_rises : (rule : ℕ) (found : List Found) → IsStrictlySortedBy nat_cmp (map (λ (x : Found). x.node) found) → Rises (map (finding_of rule) found)
+own_rises : (rule : ℕ) (found : List Spot) → IsStrictlySortedBy nat_cmp (map (λ (x : Spot). x.node) found) → Rises (map (finding_of rule) found)
 unfolding IsStrictlySortedBy
 own_rises rule [] h = tt
 own_rises rule (x ∷ xs) h = (behind xs h.0, own_rises rule xs h.1)
   where
-    behind : (ys : List Found) → AllByRecursion (λ n. nat_cmp x.node n ≡ Less) (map (λ (y : Found). y.node) ys) → AllByRecursion (λ (y : Finding). x.node ≤ y.node) (map (finding_of rule) ys)
+    behind : (ys : List Spot) → AllByRecursion (λ n. nat_cmp x.node n ≡ Less) (map (λ (y : Spot). y.node) ys) → AllByRecursion (λ (y : Finding). x.node ≤ y.node) (map (finding_of rule) ys)
     behind [] r = tt
     behind (y ∷ ys) r = (less_is x.node y.node r.0, behind ys r.1)
 
-at_result : (P : RuleResult → Type 0) (results : List RuleResult) (place : ℕ) (result : RuleResult) → AllByRecursion P results → slice_get results place ≡ Some result → P result
+at_result : (P : Ruled → Type 0) (results : List Ruled) (place : ℕ) (result : Ruled) → AllByRecursion P results → slice_get results place ≡ Some result → P result
 at_result P [] place result h there = absurd (cc)
 at_result P (r ∷ rs) zero result h there = subst P (one_result r result there) h.0
 at_result P (r ∷ rs) (suc place) result h there = at_result P rs place result h.1 there
 
-pub kept : (results : List RuleResult) (rule : ℕ) (result : RuleResult) → AllByRecursion IsAscending results → slice_get results rule ≡ Some result
+pub kept : (results : List Ruled) (rule : ℕ) (result : Ruled) → AllByRecursion IsAscending results → slice_get results rule ≡ Some result
     → filter (of_rule rule) (by_node (findings_from 0 results)) ≡ map (finding_of rule) (found_by result)
 kept results rule result h there =
     let all = findings_from 0 results in
@@ -244,3 +244,22 @@ kept results rule result h there =
     ∙ same_flat_map (λ n. filter (of_rule rule) (at_node all n)) (at_node (filter (of_rule rule) all)) (range_with_len 0 count) (λ n. filter_swap (of_rule rule) (λ x. x.node == n) all)
     ∙ ap (λ l. flat_map (at_node l) (range_with_len 0 count)) own
     ∙ rising (map (finding_of rule) (found_by result)) 0 count (own_rises rule (found_by result) (at_result IsAscending results rule result h there)) between
+
+-- ---- their numbers
+
+below_all : (count : ℕ) (first : ℕ) (results : List Ruled) → first + length results ≡ count → AllByRecursion (λ (x : Finding). x.rule < count) (findings_from first results)
+below_all count first [] is = tt
+below_all count first (r ∷ rs) is = all_append (λ (x : Finding). x.rule < count) (map (finding_of first) (found_by r)) (findings_from (first + 1) rs)
+    (own_below count first (found_by r) (omega (arith, is))) (below_all count (first + 1) rs (omega (arith, is)))
+  where
+    own_below : (count first : ℕ) (found : List Spot) → first < count → AllByRecursion (λ (x : Finding). x.rule < count) (map (finding_of first) found)
+    own_below count first [] below = tt
+    own_below count first (x ∷ xs) below = (below, own_below count first xs below)
+
+each_by_node : (P : Finding → Type 0) (xs : List Finding) (low count : ℕ) → AllByRecursion P xs → AllByRecursion P (flat_map (at_node xs) (range_with_len low count))
+each_by_node P xs low zero h = tt
+each_by_node P xs low (suc count) h =
+    all_append P (at_node xs low) (flat_map (at_node xs) (range_with_len (low + 1) count)) (all_filter P (λ x. x.node == low) xs h) (each_by_node P xs (low + 1) count h)
+
+pub of_rules : (results : List Ruled) → AllByRecursion (λ (x : Finding). x.rule < length results) (by_node (findings_from 0 results))
+of_rules results = each_by_node (λ (x : Finding). x.rule < length results) (findings_from 0 results) 0 (past_nodes (findings_from 0 results)) (below_all (length results) 0 results (zero-add (length results)))

@@ -1,3 +1,4 @@
 pub mod Elements
 pub mod Merging
 pub mod FindingLaws
+pub mod ErrorLaws

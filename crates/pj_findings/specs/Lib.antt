@@ -1,6 +1,6 @@
 -- definitions
 pub mod Denoted
-pub mod Spots
+pub mod Extents
 pub mod Reasons
 pub mod Messages
 pub mod Merged

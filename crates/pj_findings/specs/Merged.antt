@@ -4,29 +4,31 @@ use Rattle.std.specs.List.{range_with_len}
 use Rattle.pj_reports.specs.declared.rows.FileError.{FileError}
 use Rattle.pj_reports.specs.declared.rows.FileRows.{FileRows}
 use Rattle.pj_reports.specs.declared.rows.Finding.{Finding}
-use Rattle.pj_findings.specs.declared.found.Found.{Found}
-use Rattle.pj_findings.specs.declared.found.RuleResult.{RuleResult}
-use Rattle.pj_findings.specs.declared.found.RuleResult.TheVariants.{Findings, Error}
+use Rattle.pj_reports.specs.declared.ruled.Head.{Head}
+use Rattle.pj_reports.specs.declared.ruled.Head.TheVariants as head
+use Rattle.pj_reports.specs.declared.ruled.Ruled.{Ruled}
+use Rattle.pj_reports.specs.declared.ruled.Ruled.TheVariants.{Spots, Message}
+use Rattle.pj_reports.specs.declared.ruled.Spot.{Spot}
 
 -- a finding of the rule of this number
-abbrev pub finding_of : ℕ → Found → Finding
+abbrev pub finding_of : ℕ → Spot → Finding
 finding_of rule found = record { rule = rule; node = found.node; begin = found.begin; end = found.end; reason = found.reason }
 
-abbrev pub found_by : RuleResult → List Found
-found_by (Findings found) = found
-found_by (Error message) = []
+abbrev pub found_by : Ruled → List Spot
+found_by (Spots found) = found
+found_by (Message message) = []
 
-abbrev pub error_by : ℕ → RuleResult → List FileError
-error_by rule (Findings found) = []
-error_by rule (Error message) = record { rule = Some rule; message = message } ∷ []
+abbrev pub error_by : ℕ → Ruled → List FileError
+error_by rule (Spots found) = []
+error_by rule (Message message) = record { rule = Some rule; message = message } ∷ []
 
 -- The findings of rules, one rule after the other, the first of which has this number.
-abbrev pub findings_from : ℕ → List RuleResult → List Finding
+abbrev pub findings_from : ℕ → List Ruled → List Finding
 findings_from rule [] = []
 findings_from rule (result ∷ results) = map (finding_of rule) (found_by result) ++ findings_from (rule + 1) results
 
 -- and their errors
-abbrev pub errors_from : ℕ → List RuleResult → List FileError
+abbrev pub errors_from : ℕ → List Ruled → List FileError
 errors_from rule [] = []
 errors_from rule (result ∷ results) = error_by rule result ++ errors_from (rule + 1) results
 
@@ -44,9 +46,14 @@ abbrev pub by_node : List Finding → List Finding
 by_node findings = flat_map (at_node findings) (range_with_len 0 (past_nodes findings))
 
 -- the rows of a file of this package, in which the rules came to this
-abbrev pub merged : List ℕ → List RuleResult → FileRows
+abbrev pub merged : List ℕ → List Ruled → FileRows
 merged name results = record { «package» = name; findings = by_node (findings_from 0 results); errors = errors_from 0 results }
 
 -- the rows of a file that has no tree
 abbrev pub only_error : List ℕ → FileRows
 only_error message = record { «package» = []; findings = []; errors = record { rule = None; message = message } ∷ [] }
+
+-- the rows of a file with this head, in which the rules came to this: where there is no tree, one error
+abbrev pub merge : Head → List Ruled → FileRows
+merge (head.Package name) results = merged name results
+merge (head.Message message) results = only_error message

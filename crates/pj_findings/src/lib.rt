@@ -4,17 +4,17 @@
 #![tactic(auto)]
 
 mod denoted;
-mod found;
+mod extent;
 mod laws;
 mod message;
 mod reason;
 mod rows;
-mod spot;
+mod run;
 
 pub use denoted::{Nodes, denoted_nodes};
-pub use found::{Found, FoundList, RuleResult, RuleResults};
-pub use laws::{findings_are_the_rules, nodes_are_the_items};
+pub use extent::{Extent, extent_of};
+pub use laws::{errors_are_the_rules, findings_are_the_rules, nodes_are_the_items};
 pub use message::{code_name, rule_message};
 pub use reason::plain_reason;
-pub use rows::{error_rows, file_rows};
-pub use spot::{Spot, spot_of};
+pub use rows::file_rows;
+pub use run::{RuleRun, RuleRuns};

@@ -1,14 +1,14 @@
 //! The rows of a file.
 ghost use Rattle.std.specs.Prelude.{◌≡◌, ◌++◌, map, IfOk, OnOk};
-ghost use Rattle.pj_findings.specs.Merged.{by_node, error_by, errors_from, finding_of, findings_from, found_by, merged, only_error};
+ghost use Rattle.pj_findings.specs.Merged.{by_node, error_by, errors_from, finding_of, findings_from, found_by, merge, merged, only_error};
 
-use crate::found::{Found, RuleResult, RuleResults};
+use crate::run::{RuleRun, RuleRuns};
 use pj_base::{Copied, NoMemory, Text};
-use pj_reports::{FileError, FileErrors, FileRows, Finding, Findings};
+use pj_reports::{FileError, FileErrors, FileRows, Finding, Findings, Head, Ruled, Spot};
 use std::alloc::Global;
 
 /// The row of a finding of the rule of a number.
-fn finding_of(rule: u32, found: &Found) -> Finding
+fn finding_of(rule: u32, found: &Spot) -> Finding
     ensures { result ≡ finding_of rule found.now }
 {
     Finding {
@@ -21,7 +21,7 @@ fn finding_of(rule: u32, found: &Found) -> Finding
 }
 
 /// Puts the findings of a rule behind those of others.
-fn put_found(findings: &mut Vec<Finding>, rule: u32, found: &[Found]) -> Result<(), NoMemory>
+fn put_found(findings: &mut Vec<Finding>, rule: u32, found: &[Spot]) -> Result<(), NoMemory>
     ensures { OnOk result (findings.new.items ≡ findings.old.items ++ map (finding_of rule) found.now) }
 {
     for one in found {
@@ -31,26 +31,22 @@ fn put_found(findings: &mut Vec<Finding>, rule: u32, found: &[Found]) -> Result<
 }
 
 /// The same of what a rule comes to, where it finds nodes.
-fn put_findings(
-    findings: &mut Vec<Finding>,
-    rule: u32,
-    came_to: &RuleResult,
-) -> Result<(), NoMemory>
+fn put_findings(findings: &mut Vec<Finding>, rule: u32, came_to: &Ruled) -> Result<(), NoMemory>
     ensures { OnOk result (findings.new.items ≡ findings.old.items ++ map (finding_of rule) (found_by came_to.now)) }
 {
     match came_to {
-        RuleResult::Findings(found) => put_found(findings, rule, found.as_slice()),
-        RuleResult::Error(_) => Ok(()),
+        Ruled::Spots(found) => put_found(findings, rule, found.as_slice()),
+        Ruled::Message(_) => Ok(()),
     }
 }
 
 /// Puts the error of a rule behind those of others, where it has one.
-fn put_error(errors: &mut Vec<FileError>, rule: u32, came_to: &RuleResult) -> Result<(), NoMemory>
+fn put_error(errors: &mut Vec<FileError>, rule: u32, came_to: &Ruled) -> Result<(), NoMemory>
     ensures { OnOk result (errors.new.items ≡ errors.old.items ++ error_by rule came_to.now) }
 {
     match came_to {
-        RuleResult::Findings(_) => {}
-        RuleResult::Error(message) => errors.push(FileError {
+        Ruled::Spots(_) => {}
+        Ruled::Message(message) => errors.push(FileError {
             rule: Some(rule),
             message: message.copied()?,
         })?,
@@ -69,23 +65,23 @@ fn rule_number(place: usize) -> Result<u32, NoMemory>
 }
 
 /// The findings of the rules, one rule after the other.
-fn all_findings(alloc: Global, results: &[RuleResult]) -> Result<Vec<Finding>, NoMemory>
-    ensures { IfOk result (λ findings. findings.items ≡ findings_from 0 results.now) }
+fn all_findings(alloc: Global, runs: &[RuleRun]) -> Result<Vec<Finding>, NoMemory>
+    ensures { IfOk result (λ findings. findings.items ≡ findings_from 0 (map (λ run. run.rows) runs.now)) }
 {
     let mut findings = Vec::new(alloc);
-    for (i, came_to) in results.iter().enumerate() {
-        put_findings(&mut findings, rule_number(i)?, came_to)?;
+    for (i, run) in runs.iter().enumerate() {
+        put_findings(&mut findings, rule_number(i)?, &run.rows)?;
     }
     Ok(findings)
 }
 
 /// The errors of the rules, in their order.
-fn all_errors(alloc: Global, results: &[RuleResult]) -> Result<Vec<FileError>, NoMemory>
-    ensures { IfOk result (λ errors. errors.items ≡ errors_from 0 results.now) }
+fn all_errors(alloc: Global, runs: &[RuleRun]) -> Result<Vec<FileError>, NoMemory>
+    ensures { IfOk result (λ errors. errors.items ≡ errors_from 0 (map (λ run. run.rows) runs.now)) }
 {
     let mut errors = Vec::new(alloc);
-    for (i, came_to) in results.iter().enumerate() {
-        put_error(&mut errors, rule_number(i)?, came_to)?;
+    for (i, run) in runs.iter().enumerate() {
+        put_error(&mut errors, rule_number(i)?, &run.rows)?;
     }
     Ok(errors)
 }
@@ -99,13 +95,12 @@ fn in_node_order(findings: Vec<Finding>) -> Result<Vec<Finding>, NoMemory>
     Ok(ordered)
 }
 
-/// The rows of a file of the package of this name in which the rules came to this, in the order of their numbers, which count from 0: the
-/// findings in the order of the node, then of the rule, and the errors in the order of the rules.
-pub fn file_rows(alloc: Global, name: Text, results: &RuleResults) -> Result<FileRows, NoMemory>
-    ensures { IfOk result (λ rows. rows ≡ merged name results.now) }
+/// The rows of a file with a tree, of the package of this name.
+fn rows_of_rules(alloc: Global, name: Text, runs: &[RuleRun]) -> Result<FileRows, NoMemory>
+    ensures { IfOk result (λ rows. rows ≡ merged name (map (λ run. run.rows) runs.now)) }
 {
-    let findings = in_node_order(all_findings(alloc, results.as_slice())?)?;
-    let errors = all_errors(alloc, results.as_slice())?;
+    let findings = in_node_order(all_findings(alloc, runs)?)?;
+    let errors = all_errors(alloc, runs)?;
     Ok(FileRows {
         package: name,
         findings: Findings::from_vec(findings),
@@ -114,7 +109,7 @@ pub fn file_rows(alloc: Global, name: Text, results: &RuleResults) -> Result<Fil
 }
 
 /// The rows of a file without a tree: the one error that says why.
-pub fn error_rows(alloc: Global, message: Text) -> Result<FileRows, NoMemory>
+fn error_rows(alloc: Global, message: Text) -> Result<FileRows, NoMemory>
     ensures { IfOk result (λ rows. rows ≡ only_error message) }
 {
     let mut errors = FileErrors::new(alloc);
@@ -127,4 +122,16 @@ pub fn error_rows(alloc: Global, message: Text) -> Result<FileRows, NoMemory>
         findings: Findings::new(alloc),
         errors,
     })
+}
+
+/// The rows of a file with this head in which the rules came to this, in the order of their numbers, which count from 0: the findings in
+/// the order of the node, then of the rule, and the errors in the order of the rules. A file without a tree has one error, whatever the
+/// rules came to.
+pub fn file_rows(alloc: Global, head: Head, runs: &RuleRuns) -> Result<FileRows, NoMemory>
+    ensures { IfOk result (λ rows. rows ≡ merge head (map (λ run. run.rows) runs.now)) }
+{
+    match head {
+        Head::Package(name) => rows_of_rules(alloc, name, runs.as_slice()),
+        Head::Message(message) => error_rows(alloc, message),
+    }
 }

@@ -9,6 +9,7 @@ mod json_form;
 mod laws;
 mod report;
 mod rows;
+mod ruled;
 mod shown;
 mod text_form;
 
@@ -17,4 +18,5 @@ pub use json_form::json_of;
 pub use laws::{csv_reads_back, text_is_its_lines};
 pub use report::{PathRows, Report};
 pub use rows::{FileError, FileErrors, FileRows, Finding, Findings, Reason};
+pub use ruled::{Head, Ruled, Spot, Spots};
 pub use text_form::text_of;

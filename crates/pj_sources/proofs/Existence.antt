@@ -14,7 +14,7 @@ use Rattle.pj_sources.specs.Limits.{most_file_bytes, most_all_bytes}
 use Rattle.pj_sources.specs.Listing.{IsInOrder}
 use Rattle.pj_sources.specs.Paths.{byte_order}
 use Rattle.pj_sources.specs.Reading.{AreRead, IsRefused, IsRefusedBehind, bytes_together, missing, too_long, too_much}
-use Rattle.pj_sources.specs.declared.limits.LimitKind.TheVariants as limit
+use Rattle.pj_sources.specs.declared.limits.SourceLimit.TheVariants as limit
 use Rattle.pj_sources.specs.declared.refused.ReadRefused.{ReadRefused}
 use Rattle.pj_sources.specs.declared.refused.ReadRefused.TheVariants.{Missing, Limit}
 

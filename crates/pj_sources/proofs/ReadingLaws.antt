@@ -7,7 +7,7 @@ use Rattle.pj_outside.specs.Files.{Files, Bytes, bytes_at}
 use Rattle.pj_sources.proofs.Items.{split_next}
 use Rattle.pj_sources.specs.Limits.{most_file_bytes, most_all_bytes}
 use Rattle.pj_sources.specs.Reading.{AreRead, AreWithin, IsMissing, IsRefused, IsRefusedBehind, IsTooLong, SaysNoFile, SaysNotRead, bytes_together, missing, too_long, too_much}
-use Rattle.pj_sources.specs.declared.limits.LimitKind.{LimitKind}
+use Rattle.pj_sources.specs.declared.limits.SourceLimit.{SourceLimit}
 use Rattle.pj_sources.specs.declared.refused.ReadRefused.{ReadRefused}
 use Rattle.pj_sources.specs.declared.refused.ReadRefused.TheVariants.{Failed, Missing, Limit, Memory}
 
@@ -22,7 +22,7 @@ missing_says files before path Memory none is = tt
 pub too_long_says : (files : Files) (before : ℕ) (path : Bytes) (refused : ReadRefused) → (bytes : Bytes) × (bytes_at files path ≡ Some bytes) × (most_file_bytes < length bytes) → IsTooLong path refused → SaysNoFile files before path refused
 too_long_says files before path Failed found is = absurd is
 too_long_says files before path (Missing other) found is = absurd is
-too_long_says files before path (Limit kind) found is = subst (λ (k : LimitKind). IsRefusedBehind files before path (Limit k)) (sym is) (too_long found.0 found.1 found.2)
+too_long_says files before path (Limit kind) found is = subst (λ (k : SourceLimit). IsRefusedBehind files before path (Limit k)) (sym is) (too_long found.0 found.1 found.2)
 too_long_says files before path Memory found is = tt
 
 -- ---- one file after the other

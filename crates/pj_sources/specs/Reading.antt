@@ -2,8 +2,8 @@
 use Rattle.std.specs.Prelude.{⊤, ◌≡◌, ◌<◌, ◌≤◌, ◌+◌, ℕ, List, ◌∷◌, ◌++◌, Contains, All, map, sum_by, length, None, Some}
 use Rattle.pj_outside.specs.Files.{Files, Bytes, bytes_at}
 use Rattle.pj_sources.specs.Limits.{most_file_bytes, most_all_bytes}
-use Rattle.pj_sources.specs.declared.limits.LimitKind.{LimitKind}
-use Rattle.pj_sources.specs.declared.limits.LimitKind.TheVariants as limit
+use Rattle.pj_sources.specs.declared.limits.SourceLimit.{SourceLimit}
+use Rattle.pj_sources.specs.declared.limits.SourceLimit.TheVariants as limit
 use Rattle.pj_sources.specs.declared.refused.ReadRefused.{ReadRefused}
 use Rattle.pj_sources.specs.declared.refused.ReadRefused.TheVariants.{Failed, Missing, Limit, Memory}
 
@@ -46,9 +46,8 @@ SaysNotRead files paths (Limit kind) = IsRefused files paths (Limit kind)
 SaysNotRead files paths Memory = ⊤
 
 -- Of a path of which nothing is known is said: it is one of them.
-abbrev pub IsLimitOfPaths : List Bytes → LimitKind → Type 0
+abbrev pub IsLimitOfPaths : List Bytes → SourceLimit → Type 0
 IsLimitOfPaths paths limit.Files = ⊥
-IsLimitOfPaths paths limit.Rules = ⊥
 IsLimitOfPaths paths (limit.FileBytes path) = Contains paths path
 IsLimitOfPaths paths limit.AllBytes = ⊤
 
@@ -71,9 +70,8 @@ SaysNoFile files before path (Missing other) = IsRefusedBehind files before path
 SaysNoFile files before path (Limit kind) = IsRefusedBehind files before path (Limit kind)
 SaysNoFile files before path Memory = ⊤
 
-abbrev pub IsLimitOfPath : Bytes → LimitKind → Type 0
+abbrev pub IsLimitOfPath : Bytes → SourceLimit → Type 0
 IsLimitOfPath path limit.Files = ⊥
-IsLimitOfPath path limit.Rules = ⊥
 IsLimitOfPath path (limit.FileBytes other) = other ≡ path
 IsLimitOfPath path limit.AllBytes = ⊤
 

@@ -9,7 +9,7 @@ mod reading;
 mod refused;
 
 pub use laws::{one_listing, one_reading};
-pub use limits::{LimitKind, test_files};
+pub use limits::{SourceLimit, test_files};
 pub use listing::{Listing, list_sources};
 pub use reading::read_sources;
 pub use refused::{ListRefused, ReadRefused};

@@ -13,13 +13,11 @@ pub const MOST_FILE_BYTES: u64 = 1_048_576;
 /// How many bytes all files of a run may have together.
 pub const MOST_ALL_BYTES: u64 = 536_870_912;
 
-/// What there is too much of.
+/// What there is too much of among the sources.
 #[derive(Debug, PartialEq, Eq, Drop)]
-pub enum LimitKind {
+pub enum SourceLimit {
     /// More than 100,000 files.
     Files,
-    /// More than 2,000 rules.
-    Rules,
     /// More than 1,048,576 bytes in the file of this path.
     FileBytes(Text),
     /// More than 536,870,912 bytes in the files up to one of them.
@@ -27,11 +25,11 @@ pub enum LimitKind {
 }
 
 /// Refuses, by `Files`, exactly where there are more than 100,000 paths.
-pub fn test_files(paths: &Names) -> Result<(), LimitKind>
-    ensures { MatchResult result (λ _. length paths.now ≤ most_files) (λ kind. (kind ≡ LimitKind.Files) × (most_files < length paths.now)) }
+pub fn test_files(paths: &Names) -> Result<(), SourceLimit>
+    ensures { MatchResult result (λ _. length paths.now ≤ most_files) (λ kind. (kind ≡ SourceLimit.Files) × (most_files < length paths.now)) }
 {
     if paths.len() > MOST_FILES {
-        Err(LimitKind::Files)
+        Err(SourceLimit::Files)
     } else {
         Ok(())
     }

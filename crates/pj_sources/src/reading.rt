@@ -5,7 +5,7 @@ ghost use Rattle.pj_sources.specs.Faults.{CountsReadFaults};
 ghost use Rattle.pj_sources.specs.Limits.{most_file_bytes, most_all_bytes};
 ghost use Rattle.pj_sources.specs.Reading.{AreRead, AreWithin, IsFileRead, SaysNotRead, SaysNoFile, IsOfPaths, IsOfPath, IsMissing, IsTooLong};
 
-use crate::limits::{LimitKind, MOST_ALL_BYTES, MOST_FILE_BYTES};
+use crate::limits::{MOST_ALL_BYTES, MOST_FILE_BYTES, SourceLimit};
 use crate::refused::ReadRefused;
 use pj_base::{Bytes, Copied, Names, NoMemory, Text};
 use pj_outside::{Files, Reading, Refused, Tree};
@@ -26,7 +26,7 @@ fn too_long(path: &Text) -> ReadRefused
     ensures { IsTooLong path.now result }
 {
     match path.copied() {
-        Ok(path) => ReadRefused::Limit(LimitKind::FileBytes(path)),
+        Ok(path) => ReadRefused::Limit(SourceLimit::FileBytes(path)),
         Err(_) => ReadRefused::Memory,
     }
 }
@@ -46,7 +46,7 @@ fn whole_bytes(path: &Text, before: u64, reading: Reading) -> Result<Bytes, Read
         Reading::Longer => Err(too_long(path)),
         Reading::Whole(bytes) => {
             if bytes.len() as u64 > MOST_ALL_BYTES - before {
-                Err(ReadRefused::Limit(LimitKind::AllBytes))
+                Err(ReadRefused::Limit(SourceLimit::AllBytes))
             } else {
                 Ok(bytes)
             }

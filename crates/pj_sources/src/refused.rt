@@ -3,7 +3,7 @@ ghost use Rattle.std.specs.Prelude.{◌≡◌};
 ghost use Rattle.pj_sources.specs.declared.refused.ListRefused.TheVariants as unlisted;
 ghost use Rattle.pj_sources.specs.declared.refused.ReadRefused.TheVariants as unread;
 
-use crate::limits::LimitKind;
+use crate::limits::SourceLimit;
 use pj_base::{NoMemory, Text};
 
 /// Why there is no list of sources.
@@ -25,7 +25,7 @@ pub enum ReadRefused {
     /// There is no file of this path.
     Missing(Text),
     /// There is too much of this.
-    Limit(LimitKind),
+    Limit(SourceLimit),
     /// Memory ran out.
     Memory,
 }

@@ -1,6 +1,7 @@
 pub mod FileLaws
 pub mod RuleLaws
 pub mod ColdLaws
+pub mod OrderLaws
 pub mod MarkLaws
 pub mod TextLaws
 -- the analysis of a file
@@ -10,6 +11,8 @@ pub mod Finding
 pub mod Unasked
 pub mod Evaluating
 pub mod Kept
-pub mod Coming
+pub mod Resting
+pub mod Activity
+pub mod Running
 pub mod Parsed
 pub mod Rows

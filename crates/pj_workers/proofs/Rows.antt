@@ -1,12 +1,22 @@
 -- The rows of a file, and what the program has of it.
-use Rattle.std.proofs.Common.{◌≡◌, ◌∙◌, ◌==◌, ℕ, List, Result, Ok, Err, ap, map, refl, subst, sym}
-use Rattle.std.specs.Prelude.{IfOk}
+use Rattle.std.proofs.Common.{◌≡◌, ◌∙◌, ◌==◌, ℕ, List, [], ◌∷◌, Result, Ok, Err, ap, map, refl, subst, sym}
+use Rattle.std.specs.Prelude.{IsTrue}
+use Rattle.std.specs.Cmp.Lexicographic.{slice_cmp}
+use Rattle.std.specs.FinSet as sets
 use Rattle.std.specs.List.{AllByRecursion, AllZip, list_any}
-use Rattle.std.specs.List.Sorted.{IsNonDecreasing}
+use Rattle.std.specs.List.Sorted.{IsNonDecreasing, IsStrictlySortedBy}
+use Rattle.std.specs.Ordering.{nat_cmp}
 use Rattle.std.specs.Str.{IsUtf8}
 use Rattle.pj_attrs.specs.FileFacts.{FileFacts, facts_of}
-use Rattle.pj_findings.specs.Merged.{merged}
-use Rattle.pj_findings.specs.declared.found.RuleResult.{RuleResult}
+use Rattle.pj_findings.specs.Merged.{merge}
+use Rattle.pj_findings.specs.declared.run.RuleRun.{RuleRun}
+use Rattle.pj_names.specs.Asking.{Asking}
+use Rattle.pj_names.specs.ClassName.{Name, NameSet, name_set}
+use Rattle.pj_names.specs.Held.{IsHeld}
+use Rattle.pj_names.specs.Told.{Asks, Told, with_names}
+use Rattle.pj_names.proofs.AskingLaws.{asks-return}
+use Rattle.pj_names.proofs.NameLists.{with_names-empty}
+use Rattle.pj_reports.specs.declared.ruled.Head.{Head}
 use Rattle.pj_grammar.specs.Words.{seen}
 use Rattle.pj_source.specs.SourceText.{SourceText}
 use Rattle.pj_lex.specs.declared.token.Token.{Token}
@@ -23,34 +33,26 @@ use Rattle.pj_parse.specs.declared.parsing.Parsed.{Parsed}
 use Rattle.pj_reports.specs.declared.rows.FileRows.{FileRows}
 use Rattle.pj_rule_sets.specs.Rules.{EffectiveRule, EffectiveRules}
 use Rattle.pj_suppress.specs.Marks as marks
-use Rattle.pj_symbols.specs.Names.{package_name}
-use Rattle.pj_workers.specs.FileMeaning.{Bytes}
+use Rattle.pj_workers.specs.FileMeaning.{Bytes, file_at, file_meaning, head_of, rule_at, rule_meaning}
 use Rattle.pj_workers.specs.Marked.{is_marked}
-use Rattle.pj_workers.specs.Views.{ComesToResult, ComesToRows, IsErrorOf, IsOfOneFile, file_seen}
+use Rattle.pj_workers.specs.NoFunctions.{no_functions}
+use Rattle.pj_workers.specs.Results.{IsResultAt, IsResultOf, RestsOn, came_to, rules_in}
+use Rattle.pj_workers.specs.Rules.{AreRulesOf, IsRuleOf, Rule}
+use Rattle.pj_workers.specs.Views.{AreRunsOf, AsksOf, IsErrorOf, IsOfOneFile, all_names, rows_by}
+use Rattle.pj_workers.specs.declared.result.FileResult.{FileResult}
+use Rattle.pj_workers.specs.declared.result.FileRuns.{FileRuns}
 use Rattle.pj_workers.specs.declared.view.FileView.{FileView}
-use Rattle.pj_workers.proofs.Coming.{error_comes, rows_come}
+use Rattle.pj_workers.proofs.FileLaws.{one_error}
 use Rattle.pj_workers.proofs.MarkLaws.{marks_are_one}
-
--- what holds of the one value that a call may give
-pub if_same : {A E : Type 0} (P : A → Type 0) (a : A) (r : Result A E) → IfOk r (λ b. b ≡ a) → P a → IfOk r P
-if_same P a (Ok b) is h = subst P (sym is) h
-if_same P a (Err e) is h = tt
-
-pub if_ok : {A E : Type 0} (P Q : A → Type 0) (r : Result A E) → ((a : A) → P a → Q a) → IfOk r P → IfOk r Q
-if_ok P Q (Ok a) weaker h = weaker a h
-if_ok P Q (Err e) weaker h = tt
+use Rattle.pj_workers.proofs.Resting.{all_before, none_together, rests_before, together_held}
+use Rattle.pj_workers.proofs.Unasked.{no_names}
 
 -- ---- with a tree
 
--- the rows of a view, by what the rules of the set came to
-pub view_comes : {E : Type 0} (set : EffectiveRules) (path : Bytes) (view : FileView) (rules : List EffectiveRule) (name : Bytes) (results : List RuleResult) (r : Result FileRows E)
-    → rules ≡ set.rules → view.marker.now ≡ set.marker → name ≡ package_name (file_seen view).tree → AllZip (ComesToResult view.marker.now path (file_seen view)) rules results
-    → IfOk r (λ rows. rows ≡ merged name results) → IfOk r (ComesToRows set path (Ok (file_seen view)))
-view_comes set path view rules name results r are marker named came made =
-    let file = file_seen view in
-    let come = subst (λ (m : Bytes). AllZip (ComesToResult m path file) set.rules results) marker (subst (λ (l : List EffectiveRule). AllZip (ComesToResult view.marker.now path file) l results) are came) in
-    if_same (ComesToRows set path (Ok file)) (merged name results) r made
-    (subst (λ (n : Bytes). ComesToRows set path (Ok file) (merged n results)) (sym named) (rows_come set path file results come))
+-- the rules of a set, by the list and the marker that the program has
+pub marked_rules : (set : EffectiveRules) (marker : Bytes) (rules : List EffectiveRule) (meant : List Rule) → rules ≡ set.rules → marker ≡ set.marker → AreRulesOf set meant → AllZip (IsRuleOf marker) rules meant
+marked_rules set marker rules meant is marked are =
+    subst (λ (m : Bytes). AllZip (IsRuleOf m) rules meant) (sym marked) (subst (λ (l : List EffectiveRule). AllZip (IsRuleOf set.marker) l meant) (sym is) are)
 
 -- a view of a file that was parsed
 pub is_of_one : (source : SourceText) (parsed : Parsed) (view : FileView) → view.facts.now ≡ facts_of source (file_parsed parsed) → view.tree.now ≡ parsed.tree → parsed.tree.text ≡ source.text
@@ -73,8 +75,71 @@ java_file_is source parsed facts is pool =
 
 -- ---- without one
 
-pub refused_comes : {E : Type 0} (set : EffectiveRules) (path bytes : Bytes) (refused : FileRefused) (r : Result FileRows E) → ((o : Result JavaFile FileFault) → IsJavaFile bytes o → o ≡ outcome_of bytes)
-    → IsRefused bytes refused → IfOk r (IsErrorOf refused) → IfOk r (ComesToRows set path (outcome_of bytes))
-refused_comes set path bytes (Fault fault) r one is made =
-    subst (λ (o : Result JavaFile FileFault). IfOk r (ComesToRows set path o)) (one (Err fault) is) (if_same (ComesToRows set path (Err fault)) _ r made (error_comes set path fault))
-refused_comes set path bytes Memory r one is made = if_ok (IsErrorOf Memory) (ComesToRows set path (outcome_of bytes)) r (λ rows none. absurd none) made
+module _ {K : Type 0} (set : EffectiveRules) (path : Bytes) (t : Told K) where
+  error_asks : (fault : FileFault) (found : FileRuns) → IsErrorOf (Fault fault) found → AsksOf set path (Err fault) t t (Ok found)
+  error_asks fault found is = λ meant are.
+      subst (λ (m : Asking FileRows). Asks m t t (Ok (rows_by found))) (sym (one_error no_functions path meant fault)) (asks-return (λ i. Ok (merge (is.0 i) (came_to (is.1 i)))))
+
+  error_runs : (fault : FileFault) (found : FileRuns) → IsErrorOf (Fault fault) found → AreRunsOf set path (Err fault) t found
+  error_runs fault found is = record {
+    head = is.0;
+    runs = λ meant are. subst (λ (runs : List RuleRun). AllZip (λ rule run. RestsOn t (rule_at no_functions path (Err fault) rule) run.rows run.names) [] runs) (sym is.1) tt;
+  }
+
+  module _ (bytes : Bytes) (one : (o : Result JavaFile FileFault) → IsJavaFile bytes o → o ≡ outcome_of bytes) where
+    pub refused_asks : (refused : FileRefused) (found : FileRuns) → IsRefused bytes refused → IsErrorOf refused found → AsksOf set path (outcome_of bytes) t t (Ok found)
+    refused_asks (Fault fault) found is error = subst (λ (o : Result JavaFile FileFault). AsksOf set path o t t (Ok found)) (one (Err fault) is) (error_asks fault found error)
+    refused_asks Memory found is error = absurd error
+
+    pub refused_runs : (refused : FileRefused) (found : FileRuns) → IsRefused bytes refused → IsErrorOf refused found → AreRunsOf set path (outcome_of bytes) t found
+    refused_runs (Fault fault) found is error = subst (λ (o : Result JavaFile FileFault). AreRunsOf set path o t found) (one (Err fault) is) (error_runs fault found error)
+    refused_runs Memory found is error = absurd error
+
+pub no_run : (refused : FileRefused) (found : FileRuns) → IsErrorOf refused found → AllByRecursion (λ (run : RuleRun). run.names ≡ []) found.runs
+no_run (Fault fault) found error = subst (λ (runs : List RuleRun). AllByRecursion (λ (run : RuleRun). run.names ≡ []) runs) (sym error.1) tt
+no_run Memory found error = absurd error
+
+-- ---- the file's result
+
+none_beside : {X Y : Type 0} (R : X → Y → Type 0) (ys : List Y) → AllZip R [] ys → ys ≡ []
+none_beside R [] h = refl
+none_beside R (y ∷ ys) h = absurd h
+
+file_held : {K : Type 0} (set : EffectiveRules) (path : Bytes) (o : Result JavaFile FileFault) (t : Told K) (found : FileRuns) (meant : List Rule) → AreRunsOf set path o t found → AreRulesOf set meant → IsTrue t.is_told
+    → IsHeld t.world (file_at no_functions path o meant) (rows_by found) (name_set (all_names found.runs))
+file_held set path (Ok file) t found meant runs are told =
+    subst (λ (h : Head). IsHeld t.world (file_at no_functions path (Ok file) meant) (merge h (came_to found.runs)) (name_set (all_names found.runs))) (sym runs.head)
+    (together_held t (rule_at no_functions path (Ok file)) (λ results. merge (head_of (Ok file)) results) meant found.runs (runs.runs meant are) told)
+file_held set path (Err fault) t found meant runs are told =
+    let none : found.runs ≡ [] = none_beside (λ rule run. RestsOn t (rule_at no_functions path (Err fault) rule) run.rows run.names) found.runs (runs.runs meant are) in
+    subst (λ (m : Asking FileRows). IsHeld t.world m (rows_by found) (name_set (all_names found.runs))) (sym (one_error no_functions path meant fault)) (record {
+      value_is = λ d far. ap (λ (h : Head). merge h (came_to found.runs)) (sym runs.head);
+      names_are = λ d far. ap (λ (runs : List RuleRun). name_set (all_names runs)) (sym none);
+    })
+
+pub result_is : {K : Type 0} (set : EffectiveRules) (path bytes : Bytes) (t : Told K) (runs : FileRuns) (made : FileResult) (meant : List Rule) → AreRunsOf set path (outcome_of bytes) t runs → AreRulesOf set meant
+    → made.rows ≡ rows_by runs → made.runs ≡ runs.runs → IsStrictlySortedBy (slice_cmp nat_cmp) made.names → name_set made.names ≡ with_names sets.empty (all_names runs.runs) → IsResultOf t no_functions path bytes meant made
+result_is set path bytes t runs made meant are of rows own up together = record {
+  rows = record {
+    ascending = up;
+    held = λ told. subst (λ (s : NameSet). IsHeld t.world (file_at no_functions path (outcome_of bytes) meant) made.rows s) (sym (with_names-empty (all_names runs.runs)) ∙ sym together)
+        (subst (λ (r : FileRows). IsHeld t.world (file_at no_functions path (outcome_of bytes) meant) r (name_set (all_names runs.runs))) (sym rows) (file_held set path (outcome_of bytes) t runs meant are of told));
+  };
+  runs = subst (λ (rs : List RuleRun). AllZip (λ rule run. RestsOn t (rule_at no_functions path (outcome_of bytes) rule) run.rows run.names) (rules_in (outcome_of bytes) meant) rs) (sym own) (are.runs meant of);
+  merged = rows ∙ (λ i. merge (are.head i) (came_to (sym own i)));
+}
+
+-- no names, where no rule asks any
+pub no_names_together : (names : List Name) (runs : List RuleRun) → name_set names ≡ with_names sets.empty (all_names runs) → AllByRecursion (λ (run : RuleRun). run.names ≡ []) runs → names ≡ []
+no_names_together names runs together none = no_names names (together ∙ ap (λ (l : List Name). with_names sets.empty l) (none_together runs none) ∙ with_names-empty [])
+
+-- what an oracle tells later of a file, it told before
+pub result_before : {K : Type 0} (t u : Told K) (meant : List Rule) (file : Bytes × Bytes) (found : Bytes × FileResult) → u.is_told ≡ t.is_told → u.world ≡ t.world → IsResultAt u no_functions meant file found → IsResultAt t no_functions meant file found
+result_before t u meant file found told world at = record {
+  path = at.path;
+  result = record {
+    rows = rests_before t u (file_meaning no_functions file.0 file.1 meant) found.1.rows found.1.names told world at.result.rows;
+    runs = all_before t u (rule_meaning no_functions file.0 file.1) (rules_in (outcome_of file.1) meant) found.1.runs told world at.result.runs;
+    merged = at.result.merged;
+  };
+}

@@ -19,10 +19,11 @@ use Rattle.pj_xvalue.specs.Boolean.{effective_boolean}
 use Rattle.pj_xvalue.specs.Items.{ItemValue, Document, Element}
 use Rattle.pj_xexpressions.specs.declared.expr.Expr.{Expr}
 use Rattle.pj_workers.specs.FileFacts.{around_file}
-use Rattle.pj_workers.specs.FileMeaning.{Bytes, Replies, file_meaning, head_of, merge, nothing, rule_at, rule_meaning}
+use Rattle.pj_findings.specs.Merged.{merge}
+use Rattle.pj_workers.specs.FileMeaning.{Bytes, Replies, file_meaning, head_of, nothing, rule_at, rule_meaning}
 use Rattle.pj_workers.specs.Laws.{AreAlike, RulesAreTexts}
 use Rattle.pj_workers.specs.Reasons.{plain_reason_of, xpath_reason}
-use Rattle.pj_workers.specs.RuleMeaning.{Reply, found_at, found_of, reason_after, result_of, rule_in_file, spot_at, value_of}
+use Rattle.pj_workers.specs.RuleMeaning.{Reply, found_at, found_of, reason_after, result_of, rule_in_file, extent_at, value_of}
 use Rattle.pj_rule_sets.specs.Expressions.{Both, IsSpelledBy, names_of, variables_of}
 use Rattle.pj_rule_sets.specs.Patterns.{suppression_of}
 use Rattle.pj_workers.specs.Rules.{IsSpelled, Rule, Source, is_active, patterns_of}
@@ -74,7 +75,7 @@ module _ (denotes_alike : DenotesByTree) (patterns_alike : PatternsByTree) (repl
   found_same : SameTrees c d → (ns : List Node) → found_at reply file left ns ≡ found_at reply file right ns
   found_same same [] = refl
   found_same same (n ∷ ns) =
-      λ i. after_same (plain_reason_of file left n (spot_at reply file left n)) n same i >>= λ why. found_same same ns i >>= λ fs. give (found_of n (spot_at reply file left n) why ∷ fs)
+      λ i. after_same (plain_reason_of file left n (extent_at reply file left n)) n same i >>= λ why. found_same same ns i >>= λ fs. give (found_of n (extent_at reply file left n) why ∷ fs)
 
   rules_in_file : tree_of p ≡ tree_of q → SameTrees c d → rule_in_file reply file left ≡ rule_in_file reply file right
   rules_in_file query same =

@@ -1,9 +1,11 @@
 -- What rules mean at a file: the head of the file with the meaning of each rule, one after the other, merged by node and rule. Each
 -- part is a function of the path, the bytes and one rule, so that what is kept of one rule in one file can be used again.
 use Rattle.std.specs.Prelude.{ℕ, List, [], Result, Ok, Err, if◌then◌else◌}
-use Rattle.pj_findings.specs.Merged.{merged, only_error}
-use Rattle.pj_findings.specs.declared.found.RuleResult.{RuleResult}
-use Rattle.pj_findings.specs.declared.found.RuleResult.TheVariants.{Findings}
+use Rattle.pj_findings.specs.Merged.{merge}
+use Rattle.pj_reports.specs.declared.ruled.Head.{Head}
+use Rattle.pj_reports.specs.declared.ruled.Head.TheVariants.{Package, Message}
+use Rattle.pj_reports.specs.declared.ruled.Ruled.{Ruled}
+use Rattle.pj_reports.specs.declared.ruled.Ruled.TheVariants.{Spots}
 use Rattle.pj_names.specs.Asking.{Asking, Return, bind, each}
 use Rattle.pj_parse.specs.FileOutcome.{outcome_of}
 use Rattle.pj_parse.specs.JavaFile.{JavaFile}
@@ -21,31 +23,22 @@ Bytes = List ℕ
 abbrev pub Replies : Type 0
 Replies = Bytes → JavaFile → Reply
 
--- What is said of a file beside its rules: the name of its package, or the message that says why it has no tree.
-pub data Head : Type 0 where
-  HasTree : Bytes → Head
-  HasNone : Bytes → Head
-
+-- what is said of a file beside its rules: the name of its package, or the message that says why it has no tree
 abbrev pub head_of : Result JavaFile FileFault → Head
-head_of (Ok file) = HasTree (package_name file.tree)
-head_of (Err fault) = HasNone (fault_message fault)
-
--- the rows of a file with this head, in which the rules came to this: where there is no tree, one error
-abbrev pub merge : Head → List RuleResult → FileRows
-merge (HasTree name) results = merged name results
-merge (HasNone message) results = only_error message
+head_of (Ok file) = Package (package_name file.tree)
+head_of (Err fault) = Message (fault_message fault)
 
 -- what comes of a rule that is not active, or where there is no tree: nothing, and nothing is asked
-abbrev pub nothing : Asking RuleResult
-nothing = Return (Findings [])
+abbrev pub nothing : Asking Ruled
+nothing = Return (Spots [])
 
 module _ (replies : Replies) where
-  abbrev pub rule_at : Bytes → Result JavaFile FileFault → Rule → Asking RuleResult
+  abbrev pub rule_at : Bytes → Result JavaFile FileFault → Rule → Asking Ruled
   rule_at path (Err fault) rule = nothing
   rule_at path (Ok file) rule = if is_active rule.source path then rule_in_file (replies path file) file rule else nothing
 
   -- what a rule means at a file of these bytes
-  abbrev pub rule_meaning : Bytes → Bytes → Rule → Asking RuleResult
+  abbrev pub rule_meaning : Bytes → Bytes → Rule → Asking Ruled
   rule_meaning path bytes rule = rule_at path (outcome_of bytes) rule
 
   -- what rules mean together at a file with this outcome

@@ -1,28 +1,36 @@
 -- What follows from the definitions.
-use Rattle.std.specs.Prelude.{◌≡◌, ℕ, false, List, map, Err}
-use Rattle.std.specs.List.{AllByRecursion, AllZip}
+use Rattle.std.specs.Prelude.{◌≡◌, ◌⊎◌, ◌<◌, ◌==◌, ℕ, false, List, [], filter, length, map, slice_get, Ok, Err, Some}
+use Rattle.std.specs.List.{AllByRecursion, AllZip, list_any}
+use Rattle.std.specs.List.Sorted.{IsStrictlySortedBy}
 use Rattle.std.specs.Str.{IsUtf8}
 use Rattle.pj_grammar.specs.Words.{seen}
 use Rattle.pj_lex.specs.declared.token.Token.{Token}
 use Rattle.pj_suppress.specs.Marks as marks
 use Rattle.pj_suppress.specs.Words.{Text}
-use Rattle.pj_findings.specs.Laws.{IsAscending}
-use Rattle.pj_findings.specs.Merged.{found_by, only_error}
-use Rattle.pj_findings.specs.Spots.{spot_of}
-use Rattle.pj_findings.specs.declared.found.Found.{Found}
+use Rattle.pj_findings.specs.Laws.{IsAscending, error_order, finding_order, is_of}
+use Rattle.pj_findings.specs.Merged.{error_by, finding_of, found_by, only_error}
+use Rattle.pj_findings.specs.Extents.{extent_of}
+use Rattle.pj_reports.specs.declared.ruled.Spot.{Spot}
 use Rattle.pj_names.specs.Asking.{Return, value_of}
 use Rattle.pj_outside.specs.Files.{Files}
 use Rattle.pj_parse.specs.FileOutcome.{outcome_of}
 use Rattle.pj_parse.specs.JavaFile.{JavaFile}
 use Rattle.pj_parse.specs.declared.file_fault.FileFault.{FileFault}
 use Rattle.pj_reports.specs.declared.report.Report.{Report}
+use Rattle.pj_reports.specs.declared.rows.FileRows.{FileRows}
+use Rattle.pj_reports.specs.declared.rows.Finding.{Finding}
+use Rattle.pj_reports.specs.declared.ruled.Ruled.{Ruled}
+use Rattle.pj_reports.specs.declared.ruled.Ruled.TheVariants.{Spots}
+use Rattle.pj_tree.specs.declared.node.Node.{Node}
+use Rattle.pj_xaxes.specs.Order.{has_item}
+use Rattle.pj_xvalue.specs.Items.{ItemValue, Element}
 use Rattle.pj_names.specs.declared.rule_row.ConfigError.{ConfigError}
 use Rattle.pj_workers.specs.Cold.{IsCold, World}
 use Rattle.pj_workers.specs.Faults.{fault_message}
 use Rattle.pj_workers.specs.FileFacts.{place_of}
 use Rattle.pj_workers.specs.FileMeaning.{Bytes, Replies, file_meaning, nothing, rule_meaning}
 use Rattle.pj_workers.specs.Marked.{is_marked}
-use Rattle.pj_workers.specs.RuleMeaning.{Reply, rule_in_file}
+use Rattle.pj_workers.specs.RuleMeaning.{Reply, items, rule_in_file}
 use Rattle.pj_workers.specs.Rules.{IsSpelled, Rule, is_active}
 
 -- A rule that is not active for a path means nothing there, and asks nothing.
@@ -44,12 +52,51 @@ OneCold = (replies : Replies) (world : World) (files : Files) (rules : List Rule
     → IsCold replies world files rules unusable r → IsCold replies world files rules unusable s → r ≡ s
 
 -- A finding stands where its node does.
-abbrev pub StandsAtNode : JavaFile → Found → Type 0
-StandsAtNode file found = record { begin = found.begin; end = found.end } ≡ spot_of (place_of file) file.tree (record { 0 = found.node })
+abbrev pub StandsAtNode : JavaFile → Spot → Type 0
+StandsAtNode file found = record { begin = found.begin; end = found.end } ≡ extent_of (place_of file) file.tree (record { 0 = found.node })
 
 -- So do all that a rule finds in a file.
 abbrev pub SpotsAreNodes : Type 0
 SpotsAreNodes = (reply : Reply) (world : World) (depth : ℕ) (file : JavaFile) (rule : Rule) → AllByRecursion (StandsAtNode file) (found_by (value_of depth world (rule_in_file reply file rule)))
+
+-- ---- the rows of a file
+
+-- They stand in order: the findings by node and then by rule, none twice, and the errors by rule.
+pub record AreInOrder (rows : FileRows) : Type 0 where
+  pub findings : IsStrictlySortedBy finding_order rows.findings
+  pub errors : IsStrictlySortedBy error_order rows.errors
+
+-- Of the rule of a number they have just what the rule came to: findings, or an error.
+pub record AreOfRule (rows : FileRows) (number : ℕ) (came_to : Ruled) : Type 0 where
+  pub findings : filter (λ (finding : Finding). finding.rule == number) rows.findings ≡ map (finding_of number) (found_by came_to)
+  pub errors : filter (is_of number) rows.errors ≡ error_by number came_to
+  pub either : (found_by came_to ≡ []) ⊎ (error_by number came_to ≡ [])
+
+-- What rules mean at a file stands in order, whatever the functions of PMD reply, over every world and at each depth.
+abbrev pub FilesAreInOrder : Type 0
+FilesAreInOrder = (replies : Replies) (world : World) (depth : ℕ) (path bytes : Bytes) (rules : List Rule) → AreInOrder (value_of depth world (file_meaning replies path bytes rules))
+
+-- Of each rule it has what this rule alone means at the file.
+abbrev pub FilesAreTheirRules : Type 0
+FilesAreTheirRules = (replies : Replies) (world : World) (depth : ℕ) (path bytes : Bytes) (rules : List Rule) (number : ℕ) (rule : Rule) → slice_get rules number ≡ Some rule
+    → AreOfRule (value_of depth world (file_meaning replies path bytes rules)) number (value_of depth world (rule_meaning replies path bytes rule))
+
+-- Each finding is of one of the rules.
+abbrev pub FindingsHaveRules : Type 0
+FindingsHaveRules = (replies : Replies) (world : World) (depth : ℕ) (path bytes : Bytes) (rules : List Rule)
+    → AllByRecursion (λ (finding : Finding). finding.rule < length rules) (value_of depth world (file_meaning replies path bytes rules)).findings
+
+-- The nodes that a rule finds in a file are the elements that its query denotes there.
+abbrev pub FoundAreDenoted : Type 0
+FoundAreDenoted = (reply : Reply) (world : World) (depth : ℕ) (file : JavaFile) (rule : Rule) (spots : List Spot) → value_of depth world (rule_in_file reply file rule) ≡ Spots spots
+    → (values : List ItemValue) × (value_of depth world (items reply file rule) ≡ Ok values) × ((n : Node) → list_any (λ (spot : Spot). spot.node == n.0) spots ≡ has_item values (Element n))
+
+-- A cold report has the files in their order, and the rows of each stand in order.
+abbrev pub ColdIsInOrder : Type 0
+ColdIsInOrder = (replies : Replies) (world : World) (files : Files) (rules : List Rule) (unusable : List ConfigError) (report : Report) → IsCold replies world files rules unusable report
+    → (map (λ (of_file : Bytes × FileRows). of_file.0) report.files ≡ map (λ (file : Bytes × Bytes). file.0) files) × AllByRecursion (λ (of_file : Bytes × FileRows). AreInOrder of_file.1) report.files
+
+-- ---- rules by their texts
 
 -- Rules of one source mean the same: what a rule means is determined by its texts, the path patterns of its ruleset and the marker.
 abbrev pub RulesAreTexts : Type 0

@@ -6,7 +6,8 @@ pub mod Reasons
 pub mod RuleMeaning
 pub mod Faults
 pub mod FileMeaning
-pub mod NoTypes
+pub mod NoFunctions
+pub mod Results
 pub mod Cold
 -- laws
 pub mod Laws

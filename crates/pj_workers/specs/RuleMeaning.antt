@@ -4,11 +4,11 @@
 use Rattle.std.specs.Prelude.{List, [], ◌∷◌, Option, Some, None, Result, Ok, Err}
 use Rattle.pj_findings.specs.Denoted.{denoted}
 use Rattle.pj_findings.specs.Messages.{rule_message}
-use Rattle.pj_findings.specs.Spots.{spot_of}
-use Rattle.pj_findings.specs.declared.found.Found.{Found}
-use Rattle.pj_findings.specs.declared.found.RuleResult.{RuleResult}
-use Rattle.pj_findings.specs.declared.found.RuleResult.TheVariants.{Findings, Error}
-use Rattle.pj_findings.specs.declared.spot.Spot.{Spot}
+use Rattle.pj_findings.specs.Extents.{extent_of}
+use Rattle.pj_reports.specs.declared.ruled.Spot.{Spot}
+use Rattle.pj_reports.specs.declared.ruled.Ruled.{Ruled}
+use Rattle.pj_reports.specs.declared.ruled.Ruled.TheVariants.{Spots, Message}
+use Rattle.pj_findings.specs.declared.extent.Extent.{Extent}
 use Rattle.pj_names.specs.Asking.{Asking, Return, bind}
 use Rattle.pj_parse.specs.JavaFile.{JavaFile}
 use Rattle.pj_reports.specs.declared.rows.Reason.{Reason}
@@ -31,13 +31,13 @@ abbrev pub Reply : Type 0
 Reply = PmdFunction → Option Node → List (List ItemValue) → Means (List ItemValue)
 
 -- a finding at a node that stands there
-abbrev pub found_of : Node → Spot → Option Reason → Found
-found_of n spot why = record { node = n.0; begin = spot.begin; end = spot.end; reason = why }
+abbrev pub found_of : Node → Extent → Option Reason → Spot
+found_of n extent why = record { node = n.0; begin = extent.begin; end = extent.end; reason = why }
 
 -- a code is the rule's one error in the file, and it has no findings there
-abbrev pub result_of : Rule → Result (List Found) XCode → RuleResult
-result_of rule (Ok found) = Findings found
-result_of rule (Err code) = Error (rule_message rule.source.texts.row.name code)
+abbrev pub result_of : Rule → Result (List Spot) XCode → Ruled
+result_of rule (Ok found) = Spots found
+result_of rule (Err code) = Message (rule_message rule.source.texts.row.name code)
 
 module _ (reply : Reply) (file : JavaFile) (rule : Rule) where
   -- what an expression of the rule denotes in a context, with the rule's variables and patterns
@@ -58,21 +58,21 @@ module _ (reply : Reply) (file : JavaFile) (rule : Rule) where
   reason_after None None n = give None
   reason_after None (Some expr) n = covers expr n
 
-  abbrev pub spot_at : Node → Spot
-  spot_at n = spot_of (place_of file) file.tree n
+  abbrev pub extent_at : Node → Extent
+  extent_at n = extent_of (place_of file) file.tree n
 
   abbrev pub reason_at : Node → Means (Option Reason)
-  reason_at n = reason_after (plain_reason_of file rule n (spot_at n)) rule.suppression n
+  reason_at n = reason_after (plain_reason_of file rule n (extent_at n)) rule.suppression n
 
   -- The findings at nodes, in their order: reasons are sought up to the first code.
-  abbrev pub found_at : List Node → Means (List Found)
+  abbrev pub found_at : List Node → Means (List Spot)
   found_at [] = give []
-  found_at (n ∷ ns) = reason_at n >>= λ why. found_at ns >>= λ found. give (found_of n (spot_at n) why ∷ found)
+  found_at (n ∷ ns) = reason_at n >>= λ why. found_at ns >>= λ found. give (found_of n (extent_at n) why ∷ found)
 
   -- Reasons are sought once the whole query and its items gave no code.
-  abbrev pub found : Means (List Found)
+  abbrev pub found : Means (List Spot)
   found = items >>= λ values. judged (denoted values) >>= λ nodes. found_at nodes
 
   -- what the rule comes to in the file
-  abbrev pub rule_in_file : Asking RuleResult
+  abbrev pub rule_in_file : Asking Ruled
   rule_in_file = bind found (λ came_to. Return (result_of rule came_to))

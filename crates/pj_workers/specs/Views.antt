@@ -1,31 +1,34 @@
 -- What the program has of a file that has a tree, and of a rule in it. This serves private clauses.
-use Rattle.std.specs.Prelude.{◌≡◌, ◌==◌, ◌≤◌, ℕ, List, [], Some, Result, Ok}
-use Rattle.std.specs.List.{list_any}
+use Rattle.std.specs.Prelude.{◌≡◌, ◌==◌, ℕ, List, [], Some, Result, flat_map}
+use Rattle.std.specs.List.{AllZip, list_any}
 use Rattle.std.specs.List.Sorted.{IsNonDecreasing}
 use Rattle.std.specs.Option.{option_map}
-use Rattle.pj_findings.specs.Merged.{only_error}
-use Rattle.pj_findings.specs.declared.found.Found.{Found}
-use Rattle.pj_findings.specs.declared.found.RuleResult.{RuleResult}
-use Rattle.pj_names.specs.Asking.{Asking, names_of, value_of}
-use Rattle.pj_names.specs.Told.{longest}
+use Rattle.pj_findings.specs.Merged.{merge}
+use Rattle.pj_findings.specs.declared.run.RuleRun.{RuleRun}
+use Rattle.pj_names.specs.ClassName.{Name}
+use Rattle.pj_names.specs.Told.{Asks, Told, seen}
+use Rattle.pj_names.specs.declared.oracle.AskFault.{AskFault}
 use Rattle.pj_parse.specs.JavaFile.{JavaFile, java_file}
 use Rattle.pj_parse.specs.declared.file_fault.FileFault.{FileFault}
 use Rattle.pj_parse.specs.declared.file_fault.FileRefused.{FileRefused}
 use Rattle.pj_parse.specs.declared.file_fault.FileRefused.TheVariants.{Fault, Memory}
 use Rattle.pj_reports.specs.declared.rows.FileRows.{FileRows}
+use Rattle.pj_reports.specs.declared.ruled.Head.TheVariants.{Message}
+use Rattle.pj_reports.specs.declared.ruled.Spot.{Spot}
 use Rattle.pj_rule_sets.specs.Expressions.{HasPatterns, variables_of}
 use Rattle.pj_rule_sets.specs.declared.expressions.RuleExpressions.{RuleExpressions}
 use Rattle.pj_rule_sets.specs.declared.spelled.Spelled.{Spelled}
 use Rattle.pj_rule_sets.specs.Rules.{EffectiveRule, EffectiveRules, texts_of}
 use Rattle.pj_tree.specs.declared.node.Node.{Node}
 use Rattle.pj_xsteps.specs.Means.{Means, give, ◌>>=◌}
-use Rattle.pj_workers.specs.Cold.{World}
 use Rattle.pj_workers.specs.Faults.{fault_message}
-use Rattle.pj_workers.specs.FileMeaning.{Bytes, file_at, rule_at}
+use Rattle.pj_workers.specs.FileMeaning.{Bytes, file_at, head_of, rule_at}
 use Rattle.pj_workers.specs.Marked.{is_marked}
-use Rattle.pj_workers.specs.NoTypes.{always_false, no_types}
-use Rattle.pj_workers.specs.RuleMeaning.{Reply, found_of, reason_at, rule_in_file, spot_at}
-use Rattle.pj_workers.specs.Rules.{AreRulesOf, IsRuleOf, Rule, source_of}
+use Rattle.pj_workers.specs.NoFunctions.{no_functions}
+use Rattle.pj_workers.specs.Results.{RestsOn, came_to, rules_in}
+use Rattle.pj_workers.specs.RuleMeaning.{Reply, extent_at, found_of, reason_at}
+use Rattle.pj_workers.specs.Rules.{AreRulesOf, Rule, source_of}
+use Rattle.pj_workers.specs.declared.result.FileRuns.{FileRuns}
 use Rattle.pj_workers.specs.declared.view.FileView.{FileView}
 use Rattle.pj_workers.specs.declared.view.RuleView.{RuleView}
 
@@ -57,29 +60,29 @@ pub record HasItsPatterns (effective : EffectiveRule) (kept : RuleExpressions) :
   pub suppression : (spelled : Spelled) → kept.suppression ≡ Some spelled → HasPatterns (variables_of (texts_of effective)) spelled
 
 -- what a rule finds at one node
-abbrev pub found_there : Reply → JavaFile → Rule → Node → Means Found
-found_there reply file rule n = reason_at reply file rule n >>= λ why. give (found_of n (spot_at reply file rule n) why)
+abbrev pub found_there : Reply → JavaFile → Rule → Node → Means Spot
+found_there reply file rule n = reason_at reply file rule n >>= λ why. give (found_of n (extent_at reply file rule n) why)
 
--- ---- what meanings come to, whatever the world answers
+-- ---- the steps of a file's analysis
 
--- The meaning has this value and asks nothing, whatever the world answers, from some depth on.
-pub record IsWithoutAsking {A : Type 0} (meaning : Asking A) (value : A) : Type 0 where
-  pub value_is : (world : World) (depth : ℕ) → longest ≤ depth → value_of depth world meaning ≡ value
-  pub names_are : (world : World) (depth : ℕ) → longest ≤ depth → names_of depth world meaning ≡ []
+-- the rows of a file with this head in which the rules came to this
+abbrev pub rows_by : FileRuns → FileRows
+rows_by found = merge found.head (came_to found.runs)
 
--- An active rule of a set comes to this in a file, whatever expressions its texts spell.
-pub record ComesInFile (marker : Bytes) (file : JavaFile) (effective : EffectiveRule) (result : RuleResult) : Type 0 where
-  pub comes : (rule : Rule) → IsRuleOf marker effective rule → IsWithoutAsking (rule_in_file always_false file rule) result
+-- It asks what the rules of the set mean together at a file with this outcome.
+abbrev pub AsksOf : {K : Type 0} → EffectiveRules → Bytes → Result JavaFile FileFault → Told K → Told K → Result FileRuns AskFault → Type 0
+AsksOf set path outcome old new result = (rules : List Rule) → AreRulesOf set rules → Asks (file_at no_functions path outcome rules) old new (seen rows_by result)
 
--- The rule of a set comes to this in a file of a path, whatever expressions its texts spell.
-pub record ComesToResult (marker path : Bytes) (file : JavaFile) (effective : EffectiveRule) (result : RuleResult) : Type 0 where
-  pub comes : (rule : Rule) → IsRuleOf marker effective rule → IsWithoutAsking (rule_at no_types path (Ok file) rule) result
+-- What is said of a file with this outcome, and what the rules of the set come to in it.
+pub record AreRunsOf {K : Type 0} (set : EffectiveRules) (path : Bytes) (outcome : Result JavaFile FileFault) (told : Told K) (found : FileRuns) : Type 0 where
+  pub head : found.head ≡ head_of outcome
+  pub runs : (rules : List Rule) → AreRulesOf set rules → AllZip (λ rule run. RestsOn told (rule_at no_functions path outcome rule) run.rows run.names) (rules_in outcome rules) found.runs
 
--- The rules of a set come to these rows.
-pub record ComesToRows (set : EffectiveRules) (path : Bytes) (outcome : Result JavaFile FileFault) (rows : FileRows) : Type 0 where
-  pub comes : (rules : List Rule) → AreRulesOf set rules → IsWithoutAsking (file_at no_types path outcome rules) rows
+-- Of a file that was refused is said why, and no rule comes to anything.
+abbrev pub IsErrorOf : FileRefused → FileRuns → Type 0
+IsErrorOf (Fault fault) found = (found.head ≡ Message (fault_message fault)) × (found.runs ≡ [])
+IsErrorOf Memory found = ⊥
 
--- The rows of a file that was refused say why.
-abbrev pub IsErrorOf : FileRefused → FileRows → Type 0
-IsErrorOf (Fault fault) rows = rows ≡ only_error (fault_message fault)
-IsErrorOf Memory rows = ⊥
+-- the names of rules, one rule after the other
+abbrev pub all_names : List RuleRun → List Name
+all_names runs = flat_map (λ (run : RuleRun). run.names) runs

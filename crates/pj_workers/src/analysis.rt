@@ -1,7 +1,7 @@
 //! What a rule finds in a file that has a tree.
 ghost use Rattle.std.specs.Prelude.{◌≡◌, ◌<◌, IfOk, None, length};
 ghost use Rattle.std.specs.List.{All};
-ghost use Rattle.pj_findings.specs.Spots.{spot_of};
+ghost use Rattle.pj_findings.specs.Extents.{extent_of};
 ghost use Rattle.pj_names.specs.Told.{Asks};
 ghost use Rattle.pj_rule_sets.specs.Expressions.{HasPatterns, variables_of};
 ghost use Rattle.pj_rule_sets.specs.Rules.{texts_of};
@@ -11,16 +11,14 @@ ghost use Rattle.pj_xvalue.specs.OfTree.{OfTree};
 ghost use Rattle.pj_xvalue.specs.Replies.{outcome};
 ghost use Rattle.pj_workers.specs.FileFacts.{place_of};
 ghost use Rattle.pj_workers.specs.Reasons.{plain_reason_of};
-ghost use Rattle.pj_workers.specs.RuleMeaning.{covers, found, found_at, reason_after, reason_at, rule_in_file, spot_at, value_of};
+ghost use Rattle.pj_workers.specs.RuleMeaning.{covers, found, found_at, reason_after, reason_at, rule_in_file, extent_at, value_of};
 ghost use Rattle.pj_workers.specs.Rules.{IsRuleOf, Rule as MeantRule};
 ghost use Rattle.pj_workers.specs.Views.{HasItsPatterns, IsOfOneFile, file_seen, found_there, rule_seen};
 
 use crate::view::{FileView, RuleView};
-use pj_findings::{
-    Found, FoundList, RuleResult, Spot, denoted_nodes, plain_reason, rule_message, spot_of,
-};
+use pj_findings::{Extent, denoted_nodes, extent_of, plain_reason, rule_message};
 use pj_names::AskFault;
-use pj_reports::Reason;
+use pj_reports::{Reason, Ruled, Spot, Spots};
 use pj_rule_sets::{Rule, Spelled};
 use pj_tree::Node;
 use pj_xeval::{Focus, evaluate};
@@ -105,10 +103,10 @@ fn xpath_reason<'t, C: Calls>(
 }
 
 /// The first of the reasons for which nothing is evaluated.
-fn reason_of(view: &RuleView<'_>, n: Node, spot: Spot) -> Option<Reason>
+fn reason_of(view: &RuleView<'_>, n: Node, extent: Extent) -> Option<Reason>
     requires file { IsOfOneFile view.now.file.now }
     requires inside { n.0 < length (file_seen view.now.file.now).tree.nodes }
-    ensures { result ≡ plain_reason_of (file_seen view.now.file.now) (rule_seen view.now) n spot }
+    ensures { result ≡ plain_reason_of (file_seen view.now.file.now) (rule_seen view.now) n extent }
 {
     let file = view.file;
     let rule = view.rule;
@@ -119,7 +117,7 @@ fn reason_of(view: &RuleView<'_>, n: Node, spot: Spot) -> Option<Reason>
         &rule.row.name,
         rule.covers(),
         n,
-        spot.begin.line,
+        extent.begin.line,
     )
 }
 
@@ -127,35 +125,35 @@ fn reason_of(view: &RuleView<'_>, n: Node, spot: Spot) -> Option<Reason>
 fn reason_at<'t, C: Calls>(
     view: &RuleView<'t>,
     n: Node,
-    spot: Spot,
+    extent: Extent,
     calls: &mut C,
 ) -> Result<Option<Reason>, XFault>
     requires file { IsOfOneFile view.now.file.now }
     requires patterns { HasItsPatterns view.now.rule.now view.now.kept.now }
     requires nodes { C.nodes calls.old ≡ length (file_seen view.now.file.now).tree.nodes }
     requires inside { n.0 < length (file_seen view.now.file.now).tree.nodes }
-    requires spot { spot ≡ spot_at (C.reply calls.old) (file_seen view.now.file.now) (rule_seen view.now) n }
+    requires extent { extent ≡ extent_at (C.reply calls.old) (file_seen view.now.file.now) (rule_seen view.now) n }
     ensures nodes { C.nodes calls.new ≡ C.nodes calls.old }
     ensures reply { C.reply calls.new ≡ C.reply calls.old }
     ensures asks { Asks (reason_at (C.reply calls.old) (file_seen view.now.file.now) (rule_seen view.now) n) (C.tells calls.old) (C.tells calls.new) (outcome (λ reason. reason) result) }
 {
-    match reason_of(view, n, spot) {
+    match reason_of(view, n, extent) {
         Some(reason) => Ok(Some(reason)),
         None => xpath_reason(view, n, calls),
     }
 }
 
 /// Where a node of the file stands.
-fn spot_at(view: &RuleView<'_>, n: Node) -> Spot
+fn extent_at(view: &RuleView<'_>, n: Node) -> Extent
     requires file { IsOfOneFile view.now.file.now }
     requires inside { n.0 < length (file_seen view.now.file.now).tree.nodes }
-    ensures { result ≡ spot_of (place_of (file_seen view.now.file.now)) (file_seen view.now.file.now).tree n }
+    ensures { result ≡ extent_of (place_of (file_seen view.now.file.now)) (file_seen view.now.file.now).tree n }
 {
-    spot_of(view.file.tree, view.file.facts, n)
+    extent_of(view.file.tree, view.file.facts, n)
 }
 
 /// What the rule finds at a node.
-fn found_at<'t, C: Calls>(view: &RuleView<'t>, n: Node, calls: &mut C) -> Result<Found, XFault>
+fn found_at<'t, C: Calls>(view: &RuleView<'t>, n: Node, calls: &mut C) -> Result<Spot, XFault>
     requires file { IsOfOneFile view.now.file.now }
     requires patterns { HasItsPatterns view.now.rule.now view.now.kept.now }
     requires nodes { C.nodes calls.old ≡ length (file_seen view.now.file.now).tree.nodes }
@@ -164,12 +162,12 @@ fn found_at<'t, C: Calls>(view: &RuleView<'t>, n: Node, calls: &mut C) -> Result
     ensures reply { C.reply calls.new ≡ C.reply calls.old }
     ensures asks { Asks (found_there (C.reply calls.old) (file_seen view.now.file.now) (rule_seen view.now) n) (C.tells calls.old) (C.tells calls.new) (outcome (λ found. found) result) }
 {
-    let spot = spot_at(view, n);
-    let reason = reason_at(view, n, spot, calls)?;
-    Ok(Found {
+    let extent = extent_at(view, n);
+    let reason = reason_at(view, n, extent, calls)?;
+    Ok(Spot {
         node: n.0,
-        begin: spot.begin,
-        end: spot.end,
+        begin: extent.begin,
+        end: extent.end,
         reason,
     })
 }
@@ -179,7 +177,7 @@ fn found_at_all<'t, C: Calls>(
     view: &RuleView<'t>,
     nodes: &[Node],
     calls: &mut C,
-) -> Result<FoundList, XFault>
+) -> Result<Spots, XFault>
     requires file { IsOfOneFile view.now.file.now }
     requires patterns { HasItsPatterns view.now.rule.now view.now.kept.now }
     requires nodes { C.nodes calls.old ≡ length (file_seen view.now.file.now).tree.nodes }
@@ -188,7 +186,7 @@ fn found_at_all<'t, C: Calls>(
     ensures reply { C.reply calls.new ≡ C.reply calls.old }
     ensures asks { Asks (found_at (C.reply calls.old) (file_seen view.now.file.now) (rule_seen view.now) nodes.now) (C.tells calls.old) (C.tells calls.new) (outcome (λ found. found) result) }
 {
-    let mut all = FoundList::new(view.file.alloc);
+    let mut all = Spots::new(view.file.alloc);
     for n in nodes {
         let found = found_at(view, *n, calls)?;
         all.push(found)?;
@@ -197,7 +195,7 @@ fn found_at_all<'t, C: Calls>(
 }
 
 /// What the rule finds. Reasons are sought once the whole query and its items gave no code.
-fn found<'t, C: Calls>(view: &RuleView<'t>, calls: &mut C) -> Result<FoundList, XFault>
+fn found<'t, C: Calls>(view: &RuleView<'t>, calls: &mut C) -> Result<Spots, XFault>
     requires file { IsOfOneFile view.now.file.now }
     requires patterns { HasItsPatterns view.now.rule.now view.now.kept.now }
     requires nodes { C.nodes calls.old ≡ length (file_seen view.now.file.now).tree.nodes }
@@ -213,7 +211,7 @@ fn found<'t, C: Calls>(view: &RuleView<'t>, calls: &mut C) -> Result<FoundList, 
 }
 
 /// What the rule comes to in the file: a code is its one error there, and it has no findings.
-fn result_in<'t, C: Calls>(view: &RuleView<'t>, calls: &mut C) -> Result<RuleResult, AskFault>
+fn result_in<'t, C: Calls>(view: &RuleView<'t>, calls: &mut C) -> Result<Ruled, AskFault>
     requires file { IsOfOneFile view.now.file.now }
     requires patterns { HasItsPatterns view.now.rule.now view.now.kept.now }
     requires nodes { C.nodes calls.old ≡ length (file_seen view.now.file.now).tree.nodes }
@@ -222,11 +220,11 @@ fn result_in<'t, C: Calls>(view: &RuleView<'t>, calls: &mut C) -> Result<RuleRes
     ensures asks { Asks (rule_in_file (C.reply calls.old) (file_seen view.now.file.now) (rule_seen view.now)) (C.tells calls.old) (C.tells calls.new) result }
 {
     match found(view, calls) {
-        Ok(all) => Ok(RuleResult::Findings(all)),
+        Ok(all) => Ok(Ruled::Spots(all)),
         Err(XFault::Code(code)) => {
             let rule = view.rule;
             let message = rule_message(view.file.alloc, &rule.row.name, code)?;
-            Ok(RuleResult::Error(message))
+            Ok(Ruled::Message(message))
         }
         Err(XFault::Ask(fault)) => Err(fault),
     }
@@ -237,7 +235,7 @@ pub fn rule_result<'t, C: Calls>(
     file: &'t FileView<'t>,
     rule: &'t Rule,
     calls: &mut C,
-) -> Result<RuleResult, AskFault>
+) -> Result<Ruled, AskFault>
     requires file { IsOfOneFile file.now }
     requires nodes { C.nodes calls.old ≡ length (file_seen file.now).tree.nodes }
     ensures nodes { C.nodes calls.new ≡ C.nodes calls.old }

@@ -1,9 +1,9 @@
 //! Laws of the definitions, each the contract of a call that does nothing.
 ghost use Rattle.std.specs.Prelude.{List};
 ghost use Rattle.pj_workers.specs.Rules.{AreRulesOf, Rule};
-ghost use Rattle.pj_workers.specs.Laws.{InactiveIsNothing, ListsAreTexts, MarksAreOne, NoTreeIsOneError, OneCold, RuleAscends, RulesAreTexts, SpotsAreNodes};
+ghost use Rattle.pj_workers.specs.Laws.{ColdIsInOrder, FilesAreInOrder, FilesAreTheirRules, FindingsHaveRules, FoundAreDenoted, InactiveIsNothing, ListsAreTexts, MarksAreOne, NoTreeIsOneError, OneCold, RuleAscends, RulesAreTexts, SpotsAreNodes};
 
-use pj_findings::nodes_are_the_items;
+use pj_findings::{errors_are_the_rules, findings_are_the_rules, nodes_are_the_items};
 use pj_rule_sets::RuleSet;
 use pj_xlaws::trees_tell_expressions;
 use pj_xparse::one_expression;
@@ -25,6 +25,33 @@ pub fn rules_find_nodes()
     ensures spots { SpotsAreNodes }
 {
     nodes_are_the_items();
+}
+
+/// What rules mean at a file has the findings by node and then by rule, none twice, and the errors by rule. Of each rule it has just what
+/// this rule alone means there, findings or an error, and of no others anything. So what is kept of single rules is merged again to the
+/// file's meaning.
+pub fn files_are_their_rules()
+    ensures in_order { FilesAreInOrder }
+    ensures of_rules { FilesAreTheirRules }
+    ensures have_rules { FindingsHaveRules }
+{
+    nodes_are_the_items();
+    findings_are_the_rules();
+    errors_are_the_rules();
+}
+
+/// The nodes that a rule finds in a file are the elements that its query denotes there.
+pub fn rules_find_what_they_denote()
+    ensures { FoundAreDenoted }
+{
+    nodes_are_the_items();
+}
+
+/// A cold report has the files in their order, and the rows of each in order.
+pub fn cold_reports_are_in_order()
+    ensures { ColdIsInOrder }
+{
+    files_are_their_rules();
 }
 
 /// Rules have one cold report of files at most.

@@ -3,22 +3,24 @@
 //! `specs/FileMeaning.antt` says what rules mean at a file: the head of the file with the meaning of each rule, merged.
 #![tactic(auto)]
 
+mod analyse;
 mod analysis;
 mod fault;
 mod file;
 mod laws;
-mod no_types;
+mod names;
+mod no_functions;
 mod result;
+mod runs;
 mod view;
 mod work;
 
+pub use analyse::{analyse_file, analyse_files};
 pub use fault::fault_message;
-pub use file::analyse_file;
 pub use laws::{
-    files_without_tree_have_one_error, inactive_rules_mean_nothing,
-    marked_lines_are_those_of_tokens, one_cold_report, rules_are_their_texts, rules_find_nodes,
-    sets_have_rules,
+    cold_reports_are_in_order, files_are_their_rules, files_without_tree_have_one_error,
+    inactive_rules_mean_nothing, marked_lines_are_those_of_tokens, one_cold_report,
+    rules_are_their_texts, rules_find_nodes, rules_find_what_they_denote, sets_have_rules,
 };
-pub use no_types::NoTypes;
-pub use result::FileResult;
+pub use result::{FileResult, PathResults};
 pub use work::Work;

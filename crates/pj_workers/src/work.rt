@@ -1,7 +1,7 @@
 //! What a run did.
 ghost use Rattle.std.specs.Prelude.{◌≡◌, []};
 
-use pj_base::Names;
+use pj_base::{Copied, Names, NoMemory};
 use std::alloc::Global;
 
 /// What a run did with the files. The lists are sorted by path.
@@ -25,5 +25,15 @@ impl Work {
             reused: Names::new(alloc),
             skipped: 0,
         }
+    }
+}
+
+impl Copied for Work {
+    fn copied(&self) -> Result<Work, NoMemory> {
+        Ok(Work {
+            analysed: self.analysed.copied()?,
+            reused: self.reused.copied()?,
+            skipped: self.skipped,
+        })
     }
 }

@@ -2,8 +2,8 @@
 #![tactic(auto)]
 
 ghost use Rattle.std.specs.Prelude.{◌≡◌, ◌≢◌, IfSome};
-ghost use Rattle.pj_check.specs.Notes.{GetNote, note_of};
-ghost use Rattle.pj_check.specs.Outcome.{CountsSinkFaults, CountsTreeFaults, KeepsSink, Says, SaysOfWords};
+ghost use Rattle.pj_check.specs.Notes.{GetNotes, notes_of};
+ghost use Rattle.pj_check.specs.Outcome.{CountsSinkFaults, CountsTreeFaults, KeepsWork, Says, SaysOfSink, SaysOfWords};
 
 #[cfg(test)]
 mod tests;
@@ -32,15 +32,16 @@ fn run<T: Tree, C: ClassPath, K: Keeper, S: Sink, N: Sink>(
 ) -> Outcome
     ensures says { IfSome (T.holds tree.old) (λ held. Says result words.now held (S.held out.old) (S.held out.new) work.old work.new) }
     ensures of_words { SaysOfWords result words.now }
-    ensures keeps_sink { KeepsSink result (S.held out.old) (S.held out.new) }
-    ensures notes { GetNote (note_of result) (N.held notes.old) (N.held notes.new) (N.faults notes.old) (N.faults notes.new) }
+    ensures of_sink { SaysOfSink result words.now (S.held out.old) (S.held out.new) }
+    ensures notes { GetNotes (notes_of result) (N.held notes.old) (N.held notes.new) (N.faults notes.old) (N.faults notes.new) }
     ensures same_files { T.holds tree.new ≡ T.holds tree.old }
     ensures tree_faults { CountsTreeFaults result (T.faults tree.old) (T.faults tree.new) }
-    ensures steady { T.never_fails tree.old → result ≢ Outcome.TreeFault }
+    ensures steady { T.never_fails tree.old → T.never_fails tree.new × (result ≢ Outcome.TreeFault) }
     ensures sink_faults { CountsSinkFaults result (S.faults out.old) (S.faults out.new) }
     ensures same_classes { classes.new ≡ classes.old }
     ensures same_keeper { keeper.new ≡ keeper.old }
     ensures reused { work.new.reused ≡ work.old.reused }
+    ensures keeps_work { KeepsWork result work.old work.new }
 {
     check_alone(alloc, words, tree, classes, keeper, out, notes, work)
 }

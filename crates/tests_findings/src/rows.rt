@@ -1,6 +1,6 @@
 //! What rules come to in a file, with the rows of the file.
 use pj_base::{NoMemory, Text};
-use pj_findings::{Found, FoundList, RuleResult, RuleResults, error_rows, file_rows};
+use pj_findings::{RuleRuns, Ruled, Spot, Spots, error_rows, file_rows};
 use pj_reports::{FileRows, Reason};
 use pj_tree::Place;
 use std::alloc::Global;
@@ -51,8 +51,8 @@ static ROWS: [(&[Case], &str, &str); 8] = [
     ),
 ];
 
-fn found_of(n: u32) -> Found {
-    Found {
+fn found_of(n: u32) -> Spot {
+    Spot {
         node: n,
         begin: Place {
             line: n.saturating_add(1),
@@ -66,25 +66,28 @@ fn found_of(n: u32) -> Found {
     }
 }
 
-fn result_of(alloc: Global, case: &Case) -> Result<RuleResult, NoMemory> {
+fn ruled(alloc: Global, case: &Case) -> Result<Ruled, NoMemory> {
     match case {
         Case::Nodes(nodes) => {
-            let mut found = FoundList::new(alloc);
+            let mut found = Spots::new(alloc);
             for n in *nodes {
                 found.push(found_of(*n))?;
             }
-            Ok(RuleResult::Findings(found))
+            Ok(Ruled::Spots(found))
         }
-        Case::Message(message) => Ok(RuleResult::Error(Text::from_str(alloc, message)?)),
+        Case::Message(message) => Ok(Ruled::Message(Text::from_str(alloc, message)?)),
     }
 }
 
 fn rows_of(alloc: Global, cases: &[Case]) -> Result<FileRows, NoMemory> {
-    let mut results = RuleResults::new(alloc);
+    let mut runs = RuleRuns::new(alloc);
     for case in cases {
-        results.push(result_of(alloc, case)?)?;
+        runs.push(RuleRun {
+            rows: ruled(alloc, case)?,
+            names: ClassNames::new(alloc),
+        })?;
     }
-    file_rows(alloc, Text::from_str(alloc, "p.q")?, &results)
+    file_rows(alloc, Head::Package(Text::from_str(alloc, "p.q")?), &runs)
 }
 
 fn findings_text(alloc: Global, rows: &FileRows) -> Result<String, Fail> {
@@ -121,7 +124,8 @@ fn rows_of_results(rt: HostRuntime) -> Result<(), Fail> {
 #[test]
 fn rows_without_a_tree(rt: HostRuntime) -> Result<(), Fail> {
     let alloc = rt.alloc();
-    let rows = error_rows(alloc, Text::from_str(alloc, "syntax fault")?)?;
+    let head = Head::Message(Text::from_str(alloc, "syntax fault")?);
+    let rows = file_rows(alloc, head, &RuleRuns::new(alloc))?;
     assert_eq!(rt; rows.package.as_str(), "");
     assert_eq!(rt; findings_text(alloc, &rows)?.as_str(), "");
     assert_eq!(rt; errors_text(alloc, &rows)?.as_str(), "-=syntax fault ");

@@ -5,7 +5,7 @@ ghost use Rattle.pj_parse.specs.PoolText.{IsPoolOf};
 
 use pj_attrs::{Facts, tokens_are_in_order};
 use pj_base::Text;
-use pj_findings::{plain_reason, spot_of};
+use pj_findings::{extent_of, plain_reason};
 use pj_parse::{Parsed, parse};
 use pj_reports::Reason;
 use pj_source::Source;
@@ -135,8 +135,8 @@ fn spots_in(
     let mut text = String::new(alloc);
     for n in 0..parsed.tree.len() {
         if parsed.tree.kind(Node(n)) == case.kind {
-            let spot = spot_of(&parsed.tree, &facts, Node(n));
-            let line = spot.begin.line;
+            let extent = extent_of(&parsed.tree, &facts, Node(n));
+            let line = extent.begin.line;
             let reason = plain_reason(
                 &parsed.tree,
                 &facts,
@@ -150,7 +150,7 @@ fn spots_in(
             write!(
                 text,
                 "{}:{}-{}:{} {word}",
-                spot.begin.line, spot.begin.column, spot.end.line, spot.end.column
+                extent.begin.line, extent.begin.column, extent.end.line, extent.end.column
             )?;
         }
     }

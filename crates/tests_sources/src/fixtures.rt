@@ -1,7 +1,7 @@
 //! Trees in memory, and what calls on them answer, in words.
 use pj_base::{Bytes, Names, Numbers, Text};
 use pj_outside::{Files, MemTree};
-use pj_sources::{LimitKind, ListRefused, ReadRefused, list_sources, read_sources};
+use pj_sources::{ListRefused, ReadRefused, SourceLimit, list_sources, read_sources};
 use std::alloc::Global;
 use std::test::Fail;
 
@@ -57,7 +57,7 @@ pub fn read(alloc: Global, tree: &mut MemTree, paths: &str) -> Result<String, Fa
         }
         Err(ReadRefused::Failed) => line.push_str("failed")?,
         Err(ReadRefused::Missing(path)) => write!(line, "missing {path}")?,
-        Err(ReadRefused::Limit(LimitKind::FileBytes(path))) => write!(line, "bytes of {path}")?,
+        Err(ReadRefused::Limit(SourceLimit::FileBytes(path))) => write!(line, "bytes of {path}")?,
         Err(ReadRefused::Limit(_)) => line.push_str("another limit")?,
         Err(ReadRefused::Memory) => line.push_str("memory")?,
     }

@@ -1,9 +1,8 @@
 //! The lines of notes.
 use pj_base::{Numbers, Text};
-use pj_check::{Note, put_note};
+use pj_check::{LimitKind, Note, put_note};
 use pj_outside::MemSink;
 use pj_settings::UsageFault;
-use pj_sources::LimitKind;
 use std::alloc::Global;
 use std::test::Fail;
 

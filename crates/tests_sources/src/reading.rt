@@ -2,7 +2,7 @@
 use crate::fixtures::{listed, names, read, tree};
 use pj_base::{Bytes, Names, Numbers, Text};
 use pj_outside::{Files, MemTree};
-use pj_sources::{LimitKind, test_files};
+use pj_sources::{SourceLimit, test_files};
 use std::alloc::Global;
 use std::test::Fail;
 
@@ -82,6 +82,9 @@ fn a_run_has_at_most_a_hundred_thousand_files(rt: HostRuntime) -> Result<(), Fai
     let alloc = rt.alloc();
     assert_eq!(rt; test_files(&names(alloc, "")?), Ok(()));
     assert_eq!(rt; test_files(&paths(alloc, 100_000)?), Ok(()));
-    assert_eq!(rt; test_files(&paths(alloc, 100_001)?), Err(LimitKind::Files));
+    assert_eq!(rt;
+        test_files(&paths(alloc, 100_001)?),
+        Err(SourceLimit::Files)
+    );
     Ok(())
 }

@@ -1,11 +1,11 @@
 use Rattle.std.proofs.Common.{◌≢◌, Err, IfSome, ap}
 use Rattle.std.proofs.lemmas.Result.{err_from_is_err_and}
-use Rattle.pj_check.specs.Outcome.{CountsSinkFaults, CountsTreeFaults, KeepsSink, Says, SaysOfWords}
+use Rattle.pj_check.specs.Outcome.{CountsSinkFaults, CountsTreeFaults, KeepsWork, Says, SaysOfSink, SaysOfWords}
 use Rattle.pj_check.specs.declared.outcome.Outcome.{Outcome}
 use Rattle.pj_check.specs.declared.outcome.Outcome.TheVariants.{TreeFault}
 use Rattle.pj_check.specs.declared.refusal.Refusal.{Refusal}
 use Rattle.pj_check.specs.declared.report_rendering.Written.{Written}
-use Rattle.pj_check.proofs.Ending.{all_say_before, counts_before, ends_before, keeps_before, no_fault_before, put_counts, put_keeps, put_says, put_steady, put_tree, put_words, tree_counts_before, words_before}
+use Rattle.pj_check.proofs.Ending.{all_say_before, counts_before, ends_before, no_fault_before, put_counts, put_says, put_sink, put_steady, put_tree, put_words, put_work, sink_before, tree_counts_before, words_before, work_before}
 use Rattle.pj_check.proofs.check.run.Goals as goal
 
 -- ---- the report is not made
@@ -26,12 +26,18 @@ returns-in_err-written-clause-of_words g c =
     ends_before (λ (o : Outcome). SaysOfWords o c.args.words.now) c.from_residual.result exit.0 refusal exit.1 exit.2
     (words_before refusal c.args.words.now (c.in_err-written.ensures.refused).of_words)
 
-pub returns-in_err-written-clause-keeps_sink : goal.returns-in_err-written-clause-keeps_sink
-returns-in_err-written-clause-keeps_sink g c =
+pub returns-in_err-written-clause-of_sink : goal.returns-in_err-written-clause-of_sink
+returns-in_err-written-clause-of_sink g c =
     let out = g.S.Sink.held c.args.out.now in
     let refusal = c.in_err-written.field-0.0 in
     let exit = err_from_is_err_and c.from_residual.result c.from_residual.ensures.1 in
-    ends_before (λ (o : Outcome). KeepsSink o out out) c.from_residual.result exit.0 refusal exit.1 exit.2 (keeps_before refusal out)
+    ends_before (λ (o : Outcome). SaysOfSink o c.args.words.now out out) c.from_residual.result exit.0 refusal exit.1 exit.2 (sink_before refusal c.args.words.now out (c.in_err-written.ensures.refused).of_words)
+
+pub returns-in_err-written-clause-keeps_work : goal.returns-in_err-written-clause-keeps_work
+returns-in_err-written-clause-keeps_work g c =
+    let refusal = c.in_err-written.field-0.0 in
+    let exit = err_from_is_err_and c.from_residual.result c.from_residual.ensures.1 in
+    ends_before (λ (o : Outcome). KeepsWork o c.args.work.now c.made.new.work) c.from_residual.result exit.0 refusal exit.1 exit.2 (work_before refusal c.args.work.now c.made.new.work c.in_err-written.ensures.keeps_work)
 
 pub returns-in_err-written-clause-tree_faults : goal.returns-in_err-written-clause-tree_faults
 returns-in_err-written-clause-tree_faults g c =
@@ -46,8 +52,10 @@ pub returns-in_err-written-clause-steady : goal.returns-in_err-written-clause-st
 returns-in_err-written-clause-steady g c = λ never.
     let refusal = c.in_err-written.field-0.0 in
     let exit = err_from_is_err_and c.from_residual.result c.from_residual.ensures.1 in
-    ends_before (λ (o : Outcome). o ≢ TreeFault) c.from_residual.result exit.0 refusal exit.1 exit.2
-    (no_fault_before refusal (λ is. c.in_err-written.ensures.steady never (ap (λ (r : Refusal). Err r) is)))
+    let steady = c.in_err-written.ensures.steady never in (
+      steady.0,
+      ends_before (λ (o : Outcome). o ≢ TreeFault) c.from_residual.result exit.0 refusal exit.1 exit.2 (no_fault_before refusal (λ is. steady.1 (ap (λ (r : Refusal). Err r) is))),
+    )
 
 pub returns-in_err-written-clause-sink_faults : goal.returns-in_err-written-clause-sink_faults
 returns-in_err-written-clause-sink_faults g c =
@@ -65,17 +73,21 @@ returns-clause-says g c =
     c.put.ensures.verdict c.put.ensures.got c.put.ensures.cut c.put.ensures.refused c.in_ok-written.ensures.made
 
 pub returns-clause-of_words : goal.returns-clause-of_words
-returns-clause-of_words g c = put_words c.put.result c.args.words.now c.put.ensures.refused c.in_ok-written.ensures.asked
+returns-clause-of_words g c = put_words c.put.result c.args.words.now c.in_ok-written.written c.put.ensures.refused c.in_ok-written.ensures.of_some
 
-pub returns-clause-keeps_sink : goal.returns-clause-keeps_sink
-returns-clause-keeps_sink g c = put_keeps c.put.result (g.S.Sink.held c.args.out.now) (g.S.Sink.held c.put.new.out) c.put.ensures.refused
+pub returns-clause-of_sink : goal.returns-clause-of_sink
+returns-clause-of_sink g c =
+    put_sink c.put.result c.args.words.now c.in_ok-written.written (g.S.Sink.held c.args.out.now) (g.S.Sink.held c.put.new.out) c.put.ensures.verdict c.put.ensures.got c.put.ensures.cut c.put.ensures.refused c.in_ok-written.ensures.of_some
+
+pub returns-clause-keeps_work : goal.returns-clause-keeps_work
+returns-clause-keeps_work g c = put_work c.put.result c.args.work.now c.made.new.work c.put.ensures.refused
 
 pub returns-clause-tree_faults : goal.returns-clause-tree_faults
 returns-clause-tree_faults g c =
     put_tree c.put.result (g.T.Tree.faults c.args.tree.now) (g.T.Tree.faults c.made.new.tree) c.put.ensures.refused c.in_ok-written.ensures.counts_faults
 
 pub returns-clause-steady : goal.returns-clause-steady
-returns-clause-steady g c = λ never. put_steady c.put.result c.put.ensures.refused
+returns-clause-steady g c = λ never. ((c.in_ok-written.ensures.steady never).0, put_steady c.put.result c.put.ensures.refused)
 
 pub returns-clause-sink_faults : goal.returns-clause-sink_faults
 returns-clause-sink_faults g c =

@@ -1,26 +1,18 @@
-use Rattle.std.proofs.Common.{◌∙◌, ◌≤◌, ◌+◌, ◌++◌, ◌∷◌, [], List, length, take, ap, sym, subst}
-use Rattle.std.proofs.lemmas.List.Elements.{All-get_or}
+use Rattle.std.proofs.Common.{List, refl, rules, subst, sym}
+use Rattle.std.specs.List.{AllZip}
+use Rattle.pj_names.proofs.AskingLaws.{asks-never-failed}
 use Rattle.pj_outside.specs.Files.{Bytes}
 use Rattle.pj_reports.specs.declared.rows.FileRows.{FileRows}
-use Rattle.pj_sources.specs.Limits.{most_file_bytes}
-use Rattle.pj_check.specs.Steps.{AreRows}
-use Rattle.pj_check.proofs.Gathering.{next_paths, next_rows}
+use Rattle.pj_workers.specs.Cold.{AreRowsOf}
+use Rattle.pj_workers.specs.NoFunctions.{no_functions}
+use Rattle.pj_check.proofs.Gathering.{rows_everywhere}
 use Rattle.pj_check.proofs.cold.all_rows.Goals as goal
 
-pub file_rows-requires-clause-short : goal.file_rows-requires-clause-short
-file_rows-requires-clause-short c =
-    subst (λ (file : Bytes × Bytes). length file.1 ≤ most_file_bytes) (sym c.file-item.is)
-    (All-get_or (λ (file : Bytes × Bytes). length file.1 ≤ most_file_bytes) c.args.files.now c.loop-file.file-index c.file-item.result c.loop-file-test.true c.requires.short)
+pub returns-clause-rows : goal.returns-clause-rows
+returns-clause-rows c = λ world all are.
+    subst (λ (rows : List (Bytes × FileRows)). AllZip (AreRowsOf no_functions world all) c.args.files.now rows) (sym c.in_ok-rows_of.ensures)
+    (rows_everywhere _ world all c.args.files.now c.in_ok-found.found refl (c.in_ok-found.ensures.found all are) c.in_ok-found.ensures.names)
 
-pub loop-file-preserved : goal.loop-file-preserved
-loop-file-preserved c =
-    let kept = c.loop-file.invariant in
-    let step = c.in_ok-of_file.ensures in
-    record {
-      rows = subst (λ (rows : List (Bytes × FileRows)). AreRows c.args.rules.now (take (c.loop-file.file-index + 1) c.args.files.now) rows) (sym c.in_ok-push.ensures.ok)
-          (next_rows c.args.rules.now c.args.files.now c.loop-file.file-index c.file-item.result c.loop-file.rows c.in_ok-of_file.of_file c.loop-file-test.true c.file-item.is kept.rows step.rows);
-      analysed = step.analysed ∙ ap (λ (paths : List Bytes). paths ++ c.file-item.result.0 ∷ []) kept.analysed
-          ∙ next_paths c.args.work.now.analysed c.args.files.now c.loop-file.file-index c.file-item.result c.loop-file-test.true c.file-item.is;
-      reused = step.reused ∙ kept.reused;
-      skipped = step.skipped ∙ kept.skipped;
-    }
+pub returns-in_err-found-clause-never_failed : goal.returns-in_err-found-clause-never_failed
+returns-in_err-found-clause-never_failed c = λ is.
+    asks-never-failed (c.in_err-found.ensures.asks c.rules_are_spelled.ensures.0 c.rules_are_spelled.ensures.1) refl (search rules)

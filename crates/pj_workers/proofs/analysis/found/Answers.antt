@@ -1,7 +1,7 @@
 use Rattle.std.proofs.Common.{◌≡◌, ◌∙◌, List, Ok, Err, ap, length, refl, rules, subst, sym}
 use Rattle.std.proofs.lemmas.Result.{err_from_is_err_and}
 use Rattle.pj_findings.specs.Denoted.{denoted}
-use Rattle.pj_findings.specs.declared.found.Found.{Found}
+use Rattle.pj_reports.specs.declared.ruled.Spot.{Spot}
 use Rattle.pj_names.proofs.AskingLaws.{asks-return, asks-stop, asks-then}
 use Rattle.pj_names.specs.Told.{Asks}
 use Rattle.pj_tree.specs.declared.node.Node.{Node}
@@ -21,7 +21,7 @@ returns-in_err-items-clause-asks g c =
     let rule = rule_seen c.args.view.now in
     let p = err_from_is_err_and c.from_residual.result c.from_residual.ensures.1 in
     rw (p.1, p.2)
-    (refused (items reply file rule) (λ (values : List ItemValue). judged (denoted values) >>= λ ns. found_at reply file rule ns) values_of (λ (found : List Found). found)
+    (refused (items reply file rule) (λ (values : List ItemValue). judged (denoted values) >>= λ ns. found_at reply file rule ns) values_of (λ (found : List Spot). found)
     c.in_err-items.field-0.0 c.in_err-items.ensures.asks)
 
 pub returns-in_err-nodes-clause-asks : goal.returns-in_err-nodes-clause-asks
@@ -48,9 +48,9 @@ returns-in-Ok-clause-asks g c =
     let ns = c.as_slice.result.now in
     let given : denoted (values_of c.in_ok-items.items) ≡ Ok c.in-Ok.nodes = search rules in
     let is : denoted (values_of c.in_ok-items.items) ≡ Ok ns = given ∙ ap (λ (ns : List Node). Ok ns) (sym c.as_slice.ensures) in
-    let asked = subst (λ (r : Reply). Asks (found_at r file rule ns) t u (outcome (λ (found : List Found). found) c.found_at_all.result)) c.in_ok-items.ensures.reply c.found_at_all.ensures.asks in
+    let asked = subst (λ (r : Reply). Asks (found_at r file rule ns) t u (outcome (λ (found : List Spot). found) c.found_at_all.result)) c.in_ok-items.ensures.reply c.found_at_all.ensures.asks in
     asks-then (after (λ (values : List ItemValue). judged (denoted values) >>= λ ns. found_at reply file rule ns)) c.in_ok-items.ensures.asks
-    (subst (λ (m : Means (List Found)). Asks m t u (outcome (λ (found : List Found). found) c.found_at_all.result)) (sym (nodes_by reply file rule (values_of c.in_ok-items.items) (Ok ns) is)) asked)
+    (subst (λ (m : Means (List Spot)). Asks m t u (outcome (λ (found : List Spot). found) c.found_at_all.result)) (sym (nodes_by reply file rule (values_of c.in_ok-items.items) (Ok ns) is)) asked)
 
 pub returns-in-Err-clause-asks : goal.returns-in-Err-clause-asks
 returns-in-Err-clause-asks g c =
@@ -60,4 +60,4 @@ returns-in-Err-clause-asks g c =
     let t = g.C.Calls.tells c.value_of.new.calls in
     let is : denoted (values_of c.in_ok-items.items) ≡ Err c.in-Err.code = search rules in
     asks-then (after (λ (values : List ItemValue). judged (denoted values) >>= λ ns. found_at reply file rule ns)) c.in_ok-items.ensures.asks
-    (subst (λ (m : Means (List Found)). Asks m t t (Ok (Err c.in-Err.code))) (sym (nodes_by reply file rule (values_of c.in_ok-items.items) (Err c.in-Err.code) is)) (asks-return refl))
+    (subst (λ (m : Means (List Spot)). Asks m t t (Ok (Err c.in-Err.code))) (sym (nodes_by reply file rule (values_of c.in_ok-items.items) (Err c.in-Err.code) is)) (asks-return refl))

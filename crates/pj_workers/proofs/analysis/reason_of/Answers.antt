@@ -9,4 +9,4 @@ pub returns : goal.returns
 returns c =
     let file = c.args.view.now.file.now in
     c.plain_reason.ensures
-    ∙ (λ i. plain_reason (by_annotation (c.requires.file.tree_is i) (attribute_in file.facts.now) (ap (λ (r : EffectiveRule). r.row.name) c.rule.view_is i) c.args.n) (c.requires.file.marked_are c.args.spot.begin.line i) (c.covers.ensures i))
+    ∙ (λ i. plain_reason (by_annotation (c.requires.file.tree_is i) (attribute_in file.facts.now) (ap (λ (r : EffectiveRule). r.row.name) c.rule.view_is i) c.args.n) (c.requires.file.marked_are c.args.extent.begin.line i) (c.covers.ensures i))

@@ -1,0 +1,124 @@
+//! The analysis of a file, and of files one after the other.
+ghost use Rattle.std.specs.Prelude.{◌≡◌, ◌++◌, ◌∷◌, [], List, IfOk, OnOk, OnErr, map};
+ghost use Rattle.std.specs.List.{AllByRecursion, AllZip};
+ghost use Rattle.pj_grammar.specs.Java17.{java_17_forms};
+ghost use Rattle.pj_names.specs.Asking.{each};
+ghost use Rattle.pj_names.specs.Told.{Asks, seen};
+ghost use Rattle.pj_peg_grammar.specs.Form.{forms_of};
+ghost use Rattle.pj_workers.specs.FileMeaning.{file_meaning};
+ghost use Rattle.pj_workers.specs.NoFunctions.{no_functions};
+ghost use Rattle.pj_workers.specs.Results.{IsResultAt, IsResultOf};
+ghost use Rattle.pj_workers.specs.Rules.{AreRulesOf, Rule as MeantRule};
+
+use crate::file::bytes_runs;
+use crate::names::result_of;
+use crate::result::{FileResult, PathResults};
+use crate::work::Work;
+use pj_base::{Bytes, Copied, Text};
+use pj_grammar::java_17;
+use pj_names::{AskFault, Oracle};
+use pj_peg::WellFormed;
+use pj_rule_sets::RuleSet;
+use std::alloc::Global;
+
+/// What the rules of a set find in a file, by a grammar that is made once for many files.
+fn analyse_by<O: Oracle>(
+    alloc: Global,
+    grammar: &WellFormed,
+    oracle: &mut O,
+    path: &Text,
+    bytes: &Bytes,
+    rules: &RuleSet,
+    work: &mut Work,
+) -> Result<FileResult, AskFault>
+    requires grammar { forms_of grammar.now ≡ java_17_forms }
+    ensures asks { (meant : List MeantRule) → AreRulesOf rules.now meant
+        → Asks (file_meaning no_functions path.now bytes.now meant) (O.tells oracle.old) (O.tells oracle.new) (seen (λ found. found.rows) result) }
+    ensures found { IfOk result (λ found. (meant : List MeantRule) → AreRulesOf rules.now meant → IsResultOf (O.tells oracle.old) no_functions path.now bytes.now meant found) }
+    ensures names { IfOk result (λ found. found.names ≡ []) }
+    ensures analysed { OnOk result (work.new.analysed ≡ work.old.analysed ++ path.now ∷ []) }
+    ensures reused { work.new.reused ≡ work.old.reused }
+    ensures skipped { work.new.skipped ≡ work.old.skipped }
+    ensures err { OnErr result (work.new ≡ work.old) }
+{
+    let runs = bytes_runs(alloc, grammar, path, bytes, rules, oracle)?;
+    let found = result_of(alloc, runs)?;
+    work.analysed.push(path.copied()?)?;
+    Ok(found)
+}
+
+/// What the rules of a set find in a file of this path and these bytes. The path is put behind those that were analysed. Memory is wanted
+/// for a file of more than 4,294,967,294 bytes, too. After a refusal `work` is as it was.
+///
+/// The functions of PMD are not there yet, so that no class is asked for.
+pub fn analyse_file<O: Oracle>(
+    alloc: Global,
+    oracle: &mut O,
+    path: &Text,
+    bytes: &Bytes,
+    rules: &RuleSet,
+    work: &mut Work,
+) -> Result<FileResult, AskFault>
+    // The rows are the meaning of the file, by the rules that the texts of the set spell, and just its names are asked.
+    ensures asks { (meant : List MeantRule) → AreRulesOf rules.now meant
+        → Asks (file_meaning no_functions path.now bytes.now meant) (O.tells oracle.old) (O.tells oracle.new) (seen (λ found. found.rows) result) }
+    // The names of the file and of each rule are those on which its rows and the rule's rest.
+    ensures found { IfOk result (λ found. (meant : List MeantRule) → AreRulesOf rules.now meant → IsResultOf (O.tells oracle.old) no_functions path.now bytes.now meant found) }
+    ensures names { IfOk result (λ found. found.names ≡ []) }
+    ensures analysed { OnOk result (work.new.analysed ≡ work.old.analysed ++ path.now ∷ []) }
+    ensures reused { work.new.reused ≡ work.old.reused }
+    ensures skipped { work.new.skipped ≡ work.old.skipped }
+    ensures err { OnErr result (work.new ≡ work.old) }
+{
+    let grammar = java_17(alloc)?;
+    analyse_by(alloc, &grammar, oracle, path, bytes, rules, work)
+}
+
+/// The same of a file, with its path.
+fn analyse_next<O: Oracle>(
+    alloc: Global,
+    grammar: &WellFormed,
+    oracle: &mut O,
+    file: &(Text, Bytes),
+    rules: &RuleSet,
+    work: &mut Work,
+) -> Result<(Text, FileResult), AskFault>
+    requires grammar { forms_of grammar.now ≡ java_17_forms }
+    ensures asks { (meant : List MeantRule) → AreRulesOf rules.now meant
+        → Asks (file_meaning no_functions file.now.0 file.now.1 meant) (O.tells oracle.old) (O.tells oracle.new) (seen (λ found. found.1.rows) result) }
+    ensures found { IfOk result (λ found. (meant : List MeantRule) → AreRulesOf rules.now meant → IsResultAt (O.tells oracle.old) no_functions meant file.now found) }
+    ensures names { IfOk result (λ found. found.1.names ≡ []) }
+    ensures analysed { OnOk result (work.new.analysed ≡ work.old.analysed ++ file.now.0 ∷ []) }
+    ensures reused { work.new.reused ≡ work.old.reused }
+    ensures skipped { work.new.skipped ≡ work.old.skipped }
+{
+    let found = analyse_by(alloc, grammar, oracle, &file.0, &file.1, rules, work)?;
+    let path = file.0.copied()?;
+    Ok((path, found))
+}
+
+/// What the rules of a set find in files, one after the other, in their order: one tree is held at a time. Their paths are put behind
+/// those that were analysed; after a refusal, those of the files before it are there.
+pub fn analyse_files<O: Oracle>(
+    alloc: Global,
+    oracle: &mut O,
+    files: &[(Text, Bytes)],
+    rules: &RuleSet,
+    work: &mut Work,
+) -> Result<PathResults, AskFault>
+    ensures asks { (meant : List MeantRule) → AreRulesOf rules.now meant
+        → Asks (each (λ file. file_meaning no_functions file.0 file.1 meant) files.now) (O.tells oracle.old) (O.tells oracle.new) (seen (λ found. map (λ of_file. of_file.1.rows) found) result) }
+    ensures found { IfOk result (λ found. (meant : List MeantRule) → AreRulesOf rules.now meant → AllZip (IsResultAt (O.tells oracle.old) no_functions meant) files.now found) }
+    ensures names { IfOk result (λ found. AllByRecursion (λ of_file. of_file.1.names ≡ []) found) }
+    ensures analysed { OnOk result (work.new.analysed ≡ work.old.analysed ++ map (λ file. file.0) files.now) }
+    ensures reused { work.new.reused ≡ work.old.reused }
+    ensures skipped { work.new.skipped ≡ work.old.skipped }
+{
+    let grammar = java_17(alloc)?;
+    let mut found = PathResults::new(alloc);
+    for file in files {
+        let of_file = analyse_next(alloc, &grammar, oracle, file, rules, work)?;
+        found.push(of_file)?;
+    }
+    Ok(found)
+}
