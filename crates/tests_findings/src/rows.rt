@@ -1,7 +1,8 @@
 //! What rules come to in a file, with the rows of the file.
 use pj_base::{NoMemory, Text};
-use pj_findings::{RuleRuns, Ruled, Spot, Spots, error_rows, file_rows};
-use pj_reports::{FileRows, Reason};
+use pj_findings::{RuleRun, RuleRuns, file_rows};
+use pj_names::ClassNames;
+use pj_reports::{FileRows, Head, Reason, Ruled, Spot, Spots};
 use pj_tree::Place;
 use std::alloc::Global;
 use std::fmt::Write;
