@@ -2,6 +2,9 @@ pub mod FileLaws
 pub mod RuleLaws
 pub mod ColdLaws
 pub mod OrderLaws
+pub mod CodeLaws
+pub mod ReasonLaws
+pub mod EndLaws
 pub mod MarkLaws
 pub mod TextLaws
 -- the analysis of a file

@@ -9,6 +9,7 @@ pub mod FileMeaning
 pub mod NoFunctions
 pub mod Results
 pub mod Cold
+pub mod RuleFacts
 -- laws
 pub mod Laws
 -- for private clauses
