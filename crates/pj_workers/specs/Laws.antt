@@ -1,5 +1,5 @@
 -- What follows from the definitions.
-use Rattle.std.specs.Prelude.{◌≡◌, ◌⊎◌, ◌↔◌, ◌<◌, ◌==◌, ◌&&◌, ℕ, Bool, true, false, List, [], ◌∷◌, filter, length, map, slice_get, Ok, Err, None, Some}
+use Rattle.std.specs.Prelude.{◌≡◌, ◌⊎◌, ◌↔◌, ◌<◌, ◌==◌, ◌&&◌, ℕ, Bool, true, false, List, [], ◌∷◌, filter, flat_map, length, map, slice_get, Ok, Err, None, Some}
 use Rattle.std.specs.List.{AllByRecursion, AllZip, list_any}
 use Rattle.std.specs.List.Sorted.{IsStrictlySortedBy}
 use Rattle.std.specs.Str.{IsUtf8}
@@ -12,7 +12,7 @@ use Rattle.pj_findings.specs.Merged.{error_by, finding_of, found_by, only_error}
 use Rattle.pj_findings.specs.Extents.{extent_of}
 use Rattle.pj_findings.specs.Messages.{rule_message}
 use Rattle.pj_reports.specs.declared.ruled.Spot.{Spot}
-use Rattle.pj_names.specs.Asking.{Return, value_of}
+use Rattle.pj_names.specs.Asking.{Return, names_of, value_of}
 use Rattle.pj_outside.specs.Files.{Files}
 use Rattle.pj_parse.specs.FileOutcome.{outcome_of}
 use Rattle.pj_parse.specs.JavaFile.{JavaFile}
@@ -88,6 +88,11 @@ FilesAreTheirRules = (replies : Replies) (world : World) (depth : ℕ) (path byt
 abbrev pub FindingsHaveRules : Type 0
 FindingsHaveRules = (replies : Replies) (world : World) (depth : ℕ) (path bytes : Bytes) (rules : List Rule)
     → AllByRecursion (λ (finding : Finding). finding.rule < length rules) (value_of depth world (file_meaning replies path bytes rules)).findings
+
+-- The names that it asks are those that its rules ask, one rule after the other.
+abbrev pub NamesAreTheirRules : Type 0
+NamesAreTheirRules = (replies : Replies) (world : World) (depth : ℕ) (path bytes : Bytes) (rules : List Rule)
+    → names_of depth world (file_meaning replies path bytes rules) ≡ flat_map (λ rule. names_of depth world (rule_meaning replies path bytes rule)) rules
 
 -- ---- what a rule comes to in a file
 

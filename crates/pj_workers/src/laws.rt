@@ -1,7 +1,7 @@
 //! Laws of the definitions, each the contract of a call that does nothing.
 ghost use Rattle.std.specs.Prelude.{List};
 ghost use Rattle.pj_workers.specs.Rules.{AreRulesOf, Rule};
-ghost use Rattle.pj_workers.specs.Laws.{ColdIsInOrder, ErrorsTellCodes, FilesAreInOrder, FilesAreTheirRules, FindingsAreDenoted, FindingsHaveRules, FoundAreDenoted, InactiveIsNothing, ListsAreTexts, MarksAreOne, MessagesTellCodes, NoTreeIsOneError, OneCold, RuleAscends, RulesAreTexts, SpotsAreNodes, SpotsHaveReasons};
+ghost use Rattle.pj_workers.specs.Laws.{ColdIsInOrder, ErrorsTellCodes, FilesAreInOrder, FilesAreTheirRules, FindingsAreDenoted, FindingsHaveRules, FoundAreDenoted, InactiveIsNothing, ListsAreTexts, MarksAreOne, MessagesTellCodes, NamesAreTheirRules, NoTreeIsOneError, OneCold, RuleAscends, RulesAreTexts, SpotsAreNodes, SpotsHaveReasons};
 
 use pj_findings::{errors_are_the_rules, findings_are_the_rules, nodes_are_the_items};
 use pj_rule_sets::RuleSet;
@@ -29,11 +29,12 @@ pub fn rules_find_nodes()
 
 /// What rules mean at a file has the findings by node and then by rule, none twice, and the errors by rule. Of each rule it has just what
 /// this rule alone means there, findings or an error, and of no others anything. So what is kept of single rules is merged again to the
-/// file's meaning.
+/// file's meaning. The names that it asks are those that its rules ask, together.
 pub fn files_are_their_rules()
     ensures in_order { FilesAreInOrder }
     ensures of_rules { FilesAreTheirRules }
     ensures have_rules { FindingsHaveRules }
+    ensures names { NamesAreTheirRules }
 {
     nodes_are_the_items();
     findings_are_the_rules();
