@@ -9,6 +9,7 @@ pub mod FileMeaning
 pub mod NoFunctions
 pub mod Results
 pub mod Cold
+pub mod Plain
 -- laws
 pub mod Laws
 -- for private clauses
