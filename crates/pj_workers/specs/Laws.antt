@@ -24,6 +24,7 @@ use Rattle.pj_reports.specs.declared.ruled.Ruled.{Ruled}
 use Rattle.pj_reports.specs.declared.ruled.Ruled.TheVariants.{Spots, Message}
 use Rattle.pj_tree.specs.declared.node.Node.{Node}
 use Rattle.pj_xaxes.specs.Order.{has_item}
+use Rattle.pj_workers.specs.Plain.{RepliesPlain}
 use Rattle.pj_xvalue.specs.Items.{ItemValue, Element}
 use Rattle.pj_xvalue.specs.declared.fault.XCode.{XCode}
 use Rattle.pj_names.specs.declared.rule_row.ConfigError.{ConfigError}
@@ -53,6 +54,11 @@ RuleAscends = (replies : Replies) (world : World) (depth : ℕ) (path bytes : By
 abbrev pub OneCold : Type 0
 OneCold = (replies : Replies) (world : World) (files : Files) (rules : List Rule) (unusable : List ConfigError) (r s : Report)
     → IsCold replies world files rules unusable r → IsCold replies world files rules unusable s → r ≡ s
+
+-- Where the functions of PMD reply without asking for a class, rules have a cold report of files, and it is the same over every world.
+abbrev pub SomeCold : Type 0
+SomeCold = (replies : Replies) → ((path : Bytes) (file : JavaFile) → RepliesPlain (replies path file)) → (files : Files) (rules : List Rule) (unusable : List ConfigError)
+    → (report : Report) × ((world : World) → IsCold replies world files rules unusable report)
 
 -- A finding stands where its node does.
 abbrev pub StandsAtNode : JavaFile → Spot → Type 0

@@ -10,6 +10,7 @@ pub mod NoFunctions
 pub mod Results
 pub mod Cold
 pub mod RuleFacts
+pub mod Plain
 -- laws
 pub mod Laws
 -- for private clauses
