@@ -7,11 +7,12 @@ ghost use Rattle.pj_parse.specs.PoolText.{IsPoolOf};
 use crate::fault::Fault;
 use pj_attrs::{Facts, tokens_are_in_order};
 use pj_base::{Bytes, Text};
+use pj_findings::{Extent, extent_of};
 use pj_outside::{Reading, Refused, Tree};
 use pj_parse::{FileRefused, Parsed, parse_file, read_file};
 use pj_source::Source;
 use pj_symbols::Symbols;
-use pj_tree::{Node, Span, SyntaxTree};
+use pj_tree::{Node, SyntaxTree};
 use pj_xvalue::{Attributes, Value};
 use std::alloc::Global;
 use std::io;
@@ -19,15 +20,6 @@ use std::io::Write;
 
 /// The most bytes that a file may have, as in a run.
 const MOST_BYTES: u64 = 1_048_576;
-
-/// The offset of the last byte of a span, and of an empty span where it begins.
-fn last_of(span: Span) -> u32 {
-    if span.from < span.to {
-        span.to - 1
-    } else {
-        span.from
-    }
-}
 
 /// How deep each node lies below the root.
 fn depths_of(alloc: Global, tree: &SyntaxTree<'_>) -> Result<Vec<u32>, Fault> {
@@ -76,10 +68,8 @@ fn write_node<W: Write, A: Attributes>(
     requires inside { n.0 < length tree.now.nodes }
     requires text { A.text_length facts.now ≡ length tree.now.text }
 {
-    let span = tree.span(n);
-    let begin = facts.place(span.from);
-    let end = facts.place(last_of(span));
     let kind = tree.kind(n).name();
+    let Extent { begin, end } = extent_of(tree, facts, n);
     write!(
         out,
         "{kind} {}:{}-{}:{}",
