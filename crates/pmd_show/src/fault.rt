@@ -9,7 +9,7 @@ use std::{fmt, io};
 /// Why not all was shown.
 #[derive(Drop)]
 pub enum Fault {
-    /// The words are no command.
+    /// The words are no command: how the program is called is told.
     Usage,
     /// There is no file of this path.
     Missing(Text),
@@ -32,7 +32,9 @@ pub enum Fault {
 impl Display for Fault {
     fn fmt<W: Write>(&self, f: &mut Formatter<W>) -> fmt::Result {
         match self {
-            Fault::Usage => f.write_str("the words are no command"),
+            Fault::Usage => {
+                f.write_str("usage: pmd tree FILE [--attributes]\n       pmd rules RULESETS")
+            }
             Fault::Missing(path) => write!(f, "no such file: {}", path.as_str()),
             Fault::TooLong(path) => write!(f, "too long: {}", path.as_str()),
             Fault::NotJava(path, fault) => write!(f, "{}: {fault}", path.as_str()),

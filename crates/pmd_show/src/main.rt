@@ -20,9 +20,6 @@ use std::process::ExitCode;
 use std::rt::Files;
 use std::{env, io};
 
-/// How the program is called.
-const USAGE: &str = "usage: pmd tree FILE [--attributes]\n       pmd rules RULESETS\n";
-
 /// The words behind the program's name.
 fn read_words(rt: &(impl Env + AllocGlobal)) -> Result<Vec<String>, Fault> {
     let mut words = Vec::new(rt.alloc());
@@ -69,7 +66,7 @@ fn run<R: Files + Env + AllocGlobal + Clone + Drop, W: Write + Drop>(
 fn end<E: Write>(notes: &mut E, fault: &Fault) -> u8 {
     match fault {
         Fault::Usage => {
-            let _ = notes.write_all(USAGE.as_bytes());
+            let _ = write!(notes, "{fault}\n");
             2
         }
         fault => {
