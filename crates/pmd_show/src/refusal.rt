@@ -1,13 +1,12 @@
 //! Why rulesets do not load, in lines that say where the fault stands.
 
-use crate::expression::{faulty_expression, rule_named};
+use crate::expression::{faulty_expression, offset_of};
 use crate::fault::Fault;
 use crate::line::{Line, line_at, write_marked};
 use pj_base::Text;
 use pj_outside::{Reading, Tree};
 use pj_rule_texts::read_ruleset;
 use pj_rules::{RuleFault, RuleWhat};
-use pj_xparse::XSyntax;
 use std::alloc::Global;
 use std::io;
 use std::io::Write;
@@ -36,18 +35,7 @@ fn write_what<W: Write>(out: &mut W, what: &RuleWhat) -> io::Result<()> {
     }
 }
 
-/// The offset into the expression at which a fault stands, where it stands at one.
-fn offset_of(fault: &XSyntax) -> Option<u32> {
-    match fault {
-        XSyntax::Token(offset)
-        | XSyntax::Expected(offset)
-        | XSyntax::UnknownFunction(_, offset)
-        | XSyntax::Outside(offset) => Some(*offset),
-        XSyntax::UnknownVariable(_) | XSyntax::Deep(_) | XSyntax::Memory => None,
-    }
-}
-
-/// Writes the line of a rule's expression in which a fault stands, with a mark under its place, where the file writes the rule.
+/// Writes the line of a rule's expression in which a fault stands, with a mark under its place, where the file writes it.
 fn write_expression<T: Tree, W: Write>(
     alloc: Global,
     files: &mut T,
@@ -60,11 +48,9 @@ fn write_expression<T: Tree, W: Write>(
         Ok(Some(ruleset)) => ruleset,
         Ok(None) | Err(_) => return Ok(()),
     };
-    if let Some(rule) = rule_named(&ruleset, rule) {
-        if let Some(text) = faulty_expression(alloc, rule)? {
-            out.write_all(b"\n")?;
-            write_marked(out, line_at(text, offset as usize))?;
-        }
+    if let Some(text) = faulty_expression(alloc, &ruleset, rule, offset)? {
+        out.write_all(b"\n")?;
+        write_marked(out, line_at(text, offset as usize))?;
     }
     Ok(())
 }
