@@ -9,6 +9,8 @@ mod fault;
 mod line;
 mod refusal;
 mod rules;
+#[cfg(test)]
+mod tests;
 mod tree;
 
 use command::{Command, command_of};
