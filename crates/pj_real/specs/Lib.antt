@@ -1,0 +1,2 @@
+-- Words for the private clauses of the tree of files.
+pub mod Below
