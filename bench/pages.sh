@@ -1,11 +1,12 @@
 #!/usr/bin/env bash
 # Checks the pages: that each link of README.md and docs/ leads to a file, and to a heading where it names one, and that docs/messages.md has
-# each message that the sources of the programs and of the launcher can print. Prints what is missing, and ends with 1 where something is.
-#   bench/pages.sh
+# each message that the sources of the programs and of the launcher can print. With --run also that each command of ./pmd over files of examples/
+# prints what the pages show below it. Prints what is missing, and ends with 1 where something is.
+#   bench/pages.sh [--run]
 set -u
 cd "$(dirname "$0")/.." || exit 1
-exec python3 - <<'PY'
-import glob, os, re, sys
+exec python3 - "$@" <<'PY'
+import glob, os, re, subprocess, sys
 
 PAGES = ["README.md"] + sorted(glob.glob("docs/*.md"))
 missing = []
@@ -146,8 +147,39 @@ for path in PRINTING + sorted(glob.glob("crates/pmd/src/*.rt") + glob.glob("crat
 for number, text in launcher_texts("pmd"):
     look("pmd", number, text)
 
+
+# Commands.
+
+def shown_runs(page):
+    """The commands of ./pmd over examples/ that a page shows, with the lines below each; a last line `...` stands for more."""
+    lines = read(page).split("\n")
+    for at, line in enumerate(lines):
+        command = re.fullmatch(r"    \$ (\./pmd (?:check|tree|rules) .*examples/.*)", line)
+        if command:
+            below = []
+            while at + 1 < len(lines) and lines[at + 1].startswith("    ") and not lines[at + 1].startswith("    $ "):
+                at += 1
+                below.append(lines[at][4:])
+            if below:
+                yield command.group(1), below
+
+
+runs = 0
+if "--run" in sys.argv:
+    for page in PAGES:
+        for command, wanted in shown_runs(page):
+            runs += 1
+            printed = subprocess.run(command, shell=True, capture_output=True, text=True).stdout.split("\n")[:-1]
+            if wanted[-1] == "...":
+                wanted = wanted[:-1]
+                printed = printed[: len(wanted)]
+            for number, (one, other) in enumerate(zip(wanted + [""] * len(printed), printed + [""] * len(wanted))):
+                if one != other:
+                    missing.append(f"{page}: {command}: line {number + 1} is not {one!r} but {other!r}")
+                    break
+
 for line in missing:
     print(line)
-print(f"{links} links and {messages} messages, {len(missing)} missing")
+print(f"{links} links, {messages} messages and {runs} commands, {len(missing)} missing")
 sys.exit(1 if missing else 0)
 PY

@@ -1,5 +1,5 @@
 -- Paths that lie at or below another.
-use Rattle.std.specs.Prelude.{List, All, IsTrue, ◌×◌}
+use Rattle.std.specs.Prelude.{List, All, IsTrue}
 use Rattle.pj_outside.specs.Files.{Bytes, is_at_or_below}
 
 -- The paths are all this one or below it.
