@@ -1,5 +1,5 @@
 -- What refusals of the layers say of the words and the files.
-use Rattle.std.proofs.Common.{◌≡◌, ◌<◌, List, IsTrue, Option, IfSome, Result, Ok, Err, length, inl, inr, ap, sym, subst, refl}
+use Rattle.std.proofs.Common.{◌≡◌, ◌<◌, List, Option, IfSome, Result, Ok, Err, length, inl, inr, ap, sym, subst, refl}
 use Rattle.std.proofs.lemmas.List.Elements.{All-contains}
 use Rattle.pj_outside.specs.Files.{Bytes, Files}
 use Rattle.pj_rule_sets.specs.Rules.{EffectiveRules}
@@ -12,8 +12,7 @@ use Rattle.pj_settings.specs.declared.usage.UsageFault.{UsageFault}
 use Rattle.pj_settings.specs.declared.usage.UsageRefused.{UsageRefused}
 use Rattle.pj_settings.specs.declared.usage.UsageRefused.TheVariants as unasked
 use Rattle.pj_sources.specs.Limits.{most_files}
-use Rattle.pj_sources.specs.Listing.{AreSourcePaths, IsListing, IsOfItems, SaysNoListing}
-use Rattle.pj_sources.specs.Paths.{is_source}
+use Rattle.pj_sources.specs.Listing.{AreSourcesOf, IsListing, IsOfItems, IsSourceOf, SaysNoListing}
 use Rattle.pj_sources.specs.Reading.{IsOfPaths, SaysNotRead}
 use Rattle.pj_sources.specs.declared.limits.SourceLimit.{SourceLimit}
 use Rattle.pj_sources.specs.declared.limits.SourceLimit.TheVariants as limit
@@ -88,14 +87,14 @@ explain_loading words told settings listing unloaded.Memory asked sources says =
 
 -- ---- sources
 
-pub explain_reading : (words : List Bytes) (told : Option Files) (settings : Settings) (listing : Listing) (rules : EffectiveRules) (r : ReadRefused) → AreSourcePaths listing.paths → job words ≡ Ok settings →
+pub explain_reading : (words : List Bytes) (told : Option Files) (settings : Settings) (listing : Listing) (rules : EffectiveRules) (r : ReadRefused) → AreSourcesOf settings.dirs listing.paths → job words ≡ Ok settings →
     IfSome told (λ files. HasRules words files settings listing rules) → IfSome told (λ files. SaysNotRead files listing.paths r) → IsOfPaths listing.paths r → Explains words told (after_reading r)
 explain_reading words told settings listing rules unread.Failed paths asked has says named =
     record { cause = all_told told (λ held. SaysRefusal words held (after_reading unread.Failed)) (λ held. tt); of_words = (settings, asked, tt) }
 explain_reading words told settings listing rules (unread.Missing path) paths asked has says named = record {
   cause = told_both told told (λ files. HasRules words files settings listing rules) (λ files. SaysNotRead files listing.paths (unread.Missing path))
       (λ held. SaysRefusal words held (after_reading (unread.Missing path))) refl (λ held h missing. source_missing settings listing rules h missing) has says;
-  of_words = (settings, asked, inr (All-contains (λ p. IsTrue (is_source p)) listing.paths path paths named));
+  of_words = (settings, asked, inr (All-contains (IsSourceOf settings.dirs) listing.paths path paths named));
 }
 explain_reading words told settings listing rules (unread.Limit kind) paths asked has says named = record {
   cause = told_both told told (λ files. HasRules words files settings listing rules) (λ files. SaysNotRead files listing.paths (unread.Limit kind))

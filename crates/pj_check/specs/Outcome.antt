@@ -1,12 +1,12 @@
 -- What each outcome of a run says.
-use Rattle.std.specs.Prelude.{⊤, ◌≡◌, ◌⊎◌, ◌++◌, ℕ, IsTrue, List, Contains, Option, Ok, Err}
+use Rattle.std.specs.Prelude.{⊤, ◌≡◌, ◌⊎◌, ◌++◌, ℕ, List, Contains, Option, Ok, Err}
 use Rattle.pj_outside.specs.Faults.{Rises}
 use Rattle.pj_outside.specs.Files.{Files, Bytes}
 use Rattle.pj_outside.specs.Putting.{Gets, GetsPrefix}
 use Rattle.pj_reports.specs.declared.report.Report.{Report}
 use Rattle.pj_settings.specs.Job.{job}
 use Rattle.pj_settings.specs.declared.settings.Settings.{Settings}
-use Rattle.pj_sources.specs.Paths.{is_source}
+use Rattle.pj_sources.specs.Listing.{IsSourceOf}
 use Rattle.pj_workers.specs.declared.work.Work.{Work}
 use Rattle.pj_check.specs.Formats.{report_text}
 use Rattle.pj_check.specs.Verdicts.{verdict_of}
@@ -56,7 +56,7 @@ abbrev pub AsksFor : (Settings → Type 0) → List Bytes → Type 0
 AsksFor fact words = (settings : Settings) × (job words ≡ Ok settings) × fact settings
 
 -- What an outcome says of the words where nothing is known of the files. A path that is missing is one that the words name, or that of
--- a source.
+-- a source there or below it.
 abbrev pub SaysOfWords : Outcome → List Bytes → Type 0
 SaysOfWords Clean words = AsksFor (λ settings. ⊤) words
 SaysOfWords Violations words = AsksFor (λ settings. ⊤) words
@@ -66,7 +66,7 @@ SaysOfWords (Rules fault) words = AsksFor (λ settings. ⊤) words
 SaysOfWords TreeFault words = AsksFor (λ settings. ⊤) words
 SaysOfWords ClassFault words = ⊥
 SaysOfWords SinkFault words = AsksFor (λ settings. ⊤) words
-SaysOfWords (Missing path) words = AsksFor (λ settings. Contains settings.dirs path ⊎ IsTrue (is_source path)) words
+SaysOfWords (Missing path) words = AsksFor (λ settings. Contains settings.dirs path ⊎ IsSourceOf settings.dirs path) words
 SaysOfWords (Limit kind) words = AsksFor (λ settings. ⊤) words
 SaysOfWords Memory words = ⊤
 

@@ -4,7 +4,7 @@ ghost use Rattle.pj_outside.specs.Files.{Bytes, Files as AnyFiles};
 ghost use Rattle.pj_rule_sets.specs.Rules.{EffectiveRules};
 ghost use Rattle.pj_settings.specs.Job.{job};
 ghost use Rattle.pj_settings.specs.declared.settings.Settings.{Settings as AnySettings};
-ghost use Rattle.pj_sources.specs.Listing.{AreSourcePaths, IsListing};
+ghost use Rattle.pj_sources.specs.Listing.{AreSourcesOf, IsListing};
 ghost use Rattle.pj_sources.specs.Reading.{AreRead, AreWithin};
 ghost use Rattle.pj_sources.specs.declared.listing.Listing.{Listing as AnyListing};
 ghost use Rattle.pj_check.specs.Cold.{IsColdOf};
@@ -40,7 +40,7 @@ pub fn asked(alloc: Global, words: &Words) -> Result<Settings, Refusal>
 /// The list of the sources that are asked for.
 fn list<T: Tree>(alloc: Global, tree: &mut T, settings: &Settings) -> Result<Listing, Refusal>
     ensures listed { IfSome (T.holds tree.old) (λ held. IfOk result (IsListing held settings.now.dirs)) }
-    ensures sources { IfOk result (λ listing. AreSourcePaths listing.paths) }
+    ensures sources { IfOk result (λ listing. AreSourcesOf settings.now.dirs listing.paths) }
     ensures refused { (words : List Bytes) → job words ≡ Ok settings.now → IfErr result (Explains words (T.holds tree.old)) }
     ensures same_files { T.holds tree.new ≡ T.holds tree.old }
     ensures counts_faults { CountsFaults (T.faults tree.old) (T.faults tree.new) result }
@@ -55,7 +55,7 @@ fn list<T: Tree>(alloc: Global, tree: &mut T, settings: &Settings) -> Result<Lis
 /// The sources that are asked for, where they are not too many.
 pub fn listed<T: Tree>(alloc: Global, tree: &mut T, settings: &Settings) -> Result<Listing, Refusal>
     ensures sources { (words : List Bytes) → job words ≡ Ok settings.now → IfSome (T.holds tree.old) (λ held. IfOk result (HasSources words held settings.now)) }
-    ensures of_sources { IfOk result (λ listing. AreSourcePaths listing.paths) }
+    ensures of_sources { IfOk result (λ listing. AreSourcesOf settings.now.dirs listing.paths) }
     ensures refused { (words : List Bytes) → job words ≡ Ok settings.now → IfErr result (Explains words (T.holds tree.old)) }
     ensures same_files { T.holds tree.new ≡ T.holds tree.old }
     ensures counts_faults { CountsFaults (T.faults tree.old) (T.faults tree.new) result }
@@ -92,7 +92,7 @@ pub fn loaded<T: Tree>(alloc: Global, tree: &mut T, settings: &Settings) -> Resu
 pub fn sources_of<T: Tree>(alloc: Global, tree: &mut T, listing: &Listing) -> Result<Files, Refusal>
     ensures read { IfSome (T.holds tree.old) (λ held. IfOk result (AreRead held listing.now.paths)) }
     ensures within { IfOk result (AreWithin listing.now.paths) }
-    ensures refused { (words : List Bytes) (settings : AnySettings) (rules : EffectiveRules) → AreSourcePaths listing.now.paths → job words ≡ Ok settings → IfSome (T.holds tree.old) (λ held. HasRules words held settings listing.now rules) → IfErr result (Explains words (T.holds tree.old)) }
+    ensures refused { (words : List Bytes) (settings : AnySettings) (rules : EffectiveRules) → AreSourcesOf settings.dirs listing.now.paths → job words ≡ Ok settings → IfSome (T.holds tree.old) (λ held. HasRules words held settings listing.now rules) → IfErr result (Explains words (T.holds tree.old)) }
     ensures same_files { T.holds tree.new ≡ T.holds tree.old }
     ensures counts_faults { CountsFaults (T.faults tree.old) (T.faults tree.new) result }
     ensures steady { T.never_fails tree.old → T.never_fails tree.new × (result ≢ Err Refusal.TreeFault) }

@@ -1,45 +1,37 @@
--- What lies in a folder lies where the folder does.
-use Rattle.std.proofs.Common.{◌≡◌, ◌∙◌, ℕ, List, [], ◌∷◌, ◌++◌, Bool, true, false, ◌&&◌, ◌||◌, IsTrue, nat_eq, refl, sym, ap, subst, true≢false, arith}
+-- What stands behind a `/` lies below.
+use Rattle.std.proofs.Common.{◌≡◌, ◌++◌, ◌∷◌, [], inl, inr, Bool, true, false, ◌||◌, length, drop, refl, sym, subst}
+use Rattle.std.proofs.lemmas.Bool.{cases_Bool}
+use Rattle.std.proofs.lemmas.List.{append_assoc}
 use Rattle.std.specs.List.{starts_with}
-use Rattle.std.specs.Cmp.Lexicographic.{same_text}
-use Rattle.std.proofs.lemmas.Slice.Eq.{bytes_eq-Decides}
-use Rattle.pj_outside.specs.Files.{is_same, is_at_or_below}
+use Rattle.std.specs.Prelude.{nat_eq}
+use Rattle.std.proofs.lemmas.Bool.Decides.{Decides-eqb}
+use Rattle.std.proofs.lemmas.Slice.Eq.{bytes_eq-Decides, starts_is}
+use Rattle.pj_outside.specs.Files.{Bytes, is_at_or_below, is_same}
 
--- a number is itself
-itself : (x : ℕ) → nat_eq x x ≡ true
-itself x = grind arith
+-- a list begins with its front
+begins : (front rest : Bytes) → starts_with nat_eq (front ++ rest) front ≡ true
+begins front rest = (starts_is Decides-eqb (front ++ rest) front (starts_with nat_eq (front ++ rest) front) refl).1 rest refl
 
--- a list begins with itself, whatever stands behind
-begins : (xs more : List ℕ) → starts_with nat_eq (xs ++ more) xs ≡ true
-begins [] more = refl
-begins (x ∷ xs) more = ap (λ t. t && starts_with nat_eq (xs ++ more) xs) (itself x) ∙ begins xs more
+-- where it begins so, more behind it changes nothing
+still_begins : (xs front rest : Bytes) → starts_with nat_eq xs front ≡ true → starts_with nat_eq (xs ++ rest) front ≡ true
+still_begins xs front rest e =
+    let is = (starts_is Decides-eqb xs front (starts_with nat_eq xs front) refl).0 e in
+    subst (λ (l : Bytes). starts_with nat_eq (l ++ rest) front ≡ true) (sym is)
+    (subst (λ (l : Bytes). starts_with nat_eq l front ≡ true) (sym (append_assoc front (drop (length front) xs) rest)) (begins front (drop (length front) xs ++ rest)))
 
--- what a list begins with, it begins with where it is longer
-longer : (xs more ys : List ℕ) → starts_with nat_eq xs ys ≡ true → starts_with nat_eq (xs ++ more) ys ≡ true
-longer xs more [] e = refl
-longer [] more (y ∷ ys) e = absurd (true≢false (sym e))
-longer (x ∷ xs) more (y ∷ ys) e =
-    elim (nat_eq y x) as (λ t. (t && starts_with nat_eq xs ys) ≡ true → (t && starts_with nat_eq (xs ++ more) ys) ≡ true)
-    [ true ↦ longer xs more ys | false ↦ λ h. h ] e
+or_right : (a b : Bool) → b ≡ true → (a || b) ≡ true
+or_right true b e = refl
+or_right false b e = e
 
--- behind a path and `/` stands what lies below it
-behind : (at name : List ℕ) → starts_with nat_eq (at ++ 47 ∷ name) (at ++ 47 ∷ []) ≡ true
-behind [] name = refl
-behind (x ∷ xs) name = ap (λ t. t && starts_with nat_eq (xs ++ 47 ∷ name) (xs ++ 47 ∷ [])) (itself x) ∙ behind xs name
+from_right : (a b : Bool) → a ≡ false → (a || b) ≡ true → b ≡ true
+from_right true b e h = absurd (cc)
+from_right false b e h = h
 
-or_second : (a b : Bool) → b ≡ true → (a || b) ≡ true
-or_second true b e = refl
-or_second false b e = e
-
--- a path is at itself
-pub at_itself : (at : List ℕ) → IsTrue (is_at_or_below at at)
-at_itself at = ap (λ t. t || starts_with nat_eq at (at ++ 47 ∷ [])) ((bytes_eq-Decides at at).1 refl)
-
--- what lies in a folder lies where the folder does
-pub lies_in : (at folder name : List ℕ) → IsTrue (is_at_or_below at folder) → IsTrue (is_at_or_below at (folder ++ 47 ∷ name))
-lies_in at folder name h =
-    or_second (is_same (folder ++ 47 ∷ name) at) _
-    (elim (is_same folder at) as (λ t. is_same folder at ≡ t → (t || starts_with nat_eq folder (at ++ 47 ∷ [])) ≡ true → starts_with nat_eq (folder ++ 47 ∷ name) (at ++ 47 ∷ []) ≡ true) [
-      | true ↦ λ e h. subst (λ (f : List ℕ). starts_with nat_eq (f ++ 47 ∷ name) (at ++ 47 ∷ []) ≡ true) (sym (same_text folder at (sym e))) (behind at name)
-      | false ↦ λ e h. longer folder (47 ∷ name) (at ++ 47 ∷ []) h
-    ] refl h)
+pub is_below : (at folder name : Bytes) → is_at_or_below at folder ≡ true → is_at_or_below at (folder ++ 47 ∷ name) ≡ true
+is_below at folder name e = or_right (is_same (folder ++ 47 ∷ name) at) (starts_with nat_eq (folder ++ 47 ∷ name) (at ++ 47 ∷ [])) (elim (cases_Bool (is_same folder at)) [
+  | inl same ↦
+      let is = (bytes_eq-Decides folder at).0 same in
+      subst (λ (l : Bytes). starts_with nat_eq (l ++ 47 ∷ name) (at ++ 47 ∷ []) ≡ true) (sym is)
+      (subst (λ (l : Bytes). starts_with nat_eq l (at ++ 47 ∷ []) ≡ true) (append_assoc at (47 ∷ []) name) (begins (at ++ 47 ∷ []) name))
+  | inr apart ↦ still_begins folder (at ++ 47 ∷ []) (47 ∷ name) (from_right (is_same folder at) (starts_with nat_eq folder (at ++ 47 ∷ [])) apart e)
+])

@@ -1,12 +1,9 @@
--- Paths that lie at or below another.
-use Rattle.std.specs.Prelude.{List, All, IsTrue}
+-- Paths that are all another one or below it.
+use Rattle.std.specs.Prelude.{List, All, IsTrue, String, string_bytes}
 use Rattle.pj_outside.specs.Files.{Bytes, is_at_or_below}
 
--- The paths are all this one or below it.
-abbrev pub AllBelow : Bytes → List Bytes → Type 0
-AllBelow at paths = All (λ path. IsTrue (is_at_or_below at path)) paths
+abbrev pub AreBelow : Bytes → List Bytes → Type 0
+AreBelow at paths = All (λ path. IsTrue (is_at_or_below at path)) paths
 
--- Where a path lies, the paths and folders after a call lie as well, if those before it do.
-abbrev pub StayBelow : Bytes → List Bytes → List Bytes → List Bytes → List Bytes → Type 0
-StayBelow path paths folders later later_folders =
-    (at : Bytes) → IsTrue (is_at_or_below at path) → AllBelow at paths → AllBelow at folders → AllBelow at later × AllBelow at later_folders
+abbrev pub FoldersAreBelow : {Y : Type 0} → Bytes → List (String Y) → Type 0
+FoldersAreBelow at folders = All (λ folder. IsTrue (is_at_or_below at (string_bytes folder))) folders

@@ -1,2 +1,2 @@
--- Words for the private clauses of the tree of files.
+-- definitions
 pub mod Below

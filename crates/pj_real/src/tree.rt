@@ -1,10 +1,10 @@
 //! A tree over the files of the system.
-ghost use Rattle.std.specs.Prelude.{◌≡◌, ◌++◌, ◌∷◌, [], None, IfOk, OnOk};
-ghost use Rattle.pj_outside.specs.Files.{HasPath, AreAtOrBelow};
-ghost use Rattle.pj_real.specs.Below.{StayBelow};
+ghost use Rattle.std.specs.Prelude.{◌≡◌, ◌++◌, ◌∷◌, None, IfOk, OnOk, IsTrue, string_bytes};
+ghost use Rattle.pj_outside.specs.Files.{is_at_or_below, Bytes, HasPath, AreAtOrBelow};
+ghost use Rattle.pj_real.specs.Below.{AreBelow, FoldersAreBelow};
 
 use crate::file::{fault, if_there, is_memory, read_at};
-use pj_base::{Names, NoMemory, Text};
+use pj_base::{Names, Text};
 use pj_outside::{Reading, Refused, Tree};
 use std::alloc::Global;
 use std::rt::Files;
@@ -33,42 +33,32 @@ fn is_file_there<R: Files>(rt: &R, path: &str) -> io::Result<bool> {
     }
 }
 
-/// Puts a path behind the others.
-fn put(names: &mut Names, path: Text) -> io::Result<()>
-    ensures { OnOk result (names.new ≡ names.old ++ path ∷ []) }
+/// The path of an entry of a folder.
+fn entry_path(alloc: Global, folder: &str, name: &str) -> io::Result<String>
+    ensures { IfOk result (λ path. string_bytes path ≡ folder.now ++ 47 ∷ name.now) }
 {
-    match names.push(path) {
-        Ok(()) => Ok(()),
-        Err(NoMemory) => Err(io::Error::from(io::ErrorKind::OutOfMemory)),
-    }
-}
-
-/// The path of what has a name in a folder.
-fn path_in(alloc: Global, folder: &str, name: &str) -> io::Result<Text>
-    ensures { IfOk result (λ path. path ≡ folder.now ++ 47 ∷ name.now) }
-{
-    let mut path = String::from_str(alloc, folder)?;
-    path.push_str("/")?;
-    path.push_str(name)?;
-    Ok(Text::from_string(path))
+    Ok(format!(in alloc; "{folder}/{name}")?)
 }
 
 /// Puts an entry of a folder to the paths where it is a file, and to the folders that are left where it is a folder. A
 /// link to a folder is passed over, so that a circle of links ends, and so is a link that leads nowhere.
 fn list_entry<R: Files + AllocGlobal + Clone + Drop>(
     rt: &R,
-    path: Text,
+    path: String,
     is_folder: bool,
     paths: &mut Names,
-    folders: &mut Names,
+    folders: &mut Vec<String>,
 ) -> io::Result<()>
-    ensures { OnOk result (StayBelow path paths.old folders.old paths.new folders.new) }
+    ensures paths { (at : Bytes) → IsTrue (is_at_or_below at (string_bytes path)) → AreBelow at paths.old → OnOk result (AreBelow at paths.new) }
+    ensures folders { (at : Bytes) → IsTrue (is_at_or_below at (string_bytes path)) → FoldersAreBelow at folders.old.items → OnOk result (FoldersAreBelow at folders.new.items) }
 {
     if is_folder {
-        return put(folders, path);
-    }
-    if is_file_there(rt, path.as_str())? {
-        return put(paths, path);
+        folders.push(path)?;
+    } else if is_file_there(rt, path.as_str())? {
+        let path = Text::from_string(path);
+        if paths.push(path).is_err() {
+            return Err(io::Error::from(io::ErrorKind::OutOfMemory));
+        }
     }
     Ok(())
 }
@@ -79,17 +69,19 @@ fn list_folder<R: Files + AllocGlobal + Clone + Drop>(
     rt: &R,
     folder: &str,
     paths: &mut Names,
-    folders: &mut Names,
+    folders: &mut Vec<String>,
 ) -> io::Result<()>
-    ensures { OnOk result (StayBelow folder.now paths.old folders.old paths.new folders.new) }
+    ensures paths { (at : Bytes) → IsTrue (is_at_or_below at folder.now) → AreBelow at paths.old → OnOk result (AreBelow at paths.new) }
+    ensures folders { (at : Bytes) → IsTrue (is_at_or_below at folder.now) → FoldersAreBelow at folders.old.items → OnOk result (FoldersAreBelow at folders.new.items) }
 {
+    let alloc = rt.alloc();
     let entries = match if_there(fs::read_dir(rt, folder))? {
         Some(entries) => entries,
         None => return Ok(()),
     };
     for entry in entries {
         let entry = entry?;
-        let path = path_in(rt.alloc(), folder, entry.file_name())?;
+        let path = entry_path(alloc, folder, entry.file_name())?;
         if let Some(kind) = if_there(entry.file_type())? {
             list_entry(rt, path, kind.is_dir(), paths, folders)?;
         }
@@ -104,16 +96,16 @@ fn list_at<R: Files + AllocGlobal + Clone + Drop>(rt: &R, at: &str) -> io::Resul
 {
     let alloc = rt.alloc();
     let mut paths = Names::new(alloc);
-    let mut folders = Names::new(alloc);
-    let first = Text::from_string(String::from_str(alloc, at)?);
+    let mut folders = Vec::new(alloc);
+    let first = String::from_str(alloc, at)?;
     let found = match if_there(fs::metadata(rt, at))? {
         Some(found) => found,
         None => return Ok(None),
     };
     if found.is_dir() {
-        put(&mut folders, first)?;
-    } else {
-        put(&mut paths, first)?;
+        folders.push(first)?;
+    } else if paths.push(Text::from_string(first)).is_err() {
+        return Err(io::Error::from(io::ErrorKind::OutOfMemory));
     }
     for _ in 0..u64::MAX {
         match folders.pop() {

@@ -6,7 +6,8 @@ use Rattle.pj_names.specs.Asking.{Asking, Return, bind}
 use Rattle.pj_types.specs.Along.{first_along}
 use Rattle.pj_written.specs.Types.{object_type}
 use Rattle.pj_written.specs.Words.{same_text}
-use Rattle.pj_receivers.specs.Receivers.{as_receiver, in_receiver}
+use Rattle.pj_members.specs.Receivers.{in_receiver}
+use Rattle.pj_receivers.specs.Receivers.{as_receiver}
 
 -- an element of an array (JLS 10.4)
 abbrev pub element_of : JavaType → JavaType

@@ -13,28 +13,36 @@ use Rattle.pj_written.specs.Words.{same_text}
 use Rattle.pj_outer_names.specs.Candidates.{file_classes}
 use Rattle.pj_outer_names.specs.Inherited.{member_in}
 use Rattle.pj_outer_names.specs.NameWalks.{left_out}
-use Rattle.pj_receivers.specs.Receivers.{as_receiver, in_receiver}
+use Rattle.pj_members.specs.Receivers.{in_receiver}
+use Rattle.pj_receivers.specs.Receivers.{as_receiver}
 
 abbrev pub member_or_unknown : Option Name → JavaType
 member_or_unknown None = Unknown
 member_or_unknown (Some class) = Class class NoMore
 
--- the member class that a class on the list of supertypes has, where it is there; of `java.lang.Object` none is looked for
+-- the member class that a class has of its own, where it is there; of `java.lang.Object` none is looked for
+abbrev pub member_of_class : Tree → List ℕ → Name → Asking (Option Name)
+member_of_class t name class = member_in (file_classes t) (left_out true class) name class
+
+-- the same of a type on a list of supertypes
 abbrev pub member_on_list : Tree → List ℕ → JavaType → Asking (Option Name)
 member_on_list t name (Primitive prim) = Return None
 member_on_list t name Void = Return None
 member_on_list t name Null = Return None
-member_on_list t name (Class class arguments) = member_in (file_classes t) (left_out true class) name class
+member_on_list t name (Class class arguments) = member_of_class t name class
 member_on_list t name (Array member) = Return None
 member_on_list t name (Variable variable bound) = Return None
 member_on_list t name Unknown = Return None
 
 -- the member class of a class, of its own or inherited (JLS 8.5)
-unfoldable pub member_class : Tree → Name → List ℕ → Asking JavaType
-member_class t class name = bind (first_along (member_on_list t name) class) (λ hit. Return (member_or_unknown hit))
+abbrev pub member_class : Tree → Name → List ℕ → Asking (Option Name)
+member_class t class name = first_along (member_on_list t name) class
+
+unfoldable pub member_type : Tree → Name → List ℕ → Asking JavaType
+member_type t class name = bind (member_class t class name) (λ hit. Return (member_or_unknown hit))
 
 abbrev pub field_or_member : Tree → Name → Arguments → List ℕ → Option FoundField → Asking JavaType
-field_or_member t class arguments name None = member_class t class name
+field_or_member t class arguments name None = member_type t class name
 field_or_member t class arguments name (Some field) = in_receiver class arguments field.ty
 
 unfoldable pub field_of_class : Tree → Name → Arguments → List ℕ → Asking JavaType

@@ -7,8 +7,9 @@ ghost use Rattle.pj_types.specs.Along.{first_along};
 ghost use Rattle.pj_receivers.specs.Elements.{element_of, first_argument, if_iterable, iterable_test, iterated, iterated_along, iterated_by, iterated_in, iterated_or};
 ghost use Rattle.pj_receivers.specs.Seen.{type_seen};
 
-use crate::receivers::{as_receiver, in_receiver};
+use crate::receivers::as_receiver;
 use pj_base::NoMemory;
+use pj_members::in_receiver;
 use pj_names::{AskFault, ClassName, Oracle, Ty, Types};
 use pj_types::Walk;
 use pj_written::object_type;

@@ -4,56 +4,40 @@ ghost use Rattle.std.specs.Prelude.{◌≡◌};
 ghost use Rattle.pj_names.specs.JavaType.{java_type, java_types};
 ghost use Rattle.pj_names.specs.Told.{Asks, seen};
 ghost use Rattle.pj_members.specs.Seen.{seen_field};
-ghost use Rattle.pj_types.specs.Along.{first_along};
-ghost use Rattle.pj_receivers.specs.Fields.{field_in, field_of, field_of_array, field_of_class, field_or_member, member_class, member_on_list, member_or_unknown};
+ghost use Rattle.pj_receivers.specs.Fields.{field_in, field_of, field_of_array, field_of_class, field_or_member, member_class, member_or_unknown, member_type};
 
-use crate::receivers::{as_receiver, in_receiver};
-use pj_members::find_field;
+use crate::receivers::as_receiver;
+use pj_members::{find_field, in_receiver};
 use pj_names::{AskFault, ClassName, Oracle, Prim, Ty, Types};
 use pj_outer_names::{File, member_in};
-use pj_types::{Field, Walk};
+use pj_types::{Field, NameWalk, direct_names};
 use std::alloc::Global;
 
 /// The most classes that a walk is followed: a list has no more members.
 const MOST_CLASSES: u64 = 4294967294;
 
-/// The member class of a class on a list of supertypes, where it is there.
-#[tactic(auto, using(pj_names::proofs::AskingLaws::asking_steps))]
-fn member_on_list<O: Oracle>(
-    alloc: Global,
-    file: &File<'_>,
-    oracle: &mut O,
-    name: &str,
-    ty: &Ty,
-) -> Result<Option<ClassName>, AskFault>
-    ensures { Asks (member_on_list file.now name.now (java_type ty.now)) (O.tells oracle.old) (O.tells oracle.new) result }
-{
-    match ty {
-        Ty::Class(class, _) => member_in(alloc, file, oracle, true, class, name, class),
-        _ => Ok(None),
-    }
-}
-
-/// The member class of a class, of its own or inherited, where there is one.
-#[tactic(auto, using(pj_types::proofs::AlongTurns::along_loops))]
-fn first_member<O: Oracle>(
+/// The member class of a class, of its own or inherited (JLS 8.5), where there is one: the first along the list of supertypes, the class itself
+/// first. A class of the list is asked only where the search goes past it. The search goes by names, so no type arguments are put in.
+pub fn member_class<O: Oracle>(
     alloc: Global,
     file: &File<'_>,
     oracle: &mut O,
     class: &ClassName,
     name: &str,
 ) -> Result<Option<ClassName>, AskFault>
-    ensures { Asks (first_along (member_on_list file.now name.now) class.now) (O.tells oracle.old) (O.tells oracle.new) result }
+    ensures { Asks (member_class file.now class.now name.now) (O.tells oracle.old) (O.tells oracle.new) result }
 {
-    let mut walk = Walk::of(alloc, class)?;
+    let mut walk = NameWalk::of(alloc, class)?;
     for _class in 0..MOST_CLASSES {
-        let Some(ty) = walk.next_class(oracle)? else {
+        let Some(next) = walk.next_class()? else {
             return Ok(None);
         };
-        let hit = member_on_list(alloc, file, oracle, name, &ty)?;
+        let hit = member_in(alloc, file, oracle, true, &next, name, &next)?;
         if let Some(member) = hit {
             return Ok(Some(member));
         }
+        let more = direct_names(alloc, oracle, &next)?;
+        walk.put(more)?;
     }
     Err(AskFault::Memory)
 }
@@ -68,18 +52,18 @@ fn member_or_unknown(member: Option<ClassName>) -> Ty
     }
 }
 
-/// The member class of a class, of its own or inherited.
-#[tactic(auto, using(pj_names::proofs::AskingLaws::asking_steps), unfolding(crate::specs::Fields::member_class))]
-fn member_class<O: Oracle>(
+/// The member class of a class, of its own or inherited, as a type.
+#[tactic(auto, using(pj_names::proofs::AskingLaws::asking_steps), unfolding(crate::specs::Fields::member_type))]
+fn member_type<O: Oracle>(
     alloc: Global,
     file: &File<'_>,
     oracle: &mut O,
     class: &ClassName,
     name: &str,
 ) -> Result<Ty, AskFault>
-    ensures { Asks (member_class file.now class.now name.now) (O.tells oracle.old) (O.tells oracle.new) (seen java_type result) }
+    ensures { Asks (member_type file.now class.now name.now) (O.tells oracle.old) (O.tells oracle.new) (seen java_type result) }
 {
-    let member = first_member(alloc, file, oracle, class, name)?;
+    let member = member_class(alloc, file, oracle, class, name)?;
     let ty = member_or_unknown(member);
     Ok(ty)
 }
@@ -99,7 +83,7 @@ fn field_or_member<O: Oracle>(
 {
     match found {
         Some(field) => in_receiver(alloc, oracle, class, arguments, &field.ty),
-        None => member_class(alloc, file, oracle, class, name),
+        None => member_type(alloc, file, oracle, class, name),
     }
 }
 

@@ -6,12 +6,14 @@ ghost use Rattle.pj_names.specs.Asking.{Return};
 ghost use Rattle.pj_names.specs.Meaning.{Source, Agrees};
 ghost use Rattle.pj_tree.specs.Tree.{Tree};
 ghost use Rattle.pj_receivers.specs.Elements.{element_of, iterated};
-ghost use Rattle.pj_receivers.specs.Fields.{field_of};
+ghost use Rattle.pj_receivers.specs.Fields.{field_of, member_class as member_class_of};
+ghost use Rattle.pj_names.specs.ClassName.{Name};
 
-/// Agreement: what a name means of a receiver, and what an enhanced `for` goes through, is, over one source of answers, what it is over every source that answers
+/// Agreement: what a name means of a receiver, the member class of a class, and what an enhanced `for` goes through, is, over one source of answers, what it is over every source that answers
 /// alike the names that were asked.
 pub fn sources_agree()
     ensures fields { (first second : Source) (t : Tree) (name : List ℕ) (receiver : JavaType) → Agrees first second (field_of t name receiver) }
+    ensures classes { (first second : Source) (t : Tree) (class : Name) (name : List ℕ) → Agrees first second (member_class_of t class name) }
     ensures elements { (first second : Source) (ty : JavaType) → Agrees first second (iterated ty) }
 {}
 

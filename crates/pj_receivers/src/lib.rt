@@ -8,6 +8,6 @@ mod laws;
 mod receivers;
 
 pub use elements::{element_of, iterated};
-pub use fields::field_of;
+pub use fields::{field_of, member_class};
 pub use laws::{sources_agree, unknown_receivers};
-pub use receivers::{as_receiver, in_receiver};
+pub use receivers::as_receiver;
