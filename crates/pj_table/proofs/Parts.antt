@@ -81,7 +81,7 @@ module _ (world : World) (t v c : ℕ) (slot : Option (Option Part)) (hs : List 
     apart = still_apart world t v c slot hs o i h g (λ p k y ne at q e. let r = o.range k y at q in omega arith);
     turn = at_each (λ j x. 1 < x.phase → (x.ticket ≡ o.served) × (x.entries ≡ o.es) × (x.looks ≡ o.ls)) hs i g (λ p. absurd (omega arith)) (λ j x ne at p. o.turn j x at p);
     slot_is = ⊎_elim (λ q. inl (q.0, q.1, q.2, q.3, at_each (λ j x. x.phase ≤ 1) hs i g (omega arith) (λ j x ne at. q.4 j x at)))
-        (λ q. inr (q.0, q.1, set_else hs i q.0 g (λ e. let same : some h ≡ some q.1 = sym me ∙ ap (get_elem? hs) (sym e) ∙ q.2 in let r : h.phase ≡ q.1.phase = ap (λ (y : Hand). y.phase) (some-injective h q.1 same) in let n = q.3 in omega arith) ∙ q.2, q.3)) o.slot_is;
+        (λ q. inr (q.0, q.1, set_else hs i q.0 g (λ e. let same : some h ≡ some q.1 = sym me ∙ ap (get_elem? hs) (sym e) ∙ q.2 in let r : h.phase ≡ q.1.phase = ap (λ (y : Hand). y.phase) (some-injective h q.1 same) in let n = q.3 in omega arith) ∙ q.2, q.3, q.4)) o.slot_is;
     count = o.count;
     good = o.good;
     mine = still_mine;
@@ -101,7 +101,7 @@ module _ (world : World) (t v c : ℕ) (slot : Option (Option Part)) (hs : List 
     range = at_each (λ j x. 0 < x.phase → (o.served ≤ x.ticket) × (x.ticket < o.drawn)) hs i g (λ p. let r = o.range i h me (omega arith) in (omega arith, omega arith)) (λ j x ne at p. o.range j x at p);
     apart = still_apart world t v c slot hs o i h g (λ p k y ne at q e. ne (o.apart k i y h at me q (omega arith) (sym e ∙ sym ticket)));
     turn = at_each (λ j x. 1 < x.phase → (x.ticket ≡ o.served) × (x.entries ≡ o.es) × (x.looks ≡ o.ls)) hs i g (λ p. (sym ticket ∙ is, es, ls)) (λ j x ne at p. o.turn j x at p);
-    slot_is = inr (i, g, set_here hs i g (at_below hs i h me), omega arith);
+    slot_is = inr (i, g, set_here hs i g (at_below hs i h me), omega arith, refl);
     count = o.count;
     good = o.good;
     mine = still_mine;
@@ -159,7 +159,7 @@ module _ (world : World) (t v c : ℕ) (slot : Option (Option Part)) (hs : List 
         range = at_each (λ j x. 0 < x.phase → (o.served ≤ x.ticket) × (x.ticket < o.drawn)) hs i g (λ p. let r = o.range i h me (omega arith) in (omega arith, omega arith)) (λ j x ne at p. o.range j x at p);
         apart = still_apart world t v c slot hs o i h g (λ p k y ne at q e. ne (o.apart k i y h at me q (omega arith) (sym e ∙ sym ticket)));
         turn = at_each (λ j x. 1 < x.phase → (x.ticket ≡ o.served) × (x.entries ≡ g.entries) × (x.looks ≡ g.looks)) hs i g (λ p. (sym ticket ∙ here.0, refl, refl)) (λ j x ne at p. absurd (ne (only j x at p)));
-        slot_is = ⊎_elim (λ q. let n = q.4 i h me in absurd (omega arith)) (λ q. inr (i, g, set_here hs i g (at_below hs i h me), omega arith)) o.slot_is;
+        slot_is = ⊎_elim (λ q. let n = q.4 i h me in absurd (omega arith)) (λ q. inr (i, g, set_here hs i g (at_below hs i h me), omega arith, q.4)) o.slot_is;
         count = let e : c ≡ length o.ls = o.count in ap (λ (n : ℕ). (n + 1) % 2 ^ 64) e ∙ ap (λ (n : ℕ). n % 2 ^ 64) (sym long) ∙ mod-eq_of_lt fits;
         good = grown.good;
         mine = at_each (λ j x. IsTold g.entries g.looks x.own.number x.own.asked) hs i g

@@ -46,7 +46,7 @@ adds world t v c slot hs h idle own joined o = record {
       (λ j y at p q e. absurd (omega arith))
       (λ i x at. at_plus (λ j y. 0 < x.phase → 0 < y.phase → x.ticket ≡ y.ticket → i ≡ j) hs h (λ p q e. absurd (omega arith)) (λ j y at' p q e. o.apart i j x y at at' p q e)) i x atx j y aty;
   turn = at_plus (λ j x. 1 < x.phase → (x.ticket ≡ o.served) × (x.entries ≡ o.es) × (x.looks ≡ o.ls)) hs h (λ p. absurd (omega arith)) o.turn;
-  slot_is = ⊎_elim (λ q. inl (q.0, q.1, q.2, q.3, at_plus (λ j x. x.phase ≤ 1) hs h (omega arith) q.4)) (λ q. inr (q.0, q.1, at_longer hs (h ∷ []) q.0 q.1 q.2, q.3)) o.slot_is;
+  slot_is = ⊎_elim (λ q. inl (q.0, q.1, q.2, q.3, at_plus (λ j x. x.phase ≤ 1) hs h (omega arith) q.4)) (λ q. inr (q.0, q.1, at_longer hs (h ∷ []) q.0 q.1 q.2, q.3, q.4)) o.slot_is;
   count = o.count;
   good = o.good;
   mine = at_plus (λ j x. IsTold o.es o.ls x.own.number x.own.asked) hs h
@@ -75,7 +75,7 @@ rests world t v c slot hs i h g me idle idle' o own joined = (
         (λ j x ne at. at_each (λ k y. 0 < x.phase → 0 < y.phase → x.ticket ≡ y.ticket → j ≡ k) hs i g (λ p q e. absurd (omega arith)) (λ k y ne' at' p q e. o.apart j k x y at at' p q e)) j x atx k y aty;
     turn = at_each (λ j x. 1 < x.phase → (x.ticket ≡ o.served) × (x.entries ≡ o.es) × (x.looks ≡ o.ls)) hs i g (λ p. absurd (omega arith)) (λ j x ne at. o.turn j x at);
     slot_is = ⊎_elim (λ q. inl (q.0, q.1, q.2, q.3, at_each (λ j x. x.phase ≤ 1) hs i g (omega arith) (λ j x ne at. q.4 j x at)))
-        (λ q. inr (q.0, q.1, set_else hs i q.0 g (λ e. let same : some h ≡ some q.1 = sym me ∙ ap (get_elem? hs) (sym e) ∙ q.2 in let r : h.phase ≡ q.1.phase = ap (λ (y : Hand). y.phase) (some-injective h q.1 same) in let n = q.3 in omega arith) ∙ q.2, q.3)) o.slot_is;
+        (λ q. inr (q.0, q.1, set_else hs i q.0 g (λ e. let same : some h ≡ some q.1 = sym me ∙ ap (get_elem? hs) (sym e) ∙ q.2 in let r : h.phase ≡ q.1.phase = ap (λ (y : Hand). y.phase) (some-injective h q.1 same) in let n = q.3 in omega arith) ∙ q.2, q.3, q.4)) o.slot_is;
     count = o.count;
     good = o.good;
     mine = at_each (λ j x. IsTold o.es o.ls x.own.number x.own.asked) hs i g own (λ j x ne at. o.mine j x at);

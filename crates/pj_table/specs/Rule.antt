@@ -1,7 +1,7 @@
 -- The rule of the table. Word 0 is the claim word, and the part p has the words ticket_word p, serving_word p and count_word p, and the slot p.
 use Rattle.std.specs.Prelude.{◌≡◌, ℕ, ◌+◌, ◌*◌, ◌%◌, ◌^◌, ◌<◌, ◌≤◌, List, [], ◌∷◌, map, filter, length, slice_index, cond, ◌==◌, nat_lt, min, Bool, true, false, ◌⊎◌, ◌≢◌}
 use Rattle.std.specs.Prelude.{None}
-use mathlib.Core.Option.{Option, some}
+use mathlib.Core.Option.{Option, some, none}
 use lib.ListN.{get_elem?}
 use Rattle.atomic_table.specs.Table.{State}
 use Rattle.pj_table.specs.Book.{IsSound, IsTold, looks_of}
@@ -68,7 +68,7 @@ pub record PartKept (world : World) (t v c : ℕ) (slot : Option (Option Part)) 
   pub turn : (i : ℕ) (h : Hand) → At hs i h → 1 < h.phase → (h.ticket ≡ served) × (h.entries ≡ es) × (h.looks ≡ ls)
   -- the slot is at home and no view is at its turn, or it is out with the view at its turn
   pub slot_is : ((x : Part) × (slot ≡ some (some x)) × (x.entries.items ≡ es) × (x.looks.items ≡ ls) × ((i : ℕ) (h : Hand) → At hs i h → h.phase ≤ 1))
-      ⊎ ((i : ℕ) × (h : Hand) × At hs i h × (1 < h.phase))
+      ⊎ ((i : ℕ) × (h : Hand) × At hs i h × (1 < h.phase) × (slot ≡ some none))
   pub count : c ≡ length ls
   pub good : IsSound world es ls
   pub mine : (i : ℕ) (h : Hand) → At hs i h → IsTold es ls h.own.number h.own.asked

@@ -167,6 +167,7 @@ impl TypeTable {
         requires all { IsOpening seat × HasAll (view_of seat) }
         ensures shows { (p : ℕ) → p < 64 → (x : Part) × (get_elem? result.parts.items p ≡ some x) × Shows (view_of seat) p x × ((k : ℕ) (e : Entry) → get_elem? x.entries.items k ≡ some e → part_of e.name ≡ p) }
         ensures claims { 0 < marks (view_of seat) → (x : ℕ) → claimed x (view_of seat) ≡ once_below x (files_of seat) }
+        ensures parts { length result.parts.items ≡ 64 }
     {
         let TypeTable { table, room } = self;
         let TableSeat { seat, .. } = seat;
