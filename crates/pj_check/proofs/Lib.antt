@@ -5,6 +5,7 @@ mod Ending
 mod Excluding
 mod OneRefusal
 mod Once
+mod SomeRun
 pub mod Pieces
 pub mod Emptiness
 pub mod InOrder

@@ -1,9 +1,11 @@
 //! Laws of the definitions, each the contract of a function that does nothing.
-ghost use Rattle.pj_check.specs.Laws.{OneRefusal, OneRun, ReportIsInOrder, RunIsNotRefused};
+ghost use Rattle.pj_check.specs.Laws.{OneRefusal, OneRun, ReportIsInOrder, RunIsNotRefused, RunOrRefusal, SomeReport};
 
-use pj_rules::{one_first_fault, one_set, rules_or_fault};
+use pj_rules::{one_first_fault, one_set, rules_are_sound, rules_or_fault};
 use pj_sources::{one_listing, one_reading};
-use pj_workers::{cold_reports_are_in_order, one_cold_report, rules_are_their_texts};
+use pj_workers::{
+    cold_reports_are_in_order, one_cold_report, rules_are_their_texts, some_cold_report,
+};
 
 /// Words and files that have a run are not refused.
 pub fn runs_are_not_refused()
@@ -43,4 +45,21 @@ pub fn reports_are_in_order()
     ensures { ReportIsInOrder }
 {
     cold_reports_are_in_order();
+}
+
+/// The rules that rulesets come to have a cold report of every list of sources.
+pub fn rules_have_reports()
+    ensures { SomeReport }
+{
+    rules_are_sound();
+    some_cold_report();
+}
+
+/// Words and files have a run or a cause of refusal, where the rulesets that the words ask for come to rules or have a first fault.
+pub fn run_or_refusal_of_rulesets()
+    ensures { RunOrRefusal }
+{
+    one_listing();
+    one_reading();
+    rules_have_reports();
 }

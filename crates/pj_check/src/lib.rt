@@ -20,7 +20,10 @@ mod steps;
 mod verdict;
 
 pub use check::check_alone;
-pub use laws::{one_refusal, one_run, reports_are_in_order, runs_are_not_refused};
+pub use laws::{
+    one_refusal, one_run, reports_are_in_order, rules_have_reports, run_or_refusal_of_rulesets,
+    runs_are_not_refused,
+};
 pub use limit::LimitKind;
 pub use note::put_outcome;
 pub use note_kind::Note;

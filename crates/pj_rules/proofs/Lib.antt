@@ -18,3 +18,6 @@ mod Loads
 mod Apart
 mod OneUnreadable
 mod OneFault
+mod MarkupRead
+mod FilesRead
+mod SoundRules

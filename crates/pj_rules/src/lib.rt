@@ -18,6 +18,6 @@ mod taking;
 mod top;
 
 pub use fault::{RuleFault, RuleRefused, RuleWhat};
-pub use laws::{one_first_fault, one_set, rules_or_fault};
+pub use laws::{files_are_read, one_first_fault, one_set, rules_are_sound, rules_or_fault};
 pub use loading::load;
 pub use pj_rule_sets::{Rule, RuleSet, Rules, is_active, regex_covers};

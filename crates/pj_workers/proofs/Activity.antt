@@ -1,6 +1,7 @@
 -- What a rule means in a file where it is active, and where it is not.
-use Rattle.std.proofs.Common.{◌≡◌, ◌∙◌, Bool, true, false, cond, [], Ok, Result, ap, subst, sym}
+use Rattle.std.proofs.Common.{◌≡◌, ◌<◌, ◌∙◌, ℕ, zero, suc, Bool, true, false, List, [], ◌∷◌, Ok, Result, ap, arith, get_or, length, map, subst, sym}
 use Rattle.pj_names.specs.Asking.{Asking}
+use Rattle.pj_names.specs.ClassName.{Name}
 use Rattle.pj_names.specs.Told.{Asks, Told}
 use Rattle.pj_names.specs.declared.oracle.AskFault.{AskFault}
 use Rattle.pj_names.proofs.AskingLaws.{asks-return}
@@ -9,20 +10,38 @@ use Rattle.pj_reports.specs.declared.ruled.Ruled.{Ruled}
 use Rattle.pj_reports.specs.declared.ruled.Ruled.TheVariants.{Spots}
 use Rattle.pj_rule_sets.specs.Active.{are_active}
 use Rattle.pj_rule_sets.specs.Rules.{EffectiveRule}
-use Rattle.pj_workers.specs.FileMeaning.{Bytes, nothing, rule_at}
+use Rattle.pj_workers.specs.FileMeaning.{Bytes, rule_at}
 use Rattle.pj_workers.specs.NoFunctions.{always_false, no_functions}
+use Rattle.pj_workers.specs.Results.{RestsOn}
 use Rattle.pj_workers.specs.RuleMeaning.{rule_in_file}
 use Rattle.pj_workers.specs.Rules.{IsRuleOf, Rule, is_active}
+use Rattle.pj_workers.specs.Views.{if_active}
 
-module _ (marker path : Bytes) (file : JavaFile) (effective : EffectiveRule) (rule : Rule) (is : IsRuleOf marker effective rule) where
-  activity : (b : Bool) → are_active effective.exclude effective.include path ≡ b → is_active rule.source path ≡ b
-  activity b h = ap (λ s. is_active s path) is.source ∙ h
+module _ (file : JavaFile) (rule : Rule) where
+  pub active_asks : {K : Type 0} {t u : Told K} {r : Result Ruled AskFault} (b : Bool) → b ≡ true → Asks (rule_in_file always_false file rule) t u r → Asks (if_active b file rule) t u r
+  active_asks {t = t} {u = u} {r = r} b is asks = subst (λ a. Asks (if_active a file rule) t u r) (sym is) asks
 
-  pub active_means : are_active effective.exclude effective.include path ≡ true → rule_at no_functions path (Ok file) rule ≡ rule_in_file always_false file rule
-  active_means h = ap (λ b. cond b (rule_in_file always_false file rule) nothing) (activity true h)
+  pub inactive_asks : {K : Type 0} {t : Told K} {r : Result Ruled AskFault} (b : Bool) → b ≡ false → r ≡ Ok (Spots []) → Asks (if_active b file rule) t t r
+  inactive_asks {t = t} {r = r} b is nothing = subst (λ a. Asks (if_active a file rule) t t r) (sym is) (asks-return nothing)
 
-  pub inactive_means : are_active effective.exclude effective.include path ≡ false → rule_at no_functions path (Ok file) rule ≡ nothing
-  inactive_means h = ap (λ b. cond b (rule_in_file always_false file rule) nothing) (activity false h)
+-- Where it is known of a path whether the rule is active, it means what it means at a file of this path.
+module _ (marker path : Bytes) (file : JavaFile) (effective : EffectiveRule) (rule : Rule) (b : Bool) (is : IsRuleOf marker effective rule) (known : b ≡ are_active effective.exclude effective.include path) where
+  activity_known : if_active b file rule ≡ rule_at no_functions path (Ok file) rule
+  activity_known = ap (λ a. if_active a file rule) (known ∙ sym (ap (λ s. is_active s path) is.source))
 
-  pub inactive_asks : {K : Type 0} {t : Told K} {r : Result Ruled AskFault} → are_active effective.exclude effective.include path ≡ false → r ≡ Ok (Spots []) → Asks (rule_at no_functions path (Ok file) rule) t t r
-  inactive_asks {t = t} {r = r} h is_nothing = subst (λ (m : Asking Ruled). Asks m t t r) (sym (inactive_means h)) (asks-return is_nothing)
+  pub known_asks : {K : Type 0} {t u : Told K} {r : Result Ruled AskFault} → Asks (if_active b file rule) t u r → Asks (rule_at no_functions path (Ok file) rule) t u r
+  known_asks {t = t} {u = u} {r = r} asks = subst (λ (m : Asking Ruled). Asks m t u r) activity_known asks
+
+  pub known_rests : {K : Type 0} {t : Told K} {v : Ruled} {names : List Name} → RestsOn t (if_active b file rule) v names → RestsOn t (rule_at no_functions path (Ok file) rule) v names
+  known_rests {t = t} {v = v} {names = names} rests = subst (λ (m : Asking Ruled). RestsOn t m v names) activity_known rests
+
+-- the member of a list that stands where another one does
+pub mapped_at : {X Y : Type 0} (f : X → Y) (xs : List X) (i : ℕ) (x : X) (d : Y) → i < length xs → x ≡ get_or xs i x → get_or (map f xs) i d ≡ f x
+mapped_at f [] i x d below is = absurd (omega (arith, below))
+mapped_at f (y ∷ xs) zero x d below is = ap f (sym is)
+mapped_at f (y ∷ xs) (suc i) x d below is = mapped_at f xs i x d (omega (arith, below)) is
+
+-- whether a rule is active for a path, of those of which this is known
+pub active_at : (path : Bytes) (rules : List EffectiveRule) (active : List Bool) (i : ℕ) (rule : EffectiveRule) (d : Bool) → active ≡ map (λ (r : EffectiveRule). are_active r.exclude r.include path) rules
+    → i < length rules → rule ≡ get_or rules i rule → get_or active i d ≡ are_active rule.exclude rule.include path
+active_at path rules active i rule d each below is = ap (λ l. get_or l i d) each ∙ mapped_at (λ (r : EffectiveRule). are_active r.exclude r.include path) rules i rule d below is

@@ -1,7 +1,12 @@
 pub mod FileLaws
 pub mod RuleLaws
 pub mod ColdLaws
+pub mod Plain
+pub mod SomeCold
 pub mod OrderLaws
+pub mod CodeLaws
+pub mod ReasonLaws
+pub mod EndLaws
 pub mod MarkLaws
 pub mod TextLaws
 -- the analysis of a file

@@ -1,15 +1,15 @@
 -- The rows of a file are those of its rules, in order.
-use Rattle.std.proofs.Common.{◌≡◌, ◌<◌, ◌==◌, ◌∙◌, ℕ, zero, suc, List, [], ◌∷◌, Some, Result, Ok, Err, ap, arith, inl, length, map, refl, subst, sym}
+use Rattle.std.proofs.Common.{◌≡◌, ◌<◌, ◌==◌, ◌∙◌, ◌++◌, ℕ, zero, suc, List, [], ◌∷◌, Some, Result, Ok, Err, ap, append-nil, arith, flat_map, inl, length, map, refl, subst, sym}
 use Rattle.std.specs.Prelude.{◌||◌, slice_get}
 use Rattle.std.specs.List.{AllByRecursion, AllZip, list_any}
 use Rattle.std.specs.List.Sorted.{IsStrictlySortedBy}
 use Rattle.pj_findings.specs.Denoted.{denoted}
 use Rattle.pj_findings.specs.Laws.{ErrorsAreKept, ErrorsAscend, FindingsAreKept, FindingsAreOfRules, FindingsAscend, IsAscending, NodesAreItems, NodesAscend, NoneHasBoth}
 use Rattle.pj_findings.specs.Merged.{by_node, findings_from, merge, only_error}
-use Rattle.pj_names.specs.Asking.{Asking, Return, bind, each, value_of}
+use Rattle.pj_names.specs.Asking.{Asking, Return, bind, each, names_of, value_of}
 use Rattle.pj_names.specs.ClassName.{NameSet}
 use Rattle.pj_names.specs.Meaning.{Done, Gives, Means, outcome_of as outcome_in, whole}
-use Rattle.pj_names.proofs.MeaningLaws.{over-whole, value_of-bind}
+use Rattle.pj_names.proofs.MeaningLaws.{names_of-bind, over-whole, value_of-bind}
 use Rattle.pj_outside.specs.Files.{Files}
 use Rattle.pj_parse.specs.FileOutcome.{outcome_of}
 use Rattle.pj_parse.specs.JavaFile.{JavaFile}
@@ -27,7 +27,7 @@ use Rattle.pj_xvalue.specs.declared.fault.XCode.{XCode}
 use Rattle.pj_workers.specs.Cold.{AreRowsOf, World}
 use Rattle.pj_workers.specs.Faults.{fault_message}
 use Rattle.pj_workers.specs.FileMeaning.{Bytes, Replies, file_at, file_meaning, head_of, rule_at, rule_meaning}
-use Rattle.pj_workers.specs.Laws.{AreInOrder, AreOfRule, ColdIsInOrder, FilesAreInOrder, FilesAreTheirRules, FindingsHaveRules, FoundAreDenoted}
+use Rattle.pj_workers.specs.Laws.{AreInOrder, AreOfRule, ColdIsInOrder, FilesAreInOrder, FilesAreTheirRules, FindingsHaveRules, FoundAreDenoted, NamesAreTheirRules}
 use Rattle.pj_workers.specs.RuleMeaning.{Reply, found_at, items, result_of}
 use Rattle.pj_workers.specs.Rules.{Rule}
 use Rattle.pj_workers.proofs.RuleLaws.{AreAt, at_nodes, at_outcome, result_value, then_value}
@@ -41,6 +41,12 @@ module _ (d : ℕ) (w : World) where
       value_of-bind d w (f x) (λ value. bind (each f xs) (λ values. Return (value ∷ values)))
       ∙ value_of-bind d w (each f xs) (λ values. Return (value_of d w (f x) ∷ values))
       ∙ ap (λ l. value_of d w (f x) ∷ l) (values_each f xs)
+
+  names_each : {A B : Type 0} (f : A → Asking B) (xs : List A) → names_of d w (each f xs) ≡ flat_map (λ x. names_of d w (f x)) xs
+  names_each f [] = refl
+  names_each f (x ∷ xs) =
+      names_of-bind d w (f x) (λ value. bind (each f xs) (λ values. Return (value ∷ values)))
+      ∙ ap (λ l. names_of d w (f x) ++ l) (names_of-bind d w (each f xs) (λ values. Return (value_of d w (f x) ∷ values)) ∙ append-nil (names_of d w (each f xs)) ∙ names_each f xs)
 
   -- what they came to
   abbrev came : Replies → Bytes → Result JavaFile FileFault → List Rule → List Ruled
@@ -63,6 +69,13 @@ module _ (d : ℕ) (w : World) where
 came_long : (d : ℕ) (w : World) (replies : Replies) (path : Bytes) (o : Result JavaFile FileFault) (rules : List Rule) → length (came d w replies path o rules) ≡ length rules
 came_long d w replies path o [] = refl
 came_long d w replies path o (rule ∷ rules) = ap suc (came_long d w replies path o rules)
+
+-- ---- names
+
+pub names_own : NamesAreTheirRules
+names_own replies w d path bytes rules =
+    let meaning = rule_at replies path (outcome_of bytes) in
+    names_of-bind d w (each meaning rules) (λ results. Return (merge (head_of (outcome_of bytes)) results)) ∙ append-nil (names_of d w (each meaning rules)) ∙ names_each d w meaning rules
 
 -- ---- order
 

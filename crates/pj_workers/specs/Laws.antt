@@ -1,5 +1,5 @@
 -- What follows from the definitions.
-use Rattle.std.specs.Prelude.{◌≡◌, ◌⊎◌, ◌<◌, ◌==◌, ℕ, false, List, [], filter, length, map, slice_get, Ok, Err, Some}
+use Rattle.std.specs.Prelude.{◌≡◌, ◌⊎◌, ◌↔◌, ◌<◌, ◌==◌, ◌&&◌, ℕ, Bool, true, false, List, [], ◌∷◌, filter, flat_map, length, map, slice_get, Ok, Err, None, Some}
 use Rattle.std.specs.List.{AllByRecursion, AllZip, list_any}
 use Rattle.std.specs.List.Sorted.{IsStrictlySortedBy}
 use Rattle.std.specs.Str.{IsUtf8}
@@ -10,8 +10,9 @@ use Rattle.pj_suppress.specs.Words.{Text}
 use Rattle.pj_findings.specs.Laws.{IsAscending, error_order, finding_order, is_of}
 use Rattle.pj_findings.specs.Merged.{error_by, finding_of, found_by, only_error}
 use Rattle.pj_findings.specs.Extents.{extent_of}
+use Rattle.pj_findings.specs.Messages.{rule_message}
 use Rattle.pj_reports.specs.declared.ruled.Spot.{Spot}
-use Rattle.pj_names.specs.Asking.{Return, value_of}
+use Rattle.pj_names.specs.Asking.{Return, names_of, value_of}
 use Rattle.pj_outside.specs.Files.{Files}
 use Rattle.pj_parse.specs.FileOutcome.{outcome_of}
 use Rattle.pj_parse.specs.JavaFile.{JavaFile}
@@ -20,17 +21,20 @@ use Rattle.pj_reports.specs.declared.report.Report.{Report}
 use Rattle.pj_reports.specs.declared.rows.FileRows.{FileRows}
 use Rattle.pj_reports.specs.declared.rows.Finding.{Finding}
 use Rattle.pj_reports.specs.declared.ruled.Ruled.{Ruled}
-use Rattle.pj_reports.specs.declared.ruled.Ruled.TheVariants.{Spots}
+use Rattle.pj_reports.specs.declared.ruled.Ruled.TheVariants.{Spots, Message}
 use Rattle.pj_tree.specs.declared.node.Node.{Node}
 use Rattle.pj_xaxes.specs.Order.{has_item}
+use Rattle.pj_workers.specs.Plain.{RepliesPlain}
 use Rattle.pj_xvalue.specs.Items.{ItemValue, Element}
+use Rattle.pj_xvalue.specs.declared.fault.XCode.{XCode}
 use Rattle.pj_names.specs.declared.rule_row.ConfigError.{ConfigError}
 use Rattle.pj_workers.specs.Cold.{IsCold, World}
 use Rattle.pj_workers.specs.Faults.{fault_message}
 use Rattle.pj_workers.specs.FileFacts.{place_of}
 use Rattle.pj_workers.specs.FileMeaning.{Bytes, Replies, file_meaning, nothing, rule_meaning}
 use Rattle.pj_workers.specs.Marked.{is_marked}
-use Rattle.pj_workers.specs.RuleMeaning.{Reply, items, rule_in_file}
+use Rattle.pj_workers.specs.RuleFacts.{IsFirstCode, IsUncovered, items_in, reason_in}
+use Rattle.pj_workers.specs.RuleMeaning.{Reply, rule_in_file}
 use Rattle.pj_workers.specs.Rules.{IsSpelled, Rule, is_active}
 
 -- A rule that is not active for a path means nothing there, and asks nothing.
@@ -50,6 +54,11 @@ RuleAscends = (replies : Replies) (world : World) (depth : ℕ) (path bytes : By
 abbrev pub OneCold : Type 0
 OneCold = (replies : Replies) (world : World) (files : Files) (rules : List Rule) (unusable : List ConfigError) (r s : Report)
     → IsCold replies world files rules unusable r → IsCold replies world files rules unusable s → r ≡ s
+
+-- Where the functions of PMD reply without asking for a class, rules have a cold report of files, and it is the same over every world.
+abbrev pub SomeCold : Type 0
+SomeCold = (replies : Replies) → ((path : Bytes) (file : JavaFile) → RepliesPlain (replies path file)) → (files : Files) (rules : List Rule) (unusable : List ConfigError)
+    → (report : Report) × ((world : World) → IsCold replies world files rules unusable report)
 
 -- A finding stands where its node does.
 abbrev pub StandsAtNode : JavaFile → Spot → Type 0
@@ -86,10 +95,61 @@ abbrev pub FindingsHaveRules : Type 0
 FindingsHaveRules = (replies : Replies) (world : World) (depth : ℕ) (path bytes : Bytes) (rules : List Rule)
     → AllByRecursion (λ (finding : Finding). finding.rule < length rules) (value_of depth world (file_meaning replies path bytes rules)).findings
 
+-- The names that it asks are those that its rules ask, one rule after the other.
+abbrev pub NamesAreTheirRules : Type 0
+NamesAreTheirRules = (replies : Replies) (world : World) (depth : ℕ) (path bytes : Bytes) (rules : List Rule)
+    → names_of depth world (file_meaning replies path bytes rules) ≡ flat_map (λ rule. names_of depth world (rule_meaning replies path bytes rule)) rules
+
+-- ---- what a rule comes to in a file
+
 -- The nodes that a rule finds in a file are the elements that its query denotes there.
 abbrev pub FoundAreDenoted : Type 0
 FoundAreDenoted = (reply : Reply) (world : World) (depth : ℕ) (file : JavaFile) (rule : Rule) (spots : List Spot) → value_of depth world (rule_in_file reply file rule) ≡ Spots spots
-    → (values : List ItemValue) × (value_of depth world (items reply file rule) ≡ Ok values) × ((n : Node) → list_any (λ (spot : Spot). spot.node == n.0) spots ≡ has_item values (Element n))
+    → (values : List ItemValue) × (items_in depth world reply file rule ≡ Ok values) × ((n : Node) → list_any (λ (spot : Spot). spot.node == n.0) spots ≡ has_item values (Element n))
+
+-- It comes to a message exactly where its query, the items of that, or the reason at one of its nodes is a code, and the message
+-- tells the first of these.
+abbrev pub MessagesTellCodes : Type 0
+MessagesTellCodes = (reply : Reply) (world : World) (depth : ℕ) (file : JavaFile) (rule : Rule) (message : Bytes)
+    → (value_of depth world (rule_in_file reply file rule) ≡ Message message) ↔ ((code : XCode) × IsFirstCode depth world reply file rule code × (message ≡ rule_message rule.source.texts.row.name code))
+
+-- The reason of a finding is the first that covers it at its node, and none exactly where nothing does.
+pub record HasItsReason (depth : ℕ) (world : World) (reply : Reply) (file : JavaFile) (rule : Rule) (spot : Spot) : Type 0 where
+  pub first : reason_in depth world reply file rule (record { 0 = spot.node }) ≡ Ok spot.reason
+  pub none : (spot.reason ≡ None) ↔ IsUncovered depth world reply file rule (record { 0 = spot.node })
+
+-- So it is for all that a rule finds in a file.
+abbrev pub SpotsHaveReasons : Type 0
+SpotsHaveReasons = (reply : Reply) (world : World) (depth : ℕ) (file : JavaFile) (rule : Rule) (spots : List Spot) → value_of depth world (rule_in_file reply file rule) ≡ Spots spots
+    → AllByRecursion (HasItsReason depth world reply file rule) spots
+
+-- ---- from end to end
+
+-- the bytes of a file have this tree, and the rule of this number is active for its path
+pub record IsAnalysed (path bytes : Bytes) (rules : List Rule) (number : ℕ) (file : JavaFile) (rule : Rule) : Type 0 where
+  pub tree : outcome_of bytes ≡ Ok file
+  pub numbered : slice_get rules number ≡ Some rule
+  pub active : is_active rule.source path ≡ true
+
+-- whether a finding is of the rule of a number, and at a node
+abbrev pub is_finding : ℕ → Node → Finding → Bool
+is_finding number n finding = (finding.rule == number) && (finding.node == n.0)
+
+-- Where the rows of a file have no error of the rule of a number, they have a finding of it at a node exactly where its query
+-- denotes the node.
+abbrev pub FindingsAreDenoted : Type 0
+FindingsAreDenoted = (replies : Replies) (world : World) (depth : ℕ) (path bytes : Bytes) (rules : List Rule) (number : ℕ) (file : JavaFile) (rule : Rule) → IsAnalysed path bytes rules number file rule
+    → filter (is_of number) (value_of depth world (file_meaning replies path bytes rules)).errors ≡ []
+    → (values : List ItemValue) × (items_in depth world (replies path file) file rule ≡ Ok values)
+    × ((n : Node) → list_any (is_finding number n) (value_of depth world (file_meaning replies path bytes rules)).findings ≡ has_item values (Element n))
+
+-- They have an error of it with a message exactly where a code of it is the first, and this is the code's message.
+abbrev pub ErrorsTellCodes : Type 0
+ErrorsTellCodes = (replies : Replies) (world : World) (depth : ℕ) (path bytes : Bytes) (rules : List Rule) (number : ℕ) (file : JavaFile) (rule : Rule) (message : Bytes) → IsAnalysed path bytes rules number file rule
+    → (filter (is_of number) (value_of depth world (file_meaning replies path bytes rules)).errors ≡ record { rule = Some number; message = message } ∷ [])
+    ↔ ((code : XCode) × IsFirstCode depth world (replies path file) file rule code × (message ≡ rule_message rule.source.texts.row.name code))
+
+-- ---- cold reports
 
 -- A cold report has the files in their order, and the rows of each stand in order.
 abbrev pub ColdIsInOrder : Type 0

@@ -9,6 +9,8 @@ pub mod FileMeaning
 pub mod NoFunctions
 pub mod Results
 pub mod Cold
+pub mod RuleFacts
+pub mod Plain
 -- laws
 pub mod Laws
 -- for private clauses

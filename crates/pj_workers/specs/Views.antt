@@ -1,10 +1,11 @@
 -- What the program has of a file that has a tree, and of a rule in it. This serves private clauses.
-use Rattle.std.specs.Prelude.{◌≡◌, ◌==◌, ℕ, List, [], Some, Result, flat_map}
+use Rattle.std.specs.Prelude.{◌≡◌, ◌==◌, ℕ, Bool, List, [], Some, Result, flat_map, if◌then◌else◌}
 use Rattle.std.specs.List.{AllZip, list_any}
 use Rattle.std.specs.List.Sorted.{IsNonDecreasing}
 use Rattle.std.specs.Option.{option_map}
 use Rattle.pj_findings.specs.Merged.{merge}
 use Rattle.pj_findings.specs.declared.run.RuleRun.{RuleRun}
+use Rattle.pj_names.specs.Asking.{Asking}
 use Rattle.pj_names.specs.ClassName.{Name}
 use Rattle.pj_names.specs.Told.{Asks, Told, seen}
 use Rattle.pj_names.specs.declared.oracle.AskFault.{AskFault}
@@ -14,6 +15,7 @@ use Rattle.pj_parse.specs.declared.file_fault.FileRefused.{FileRefused}
 use Rattle.pj_parse.specs.declared.file_fault.FileRefused.TheVariants.{Fault, Memory}
 use Rattle.pj_reports.specs.declared.rows.FileRows.{FileRows}
 use Rattle.pj_reports.specs.declared.ruled.Head.TheVariants.{Message}
+use Rattle.pj_reports.specs.declared.ruled.Ruled.{Ruled}
 use Rattle.pj_reports.specs.declared.ruled.Spot.{Spot}
 use Rattle.pj_rule_sets.specs.Expressions.{HasPatterns, variables_of}
 use Rattle.pj_rule_sets.specs.declared.expressions.RuleExpressions.{RuleExpressions}
@@ -22,11 +24,11 @@ use Rattle.pj_rule_sets.specs.Rules.{EffectiveRule, EffectiveRules, texts_of}
 use Rattle.pj_tree.specs.declared.node.Node.{Node}
 use Rattle.pj_xsteps.specs.Means.{Means, give, ◌>>=◌}
 use Rattle.pj_workers.specs.Faults.{fault_message}
-use Rattle.pj_workers.specs.FileMeaning.{Bytes, file_at, head_of, rule_at}
+use Rattle.pj_workers.specs.FileMeaning.{Bytes, file_at, head_of, nothing, rule_at}
 use Rattle.pj_workers.specs.Marked.{is_marked}
-use Rattle.pj_workers.specs.NoFunctions.{no_functions}
+use Rattle.pj_workers.specs.NoFunctions.{always_false, no_functions}
 use Rattle.pj_workers.specs.Results.{RestsOn, came_to, rules_in}
-use Rattle.pj_workers.specs.RuleMeaning.{Reply, extent_at, found_of, reason_at}
+use Rattle.pj_workers.specs.RuleMeaning.{Reply, extent_at, found_of, reason_at, rule_in_file}
 use Rattle.pj_workers.specs.Rules.{AreRulesOf, Rule, source_of}
 use Rattle.pj_workers.specs.declared.result.FileRuns.{FileRuns}
 use Rattle.pj_workers.specs.declared.view.FileView.{FileView}
@@ -58,6 +60,10 @@ rule_seen view = with_expressions view.file.now.marker.now view.rule.now view.ke
 pub record HasItsPatterns (effective : EffectiveRule) (kept : RuleExpressions) : Type 0 where
   pub query : HasPatterns (variables_of (texts_of effective)) kept.query
   pub suppression : (spelled : Spelled) → kept.suppression ≡ Some spelled → HasPatterns (variables_of (texts_of effective)) spelled
+
+-- what a rule means in a file for whose path it is active, or is not
+abbrev pub if_active : Bool → JavaFile → Rule → Asking Ruled
+if_active active file rule = if active then rule_in_file always_false file rule else nothing
 
 -- what a rule finds at one node
 abbrev pub found_there : Reply → JavaFile → Rule → Node → Means Spot

@@ -14,7 +14,7 @@ use crate::file::bytes_runs;
 use crate::names::result_of;
 use crate::result::{FileResult, PathResults};
 use crate::work::Work;
-use pj_base::{Bytes, Copied, Text};
+use pj_base::{Bytes, Copied, Names, NoMemory, Text};
 use pj_grammar::java_17;
 use pj_names::{AskFault, Oracle};
 use pj_peg::WellFormed;
@@ -29,22 +29,15 @@ fn analyse_by<O: Oracle>(
     path: &Text,
     bytes: &Bytes,
     rules: &RuleSet,
-    work: &mut Work,
 ) -> Result<FileResult, AskFault>
     requires grammar { forms_of grammar.now ≡ java_17_forms }
     ensures asks { (meant : List MeantRule) → AreRulesOf rules.now meant
         → Asks (file_meaning no_functions path.now bytes.now meant) (O.tells oracle.old) (O.tells oracle.new) (seen (λ found. found.rows) result) }
     ensures found { IfOk result (λ found. (meant : List MeantRule) → AreRulesOf rules.now meant → IsResultOf (O.tells oracle.old) no_functions path.now bytes.now meant found) }
     ensures names { IfOk result (λ found. found.names ≡ []) }
-    ensures analysed { OnOk result (work.new.analysed ≡ work.old.analysed ++ path.now ∷ []) }
-    ensures reused { work.new.reused ≡ work.old.reused }
-    ensures skipped { work.new.skipped ≡ work.old.skipped }
-    ensures err { OnErr result (work.new ≡ work.old) }
 {
     let runs = bytes_runs(alloc, grammar, path, bytes, rules, oracle)?;
-    let found = result_of(alloc, runs)?;
-    work.analysed.push(path.copied()?)?;
-    Ok(found)
+    Ok(result_of(alloc, runs)?)
 }
 
 /// What the rules of a set find in a file of this path and these bytes. The path is put behind those that were analysed. Memory is wanted
@@ -71,7 +64,9 @@ pub fn analyse_file<O: Oracle>(
     ensures err { OnErr result (work.new ≡ work.old) }
 {
     let grammar = java_17(alloc)?;
-    analyse_by(alloc, &grammar, oracle, path, bytes, rules, work)
+    let found = analyse_by(alloc, &grammar, oracle, path, bytes, rules)?;
+    work.analysed.push(path.copied()?)?;
+    Ok(found)
 }
 
 /// The same of a file, with its path.
@@ -81,24 +76,52 @@ fn analyse_next<O: Oracle>(
     oracle: &mut O,
     file: &(Text, Bytes),
     rules: &RuleSet,
-    work: &mut Work,
 ) -> Result<(Text, FileResult), AskFault>
     requires grammar { forms_of grammar.now ≡ java_17_forms }
     ensures asks { (meant : List MeantRule) → AreRulesOf rules.now meant
         → Asks (file_meaning no_functions file.now.0 file.now.1 meant) (O.tells oracle.old) (O.tells oracle.new) (seen (λ found. found.1.rows) result) }
     ensures found { IfOk result (λ found. (meant : List MeantRule) → AreRulesOf rules.now meant → IsResultAt (O.tells oracle.old) no_functions meant file.now found) }
     ensures names { IfOk result (λ found. found.1.names ≡ []) }
-    ensures analysed { OnOk result (work.new.analysed ≡ work.old.analysed ++ file.now.0 ∷ []) }
-    ensures reused { work.new.reused ≡ work.old.reused }
-    ensures skipped { work.new.skipped ≡ work.old.skipped }
 {
-    let found = analyse_by(alloc, grammar, oracle, &file.0, &file.1, rules, work)?;
+    let found = analyse_by(alloc, grammar, oracle, &file.0, &file.1, rules)?;
     let path = file.0.copied()?;
     Ok((path, found))
 }
 
+/// The same of files, one after the other, in their order: one tree is held at a time.
+fn analyse_each<O: Oracle>(
+    alloc: Global,
+    oracle: &mut O,
+    files: &[(Text, Bytes)],
+    rules: &RuleSet,
+) -> Result<PathResults, AskFault>
+    ensures asks { (meant : List MeantRule) → AreRulesOf rules.now meant
+        → Asks (each (λ file. file_meaning no_functions file.0 file.1 meant) files.now) (O.tells oracle.old) (O.tells oracle.new) (seen (λ found. map (λ of_file. of_file.1.rows) found) result) }
+    ensures found { IfOk result (λ found. (meant : List MeantRule) → AreRulesOf rules.now meant → AllZip (IsResultAt (O.tells oracle.old) no_functions meant) files.now found) }
+    ensures names { IfOk result (λ found. AllByRecursion (λ of_file. of_file.1.names ≡ []) found) }
+{
+    let grammar = java_17(alloc)?;
+    let mut found = PathResults::new(alloc);
+    for file in files {
+        let of_file = analyse_next(alloc, &grammar, oracle, file, rules)?;
+        found.push(of_file)?;
+    }
+    Ok(found)
+}
+
+/// The paths of files, in their order.
+fn paths_of(alloc: Global, files: &[(Text, Bytes)]) -> Result<Names, NoMemory>
+    ensures { IfOk result (λ paths. paths ≡ map (λ file. file.0) files.now) }
+{
+    let mut paths = Names::new(alloc);
+    for file in files {
+        paths.push(file.0.copied()?)?;
+    }
+    Ok(paths)
+}
+
 /// What the rules of a set find in files, one after the other, in their order: one tree is held at a time. Their paths are put behind
-/// those that were analysed; after a refusal, those of the files before it are there.
+/// those that were analysed. After a refusal `work` is as it was.
 pub fn analyse_files<O: Oracle>(
     alloc: Global,
     oracle: &mut O,
@@ -113,12 +136,10 @@ pub fn analyse_files<O: Oracle>(
     ensures analysed { OnOk result (work.new.analysed ≡ work.old.analysed ++ map (λ file. file.0) files.now) }
     ensures reused { work.new.reused ≡ work.old.reused }
     ensures skipped { work.new.skipped ≡ work.old.skipped }
+    ensures err { OnErr result (work.new ≡ work.old) }
 {
-    let grammar = java_17(alloc)?;
-    let mut found = PathResults::new(alloc);
-    for file in files {
-        let of_file = analyse_next(alloc, &grammar, oracle, file, rules, work)?;
-        found.push(of_file)?;
-    }
+    let found = analyse_each(alloc, oracle, files, rules)?;
+    let paths = paths_of(alloc, files)?;
+    work.analysed.append(paths)?;
     Ok(found)
 }

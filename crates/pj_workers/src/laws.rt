@@ -1,7 +1,7 @@
 //! Laws of the definitions, each the contract of a call that does nothing.
 ghost use Rattle.std.specs.Prelude.{List};
 ghost use Rattle.pj_workers.specs.Rules.{AreRulesOf, Rule};
-ghost use Rattle.pj_workers.specs.Laws.{ColdIsInOrder, FilesAreInOrder, FilesAreTheirRules, FindingsHaveRules, FoundAreDenoted, InactiveIsNothing, ListsAreTexts, MarksAreOne, NoTreeIsOneError, OneCold, RuleAscends, RulesAreTexts, SpotsAreNodes};
+ghost use Rattle.pj_workers.specs.Laws.{ColdIsInOrder, ErrorsTellCodes, FilesAreInOrder, FilesAreTheirRules, FindingsAreDenoted, FindingsHaveRules, FoundAreDenoted, InactiveIsNothing, ListsAreTexts, MarksAreOne, MessagesTellCodes, NamesAreTheirRules, NoTreeIsOneError, OneCold, RuleAscends, RulesAreTexts, SomeCold, SpotsAreNodes, SpotsHaveReasons};
 
 use pj_findings::{errors_are_the_rules, findings_are_the_rules, nodes_are_the_items};
 use pj_rule_sets::RuleSet;
@@ -29,22 +29,37 @@ pub fn rules_find_nodes()
 
 /// What rules mean at a file has the findings by node and then by rule, none twice, and the errors by rule. Of each rule it has just what
 /// this rule alone means there, findings or an error, and of no others anything. So what is kept of single rules is merged again to the
-/// file's meaning.
+/// file's meaning. The names that it asks are those that its rules ask, together.
 pub fn files_are_their_rules()
     ensures in_order { FilesAreInOrder }
     ensures of_rules { FilesAreTheirRules }
     ensures have_rules { FindingsHaveRules }
+    ensures names { NamesAreTheirRules }
 {
     nodes_are_the_items();
     findings_are_the_rules();
     errors_are_the_rules();
 }
 
-/// The nodes that a rule finds in a file are the elements that its query denotes there.
+/// The nodes that a rule finds in a file are the elements that its query denotes there, each with the first reason that covers the finding,
+/// and without one exactly where nothing covers it. The rule comes to a message exactly where its query, an item of it or a reason gives a code,
+/// and the message tells the first.
 pub fn rules_find_what_they_denote()
-    ensures { FoundAreDenoted }
+    ensures nodes { FoundAreDenoted }
+    ensures codes { MessagesTellCodes }
+    ensures reasons { SpotsHaveReasons }
 {
     nodes_are_the_items();
+}
+
+/// From the bytes of a file to its rows: where they have a tree and a rule is active for the path, the rows have an error of the rule exactly where
+/// it has a code there, and else a finding of it at just the nodes that its query denotes.
+pub fn findings_are_denoted()
+    ensures findings { FindingsAreDenoted }
+    ensures errors { ErrorsTellCodes }
+{
+    files_are_their_rules();
+    rules_find_what_they_denote();
 }
 
 /// A cold report has the files in their order, and the rows of each in order.
@@ -57,6 +72,11 @@ pub fn cold_reports_are_in_order()
 /// Rules have one cold report of files at most.
 pub fn one_cold_report()
     ensures { OneCold }
+{}
+
+/// Rules have a cold report of files where the functions of PMD ask for no class, and it is the same over every world.
+pub fn some_cold_report()
+    ensures { SomeCold }
 {}
 
 /// What rules mean is determined by their texts, the path patterns of their rulesets and the marker: so rules with one key mean

@@ -19,8 +19,9 @@ pub use analyse::{analyse_file, analyse_files};
 pub use fault::fault_message;
 pub use laws::{
     cold_reports_are_in_order, files_are_their_rules, files_without_tree_have_one_error,
-    inactive_rules_mean_nothing, marked_lines_are_those_of_tokens, one_cold_report,
-    rules_are_their_texts, rules_find_nodes, rules_find_what_they_denote, sets_have_rules,
+    findings_are_denoted, inactive_rules_mean_nothing, marked_lines_are_those_of_tokens,
+    one_cold_report, rules_are_their_texts, rules_find_nodes, rules_find_what_they_denote,
+    sets_have_rules, some_cold_report,
 };
 pub use result::{FileResult, PathResults};
 pub use work::Work;

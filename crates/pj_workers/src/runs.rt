@@ -9,7 +9,7 @@ ghost use Rattle.pj_workers.specs.NoFunctions.{always_false, no_functions};
 ghost use Rattle.pj_workers.specs.Results.{RestsOn, came_to};
 ghost use Rattle.pj_workers.specs.RuleMeaning.{rule_in_file};
 ghost use Rattle.pj_workers.specs.Rules.{IsRuleOf, Rule as MeantRule};
-ghost use Rattle.pj_workers.specs.Views.{IsOfOneFile, file_seen};
+ghost use Rattle.pj_workers.specs.Views.{IsOfOneFile, file_seen, if_active};
 
 use crate::analysis::rule_result;
 use crate::no_functions::NoFunctions;
@@ -18,7 +18,7 @@ use pj_base::Text;
 use pj_findings::{RuleRun, RuleRuns};
 use pj_names::{AskFault, ClassNameSet, Oracle, Recorder};
 use pj_reports::{Ruled, Spots};
-use pj_rule_sets::Rule;
+use pj_rule_sets::{Rule, which_are_active};
 use pj_xlaws::trees_tell_expressions;
 use pj_xparse::one_expression;
 use pj_xpatterns::trees_tell_patterns;
@@ -42,18 +42,18 @@ fn active_result<'t, O: Oracle>(
     rule_result(file, rule, &mut calls)
 }
 
-/// What a rule comes to in a file of the path: nothing where it is not active.
-fn result_at<'t, O: Oracle>(
+/// What a rule comes to in a file: nothing where it is not active.
+fn result_if_active<'t, O: Oracle>(
     file: &'t FileView<'t>,
     rule: &'t Rule,
-    path: &Text,
+    is_active: bool,
     oracle: &mut O,
 ) -> Result<Ruled, AskFault>
     requires file { IsOfOneFile file.now }
-    ensures asks { (meant : MeantRule) → IsRuleOf file.now.marker.now rule.now meant → Asks (rule_at no_functions path.now (Ok (file_seen file.now)) meant) (O.tells oracle.old) (O.tells oracle.new) result }
+    ensures asks { (meant : MeantRule) → IsRuleOf file.now.marker.now rule.now meant → Asks (if_active is_active (file_seen file.now) meant) (O.tells oracle.old) (O.tells oracle.new) result }
     ensures idle { oracle.new ≡ oracle.old }
 {
-    if rule.is_active(file.alloc, path.as_str())? {
+    if is_active {
         return active_result(file, rule, oracle);
     }
     Ok(Ruled::Spots(Spots::new(file.alloc)))
@@ -63,14 +63,14 @@ fn result_at<'t, O: Oracle>(
 fn noted_result<'t, O: Oracle>(
     file: &'t FileView<'t>,
     rule: &'t Rule,
-    path: &Text,
+    is_active: bool,
     oracle: &mut O,
     noted: &mut ClassNameSet,
 ) -> Result<Ruled, AskFault>
     requires file { IsOfOneFile file.now }
-    ensures asks { (meant : MeantRule) → IsRuleOf file.now.marker.now rule.now meant → Asks (rule_at no_functions path.now (Ok (file_seen file.now)) meant) (O.tells oracle.old) (O.tells oracle.new) result }
+    ensures asks { (meant : MeantRule) → IsRuleOf file.now.marker.now rule.now meant → Asks (if_active is_active (file_seen file.now) meant) (O.tells oracle.old) (O.tells oracle.new) result }
     ensures notes { (meant : MeantRule) → IsRuleOf file.now.marker.now rule.now meant
-        → Notes (rule_at no_functions path.now (Ok (file_seen file.now)) meant) (O.tells oracle.old).is_told (O.tells oracle.old).world noted.old noted.new result }
+        → Notes (if_active is_active (file_seen file.now) meant) (O.tells oracle.old).is_told (O.tells oracle.old).world noted.old noted.new result }
     ensures idle { oracle.new ≡ oracle.old }
     ensures none_noted { noted.new ≡ noted.old }
 {
@@ -78,31 +78,31 @@ fn noted_result<'t, O: Oracle>(
         inner: &mut *oracle,
         noted: &mut *noted,
     };
-    result_at(file, rule, path, &mut recorder)
+    result_if_active(file, rule, is_active, &mut recorder)
 }
 
-/// What a rule comes to in a file of the path, with the names that it asks.
+/// What a rule comes to in a file, with the names that it asks.
 fn rule_run<'t, O: Oracle>(
     file: &'t FileView<'t>,
     rule: &'t Rule,
-    path: &Text,
+    is_active: bool,
     oracle: &mut O,
 ) -> Result<RuleRun, AskFault>
     requires file { IsOfOneFile file.now }
     ensures asks { (meant : MeantRule) → IsRuleOf file.now.marker.now rule.now meant
-        → Asks (rule_at no_functions path.now (Ok (file_seen file.now)) meant) (O.tells oracle.old) (O.tells oracle.new) (seen (λ run. run.rows) result) }
+        → Asks (if_active is_active (file_seen file.now) meant) (O.tells oracle.old) (O.tells oracle.new) (seen (λ run. run.rows) result) }
     ensures rests { IfOk result (λ run. (meant : MeantRule) → IsRuleOf file.now.marker.now rule.now meant
-        → RestsOn (O.tells oracle.old) (rule_at no_functions path.now (Ok (file_seen file.now)) meant) run.rows run.names) }
+        → RestsOn (O.tells oracle.old) (if_active is_active (file_seen file.now) meant) run.rows run.names) }
     ensures idle { oracle.new ≡ oracle.old }
     ensures none_asked { IfOk result (λ run. run.names ≡ []) }
 {
     let mut noted = ClassNameSet::new(file.alloc);
-    let rows = noted_result(file, rule, path, oracle, &mut noted)?;
+    let rows = noted_result(file, rule, is_active, oracle, &mut noted)?;
     let names = noted.names(file.alloc)?;
     Ok(RuleRun { rows, names })
 }
 
-/// What the rules come to, one after the other.
+/// What the rules come to in a file of the path, one after the other.
 pub fn rule_runs<'t, O: Oracle>(
     file: &'t FileView<'t>,
     rules: &'t [Rule],
@@ -117,9 +117,10 @@ pub fn rule_runs<'t, O: Oracle>(
     ensures idle { oracle.new ≡ oracle.old }
     ensures none_asked { IfOk result (λ runs. AllByRecursion (λ run. run.names ≡ []) runs) }
 {
+    let active = which_are_active(file.alloc, rules, path.as_str())?;
     let mut runs = RuleRuns::new(file.alloc);
-    for rule in rules {
-        let of_rule = rule_run(file, rule, path, oracle)?;
+    for (number, rule) in rules.iter().enumerate() {
+        let of_rule = rule_run(file, rule, active.as_slice()[number], oracle)?;
         runs.push(of_rule)?;
     }
     Ok(runs)

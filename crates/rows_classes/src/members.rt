@@ -3,10 +3,11 @@ use crate::classes::{class_name, oracle_of};
 use crate::row_fault::{RowFault, answer_text};
 use crate::shown::{put_asked, put_type, put_types};
 use pj_base::{NoMemory, Text};
-use pj_members::{find_field, methods_named};
-use pj_names::{Bindings, MapOracle};
+use pj_members::{find_field, in_receiver, methods_named, methods_of_receiver, receiver_bindings};
+use pj_names::{Bindings, MapOracle, Ty};
 use pj_rows::{Row, Section, Table};
-use pj_types::{Field, Method};
+use pj_signatures::field_signature;
+use pj_types::{Field, Method, Methods};
 use std::alloc::Global;
 
 /// The table.
@@ -22,9 +23,12 @@ impl Table for MembersOfClasses {
     }
 }
 
-/// The members of a class and a name, as `p.A.x`, or `p.A.m()` for methods.
+/// The members of a class and a name, as `p.A.x`, or `p.A.m()` for methods; with `in` and a type behind it those of a receiver.
 fn answer(alloc: Global, section: &Section, given: &str) -> Result<String, RowFault> {
     let oracle = oracle_of(alloc, section)?;
+    if let Some((member, receiver)) = given.split_once(" in ") {
+        return of_receiver(alloc, oracle, member, receiver);
+    }
     let (member, are_methods) = match given.strip_suffix("()") {
         Some(member) => (member, true),
         None => (given, false),
@@ -60,6 +64,38 @@ fn field(alloc: Global, oracle: MapOracle, class: &str, name: &str) -> Result<St
     Ok(text.into_string())
 }
 
+/// The field of a receiver of a type, as `x`, or its methods, as `m()`, with what stands in the place of the type parameters of its
+/// class, and the names that are asked.
+fn of_receiver(
+    alloc: Global,
+    oracle: MapOracle,
+    member: &str,
+    receiver: &str,
+) -> Result<String, RowFault> {
+    let mut oracle = oracle;
+    let Some(Ty::Class(class, arguments)) = field_signature(alloc, receiver)? else {
+        return Err(RowFault::Unread("no class as a receiver"));
+    };
+    let mut text = Text::new(alloc);
+    match member.strip_suffix("()") {
+        Some(name) => {
+            let methods = methods_named(alloc, &mut oracle, &class, name)?;
+            let bound = receiver_bindings(alloc, &mut oracle, &class, &arguments)?;
+            put_methods(&mut text, &methods_of_receiver(alloc, &bound, &methods)?)?;
+        }
+        None => {
+            let Some(field) = find_field(alloc, &mut oracle, &class, member)? else {
+                return Err(RowFault::Unread("no such field"));
+            };
+            let ty = in_receiver(alloc, &mut oracle, &class, &arguments, &field.ty)?;
+            let owner = field.owner;
+            put_field(&mut text, &Field { owner, ty }, member)?;
+        }
+    }
+    put_asked(&mut text, alloc, &oracle, "; asks")?;
+    Ok(text.into_string())
+}
+
 /// Puts type parameters with their bounds in angle brackets, where there are some.
 fn put_parameters(text: &mut Text, parameters: &Bindings) -> Result<(), NoMemory> {
     for (place, (name, bound)) in parameters.as_slice().iter().enumerate() {
@@ -88,17 +124,22 @@ fn put_method(text: &mut Text, method: &Method) -> Result<(), NoMemory> {
     text.push_str(")")
 }
 
+/// Puts methods, a semicolon between them, or `none`.
+fn put_methods(text: &mut Text, methods: &Methods) -> Result<(), NoMemory> {
+    for (place, method) in methods.as_slice().iter().enumerate() {
+        text.push_str(if place > 0 { "; " } else { "" })?;
+        put_method(text, method)?;
+    }
+    text.push_str(if methods.is_empty() { "none" } else { "" })
+}
+
 /// The methods of a name, and the names that are asked.
 fn methods(alloc: Global, oracle: MapOracle, class: &str, name: &str) -> Result<String, RowFault> {
     let mut oracle = oracle;
     let class = class_name(alloc, class)?;
     let methods = methods_named(alloc, &mut oracle, &class, name)?;
     let mut text = Text::new(alloc);
-    for (place, method) in methods.as_slice().iter().enumerate() {
-        text.push_str(if place > 0 { "; " } else { "" })?;
-        put_method(&mut text, method)?;
-    }
-    text.push_str(if methods.is_empty() { "none" } else { "" })?;
+    put_methods(&mut text, &methods)?;
     put_asked(&mut text, alloc, &oracle, "; asks")?;
     Ok(text.into_string())
 }

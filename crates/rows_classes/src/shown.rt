@@ -4,7 +4,7 @@ use pj_names::{MapOracle, Prim, Ty, TyList, Types};
 use std::alloc::Global;
 
 /// The word of a primitive type.
-fn word(prim: Prim) -> &'static str {
+pub fn word(prim: Prim) -> &'static str {
     match prim {
         Prim::Boolean => "boolean",
         Prim::Byte => "byte",

@@ -1,12 +1,14 @@
-//! Substitution, erasure, supertypes and subtyping.
+//! Substitution, erasure, conversions, supertypes and subtyping.
 use crate::classes::{class_name, oracle_of};
 use crate::row_fault::{RowFault, answer_text};
-use crate::shown::{put_asked, put_type, text_of, type_text};
+use crate::shown::{put_asked, put_type, text_of, type_text, word};
 use pj_base::{NoMemory, Text};
 use pj_names::{Bindings, MapOracle, Ty};
 use pj_rows::{Row, Section, Table};
 use pj_signatures::field_signature;
-use pj_types::{Walk, erase, is_subtype, substitute, supertypes};
+use pj_types::{
+    Walk, as_primitive, boxed, erase, is_subtype, promoted, promoted_both, substitute, supertypes,
+};
 use std::alloc::Global;
 
 /// How many steps a walk has at most.
@@ -29,6 +31,9 @@ fn answer(alloc: Global, section: &Section, given: &str) -> Result<String, RowFa
     match section.setting("shows").unwrap_or("") {
         "substituted" => substituted_type(alloc, section, given),
         "erased" => erased_type(alloc, given),
+        "boxed" => boxed_type(alloc, given),
+        "operand" => operand(alloc, given),
+        "promoted" => promotion(alloc, given),
         "supertypes" => all_supertypes(alloc, oracle_of(alloc, section)?, given),
         "walk" => walk(alloc, oracle_of(alloc, section)?, given),
         "asking walk" => asking_walk(alloc, oracle_of(alloc, section)?, given),
@@ -84,6 +89,30 @@ fn substituted_type(alloc: Global, section: &Section, given: &str) -> Result<Str
 fn erased_type(alloc: Global, given: &str) -> Result<String, RowFault> {
     let ty = type_of(alloc, given)?;
     let ty = erase(alloc, &ty)?;
+    Ok(type_text(alloc, &ty)?.into_string())
+}
+
+fn boxed_type(alloc: Global, given: &str) -> Result<String, RowFault> {
+    let ty = type_of(alloc, given)?;
+    let ty = boxed(alloc, &ty)?;
+    Ok(type_text(alloc, &ty)?.into_string())
+}
+
+/// The word of the primitive type of an operand, or `none`.
+fn operand(alloc: Global, given: &str) -> Result<String, RowFault> {
+    let ty = type_of(alloc, given)?;
+    Ok(text_of(alloc, as_primitive(&ty).map_or("none", |prim| word(prim)))?)
+}
+
+/// An operand promoted, or two with a comma between them.
+fn promotion(alloc: Global, given: &str) -> Result<String, RowFault> {
+    let ty = match given.split_once(", ") {
+        Some((left, right)) => {
+            let left = type_of(alloc, left)?;
+            promoted_both(&left, &type_of(alloc, right)?)
+        }
+        None => promoted(&type_of(alloc, given)?),
+    };
     Ok(type_text(alloc, &ty)?.into_string())
 }
 

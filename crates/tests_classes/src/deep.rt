@@ -74,7 +74,7 @@ fn generic(alloc: Global, number: u32, depth: u32) -> Result<Text, NoMemory> {
     Ok(text)
 }
 
-/// How many names a list of supertypes has, or 0 where memory is wanted.
+/// How many names a list of supertypes has, or 0 where memory is wanted. Names are given without type arguments, so nothing adds up.
 fn listed(alloc: Global, classes: u32, depth: u32) -> Result<usize, Fail> {
     let mut oracle = Nests {
         alloc,
@@ -89,14 +89,14 @@ fn listed(alloc: Global, classes: u32, depth: u32) -> Result<usize, Fail> {
 }
 
 #[test]
-fn nests_that_add_up_end_well(rt: HostRuntime) -> Result<(), Fail> {
+fn names_of_nests_that_add_up(rt: HostRuntime) -> Result<(), Fail> {
     for (classes, depth, wanted) in [
-        (60, 20, 0),
+        (60, 20, 61),
         (200, 0, 201),
         (50, 10, 51),
         (3, 250, 4),
-        (20, 250, 0),
-        (1000, 250, 0),
+        (20, 250, 21),
+        (1000, 250, 1001),
     ] {
         let names = listed(rt.alloc(), classes, depth)?;
         assert_eq!(rt; names, wanted, "{classes} {depth}");
@@ -131,16 +131,13 @@ fn a_walk_stops_where_types_are_deepest(rt: HostRuntime) -> Result<(), Fail> {
 #[test]
 fn signatures_of_many_arguments(rt: HostRuntime) -> Result<(), Fail> {
     let alloc = rt.alloc();
-    for (depth, wildcards, is_read) in [
-        (250, 0, true),
-        (7, 254, true),
-        (8, 254, false),
-        (250, 254, false),
-    ] {
+    for (depth, wildcards) in [(250, 0), (8, 254), (255, 254)] {
         let text = nested(alloc, depth, wildcards, "Lp/X;")?;
-        let read = field_signature(alloc, text.as_str());
-        assert_eq!(rt; matches!(read, Ok(Some(_))), is_read, "{depth} {wildcards}");
-        assert_eq!(rt; read.is_err(), !is_read, "{depth} {wildcards}");
+        let Some(ty) = field_signature(alloc, text.as_str())? else {
+            return Err(Fail::from("not read"));
+        };
+        let copy = ty.copied()?;
+        assert!(rt; ty.is(&copy), "{depth} {wildcards}");
     }
     let text = nested(alloc, 255, 0, "Lp/X;")?;
     assert!(rt; field_signature(alloc, text.as_str())?.is_some());

@@ -12,24 +12,18 @@ returns-in_err-runs-clause-asks g c = λ meant are.
     let asked = c.in_err-runs.ensures.asks meant are in
     search rules
 
-pub returns-in_err-found-clause-asks : goal.returns-in_err-found-clause-asks
-returns-in_err-found-clause-asks g c = λ meant are. asks-late (c.in_ok-runs.ensures.asks meant are) (search rules)
-
-pub returns-in_err-copied-clause-asks : goal.returns-in_err-copied-clause-asks
-returns-in_err-copied-clause-asks g c = λ meant are. asks-late (c.in_ok-runs.ensures.asks meant are) (search rules)
-
-pub returns-in_err-push-clause-asks : goal.returns-in_err-push-clause-asks
-returns-in_err-push-clause-asks g c = λ meant are. asks-late (c.in_ok-runs.ensures.asks meant are) (search rules)
+pub returns-in_err-result_of-clause-asks : goal.returns-in_err-result_of-clause-asks
+returns-in_err-result_of-clause-asks g c = λ meant are. asks-late (c.in_ok-runs.ensures.asks meant are) (search rules)
 
 pub returns-clause-asks : goal.returns-clause-asks
 returns-clause-asks g c = λ meant are.
     subst (λ (r : FileRows). Asks (file_meaning no_functions c.args.path.now c.args.bytes.now meant) (g.O.Oracle.tells c.args.oracle.now) (g.O.Oracle.tells c.bytes_runs.new.oracle) (Ok r))
-    (sym c.in_ok-found.ensures.rows) (c.in_ok-runs.ensures.asks meant are)
+    (sym c.in_ok-result_of.ensures.rows) (c.in_ok-runs.ensures.asks meant are)
 
 pub returns-clause-found : goal.returns-clause-found
 returns-clause-found g c = λ meant are.
-    result_is c.args.rules.now c.args.path.now c.args.bytes.now (g.O.Oracle.tells c.args.oracle.now) c.in_ok-runs.runs c.in_ok-found.found meant c.in_ok-runs.ensures.runs are
-    c.in_ok-found.ensures.rows c.in_ok-found.ensures.runs c.in_ok-found.ensures.ascending c.in_ok-found.ensures.members
+    result_is c.args.rules.now c.args.path.now c.args.bytes.now (g.O.Oracle.tells c.args.oracle.now) c.in_ok-runs.runs c.in_ok-result_of.field-0 meant c.in_ok-runs.ensures.runs are
+    c.in_ok-result_of.ensures.rows c.in_ok-result_of.ensures.runs c.in_ok-result_of.ensures.ascending c.in_ok-result_of.ensures.members
 
 pub returns-clause-names : goal.returns-clause-names
-returns-clause-names g c = no_names_together c.in_ok-found.found.names c.in_ok-runs.runs.runs c.in_ok-found.ensures.members c.in_ok-runs.ensures.none_asked
+returns-clause-names g c = no_names_together c.in_ok-result_of.field-0.names c.in_ok-runs.runs.runs c.in_ok-result_of.ensures.members c.in_ok-runs.ensures.none_asked

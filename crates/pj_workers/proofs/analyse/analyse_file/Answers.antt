@@ -1,6 +1,24 @@
 use Rattle.std.proofs.Common.{rules}
 use Rattle.pj_names.proofs.AskingLaws.{asks-stop}
+use Rattle.pj_names.proofs.Held.{asks-late}
 use Rattle.pj_workers.proofs.analyse.analyse_file.Goals as goal
 
 pub returns-in_err-grammar-clause-asks : goal.returns-in_err-grammar-clause-asks
 returns-in_err-grammar-clause-asks g c = λ meant are. asks-stop (search rules)
+
+pub returns-in_err-found-clause-asks : goal.returns-in_err-found-clause-asks
+returns-in_err-found-clause-asks g c = λ meant are.
+    let asked = c.in_err-found.ensures.asks meant are in
+    search rules
+
+pub returns-in_err-copied-clause-asks : goal.returns-in_err-copied-clause-asks
+returns-in_err-copied-clause-asks g c = λ meant are. asks-late (c.in_ok-found.ensures.asks meant are) (search rules)
+
+pub returns-in_err-push-clause-asks : goal.returns-in_err-push-clause-asks
+returns-in_err-push-clause-asks g c = λ meant are. asks-late (c.in_ok-found.ensures.asks meant are) (search rules)
+
+pub returns-clause-asks : goal.returns-clause-asks
+returns-clause-asks g c = λ meant are. c.in_ok-found.ensures.asks meant are
+
+pub returns-clause-found : goal.returns-clause-found
+returns-clause-found g c = λ meant are. c.in_ok-found.ensures.found meant are

@@ -10,13 +10,13 @@ use Rattle.pj_workers.proofs.Resting.{AreRested}
 use Rattle.pj_workers.proofs.Running.{AtTurn}
 use Rattle.pj_workers.proofs.runs.rule_runs.Given as goal
 
-abbrev pub invariant-loop-rule : goal.invariant-loop-rule
-invariant-loop-rule g l =
+abbrev pub invariant-loop-number : goal.invariant-loop-number
+invariant-loop-number g l =
     let meaning = rule_at no_functions l.path (Ok (file_seen l.file)) in
     let t = g.O.Oracle.tells l.fn.oracle in
     record {
-      asks : (meant : List Rule) → AllZip (IsRuleOf l.file.marker.now) l.rules meant → AtTurn meaning meant t (came_to l.runs) l.rule-index (g.O.Oracle.tells l.oracle);
-      rest : (meant : List Rule) → AllZip (IsRuleOf l.file.marker.now) l.rules meant → AreRested t meaning (take l.rule-index meant) l.runs;
+      asks : (meant : List Rule) → AllZip (IsRuleOf l.file.marker.now) l.rules meant → AtTurn meaning meant t (came_to l.runs) l.number (g.O.Oracle.tells l.oracle);
+      rest : (meant : List Rule) → AllZip (IsRuleOf l.file.marker.now) l.rules meant → AreRested t meaning (take l.number meant) l.runs;
       idle : l.oracle ≡ l.fn.oracle;
       none_asked : AllByRecursion (λ (run : RuleRun). run.names ≡ []) l.runs;
     }

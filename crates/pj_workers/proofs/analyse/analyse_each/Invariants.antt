@@ -1,4 +1,4 @@
-use Rattle.std.proofs.Common.{◌≡◌, ◌++◌, List, [], map, take}
+use Rattle.std.proofs.Common.{◌≡◌, List, [], map, take}
 use Rattle.std.specs.List.{AllByRecursion, AllZip}
 use Rattle.pj_workers.specs.FileMeaning.{Bytes, file_meaning}
 use Rattle.pj_workers.specs.NoFunctions.{no_functions}
@@ -6,7 +6,7 @@ use Rattle.pj_workers.specs.Results.{IsResultAt}
 use Rattle.pj_workers.specs.Rules.{AreRulesOf, Rule}
 use Rattle.pj_workers.specs.declared.result.FileResult.{FileResult}
 use Rattle.pj_workers.proofs.Running.{AtTurn}
-use Rattle.pj_workers.proofs.analyse.analyse_files.Given as goal
+use Rattle.pj_workers.proofs.analyse.analyse_each.Given as goal
 
 abbrev pub invariant-loop-file : goal.invariant-loop-file
 invariant-loop-file g l =
@@ -15,7 +15,4 @@ invariant-loop-file g l =
       asks : (meant : List Rule) → AreRulesOf l.rules meant → AtTurn (λ (file : Bytes × Bytes). file_meaning no_functions file.0 file.1 meant) l.files t (map (λ (of_file : Bytes × FileResult). of_file.1.rows) l.found) l.file-index (g.O.Oracle.tells l.oracle);
       found : (meant : List Rule) → AreRulesOf l.rules meant → AllZip (IsResultAt t no_functions meant) (take l.file-index l.files) l.found;
       names : AllByRecursion (λ (of_file : Bytes × FileResult). of_file.1.names ≡ []) l.found;
-      analysed : l.work.analysed ≡ l.fn.work.analysed ++ map (λ file. file.0) (take l.file-index l.files);
-      reused : l.work.reused ≡ l.fn.work.reused;
-      skipped : l.work.skipped ≡ l.fn.work.skipped;
     }
