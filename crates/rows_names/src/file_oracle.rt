@@ -1,7 +1,6 @@
 //! What is asked over the oracle of a file.
 
 ghost use Rattle.std.specs.Prelude.{◌<◌, length};
-ghost use Rattle.pj_file_oracle.specs.Held.{Holds};
 
 use crate::noted::Beneath;
 use crate::question::{Asked, Asking};
@@ -11,13 +10,12 @@ use pj_base::{NoMemory, Text};
 use pj_file_oracle::{Held, resolve_type};
 use pj_marked::place_of;
 use pj_members::find_field;
-use pj_names::{Answer, AskFault, ClassName, Oracle};
+use pj_names::{AskFault, ClassName, Oracle};
 use pj_outer_names::File;
 use pj_scopes::{FileOracle, resolve_name};
 use pj_tree::Node;
 use pj_types::{Field, supertypes};
 use std::alloc::Global;
-use std::sync::Arc;
 
 /// The name of the last class of the file whose name begins with a text, and the text where there is none.
 fn last_beginning<'c>(file: &'c File<'_>, name: &'c str) -> &'c str {
@@ -66,36 +64,6 @@ fn put_class_again(
     let _ = oracle.ask(class)?;
     oracle.inner.forget();
     let answer = oracle.ask(class)?;
-    Ok(put_answer(alloc, out, &answer)?)
-}
-
-/// Asks a class over an oracle of the file that is made for it.
-fn ask_apart<O: Oracle>(
-    alloc: Global,
-    file: &File<'_>,
-    beneath: &mut O,
-    held: &mut Held,
-    class: &ClassName,
-) -> Result<Arc<Answer>, AskFault>
-    requires { Holds file.now (O.tells beneath.old) held.old }
-    ensures { Holds file.now (O.tells beneath.new) held.new }
-{
-    let mut oracle = FileOracle::new(alloc, file, beneath, held);
-    oracle.ask(class)
-}
-
-/// Puts the answer for a class that another oracle of the file gives, of what is held since it was asked once. Just what is asked then is noted.
-fn put_class_held(
-    alloc: Global,
-    file: &File<'_>,
-    beneath: &mut Beneath,
-    class: &ClassName,
-    out: &mut Text,
-) -> Result<(), AskFault> {
-    let mut held = Held::new(alloc);
-    let _ = ask_apart(alloc, file, beneath, &mut held, class)?;
-    beneath.forget();
-    let answer = ask_apart(alloc, file, beneath, &mut held, class)?;
     Ok(put_answer(alloc, out, &answer)?)
 }
 
@@ -195,7 +163,6 @@ fn put_of_class(
     };
     match asking {
         Asking::AnswerAgain => put_class_again(alloc, file, beneath, &class, out),
-        Asking::AnswerHeld => put_class_held(alloc, file, beneath, &class, out),
         Asking::Supertypes => put_supertypes(alloc, file, beneath, &class, out),
         Asking::Field => put_found_field(alloc, file, beneath, &class, out),
         _ => put_class(alloc, file, beneath, &class, out),
