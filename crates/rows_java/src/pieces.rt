@@ -62,13 +62,20 @@ pub fn grammar_of(alloc: Global, words: &str) -> Result<WellFormed, GrammarFault
     made(alloc, pieces.as_slice())
 }
 
-/// The kinds of tokens that are written as numbers. What is no number is the kind 0.
+/// Puts a kind so many times.
+fn put_kind(kinds: &mut Vec<u16>, times: usize, kind: u16) -> Result<(), NoMemory> {
+    let len = kinds.len().saturating_add(times);
+    kinds.resize(len, kind)?;
+    Ok(())
+}
+
+/// The kinds of tokens that are written as numbers, `60*1` for the kind 1 written 60 times. What is no number is 0.
 pub fn kinds_of(alloc: Global, numbers: &str) -> Result<Vec<u16>, NoMemory> {
     let mut kinds = Vec::new(alloc);
-    for number in numbers.split(' ') {
-        if !number.is_empty() {
-            kinds.push(number.parse::<u16>().unwrap_or(0))?;
-        }
+    for written in numbers.split_whitespace() {
+        let (times, kind) = written.split_once('*').unwrap_or(("1", written));
+        let times = times.parse::<usize>().unwrap_or(0);
+        put_kind(&mut kinds, times, kind.parse::<u16>().unwrap_or(0))?;
     }
     Ok(kinds)
 }

@@ -8,8 +8,6 @@ mod grammar;
 #[cfg(test)]
 mod parse;
 #[cfg(test)]
-mod peg;
-#[cfg(test)]
 mod pieces;
 #[cfg(test)]
 mod shapes;

@@ -4,7 +4,7 @@ use pj_rows::{Row, Section, Table, report_on};
 use std::alloc::Global;
 use std::test::Fail;
 
-/// Answers with what is given, behind the value of the setting `front`.
+/// Answers with what is given, behind the value of the setting `front`; for `memory` there is no memory.
 struct Echo;
 
 impl Table for Echo {
@@ -13,6 +13,9 @@ impl Table for Echo {
     }
 
     fn answer(&self, alloc: Global, section: &Section, row: &Row) -> Result<String, NoMemory> {
+        if row.given.as_str() == "memory" {
+            return Err(NoMemory);
+        }
         let mut answer = String::from_str(alloc, section.setting("front").unwrap_or(""))?;
         answer.push_str(row.given.as_str())?;
         Ok(answer)
@@ -20,7 +23,7 @@ impl Table for Echo {
 }
 
 /// Files, each with what is told of it.
-static FILES: [(&str, &str); 17] = [
+static FILES: [(&str, &str); 18] = [
     ("", "f.rows: 0 rows\n"),
     ("## a\nx => x\n y =>  y \n", "f.rows: 2 rows\n"),
     (
@@ -42,6 +45,10 @@ static FILES: [(&str, &str); 17] = [
     (
         "## a\n\\{20ac}\\{feff}\\{1} =>",
         "f.rows:2: wanted \\{}, got \u{20ac}\\{feff}\\{1}\nf.rows: 1 rows\n",
+    ),
+    (
+        "## a\nmemory => x\ny => y\n",
+        "f.rows:2: wanted x, got ! out of memory\nf.rows: 2 rows\n",
     ),
     ("x => x", "f.rows:1: stands in no section\n"),
     ("# a\n@front b", "f.rows:2: stands in no section\n"),
