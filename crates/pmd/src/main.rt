@@ -5,23 +5,15 @@ ghost use Rattle.std.specs.Prelude.{◌≡◌, ◌≢◌, IfSome};
 ghost use Rattle.pj_check.specs.Notes.{GetNotes, notes_of};
 ghost use Rattle.pj_check.specs.Outcome.{CountsSinkFaults, CountsTreeFaults, KeepsWork, Says, SaysOfSink, SaysOfWords};
 
-mod real_class_path;
-mod real_file;
-mod real_keeper;
-mod real_sink;
-mod real_tree;
 #[cfg(test)]
 mod tests;
 
 use pj_base::{Text, Words};
 use pj_check::{Outcome, check_alone, put_outcome};
 use pj_outside::{ClassPath, Keeper, Sink, Tree};
+use pj_real::{RealClassPath, RealKeeper, RealSink, RealTree};
 use pj_settings::UsageFault;
 use pj_workers::Work;
-use real_class_path::RealClassPath;
-use real_keeper::RealKeeper;
-use real_sink::RealSink;
-use real_tree::RealTree;
 use std::alloc::Global;
 use std::env::Env;
 use std::process::ExitCode;

@@ -1,8 +1,4 @@
 //! Each object over the real system once, and the top call over the real tree.
-use crate::real_class_path::{RealClassPath, RealDoor};
-use crate::real_keeper::RealKeeper;
-use crate::real_sink::RealSink;
-use crate::real_tree::RealTree;
 use crate::run;
 use pj_base::{Names, NoMemory, Numbers, Text, Words};
 use pj_check::Outcome;
@@ -11,6 +7,7 @@ use pj_outside::{
     ClassDoor, ClassPath, Failed, Folders, Keeper, MemClassPath, MemKeeper, MemSink, Pairs,
     Reading, Refused, Sink, Tree,
 };
+use pj_real::{RealClassPath, RealDoor, RealKeeper, RealSink, RealTree};
 use pj_workers::Work;
 use std::alloc::Global;
 use std::os::unix;
@@ -310,7 +307,7 @@ fn the_real_sink_writes_what_is_put(rt: HostRuntime) {
     let mut sink = RealSink::new(Vec::new(rt.alloc()));
     assert!(rt; sink.put(b"ab") == Ok(()));
     assert!(rt; sink.put(b"c") == Ok(()));
-    assert!(rt; sink.written().as_slice() == b"abc".as_slice());
+    assert!(rt; sink.stream().as_slice() == b"abc".as_slice());
 }
 
 /// What a run of these words over the real tree comes to, and what it puts.

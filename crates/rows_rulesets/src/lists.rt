@@ -2,7 +2,7 @@
 use crate::brackets::{inside, unread};
 use crate::takings::list;
 use pj_base::{ListOf, Names, NoMemory, Text};
-use pj_rows::{Row, Section, Table};
+use pj_rows::{Row, Section, Table, put_between};
 use pj_rule_sets::{Entry, NameSet, Origin, RuleTable, named, put_without};
 use std::alloc::Global;
 
@@ -25,14 +25,6 @@ fn put_entry(out: &mut String, entry: &Entry) -> Result<(), NoMemory> {
     Ok(())
 }
 
-/// Puts a blank behind what there is.
-fn put_blank(out: &mut String) -> Result<(), NoMemory> {
-    if !out.is_empty() {
-        out.push(' ')?;
-    }
-    Ok(())
-}
-
 /// Puts `nothing` where there is nothing.
 fn or_nothing(out: String) -> Result<String, NoMemory> {
     if out.is_empty() {
@@ -45,7 +37,7 @@ fn or_nothing(out: String) -> Result<String, NoMemory> {
 fn shown(alloc: Global, list: &[(Origin, Entry)]) -> Result<String, NoMemory> {
     let mut out = String::new(alloc);
     for taken in list {
-        put_blank(&mut out)?;
+        put_between(&mut out, " ")?;
         put_entry(&mut out, &taken.1)?;
     }
     or_nothing(out)
@@ -100,7 +92,7 @@ fn shown_without(alloc: Global, names: &str, list: &[(Origin, Entry)]) -> Result
 
 /// Puts whether a name is new among those before it.
 fn put_sign(out: &mut String, set: &mut NameSet, name: Text) -> Result<(), NoMemory> {
-    put_blank(out)?;
+    put_between(out, " ")?;
     let is_new = set.put(name)?;
     out.push(if is_new { '+' } else { '-' })?;
     Ok(())

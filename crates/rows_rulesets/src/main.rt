@@ -1,17 +1,14 @@
-//! The rows of rulesets and settings: what is given in the files of `data/`, each with what is wanted of it.
+//! The rows of rulesets: what is given in the files of `data/`, each with what is wanted of it.
 #![tactic(auto)]
 
 mod brackets;
 mod elements;
 mod expressions;
-mod files;
 mod lists;
 mod markup;
 mod pieces;
-mod repeated;
 mod rule_files;
 mod rule_texts;
-mod settings;
 mod takings;
 
 use expressions::RuleExpressionsTable;
@@ -20,7 +17,6 @@ use markup::MarkupTable;
 use pj_rows::Run;
 use rule_files::RuleFilesTable;
 use rule_texts::RuleTextsTable;
-use settings::SettingsTable;
 use std::process::ExitCode;
 
 fn main(rt: HostRuntime) -> ExitCode {
@@ -30,6 +26,5 @@ fn main(rt: HostRuntime) -> ExitCode {
     run.table("rule_files.rows", &RuleFilesTable);
     run.table("rule_lists.rows", &RuleListsTable);
     run.table("rule_texts.rows", &RuleTextsTable);
-    run.table("settings.rows", &SettingsTable);
     run.end()
 }

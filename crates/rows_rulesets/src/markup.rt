@@ -1,8 +1,8 @@
 //! Texts of markup with their elements, or with the first place at which they are none.
 use crate::brackets::put_bracketed;
-use crate::repeated::repeated;
 use pj_base::NoMemory;
 use pj_markup::{Element, Markup, MarkupFault, read};
+use pj_row_folders::repeated;
 use pj_rows::{Row, Section, Table};
 use std::alloc::Global;
 
@@ -90,14 +90,28 @@ fn refusal(alloc: Global, fault: MarkupFault) -> Result<String, NoMemory> {
     }
 }
 
-/// What is read of a text: its elements, or `none` where only its fault is asked for.
-fn answer(alloc: Global, text: &str, asks_fault: bool) -> Result<String, NoMemory> {
-    if text.len() > 100_000 {
+/// How many children the root has.
+fn children(alloc: Global, markup: &Markup) -> Result<String, NoMemory> {
+    let count = markup.children(markup.root()).len();
+    Ok(format!(in alloc; "{count}")?)
+}
+
+/// What is asked of markup: its elements, how many children its root has, or that it has no fault.
+fn of_markup(alloc: Global, markup: &Markup, asks: &str) -> Result<String, NoMemory> {
+    match asks {
+        "fault" => Ok(String::from_str(alloc, "none")?),
+        "children" => children(alloc, markup),
+        _ => elements(alloc, markup),
+    }
+}
+
+/// What is asked of a text, or the place of its fault.
+fn answer(alloc: Global, text: &str, asks: &str) -> Result<String, NoMemory> {
+    if text.len() > 1_000_000 {
         return Ok(String::from_str(alloc, "! the text is too long")?);
     }
     match read(alloc, text) {
-        Ok(_) if asks_fault => Ok(String::from_str(alloc, "none")?),
-        Ok(markup) => elements(alloc, &markup),
+        Ok(markup) => of_markup(alloc, &markup, asks),
         Err(fault) => refusal(alloc, fault),
     }
 }
@@ -109,6 +123,10 @@ impl Table for MarkupTable {
 
     fn answer(&self, alloc: Global, section: &Section, row: &Row) -> Result<String, NoMemory> {
         let text = repeated(alloc, row.given.as_str())?;
-        answer(alloc, text.as_str(), section.has("asks"))
+        answer(
+            alloc,
+            text.as_str(),
+            section.setting("asks").unwrap_or("elements"),
+        )
     }
 }

@@ -1,14 +1,7 @@
 //! Texts that are put together of pieces.
 use pj_base::NoMemory;
+use pj_rows::put;
 use std::alloc::Global;
-
-/// Puts pieces behind what there is.
-pub fn put(out: &mut String, pieces: &[&str]) -> Result<(), NoMemory> {
-    for piece in pieces {
-        out.push_str(piece)?;
-    }
-    Ok(())
-}
 
 /// A text of these pieces.
 pub fn joined(alloc: Global, pieces: &[&str]) -> Result<String, NoMemory> {

@@ -1,8 +1,8 @@
 //! Files that are read as rulesets, and why others are none.
 use crate::brackets::{inside, put_bracketed, unread};
-use crate::files::{failing_call, put_file, tree_of};
 use pj_base::NoMemory;
 use pj_outside::{Files, MemTree};
+use pj_row_folders::{failing_call, put_file, tree_of};
 use pj_rows::{Row, Section, Table};
 use pj_rule_texts::{FileFault, FileRefused, Part, WrittenRule, WrittenRuleset, read_ruleset};
 use std::alloc::Global;

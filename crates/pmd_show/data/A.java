@@ -1,0 +1,5 @@
+package p;
+
+class A {
+    int f(int x) { return x + 1; }
+}

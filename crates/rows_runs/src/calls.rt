@@ -1,0 +1,43 @@
+//! Which calls of a run fail.
+
+/// The numbers of the calls that fail, of the tree, of the sink of the report and of that of the notes. 0 is none.
+#[derive(Clone, Copy)]
+pub struct Failing {
+    /// Of the tree.
+    pub tree: u32,
+    /// Of the sink of the report.
+    pub report: u32,
+    /// Of the sink of the notes.
+    pub notes: u32,
+}
+
+/// The number behind a name, as in `tree 1, notes 2`; 0 where the name does not stand there.
+fn number_of(given: &str, sought: &str) -> u32 {
+    for part in given.split(", ") {
+        let (name, number) = part.split_once(' ').unwrap_or((part, ""));
+        if name == sought {
+            return number.parse::<u32>().unwrap_or(0);
+        }
+    }
+    0
+}
+
+impl Failing {
+    /// Those that a row gives.
+    pub fn of(given: &str) -> Failing {
+        Failing {
+            tree: number_of(given, "tree"),
+            report: number_of(given, "report"),
+            notes: number_of(given, "notes"),
+        }
+    }
+
+    /// None.
+    pub fn none() -> Failing {
+        Failing {
+            tree: 0,
+            report: 0,
+            notes: 0,
+        }
+    }
+}

@@ -1,0 +1,41 @@
+//! The rows of whole runs, each a folder, a command line and what comes; and of the settings, the sources and the notes of a run.
+#![tactic(auto)]
+
+mod calls;
+mod notes;
+mod outcome;
+mod put;
+mod ran;
+mod runs;
+mod settings;
+mod sources;
+
+use notes::Notes;
+use pj_rows::Run;
+use runs::Runs;
+use settings::SettingsTable;
+use sources::Sources;
+use std::process::ExitCode;
+
+/// The files of whole runs.
+static RUNS: [&str; 8] = [
+    "queries.rows",
+    "rulesets.rows",
+    "paths.rows",
+    "formats.rows",
+    "findings.rows",
+    "refusals.rows",
+    "calls.rows",
+    "work.rows",
+];
+
+fn main(rt: HostRuntime) -> ExitCode {
+    let mut run = Run::new(rt);
+    for file in RUNS {
+        run.table(file, &Runs);
+    }
+    run.table("settings.rows", &SettingsTable);
+    run.table("notes.rows", &Notes);
+    run.table("sources.rows", &Sources);
+    run.end()
+}

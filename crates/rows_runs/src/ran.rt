@@ -1,0 +1,75 @@
+//! Runs over trees and sinks in memory, and what they leave.
+use crate::calls::Failing;
+use pj_base::{NoMemory, Numbers, Words};
+use pj_check::{Outcome, check_alone};
+use pj_outside::{Files, Folders, MemClassPath, MemKeeper, MemSink, MemTree, Pairs};
+use pj_row_folders::tree_of;
+use pj_workers::Work;
+use std::alloc::Global;
+
+/// What a run leaves.
+#[derive(Drop)]
+pub struct Ran {
+    /// What it came to.
+    pub outcome: Outcome,
+    /// The sink of its report.
+    pub report: MemSink,
+    /// The sink of its notes.
+    pub notes: MemSink,
+    /// What it tells of its work.
+    pub work: Work,
+}
+
+/// A sink whose call of this number fails. Calls are counted from 1.
+fn sink_of(alloc: Global, call: u32) -> Result<MemSink, NoMemory> {
+    let mut fail = Numbers::new(alloc);
+    fail.push(call)?;
+    Ok(MemSink::new(alloc, fail))
+}
+
+/// A class path without a folder.
+fn no_classes(alloc: Global) -> MemClassPath {
+    MemClassPath::new(
+        alloc,
+        Folders::new(alloc),
+        Numbers::new(alloc),
+        Pairs::new(alloc),
+    )
+}
+
+/// What a run of these words over this tree leaves in these sinks.
+fn run_into(
+    alloc: Global,
+    words: &Words,
+    tree: &mut MemTree,
+    mut report: MemSink,
+    mut notes: MemSink,
+) -> Ran {
+    let mut classes = no_classes(alloc);
+    let mut keeper = MemKeeper::new(alloc, Numbers::new(alloc));
+    let mut work = Work::new(alloc);
+    let outcome = check_alone(
+        alloc,
+        words,
+        tree,
+        &mut classes,
+        &mut keeper,
+        &mut report,
+        &mut notes,
+        &mut work,
+    );
+    Ran {
+        outcome,
+        report,
+        notes,
+        work,
+    }
+}
+
+/// What a run of these words over these files leaves, where these calls fail.
+pub fn run(alloc: Global, files: Files, words: &Words, failing: Failing) -> Result<Ran, NoMemory> {
+    let mut tree = tree_of(alloc, files, Some(failing.tree))?;
+    let report = sink_of(alloc, failing.report)?;
+    let notes = sink_of(alloc, failing.notes)?;
+    Ok(run_into(alloc, words, &mut tree, report, notes))
+}

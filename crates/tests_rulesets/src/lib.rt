@@ -1,5 +1,0 @@
-//! Tests of markup that rows cannot say.
-#![tactic(auto)]
-
-#[cfg(test)]
-mod children;
