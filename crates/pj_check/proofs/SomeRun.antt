@@ -80,7 +80,7 @@ module _ (listings : SomeListing) (readings : SomeOutcome) (reports : SomeReport
 
     of_rules : Ends words held
     of_rules = elim (readings held listing.paths) [
-      inl (read, are) ↦ made read are
+      | inl (read, are) ↦ made read are
       | inr (refused, is) ↦ unreadable refused is (has_cause held _ is.path refused is.is_refused)
     ]
 
@@ -90,8 +90,11 @@ module _ (listings : SomeListing) (readings : SomeOutcome) (reports : SomeReport
       where
         by : (b : Bool) → ltb greatest_count (count_of rules) ≡ b → Ends words held
         by true e =
-            inr (outcome.Limit limit.Rules, too_many_rules settings listing (count_of rules) has
-            (record { rules = rules; effective_rules = effective; counted = refl; too_many = ltb-true greatest_count (count_of rules) e }))
+            inr (
+              outcome.Limit limit.Rules,
+              too_many_rules settings listing (count_of rules) has
+                  (record { rules = rules; effective_rules = effective; counted = refl; too_many = ltb-true greatest_count (count_of rules) e }),
+            )
         by false e = of_rules settings listing rules (record { has_sources = has; loaded = effective; few_rules = ltb-false greatest_count (count_of rules) e })
 
     of_sources : LoadsOrFault held settings → Ends words held

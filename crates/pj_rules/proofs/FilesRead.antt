@@ -34,7 +34,7 @@ module _ (readings : Readings) where
 
   of_text : (text : List ℕ) → ((written : WrittenRuleset) × IsRuleset text written) ⊎ ((fault : FileFault) × IsTextFault text fault)
   of_text text = elim (readings text) [
-    inl (rows, doc) ↦ of_rows text rows doc (written_ruleset rows) refl
+    | inl (rows, doc) ↦ of_rows text rows doc (written_ruleset rows) refl
     | inr (fault, real, is) ↦ inr (of_fault text fault real is)
   ]
 

@@ -54,7 +54,7 @@ settled_from : (text front rest : List ℕ) (s : State) → text ≡ front ++ re
 settled_from text front [] s split r =
     let whole : Reached greatest_depth text s = subst (λ (t : List ℕ). Reached greatest_depth t s) (sym (split ∙ append-nil front)) r in
     elim (ends s) [
-      inl (rows, e) ↦ inl (rows, is_document greatest_depth text s rows whole (e (size text)))
+      | inl (rows, e) ↦ inl (rows, is_document greatest_depth text s rows whole (e (size text)))
       | inr e ↦ at_place text (size text) (stops_at_end greatest_depth text s refl whole (e (size text)))
     ]
 settled_from text front (c ∷ rest) s split r = go (settled_from text (front ++ c ∷ []) rest) (is_deep greatest_depth s c) (step (size front) s c) refl refl

@@ -241,6 +241,7 @@ module _ (around : Around) (reply : Reply) (replies : RepliesPlain reply) where
 
   mutual
     unfolding fold_tree fold_trees
+
     plain_tree : (t : Tree) → PlainD (of_tree around reply t)
     plain_tree (tree.Node construct parts) = plain_by construct (fold_trees (by around reply) parts) (plain_trees parts)
 
