@@ -11,8 +11,9 @@ use pj_base::{Bytes, NoMemory};
 use pj_cache::Cache;
 use std::alloc::Global;
 
-/// The text of a cache, in format 2. A cache with a text, a byte string or a list of more members than four bytes tell is
-/// want of memory. The condition is that the answers stand in the order of their names' bytes, each once.
+/// The text of a cache, in format 2; only that of a whole cache is read back as the same. A cache with a text, a byte string or a
+/// list of more members than four bytes tell is want of memory. The condition is that the answers stand in the order of their
+/// names' bytes, each once.
 pub fn encode(alloc: Global, cache: &Cache) -> Result<Bytes, NoMemory>
     requires { IsStrictlySortedBy byte_order (map (λ a. a.0) cache.now.answers) }
     ensures { IfOk result (λ bytes. bytes ≡ text_two cache.now) }

@@ -6,7 +6,7 @@ pub type Digest32 = [u8; 32];
 /// What is wrong with bytes that are no cache, tested in this order.
 #[derive(Clone, Copy, Debug, PartialEq, Eq)]
 pub enum CacheFault {
-    /// They are fewer than the shortest cache has.
+    /// They are fewer than the magic, the format's number and the seal have, 44.
     Short,
     /// They do not begin as caches do.
     Magic,

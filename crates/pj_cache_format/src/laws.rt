@@ -19,7 +19,7 @@ pub fn spells_one_cache()
     ensures { (bytes : List ℕ) (c d : Cache) → IsStored bytes c → IsStored bytes d → c ≡ d }
 {}
 
-/// Different caches have different texts.
+/// Different whole caches have different texts.
 pub fn different_caches_differ()
     ensures { (c d : Cache) → IsWhole c → IsWhole d → text_two c ≡ text_two d → c ≡ d }
 {}
