@@ -1,0 +1,4 @@
+pub mod Written
+pub mod Classes
+pub mod Leaves
+pub mod Variables
