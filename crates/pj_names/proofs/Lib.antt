@@ -1,4 +1,5 @@
 pub mod Lists
+pub mod Arguments
 pub mod NameSets
 pub mod NameLists
 pub mod Oracles

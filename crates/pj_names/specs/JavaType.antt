@@ -1,6 +1,6 @@
 -- Types of the Java language, as contracts compare them. A `Ty` keeps its parts in boxes, and two boxes differ by
 -- their places in memory; of these no contract speaks.
-use Rattle.std.specs.Prelude.{ℕ, List, map}
+use Rattle.std.specs.Prelude.{ℕ, List, [], ◌∷◌, map}
 use Rattle.pj_names.specs.declared.ty.PrimitiveType.{PrimitiveType}
 use Rattle.pj_names.specs.declared.ty.Ty.{Ty}
 use Rattle.pj_names.specs.declared.ty.Ty.TheVariants as ty
@@ -38,6 +38,11 @@ abbrev mutual
   pub java_types : Types → Arguments
   java_types types.End = NoMore
   java_types (types.More' place first place' rest) = Argument (java_type first) (java_types rest)
+
+-- type arguments of a list
+abbrev pub arguments_of : List JavaType → Arguments
+arguments_of [] = NoMore
+arguments_of (first ∷ rest) = Argument first (arguments_of rest)
 
 -- the types that a list stands for
 abbrev pub type_list : List Ty → List JavaType

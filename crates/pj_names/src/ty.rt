@@ -1,9 +1,10 @@
 //! Types of the Java language.
 ghost use Rattle.std.specs.Prelude.{◌≡◌, ◌↔◌, IsTrue, IfOk};
-ghost use Rattle.pj_names.specs.JavaType.{bound_types, java_type, java_types, type_list};
+ghost use Rattle.pj_names.specs.JavaType.{arguments_of, bound_types, java_type, java_types, type_list};
 
 use crate::class_name::ClassName;
 use pj_base::{Copied, Exact, ListOf, NoMemory, Text};
+use std::alloc::Global;
 
 /// A primitive type, JLS 4.2.
 #[derive(Clone, Copy, Debug, PartialEq, Eq)]
@@ -40,7 +41,7 @@ pub enum Ty {
 
 /// Type arguments, in their order.
 #[cycle(types)]
-#[derive(Debug, PartialEq, Eq, Drop)]
+#[derive(Debug, PartialEq, Eq)]
 pub enum Types {
     /// No more arguments.
     End,
@@ -102,31 +103,71 @@ impl Ty {
 }
 
 impl Types {
-    /// Whether both are the same arguments.
+    /// The type arguments of a list.
+    #[tactic(auto, using(crate::proofs::Arguments::all_in_front, crate::proofs::Arguments::last_in_front))]
+    pub fn of(alloc: Global, list: TyList) -> Result<Types, NoMemory>
+        ensures { IfOk result (λ made. java_types made ≡ arguments_of (type_list list)) }
+    {
+        let mut rest = list;
+        let mut made = Types::End;
+        while let Some(last) = rest.pop() {
+            made = Types::More(Box::new(alloc, last)?, Box::new(alloc, made)?);
+        }
+        Ok(made)
+    }
+
+    /// Whether both are the same arguments. It recurses as deep as the types nest, however long the lists are.
     #[cycle(same_types)]
     pub fn is(&self, other: &Types) -> bool
         ensures { IsTrue result ↔ (java_types self.now ≡ java_types other.now) }
     {
-        match (self, other) {
-            (Types::End, Types::End) => true,
-            (Types::More(a, our_rest), Types::More(b, their_rest)) => a.is(b)
-                && our_rest.is(their_rest),
-            _ => false,
+        let mut ours = self;
+        let mut theirs = other;
+        'arguments: loop {
+            match (ours, theirs) {
+                (Types::More(a, our_rest), Types::More(b, their_rest)) => {
+                    if !a.is(b) {
+                        return false;
+                    }
+                    ours = our_rest;
+                    theirs = their_rest;
+                }
+                (Types::End, Types::End) => return true,
+                _ => return false,
+            }
         }
     }
 
-    /// The same arguments once more.
+    /// The same arguments once more. It recurses as deep as the types nest, however long the lists are.
     #[cycle(copied_types)]
+    #[tactic(auto, using(crate::proofs::Arguments::all_in_front))]
     pub fn copied(&self) -> Result<Types, NoMemory>
         ensures { IfOk result (λ copy. java_types copy ≡ java_types self.now) }
     {
-        Ok(match self {
-            Types::End => Types::End,
-            Types::More(first, rest) => Types::More(
-                Box::new(*Box::allocator(first), first.copied()?)?,
-                Box::new(*Box::allocator(rest), rest.copied()?)?,
-            ),
-        })
+        let alloc = match self {
+            Types::End => return Ok(Types::End),
+            Types::More(first, _) => *Box::allocator(first),
+        };
+        let mut copies = TyList::new(alloc);
+        let mut rest = self;
+        'arguments: while let Types::More(first, more) = rest {
+            copies.push(first.copied()?)?;
+            rest = more;
+        }
+        Types::of(alloc, copies)
+    }
+}
+
+impl Drop for Types {
+    /// The arguments end one after the other, so this recurses as deep as the types nest, however long the lists are.
+    #[cycle(types)]
+    fn drop(mut self) {
+        loop {
+            match self {
+                Types::End => return,
+                Types::More(_, rest) => self = Box::into_inner(rest),
+            }
+        }
     }
 }
 

@@ -1,5 +1,5 @@
 -- Files, as pairs of a path and bytes.
-use Rattle.std.specs.Prelude.{⊤, ◌≢◌, ◌≤◌, ℕ, List, [], ◌∷◌, ◌++◌, Bool, ◌||◌, nat_lt, nat_eq, length, map, filter, if◌then◌else◌, Option, Some, None}
+use Rattle.std.specs.Prelude.{⊤, ◌≢◌, ◌≤◌, ℕ, List, [], ◌∷◌, ◌++◌, All, Bool, IsTrue, ◌||◌, nat_lt, nat_eq, length, map, filter, if◌then◌else◌, Option, Some, None}
 use Rattle.std.specs.List.{starts_with}
 use Rattle.std.specs.Cmp.Lexicographic.{pointwise}
 use Rattle.pj_outside.specs.declared.refused.Reading.{Reading}
@@ -51,3 +51,8 @@ IsAtMost most (Whole bytes) = length bytes ≤ most
 abbrev pub HasPath : Option (List Bytes) → Type 0
 HasPath None = ⊤
 HasPath (Some paths) = paths ≢ []
+
+-- The paths are all this one or below it, where there is a list of paths.
+abbrev pub AreAtOrBelow : Bytes → Option (List Bytes) → Type 0
+AreAtOrBelow at None = ⊤
+AreAtOrBelow at (Some paths) = All (λ path. IsTrue (is_at_or_below at path)) paths

@@ -1,5 +1,6 @@
 //! Class files, by doors that workers open.
 ghost use Rattle.std.specs.Prelude.{◌≡◌, ◌≢◌, ℕ, List, Option, IfSome, IfOk, OnOk, OnErr};
+ghost use Rattle.std.specs.Option.{option_map};
 ghost use Rattle.pj_outside.specs.Faults.{CountsFaults, next_count};
 ghost use Rattle.pj_outside.specs.Files.{Files, IsAtMost};
 ghost use Rattle.pj_outside.specs.Doors.{ClassFolders, TakesFaults, opened, found_at, count_and};
@@ -33,6 +34,10 @@ pub trait ClassDoor: Send {
         ensures steady { never_fails self.old → never_fails self.new × (result ≢ Err Refused.Failed) }
         ensures within { IfOk result (IsAtMost most) }
         ensures reading { IfSome (holds self.old) (λ folders. IfOk result (λ reading. reading ≡ found_at folders name.now most)) };
+
+    /// How many calls of `find` there were. The count stands still at the greatest number of 64 bits.
+    fn count_finds(&self) -> u64
+        ensures { result ≡ finds self.now };
 }
 
 /// A class path: folders by name, and fixed folders, which both calls leave as they are.
@@ -59,7 +64,7 @@ pub trait ClassPath {
     ghost never_fails: { Self → Type 0 };
 
     /// A door to the folders of these names, in their order, and behind them the fixed ones. A folder that is not there
-    /// is empty.
+    /// is empty. The door tells its files exactly where the class path tells them.
     fn open(&mut self, folders: &Names) -> Result<Self::Door, Refused>
         ensures same_folders { holds self.new ≡ holds self.old }
         ensures same_taken { taken self.new ≡ taken self.old }
@@ -71,7 +76,7 @@ pub trait ClassPath {
         ensures steady_door { never_fails self.old → IfOk result (λ door. Self.Door.never_fails door) }
         ensures no_finds { IfOk result (λ door. Self.Door.finds door ≡ 0) }
         ensures no_faults { IfOk result (λ door. Self.Door.faults door ≡ 0) }
-        ensures door { IfSome (holds self.old) (λ held. IfOk result (λ door. Self.Door.holds door ≡ Some (opened held folders.now))) };
+        ensures door { IfOk result (λ door. Self.Door.holds door ≡ option_map (λ held. opened held folders.now) (holds self.old)) };
 
     /// Takes a door back, and adds its finds. The count of faults rises exactly where the door has faults.
     fn shut(&mut self, door: Self::Door)

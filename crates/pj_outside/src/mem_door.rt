@@ -96,4 +96,10 @@ impl ClassDoor for MemDoor {
         let path = class_file_path(self.alloc, name.as_str().as_bytes())?;
         Ok(read_bytes(self.find_path(&path), most)?)
     }
+
+    fn count_finds(&self) -> u64
+        ensures { result ≡ self.now.plan.calls }
+    {
+        self.plan.calls()
+    }
 }

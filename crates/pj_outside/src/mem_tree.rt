@@ -2,7 +2,7 @@
 ghost use Rattle.std.specs.Prelude.{◌≡◌, ◌≢◌, ◌↔◌, ◌++◌, ◌∷◌, [], ℕ, List, Some, IfSome, IfOk, IsErrOf, OnOk, OnErr, IsTrue, nat_eq, drop, length, filter, map};
 ghost use Rattle.std.specs.List.{starts_with};
 ghost use Rattle.pj_outside.specs.Faults.{CountsFaults};
-ghost use Rattle.pj_outside.specs.Files.{is_at_or_below, listed_at, read_at, HasPath, IsAtMost};
+ghost use Rattle.pj_outside.specs.Files.{is_at_or_below, listed_at, read_at, HasPath, AreAtOrBelow, IsAtMost};
 ghost use Rattle.pj_outside.specs.InMemory.{new_plan, IsDue, PlanAfter};
 
 use crate::fault_plan::FaultPlan;
@@ -89,6 +89,7 @@ impl Tree for MemTree {
         ensures same_files { self.new.files ≡ self.old.files }
         ensures counts_faults { CountsFaults self.old.plan.faults self.new.plan.faults result }
         ensures some { IfOk result HasPath }
+        ensures at_or_below { IfOk result (AreAtOrBelow at.now) }
         ensures listed { IfOk result (λ paths. paths ≡ listed_at self.old.files at.now) }
         ensures fails { IsErrOf result Refused.Failed ↔ IsDue self.old.plan }
         ensures plan { PlanAfter self.old.plan self.new.plan result }

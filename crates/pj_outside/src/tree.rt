@@ -1,7 +1,7 @@
 //! Source files.
 ghost use Rattle.std.specs.Prelude.{◌≡◌, ◌≢◌, ℕ, Option, IfSome, IfOk};
 ghost use Rattle.pj_outside.specs.Faults.{CountsFaults};
-ghost use Rattle.pj_outside.specs.Files.{Files, listed_at, read_at, HasPath, IsAtMost};
+ghost use Rattle.pj_outside.specs.Files.{Files, listed_at, read_at, HasPath, AreAtOrBelow, IsAtMost};
 
 use crate::refused::{Reading, Refused};
 use pj_base::Names;
@@ -23,6 +23,7 @@ pub trait Tree {
         ensures counts_faults { CountsFaults (faults self.old) (faults self.new) result }
         ensures steady { never_fails self.old → never_fails self.new × (result ≢ Err Refused.Failed) }
         ensures some { IfOk result HasPath }
+        ensures at_or_below { IfOk result (AreAtOrBelow at.now) }
         ensures listed { IfSome (holds self.old) (λ files. IfOk result (λ paths. paths ≡ listed_at files at.now)) };
 
     /// The bytes of a file, where they are at most `most`: `Absent` exactly where no file has the path, `Longer`

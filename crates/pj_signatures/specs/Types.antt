@@ -2,8 +2,8 @@
 use Rattle.std.specs.Prelude.{◌++◌, ℕ, List, [], ◌∷◌, Option, Some, None, map, codes, if◌then◌else◌, nat_eq}
 use Rattle.std.specs.Cmp.Lexicographic.{pointwise}
 use Rattle.pj_names.specs.declared.ty.PrimitiveType.{PrimitiveType}
+pub use Rattle.pj_names.specs.JavaType.{arguments_of}
 use Rattle.pj_names.specs.JavaType.{JavaType, Primitive, Void, Class, Array, Variable, Unknown, Arguments, NoMore}
-use Rattle.pj_names.specs.JavaType as java
 use Rattle.pj_signatures.specs.Names.{dotted}
 use Rattle.pj_signatures.specs.Signature as syntax
 use Rattle.pj_signatures.specs.Signature.{TypeSignature, BaseType, ClassType, TypeVariable, ArrayType, TypeArguments, NoArguments, TypeArgument, Anything, Exactly, Extends, Super, Suffixes, NoSuffix, Suffix, TypeParameter, ClassSignature, MethodSignature}
@@ -55,11 +55,6 @@ module _ {A B S P : Type 0} (make : Making A B S P) where
 
   abbrev pub made_parameter : TypeParameter → P
   made_parameter parameter = make.parameter parameter.name (made_option parameter.class_bound) (map made parameter.interface_bounds)
-
--- type arguments of a list
-abbrev pub arguments_of : List JavaType → Arguments
-arguments_of [] = NoMore
-arguments_of (first ∷ rest) = java.Argument first (arguments_of rest)
 
 -- The class of a name with type arguments. The class `?` spells the type that is not known.
 abbrev pub class_named : List ℕ → Arguments → JavaType

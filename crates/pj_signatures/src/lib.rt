@@ -11,7 +11,7 @@ mod signature;
 mod types;
 
 pub use laws::{readings_are_spelled, spelled_once};
-pub use names::{class_name, is_internal_name, name_of_internal};
+pub use names::{class_of_internal, is_internal_name};
 pub use signature::{
     ClassSig, MethodSig, class_signature, descriptor, field_signature, field_signature_in,
     method_descriptor, method_signature, method_signature_in,

@@ -1,5 +1,5 @@
 //! Names in descriptors and signatures.
-ghost use Rattle.std.specs.Prelude.{◌≡◌, ◌++◌, ◌∷◌, ◌<◌, ◌≤◌, IfOk, IfSome, OnOk, IsTrue, IsUtf8, length};
+ghost use Rattle.std.specs.Prelude.{◌≡◌, ◌++◌, ◌∷◌, ◌<◌, ◌≤◌, IfOk, IfSome, MatchOption, OnOk, IsTrue, IsUtf8, false, length};
 ghost use Rattle.pj_names.specs.ClassName.{is_class_name};
 ghost use Rattle.pj_signatures.specs.Names.{is_name, are_names, is_identifier, is_path, is_internal_name, dotted};
 ghost use Rattle.pj_signatures.specs.Reading.{identifier_at, path_at};
@@ -146,4 +146,17 @@ pub fn class_name(alloc: Global, text: &str) -> Result<ClassName, NoMemory>
         Some(name) => Ok(name),
         None => unreachable!(),
     }
+}
+
+/// The class of a name in internal form (JVMS 4.2.1), with dots as the Java language has it (JLS 13.1), or `None` where the text is no
+/// such name.
+pub fn class_of_internal(alloc: Global, text: &str) -> Result<Option<ClassName>, NoMemory>
+    ensures { IfOk result (λ found. MatchOption found (is_internal_name text.now ≡ false) (λ name. IsTrue (is_internal_name text.now) × (name ≡ dotted text.now))) }
+{
+    if !is_internal_name(text) {
+        return Ok(None);
+    }
+    let name = name_of_internal(alloc, text)?;
+    let class = class_name(alloc, name.as_str())?;
+    Ok(Some(class))
 }

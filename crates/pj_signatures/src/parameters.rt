@@ -7,7 +7,7 @@ ghost use Rattle.pj_signatures.specs.Seen.{seen_option, seen_type, seen_types, s
 
 use crate::names::identifier_at;
 use crate::scan::{begins, begins_reference, behind, split_run};
-use crate::types::{DEEPEST, Declared, object, reference_inside, type_inside};
+use crate::types::{Declared, object, reference_inside, type_inside};
 use pj_base::{NoMemory, Text};
 use pj_names::{Bindings, Ty, TyList};
 use std::alloc::Global;
@@ -54,7 +54,6 @@ fn class_bound_at<'s>(
     let declared = Declared {
         own: &[],
         around: &[],
-        room: DEEPEST,
     };
     match type_inside(alloc, &declared, open_signs, text)? {
         Some((bound, rest)) => Ok(Some((Some(bound), rest))),
@@ -78,7 +77,6 @@ fn interface_bound_at<'s>(
     let declared = Declared {
         own: &[],
         around: &[],
-        room: DEEPEST,
     };
     reference_inside(alloc, &declared, open_signs, rest)
 }

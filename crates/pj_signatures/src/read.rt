@@ -9,7 +9,7 @@ use crate::descriptors::{field_at, method_descriptor_at};
 use crate::parameters::parameters_at;
 use crate::scan::{begins, behind};
 use crate::signature::{ClassSig, MethodSig};
-use crate::types::{DEEPEST, Declared, type_at};
+use crate::types::{Declared, type_at};
 use pj_base::NoMemory;
 use pj_names::{Bindings, Ty, TyList};
 use std::alloc::Global;
@@ -63,7 +63,6 @@ pub fn read_field_signature(
     let declared = Declared {
         own: &[],
         around: around.as_slice(),
-        room: DEEPEST,
     };
     let found = type_at(alloc, &declared, MOST_OPEN, text)?;
     Ok(whole(found))
@@ -240,7 +239,6 @@ pub fn read_class_signature(alloc: Global, text: &str) -> Result<Option<ClassSig
     let declared = Declared {
         own: params.as_slice(),
         around: &[],
-        room: DEEPEST,
     };
     match supertypes_at(alloc, &declared, after)? {
         Some((superclass, interfaces)) => Ok(Some(ClassSig {
@@ -277,7 +275,6 @@ pub fn read_method_signature(
     let declared = Declared {
         own: params.as_slice(),
         around: around.as_slice(),
-        room: DEEPEST,
     };
     match types_at(alloc, &declared, after)? {
         Some((arguments, returned)) => Ok(Some(MethodSig {

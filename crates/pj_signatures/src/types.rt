@@ -16,10 +16,6 @@ use pj_base::{NoMemory, Text};
 use pj_names::{Ty, TyList, Types};
 use std::alloc::Global;
 
-/// How many type arguments may lie around a type, each counted with those before it in its list: a copy of a type, and
-/// its end, go as deep as that. Where a text has more, memory is wanted.
-pub const DEEPEST: u32 = 2000;
-
 /// The type variables that are declared where a type stands, with their bounds: those of its own signature, and then
 /// those around it.
 #[derive(Clone, Copy)]
@@ -28,8 +24,6 @@ pub struct Declared<'a> {
     pub own: &'a [(Text, Ty)],
     /// Those that are declared around it.
     pub around: &'a [(Text, Ty)],
-    /// How many more type arguments may lie around a type, `DEEPEST` at first.
-    pub room: u32,
 }
 
 /// The bound of the first variable of a name.
@@ -78,19 +72,6 @@ fn bound_of(alloc: Global, declared: &Declared<'_>, name: &str) -> Result<Ty, No
     }
 }
 
-/// Type arguments of a list.
-#[tactic(auto, using(crate::proofs::Arguments::all_in_front, crate::proofs::Arguments::last_in_front))]
-fn arguments_of(alloc: Global, list: TyList) -> Result<Types, NoMemory>
-    ensures { IfOk result (λ made. java_types made ≡ arguments_of (type_list list)) }
-{
-    let mut rest = list;
-    let mut made = Types::End;
-    while let Some(last) = rest.pop() {
-        made = Types::More(Box::new(alloc, last)?, Box::new(alloc, made)?);
-    }
-    Ok(made)
-}
-
 /// The class of a name with type arguments, or the unknown type where the name is `?`.
 pub fn class_named(alloc: Global, name: Text, arguments: TyList) -> Result<Ty, NoMemory>
     requires { IsTrue (is_class_name name) }
@@ -101,7 +82,7 @@ pub fn class_named(alloc: Global, name: Text, arguments: TyList) -> Result<Ty, N
     }
     Ok(Ty::Class(
         class_name(alloc, name.as_str())?,
-        arguments_of(alloc, arguments)?,
+        Types::of(alloc, arguments)?,
     ))
 }
 
@@ -258,18 +239,8 @@ fn listed_at<'s>(
 {
     let mut arguments = TyList::new(alloc);
     let mut rest = text;
-    let mut room = declared.room;
     'arguments: while !begins(rest, b'>') {
-        if room == 0 {
-            return Err(NoMemory);
-        }
-        room -= 1;
-        let below = Declared {
-            own: declared.own,
-            around: declared.around,
-            room,
-        };
-        let Some((argument, after)) = argument_at(alloc, &below, open_signs, rest)? else {
+        let Some((argument, after)) = argument_at(alloc, declared, open_signs, rest)? else {
             return Ok(None);
         };
         arguments.push(argument)?;

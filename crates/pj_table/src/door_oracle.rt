@@ -5,11 +5,10 @@ ghost use Rattle.pj_outside.specs.Doors.{count_and};
 ghost use Rattle.pj_table.specs.Held.{AreHeldAnswers, all_held_prop};
 ghost use Rattle.pj_table.specs.Telling.{OverDoor, tells_of};
 
-use crate::counted_door::CountedDoor;
 use crate::reading::{CLASS_BYTES, shared_answer_of};
 use pj_base::Copied;
 use pj_names::{Answer, AskFault, ClassName, ClassNameSet, Oracle};
-use pj_outside::Refused;
+use pj_outside::{ClassDoor, Refused};
 use std::alloc::Global;
 use std::collections::BTreeMap;
 use std::sync::Arc;
@@ -19,7 +18,7 @@ use std::sync::Arc;
 /// The door has one find more for each name that was asked. A name whose find gave no answer, since the door failed or
 /// memory ran out, is not found again: each later ask of it wants memory.
 #[derive(Drop)]
-pub struct DoorOracle<'a, D: CountedDoor> {
+pub struct DoorOracle<'a, D: ClassDoor> {
     alloc: Global,
     /// The door.
     pub door: &'a mut D,
@@ -30,7 +29,7 @@ pub struct DoorOracle<'a, D: CountedDoor> {
     ghost counted: { D.finds door.now ≡ count_and finds (set.len asked) },
 }
 
-impl<'a, D: CountedDoor> DoorOracle<'a, D> {
+impl<'a, D: ClassDoor> DoorOracle<'a, D> {
     /// The oracle over a door, of which nothing was asked. It takes no memory.
     pub fn new(alloc: Global, door: &'a mut D) -> DoorOracle<'a, D>
         ensures tells { ⟦<DoorOracle<'a, D> as Oracle>⟧.tells result ≡ tells_of (record { reference = door.entry.ghost_name; finds = D.finds door.old }) (D.holds door.old) set.empty (D.faults door.old) }
@@ -55,7 +54,7 @@ impl<'a, D: CountedDoor> DoorOracle<'a, D> {
     }
 }
 
-impl<'a, D: CountedDoor> Oracle for DoorOracle<'a, D> {
+impl<'a, D: ClassDoor> Oracle for DoorOracle<'a, D> {
     ghost Kept = { OverDoor };
 
     ghost tells = { λ oracle. tells_of (record { reference = oracle.door.ghost_name; finds = oracle.finds }) (D.holds oracle.door.now) oracle.asked (D.faults oracle.door.now) };

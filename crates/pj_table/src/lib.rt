@@ -2,7 +2,6 @@
 //! rule holds between any two steps of any threads.
 #![tactic(auto)]
 
-mod counted_door;
 mod door_oracle;
 mod law;
 mod name_part;
@@ -13,7 +12,6 @@ mod steps;
 mod type_table;
 mod view;
 
-pub use counted_door::CountedDoor;
 pub use door_oracle::DoorOracle;
 pub use part::Part;
 pub use seat::{TableSeat, TypeTable};

@@ -67,6 +67,10 @@ impl<R: Files + AllocGlobal + Clone + Drop + Send> ClassDoor for RealDoor<R> {
             Err(_) => Err(fault(&mut self.faults)),
         }
     }
+
+    fn count_finds(&self) -> u64 {
+        self.finds
+    }
 }
 
 /// A class path whose folders are named by their paths. It has no fixed folders, and tells nothing of its files.
