@@ -11,3 +11,7 @@ pub mod SubstitutionLaws
 pub mod SubtypingLaws
 pub mod ListingLaws
 pub mod FiniteLaws
+pub mod BoxedNames
+pub mod NamesTaken
+pub mod NameTurns
+pub mod NameSearchLaws

@@ -1,15 +1,14 @@
 -- What is still to come of the loops over a walk.
-use Rattle.std.proofs.Common.{◌≡◌, ℕ, ◌<◌, ◌+◌, ◌-◌, suc, List, Bool, true, false, ap, refl, sym, ◌∙◌, arith}
-use Rattle.std.specs.Prelude.{map, Option, Some, None, if◌then◌else◌}
+use Rattle.std.proofs.Common.{◌≡◌, ℕ, ◌<◌, ◌+◌, ◌-◌, suc, List, ap, refl, sym, ◌∙◌, arith}
+use Rattle.std.specs.Prelude.{map, Option, Some, None}
 use Rattle.pj_names.specs.ClassName.{Name}
 use Rattle.pj_names.specs.JavaType.{JavaType}
 use Rattle.pj_names.specs.Asking.{Asking, Return, Unbounded, bind}
 use Rattle.pj_names.proofs.MeaningLaws.{bind-bind}
 use Rattle.pj_names.specs.Told.{Told, longest}
 use Rattle.pj_names.proofs.AskingLaws.{ComesTo, comes-deeper}
-use Rattle.pj_types.specs.Supertypes.{Listed, Standing, begin, given_type, no_hit, search_within, supertypes_within, supertype_list, step}
-use Rattle.pj_types.specs.Subtyping.{is_class_of, is_named, is_hit, is_on_list}
-use Rattle.pj_types.proofs.WalkLaws.{onward, as_types, tested, unless_hit, onward-step, search-onward}
+use Rattle.pj_types.specs.Supertypes.{Listed, Standing, begin, given_type, no_hit, supertypes_within, supertype_list, step}
+use Rattle.pj_types.proofs.WalkLaws.{onward, as_types, tested, onward-step, search-onward}
 
 -- the list, from where a walk stands
 abbrev pub types_from : ℕ → Standing → Asking (List JavaType)
@@ -52,54 +51,3 @@ begin-from name standing is = λ i. Unbounded (λ most. (types-begin most name �
 pub turn-from : {K : Type 0} (i : ℕ) (standing : Standing) {m : Asking (List JavaType)} {t u : Told K} → i < longest → ComesTo m t (all_types i standing) u
     → ComesTo m t (bind (step standing) (λ o. types_on (i + 1) o.0 o.1)) u
 turn-from i standing below so_far = comes-deeper (step standing) (λ most o. types_after (most - (i + 1)) o.0 o.1) (λ most far. types-turn most i standing (omega (arith, below, far))) so_far
-
--- Whether a class is on the list, from where a walk stands.
-
-abbrev pub hit_from : Name → ℕ → Standing → Asking Bool
-hit_from upper n standing = bind (onward (is_named upper) n standing) (λ o. Return (is_hit o.0))
-
-abbrev pub hit_after : Name → ℕ → Option JavaType → Standing → Asking Bool
-hit_after upper n None standing = Return false
-hit_after upper n (Some ty) standing = if is_class_of upper ty then Return true else hit_from upper n standing
-
-abbrev pub any_hit : Name → ℕ → Standing → Asking Bool
-any_hit upper i standing = Unbounded (λ most. hit_from upper (most - i) standing)
-
-abbrev pub hit_on : Name → ℕ → Option JavaType → Standing → Asking Bool
-hit_on upper i next standing = Unbounded (λ most. hit_after upper (most - i) next standing)
-
-found-begin : (most : ℕ) (lower upper : Name) (standing : Standing) → standing ≡ begin lower → bind (search_within most (is_named upper) lower) (λ o. Return (is_hit o.0)) ≡ hit_from upper (most - 0) standing
-found-begin most lower upper standing is =
-    let all : most ≡ most - 0 = omega arith in
-    ap (λ (m : Asking (Option (Unit {0}) × List JavaType)). bind m (λ o. Return (is_hit o.0))) (search-onward most (is_named upper) lower)
-    ∙ bind-bind (onward (is_named upper) most (begin lower)) (λ o. Return (as_types o)) (λ o. Return (is_hit o.0))
-    ∙ (λ i. hit_from upper (all i) (sym is i))
-
-pub hit-begin : (lower upper : Name) (standing : Standing) → standing ≡ begin lower → is_on_list lower upper ≡ any_hit upper 0 standing
-unfolding is_on_list
-hit-begin lower upper standing is = λ i. Unbounded (λ most. found-begin most lower upper standing is i)
-
-hit-suc : (upper : Name) (n : ℕ) (standing : Standing) → hit_from upper (suc n) standing ≡ bind (step standing) (λ o. hit_after upper n o.0 o.1)
-hit-suc upper n standing =
-    ap (λ (m : Asking (Option (Unit {0}) × List Listed)). bind m (λ o. Return (is_hit o.0))) (onward-step (is_named upper) n standing)
-    ∙ bind-bind (step standing) (λ o. tested (is_named upper) n o.0 o.1) (λ o. Return (is_hit o.0))
-    ∙ (λ i. bind (step standing) (λ o. at o.0 o.1 i))
-  where
-    either : (further : Standing) (b : Bool)
-        → bind (unless_hit (let hit : Option (Unit {0}) = (if b then Some tt else None) in hit) further (onward (is_named upper) n further)) (λ o. Return (is_hit o.0))
-        ≡ (if b then Return true else hit_from upper n further)
-    either further true = refl
-    either further false = refl
-
-    at : (next : Option JavaType) (further : Standing) → bind (tested (is_named upper) n next further) (λ o. Return (is_hit o.0)) ≡ hit_after upper n next further
-    at None further = refl
-    at (Some ty) further = either further (is_class_of upper ty)
-
-hit-at : (upper : Name) (most i : ℕ) (standing : Standing) → i < most → hit_from upper (most - i) standing ≡ bind (step standing) (λ o. hit_after upper (most - (i + 1)) o.0 o.1)
-hit-at upper most i standing below = let more : most - i ≡ suc (most - (i + 1)) = omega arith in ap (λ n. hit_from upper n standing) more ∙ hit-suc upper (most - (i + 1)) standing
-
--- one turn of the loop
-pub hit-turn : {K : Type 0} (upper : Name) (i : ℕ) (standing : Standing) {m : Asking Bool} {t u : Told K} → i < longest → ComesTo m t (any_hit upper i standing) u
-    → ComesTo m t (bind (step standing) (λ o. hit_on upper (i + 1) o.0 o.1)) u
-hit-turn upper i standing below so_far =
-    comes-deeper (step standing) (λ most o. hit_after upper (most - (i + 1)) o.0 o.1) (λ most far. hit-at upper most i standing (omega (arith, below, far))) so_far

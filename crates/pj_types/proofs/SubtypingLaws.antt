@@ -13,7 +13,7 @@ use Rattle.pj_names.specs.Asking as asking
 use Rattle.pj_names.proofs.MeaningLaws.{value_of-bind}
 use Rattle.pj_types.specs.Substitution.{erased}
 use Rattle.pj_types.specs.Supertypes.{Listed, first_listed, name_of, on_listed, direct, search_within, no_hit, supertypes_within, supertype_list, class_name, begin}
-use Rattle.pj_types.specs.Subtyping.{is_named, is_hit, is_on_list, is_class_under, is_primitive, is_primitive_under, is_under, as_member, erased_under}
+use Rattle.pj_types.specs.Subtyping.{is_named, is_hit, is_on_list, is_class_under, is_null, is_primitive, is_primitive_under, is_under, is_unknown, is_void, as_member, erased_under}
 use Rattle.pj_types.proofs.WalkLaws.{onward, as_types, search-onward}
 use Rattle.pj_types.proofs.ListingLaws.{names-given}
 
@@ -164,3 +164,35 @@ module _ (d : ℕ) (w : Name → Answer) where
   under-itself (Array member) = member_same (erased member) (under-itself member)
   under-itself (Variable name bound) = under-itself bound
   under-itself Unknown = refl
+
+  -- The type of `null`, `void` and the type that is not known are above themselves alone.
+
+  pub under-null : (ty : JavaType) → value_of d w (erased_under ty Null) ≡ is_null ty
+  unfolding erased_under
+  under-null (Primitive prim) = refl
+  under-null Void = refl
+  under-null Null = refl
+  under-null (Class name arguments) = refl
+  under-null (Array member) = refl
+  under-null (Variable name bound) = refl
+  under-null Unknown = refl
+
+  pub under-void : (ty : JavaType) → value_of d w (erased_under ty Void) ≡ is_void ty
+  unfolding erased_under
+  under-void (Primitive prim) = refl
+  under-void Void = refl
+  under-void Null = refl
+  under-void (Class name arguments) = refl
+  under-void (Array member) = refl
+  under-void (Variable name bound) = refl
+  under-void Unknown = refl
+
+  pub under-unknown : (ty : JavaType) → value_of d w (erased_under ty Unknown) ≡ is_unknown ty
+  unfolding erased_under
+  under-unknown (Primitive prim) = refl
+  under-unknown Void = refl
+  under-unknown Null = refl
+  under-unknown (Class name arguments) = refl
+  under-unknown (Array member) = refl
+  under-unknown (Variable name bound) = refl
+  under-unknown Unknown = refl

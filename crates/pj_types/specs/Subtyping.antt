@@ -84,6 +84,15 @@ is_void (Array member) = false
 is_void (Variable name bound) = false
 is_void Unknown = false
 
+abbrev pub is_null : JavaType → Bool
+is_null (Primitive prim) = false
+is_null Void = false
+is_null Null = true
+is_null (Class name arguments) = false
+is_null (Array member) = false
+is_null (Variable name bound) = false
+is_null Unknown = false
+
 abbrev pub is_unknown : JavaType → Bool
 is_unknown (Primitive prim) = false
 is_unknown Void = false

@@ -1,12 +1,13 @@
 //! The list of supertypes of a class.
-ghost use Rattle.std.specs.Prelude.{◌≡◌, IfOk, map};
-ghost use Rattle.pj_names.specs.JavaType.{java_type, type_list};
+ghost use Rattle.pj_names.specs.JavaType.{type_list};
 ghost use Rattle.pj_names.specs.Told.{Asks, seen};
-ghost use Rattle.pj_types.specs.Supertypes.{class_name, supertype_list, supertypes_of};
+ghost use Rattle.pj_types.specs.Supertypes.{supertype_list, supertypes_of};
 
+use crate::direct::direct_names;
+use crate::name_walk::NameWalk;
 use crate::walk::Walk;
-use pj_base::{Copied, Names, NoMemory, Text};
-use pj_names::{AskFault, ClassName, Oracle, Ty, TyList};
+use pj_base::Names;
+use pj_names::{AskFault, ClassName, Oracle, TyList};
 use std::alloc::Global;
 
 /// The most classes that a walk is followed: a list has no more members.
@@ -35,29 +36,9 @@ pub fn supertype_list<O: Oracle>(
     Err(AskFault::Memory)
 }
 
-/// The name of a class.
-fn class_name(alloc: Global, ty: &Ty) -> Result<Text, NoMemory>
-    ensures { IfOk result (λ name. name ≡ class_name (java_type ty.now)) }
-{
-    match ty {
-        Ty::Class(name, _) => Ok(Text::from_str(alloc, name.as_str())?),
-        _ => Ok(Text::new(alloc)),
-    }
-}
-
-/// The names of classes, in their order.
-fn class_names(alloc: Global, types: &TyList) -> Result<Names, NoMemory>
-    ensures { IfOk result (λ names. names ≡ map class_name (type_list types.now)) }
-{
-    let mut names = Names::new(alloc);
-    for ty in types.as_slice() {
-        names.push(class_name(alloc, ty)?)?;
-    }
-    Ok(names)
-}
-
 /// The names of a class and of its supertypes, as `supertype_list` gives them.
-#[tactic(auto, using(pj_names::proofs::AskingLaws::asking_steps))]
+///
+/// The walk goes by names, so no type arguments are put in.
 pub fn supertypes<O: Oracle>(
     alloc: Global,
     oracle: &mut O,
@@ -65,7 +46,15 @@ pub fn supertypes<O: Oracle>(
 ) -> Result<Names, AskFault>
     ensures { Asks (supertypes_of name.now) (O.tells oracle.old) (O.tells oracle.new) result }
 {
-    let types = supertype_list(alloc, oracle, name)?;
-    let names = class_names(alloc, &types)?;
-    Ok(names)
+    let mut walk = NameWalk::of(alloc, name)?;
+    let mut names = Names::new(alloc);
+    for _class in 0..MOST_CLASSES {
+        let Some(class) = walk.next_class()? else {
+            return Ok(names);
+        };
+        let more = direct_names(alloc, oracle, &class)?;
+        names.push(class.into_text())?;
+        walk.put(more)?;
+    }
+    Err(AskFault::Memory)
 }

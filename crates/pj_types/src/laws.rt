@@ -6,11 +6,11 @@ ghost use Rattle.pj_names.specs.declared.answer.Answer.{Answer};
 ghost use Rattle.pj_names.specs.AnswerList.{list_world};
 ghost use Rattle.pj_names.specs.Asking.{Asking, has_name, names_of, value_of};
 ghost use Rattle.pj_names.specs.ClassName.{Name, NameSet, name_set};
-ghost use Rattle.pj_names.specs.JavaType.{Arguments, Class, JavaType};
+ghost use Rattle.pj_names.specs.JavaType.{Arguments, Class, JavaType, Null, Unknown, Void};
 ghost use Rattle.pj_names.specs.Meaning.{Done, Gives, Means, Source, over, whole, Agrees};
 ghost use Rattle.pj_types.specs.Listing.{AreSupertypes, asked_names};
 ghost use Rattle.pj_types.specs.Substitution.{erased, substituted};
-ghost use Rattle.pj_types.specs.Subtyping.{is_under};
+ghost use Rattle.pj_types.specs.Subtyping.{is_null, is_null_under, is_under, is_unknown, is_void};
 ghost use Rattle.pj_types.specs.Supertypes.{Standing, begin, class_name, last_asked, search, step, supertype_list, supertypes_of};
 ghost use Rattle.pj_types.specs.WalkAnswers.{answers};
 ghost use Rattle.std.specs.Prelude.{true};
@@ -53,4 +53,15 @@ pub fn subtyping_is_by_the_list()
     ensures classes { (depth : ℕ) (world : Name → Answer) (lower upper : Name) (arguments others : Arguments) → 0 < depth
         → value_of depth world (is_under (Class lower arguments) (Class upper others)) ≡ has_name (map class_name (value_of depth world (supertype_list lower))) upper }
     ensures itself { (depth : ℕ) (world : Name → Answer) (ty : JavaType) → value_of depth world (is_under ty ty) ≡ true }
+{}
+
+/// The type of `null`, `void` and the type that is not known (JLS 4.1, 4.10): the type of `null` is under itself, each class and each
+/// array, and `void` and the type that is not known are under themselves alone. Nothing else is under one of the three.
+pub fn special_types_are_apart()
+    ensures null_below { (depth : ℕ) (world : Name → Answer) (ty : JavaType) → value_of depth world (is_under Null ty) ≡ is_null_under (erased ty) }
+    ensures null_above { (depth : ℕ) (world : Name → Answer) (ty : JavaType) → value_of depth world (is_under ty Null) ≡ is_null (erased ty) }
+    ensures void_below { (depth : ℕ) (world : Name → Answer) (ty : JavaType) → value_of depth world (is_under Void ty) ≡ is_void (erased ty) }
+    ensures void_above { (depth : ℕ) (world : Name → Answer) (ty : JavaType) → value_of depth world (is_under ty Void) ≡ is_void (erased ty) }
+    ensures unknown_below { (depth : ℕ) (world : Name → Answer) (ty : JavaType) → value_of depth world (is_under Unknown ty) ≡ is_unknown (erased ty) }
+    ensures unknown_above { (depth : ℕ) (world : Name → Answer) (ty : JavaType) → value_of depth world (is_under ty Unknown) ≡ is_unknown (erased ty) }
 {}

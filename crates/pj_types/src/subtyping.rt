@@ -2,16 +2,17 @@
 ghost use Rattle.std.specs.Prelude.{◌≡◌};
 ghost use Rattle.pj_names.specs.JavaType.{java_type};
 ghost use Rattle.pj_names.specs.Told.{Asks};
-ghost use Rattle.pj_types.specs.Subtyping.{class_under, erased_under, is_above_arrays, is_class_of, is_class_under, is_null_under, is_on_list, is_primitive, is_primitive_under, is_under, primitive_under};
+ghost use Rattle.pj_types.specs.Subtyping.{class_under, erased_under, is_above_arrays, is_class_under, is_null_under, is_on_list, is_primitive, is_primitive_under, is_under, primitive_under};
 
+use crate::direct::direct_names;
 use crate::hierarchy::MOST_CLASSES;
+use crate::name_walk::NameWalk;
 use crate::substitution::erase;
-use crate::walk::Walk;
 use pj_names::{AskFault, ClassName, Oracle, Prim, Ty};
 use std::alloc::Global;
 
 /// Whether a primitive type is under another one (JLS 4.10.1).
-fn is_primitive_under(lower: Prim, upper: Prim) -> bool
+pub fn is_primitive_under(lower: Prim, upper: Prim) -> bool
     ensures { result ≡ is_primitive_under lower upper }
 {
     match upper {
@@ -62,17 +63,7 @@ fn is_above_arrays(name: &ClassName) -> bool
         || name.as_str() == "java.io.Serializable"
 }
 
-/// Whether a type is the class of a name.
-fn is_class_of(name: &ClassName, ty: &Ty) -> bool
-    ensures { result ≡ is_class_of name.now (java_type ty.now) }
-{
-    match ty {
-        Ty::Class(other, _) => other == name,
-        _ => false,
-    }
-}
-
-/// Whether a class is on the list of supertypes of another one: it is looked for along the list.
+/// Whether a class is on the list of supertypes of another one: it is looked for along the list, by its name.
 fn is_on_list<O: Oracle>(
     alloc: Global,
     oracle: &mut O,
@@ -81,14 +72,16 @@ fn is_on_list<O: Oracle>(
 ) -> Result<bool, AskFault>
     ensures { Asks (is_on_list lower.now upper.now) (O.tells oracle.old) (O.tells oracle.new) result }
 {
-    let mut walk = Walk::of(alloc, lower)?;
+    let mut walk = NameWalk::of(alloc, lower)?;
     for _class in 0..MOST_CLASSES {
-        let Some(ty) = walk.next_class(oracle)? else {
+        let Some(class) = walk.next_class()? else {
             return Ok(false);
         };
-        if is_class_of(upper, &ty) {
+        if class == *upper {
             return Ok(true);
         }
+        let more = direct_names(alloc, oracle, &class)?;
+        walk.put(more)?;
     }
     Err(AskFault::Memory)
 }
@@ -157,8 +150,8 @@ fn erased_under<O: Oracle>(
 /// under `java.lang.Object`, `java.lang.Cloneable` and `java.io.Serializable`. A primitive type is under itself and the wider
 /// ones. `void` and the type that is not known are under themselves alone.
 ///
-/// No number bounds the search: where a list of supertypes has more members than a list can hold and the class is not among
-/// the first of them, memory is wanted.
+/// The search goes by names, so no type arguments are put in. No number bounds it: where a list of supertypes has more members than
+/// a list can hold and the class is not among the first of them, memory is wanted.
 #[tactic(auto, using(pj_names::proofs::AskingLaws::asking_steps))]
 pub fn is_subtype<O: Oracle>(
     alloc: Global,
