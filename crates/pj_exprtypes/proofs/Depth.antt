@@ -134,3 +134,9 @@ type-goes-on t tree n =
     ∙ types-alike t tree var (typed t var (deep t - 1)) (typed t var (deep t)) n
     (λ m after. ap (λ left. typed t var left m) less ∙ typed-more t tree var (length t.nodes) m (omega arith) ∙ ap (λ left. typed t var left m) more)
     (kind_of t n)
+
+pub types-go-deeper : (t : Tree) → IsSyntaxTree t → (var : Node → Asking JavaType) (more : ℕ) (n : Node) → typed t var (deep t + more) n ≡ typed t var (deep t) n
+types-go-deeper t tree var zero n = let none : deep t + 0 ≡ deep t = omega arith in ap (λ left. typed t var left n) none
+types-go-deeper t tree var (suc more) n =
+    let next : deep t + suc more ≡ suc (deep t + more) = omega arith in
+    ap (λ left. typed t var left n) next ∙ sym (typed-more t tree var (deep t + more) n (omega arith)) ∙ types-go-deeper t tree var more n

@@ -8,13 +8,16 @@ use Rattle.pj_names.specs.JavaType.{JavaType, Unknown}
 use Rattle.pj_names.specs.Asking.{Asking, Return, bind}
 use Rattle.pj_names.specs.Told.{Worlds}
 use Rattle.pj_symbols.specs.Variables.{declaration_of}
-use Rattle.pj_leaf_types.specs.Variables.{declared_by, is_var, is_var_name}
+use Rattle.pj_file_oracle.specs.Types.{declared_type}
+use Rattle.pj_leaf_types.specs.Variables.{declared_by, first_name, is_var, is_var_name}
+use Rattle.pj_exprtypes.specs.declared.order.Pending.{Pending}
 use Rattle.pj_exprtypes.specs.declared.order.Pending.TheVariants as pending
-use Rattle.pj_exprtypes.specs.Declarations.{type_or_none, variable_by, variable_type}
-use Rattle.pj_exprtypes.specs.Order.{AreOperands, IsOf, IsPart}
+use Rattle.pj_exprtypes.specs.declared.order.Wanted.{Wanted}
+use Rattle.pj_exprtypes.specs.Declarations.{declaration_type, type_or_none, variable_by, variable_or_unknown, variable_type}
+use Rattle.pj_exprtypes.specs.Order.{AreOperands, AreParts, IsOf, IsPart}
 use Rattle.pj_exprtypes.specs.Parts.{IsPartOf}
 use Rattle.pj_exprtypes.specs.TypeOf.{earlier, typed, var_of}
-use Rattle.pj_exprtypes.proofs.Parts.{part-first, part-nothing, part-second, part-self}
+use Rattle.pj_exprtypes.proofs.Parts.{part-first, part-nothing, part-second, part-self, part-trans}
 use Rattle.pj_exprtypes.proofs.Steps.{earlier-some}
 
 -- ---- expressions of two operands, of one, of none
@@ -22,9 +25,10 @@ use Rattle.pj_exprtypes.proofs.Steps.{earlier-some}
 module _ (w : Worlds) (t : Tree) (type_of : Node → Asking JavaType) where
   pub both-operands : (first second : Option Node) (k : JavaType → JavaType → Asking JavaType)
       → AreOperands w t type_of (bind (type_or_none t type_of first) (λ a. bind (type_or_none t type_of second) (λ b. k a b))) (record { first = first; second = second })
-  both-operands first second k =
-      (part-first w (type_or_none t type_of first) (λ a. bind (type_or_none t type_of second) (λ b. k a b)),
-      part-second w (type_or_none t type_of first) (λ a. bind (type_or_none t type_of second) (λ b. k a b)) (λ a. part-first w (type_or_none t type_of second) (λ b. k a b)))
+  both-operands first second k = (
+    part-first w (type_or_none t type_of first) (λ a. bind (type_or_none t type_of second) (λ b. k a b)),
+    part-second w (type_or_none t type_of first) (λ a. bind (type_or_none t type_of second) (λ b. k a b)) (λ a. part-first w (type_or_none t type_of second) (λ b. k a b)),
+  )
 
   pub one-operand : (first : Option Node) (k : JavaType → Asking JavaType) → AreOperands w t type_of (bind (type_or_none t type_of first) k) (record { first = first; second = None })
   one-operand first k = (part-first w (type_or_none t type_of first) k, part-nothing w Unknown (bind (type_or_none t type_of first) k))
@@ -60,3 +64,15 @@ variable-var t var id is = at (declaration_of t id) refl
 -- of one before a number
 pub variable-open : (t : Tree) (before : ℕ) (id : Node) → id.0 < before → IsTrue (is_var_name t id) → variable_type t (earlier t before) id ≡ var_of t id
 variable-open t before id above is = variable-var t (earlier t before) id is ∙ earlier-some t before id above
+
+pub declaration-var : (t : Tree) (var : Node → Asking JavaType) (declaration : Node) → is_var t declaration ≡ true → declaration_type t var declaration ≡ variable_or_unknown t var (first_name t declaration)
+declaration-var t var declaration is = ap (λ (b : Bool). if b then variable_or_unknown t var (first_name t declaration) else declared_type t 0 declaration) is
+
+-- ---- what is wanted for a part is wanted for the whole
+
+part-of-whole : (w : Worlds) (t : Tree) (part whole : Asking JavaType) (p : Option Pending) → IsPartOf w part whole → IfSome p (IsPart w t part) → IfSome p (IsPart w t whole)
+part-of-whole w t part whole None is has = tt
+part-of-whole w t part whole (Some p) is has = part-trans has is
+
+pub parts-of-whole : (w : Worlds) (t : Tree) (part whole : Asking JavaType) (wanted : Wanted) → IsPartOf w part whole → AreParts w t part wanted → AreParts w t whole wanted
+parts-of-whole w t part whole wanted is has = (part-of-whole w t part whole wanted.next is has.0, part-of-whole w t part whole wanted.later is has.1)

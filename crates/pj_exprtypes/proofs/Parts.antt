@@ -93,6 +93,16 @@ part-second w {part = part} m k each = record {
       (of_among (needs_of d (w d) (k v)) (needs_of d (w d) m ++ needs_of d (w d) (k v)) (in_right (needs_of d (w d) m) (needs_of d (w d) (k v)))));
 }
 
+-- the second, for the value to which the first one comes
+pub part-next : {A B : Type 0} (w : Worlds) (m : Asking A) (k : A → Asking B) (v : A) → ((d : ℕ) → longest ≤ d → v ≡ value_of d (w d).answer m) → IsPartOf w (k v) (bind m k)
+part-next {A = A} w m k v is = record {
+  each = λ d far.
+      let at : A = value_of d (w d).answer m in
+      subst (λ (u : A). IsWithin (name_set (needs_of d (w d) (k u))) (name_set (needs_of d (w d) (bind m k)))) (sym (is d far))
+      (subst (λ l. IsWithin (name_set (needs_of d (w d) (k at))) (name_set l)) (sym (needs-bind d (w d) m k))
+      (of_among (needs_of d (w d) (k at)) (needs_of d (w d) m ++ needs_of d (w d) (k at)) (in_right (needs_of d (w d) m) (needs_of d (w d) (k at)))));
+}
+
 -- nothing is asked
 pub part-nothing : {A B : Type 0} (w : Worlds) (v : B) (m : Asking A) → IsPartOf w (Return v) m
 part-nothing w v m = record { each = λ d far. of_among [] (needs_of d (w d) m) (λ q there. absurd (cc)) }

@@ -1,13 +1,14 @@
 //! The operands of expressions, and what the types of variables are made of that are declared by `var`.
 
-ghost use Rattle.std.specs.Prelude.{◌≡◌, ◌<◌, length, IfSome};
+ghost use Rattle.std.specs.Prelude.{◌≡◌, ◌<◌, None, Some, length, IfSome};
+ghost use Rattle.pj_tree.specs.Children.{first_child, second_child};
 ghost use Rattle.pj_names.specs.Asking.{Asking};
 ghost use Rattle.pj_names.specs.JavaType.{JavaType};
 ghost use Rattle.pj_names.specs.Told.{Worlds};
 ghost use Rattle.pj_tree.specs.Tree.{kind_of};
 ghost use Rattle.pj_tree.specs.declared.node.Node.{Node};
 ghost use Rattle.pj_exprtypes.specs.Declarations.{type_or_none, var_type};
-ghost use Rattle.pj_exprtypes.specs.Expressions.{infix_expression, third_child, unary_expression};
+ghost use Rattle.pj_exprtypes.specs.Expressions.{infix_by, infix_expression, third_child, unary_by, unary_expression};
 ghost use Rattle.pj_exprtypes.specs.Order.{AreInside, AreOperands};
 ghost use Rattle.pj_exprtypes.specs.Parts.{IsPartOf};
 ghost use Rattle.pj_exprtypes.specs.TypeOf.{type_by};
@@ -61,6 +62,32 @@ fn one_operand(first: Option<Node>) -> Operands
     }
 }
 
+/// The first two children of a node.
+fn both_operands(tree: &SyntaxTree<'_>, n: Node) -> Operands
+    requires inside { n.0 < length tree.now.nodes }
+    ensures value { result ≡ record { first = first_child tree.now n; second = second_child tree.now n } }
+    ensures inside { AreInside tree.now result }
+{
+    let first = first_child(tree, n);
+    let second = second_child(tree, n);
+    Operands { first, second }
+}
+
+/// Those of an infix expression by its operator.
+fn operands_by(tree: &SyntaxTree<'_>, operator: Infix, n: Node) -> Operands
+    requires inside { n.0 < length tree.now.nodes }
+    ensures inside { AreInside tree.now result }
+    ensures parts { (worlds : Worlds) (type_of : Node → Asking JavaType) → AreOperands worlds tree.now type_of (infix_by tree.now type_of n (Some operator)) result }
+{
+    match operator {
+        Infix::Test => no_operands(),
+        Infix::Shift => one_operand(first_child(tree, n)),
+        Infix::Sum => both_operands(tree, n),
+        Infix::Bitwise => both_operands(tree, n),
+        Infix::Arithmetic => both_operands(tree, n),
+    }
+}
+
 /// Those of an infix expression.
 fn infix_operands(tree: &SyntaxTree<'_>, n: Node) -> Operands
     requires inside { n.0 < length tree.now.nodes }
@@ -68,12 +95,21 @@ fn infix_operands(tree: &SyntaxTree<'_>, n: Node) -> Operands
     ensures parts { (worlds : Worlds) (type_of : Node → Asking JavaType) → AreOperands worlds tree.now type_of (infix_expression tree.now type_of n) result }
 {
     match infix_of(tree, n) {
-        None | Some(Infix::Test) => no_operands(),
-        Some(Infix::Shift) => one_operand(first_child(tree, n)),
-        Some(Infix::Sum | Infix::Arithmetic | Infix::Bitwise) => Operands {
-            first: first_child(tree, n),
-            second: second_child(tree, n),
-        },
+        Some(operator) => operands_by(tree, operator, n),
+        None => no_operands(),
+    }
+}
+
+/// That of a unary expression by its operator.
+fn operand_by(tree: &SyntaxTree<'_>, operator: Unary, n: Node) -> Operands
+    requires inside { n.0 < length tree.now.nodes }
+    ensures inside { AreInside tree.now result }
+    ensures parts { (worlds : Worlds) (type_of : Node → Asking JavaType) → AreOperands worlds tree.now type_of (unary_by tree.now type_of n (Some operator)) result }
+{
+    match operator {
+        Unary::Not => no_operands(),
+        Unary::Step => one_operand(first_child(tree, n)),
+        Unary::Sign => one_operand(first_child(tree, n)),
     }
 }
 
@@ -84,8 +120,8 @@ fn unary_operand(tree: &SyntaxTree<'_>, n: Node) -> Operands
     ensures parts { (worlds : Worlds) (type_of : Node → Asking JavaType) → AreOperands worlds tree.now type_of (unary_expression tree.now type_of n) result }
 {
     match unary_of(tree, n) {
-        None | Some(Unary::Not) => no_operands(),
-        Some(Unary::Step | Unary::Sign) => one_operand(first_child(tree, n)),
+        Some(operator) => operand_by(tree, operator, n),
+        None => no_operands(),
     }
 }
 
@@ -95,10 +131,9 @@ fn branches(tree: &SyntaxTree<'_>, n: Node) -> Operands
     ensures value { result ≡ record { first = second_child tree.now n; second = third_child tree.now n } }
     ensures inside { AreInside tree.now result }
 {
-    Operands {
-        first: second_child(tree, n),
-        second: third_child(tree, n),
-    }
+    let first = second_child(tree, n);
+    let second = third_child(tree, n);
+    Operands { first, second }
 }
 
 /// Those of a node of any kind.
@@ -111,9 +146,9 @@ pub fn operands_of(tree: &SyntaxTree<'_>, n: Node) -> Operands
         Kind::InfixExpression => infix_operands(tree, n),
         Kind::UnaryExpression => unary_operand(tree, n),
         Kind::ConditionalExpression => branches(tree, n),
-        Kind::FieldAccess | Kind::AssignmentExpression | Kind::ArrayAccess => {
-            one_operand(first_child(tree, n))
-        }
+        Kind::FieldAccess => one_operand(first_child(tree, n)),
+        Kind::AssignmentExpression => one_operand(first_child(tree, n)),
+        Kind::ArrayAccess => one_operand(first_child(tree, n)),
         _ => no_operands(),
     }
 }

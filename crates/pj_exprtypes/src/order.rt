@@ -81,10 +81,9 @@ fn for_operands(tree: &SyntaxTree<'_>, before: u32, left: u32, n: Node) -> Wante
     ensures parts { (worlds : Worlds) → AreParts worlds tree.now (type_by tree.now (earlier tree.now before) (typed tree.now (earlier tree.now before) left) n (kind_of tree.now n)) result }
 {
     let operands = operands_of(tree, n);
-    Wanted {
-        next: visit_of(before, left, operands.first),
-        later: visit_of(before, left, operands.second),
-    }
+    let next = visit_of(before, left, operands.first);
+    let later = visit_of(before, left, operands.second);
+    Wanted { next, later }
 }
 
 /// A variable that is declared by `var` is to be found, and before it what its type is made of.
@@ -94,8 +93,9 @@ fn for_var(tree: &SyntaxTree<'_>, id: Node) -> Wanted
     ensures parts { (worlds : Worlds) → AreParts worlds tree.now (var_of tree.now id) result }
 {
     let left = tree.len() + 1;
+    let operand = operand_of_variable(tree, id);
     Wanted {
-        next: visit_of(id.0, left, operand_of_variable(tree, id)),
+        next: visit_of(id.0, left, operand),
         later: Some(Pending::Find(id)),
     }
 }
@@ -175,13 +175,9 @@ fn for_meant(
 fn may_be_open(file: &File<'_>, types: &Typed, before: u32, n: Node) -> bool
     requires inside { n.0 < length file.now.nodes }
 {
-    match file
-        .declarations()
-        .variable(first_word(file.tree(), n), n)
-    {
+    match file.declarations().variable(first_word(file.tree(), n), n) {
         Some(found) => {
-            found.node.0 < file.tree().len()
-                && is_open(file.tree(), types, before, found.node)
+            found.node.0 < file.tree().len() && is_open(file.tree(), types, before, found.node)
         }
         None => false,
     }

@@ -5,7 +5,7 @@ ghost use Rattle.pj_names.specs.Expand.{expand};
 ghost use Rattle.pj_names.specs.JavaType.{java_type};
 ghost use Rattle.pj_names.specs.Told.{Asks, seen};
 ghost use Rattle.pj_file_oracle.specs.FileAnswer.{file_answer};
-ghost use Rattle.pj_exprtypes.specs.Table.{Keeps};
+ghost use Rattle.pj_exprtypes.specs.Table.{Keeps, KeepsOver};
 ghost use Rattle.pj_exprtypes.specs.TypeOf.{type_of};
 
 use crate::held::Typed;
@@ -61,16 +61,16 @@ pub(crate) fn node_type<O: Oracle>(
 /// known, is `Unknown`; a method call is.
 ///
 /// It asks the oracle beneath for what the classes of the file need that the type is made of, and for the other classes. After a refusal none but these was
-/// asked. The oracle of the file stays as it is.
-pub fn type_of<'a, 'f, O: Oracle>(
-    oracle: &mut FileOracle<'a, 'f, O>,
+/// asked. The oracle of the file stays as it is. What is held is right before and after, also after a refusal.
+pub fn type_of<O: Oracle>(
+    oracle: &mut FileOracle<'_, '_, O>,
     types: &mut Typed,
     n: Node,
 ) -> Result<Ty, AskFault>
     requires inside { n.0 < length oracle.old.file.now.nodes }
-    requires keeps { Keeps oracle.old.file.now (⟦<FileOracle<'a, 'f, O> as Oracle>⟧.tells oracle.old) types.old }
+    requires keeps { KeepsOver oracle.old.file.now (O.tells oracle.old.inner.now) types.old }
     ensures asks { Asks (expand (file_answer oracle.old.file.now) (type_of oracle.old.file.now n)) (O.tells oracle.old.inner.now) (O.tells oracle.new.inner.now) (seen java_type result) }
-    ensures keeps { Keeps oracle.old.file.now (⟦<FileOracle<'a, 'f, O> as Oracle>⟧.tells oracle.new) types.new }
+    ensures keeps { KeepsOver oracle.old.file.now (O.tells oracle.new.inner.now) types.new }
     ensures file { oracle.new.file.now ≡ oracle.old.file.now }
     ensures held { oracle.new.inner.ghost_name ≡ oracle.old.inner.ghost_name }
 {

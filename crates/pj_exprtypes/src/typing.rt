@@ -2,7 +2,7 @@
 //!
 //! A call recurses as deep as an expression; a variable that is declared by `var` is typed only where those that its own type is made of are held.
 
-ghost use Rattle.std.specs.Prelude.{◌<◌, ◌≤◌, length, IfOk, IfSome, IsTrue};
+ghost use Rattle.std.specs.Prelude.{◌<◌, ◌≤◌, Some, length, IfOk, IfSome, IsTrue};
 ghost use Rattle.pj_names.specs.ClassName.{name_set};
 ghost use Rattle.pj_names.specs.Held.{IsHeld};
 ghost use Rattle.pj_names.specs.JavaType.{java_type};
@@ -236,6 +236,34 @@ fn shift<'r, O: Oracle>(
     Ok(promoted(&operand))
 }
 
+/// The type of an infix expression by its operator.
+#[cycle(typing)]
+#[tactic(auto, using(pj_names::proofs::AskingLaws::asking_steps))]
+fn infix_by<'r, O: Oracle>(
+    alloc: Global,
+    file: &File<'_>,
+    oracle: &mut Recorder<'r, O>,
+    types: &mut Typed,
+    before: u32,
+    left: u32,
+    operator: Infix,
+    n: Node,
+) -> Result<Ty, AskFault>
+    requires inside { n.0 < length file.now.nodes }
+    requires left { left ≤ 2000001 }
+    requires keeps { Keeps file.now (⟦<Recorder<'r, O> as Oracle>⟧.tells oracle.old) types.old }
+    ensures asks { Asks (expressions.infix_by file.now (typed file.now (earlier file.now before) left) n (Some operator)) (⟦<Recorder<'r, O> as Oracle>⟧.tells oracle.old) (⟦<Recorder<'r, O> as Oracle>⟧.tells oracle.new) (seen java_type result) }
+    ensures keeps { Keeps file.now (⟦<Recorder<'r, O> as Oracle>⟧.tells oracle.new) types.new }
+{
+    match operator {
+        Infix::Test => Ok(Ty::Prim(Prim::Boolean)),
+        Infix::Shift => shift(alloc, file, oracle, types, before, left, n),
+        Infix::Sum => both_by(alloc, file, oracle, types, before, left, operator, n),
+        Infix::Bitwise => both_by(alloc, file, oracle, types, before, left, operator, n),
+        Infix::Arithmetic => both_by(alloc, file, oracle, types, before, left, operator, n),
+    }
+}
+
 /// The type of an infix expression.
 #[cycle(typing)]
 #[tactic(auto, using(pj_names::proofs::AskingLaws::asking_steps))]
@@ -255,10 +283,8 @@ fn infix_expression<'r, O: Oracle>(
     ensures keeps { Keeps file.now (⟦<Recorder<'r, O> as Oracle>⟧.tells oracle.new) types.new }
 {
     match infix_of(file.tree(), n) {
+        Some(operator) => infix_by(alloc, file, oracle, types, before, left, operator, n),
         None => Ok(Ty::Unknown),
-        Some(Infix::Test) => Ok(Ty::Prim(Prim::Boolean)),
-        Some(Infix::Shift) => shift(alloc, file, oracle, types, before, left, n),
-        Some(other) => both_by(alloc, file, oracle, types, before, left, other, n),
     }
 }
 
@@ -285,6 +311,32 @@ fn unary_with<'r, O: Oracle>(
     Ok(unary_type(operator, operand))
 }
 
+/// The type of a unary expression by its operator.
+#[cycle(typing)]
+#[tactic(auto, using(pj_names::proofs::AskingLaws::asking_steps))]
+fn unary_by<'r, O: Oracle>(
+    alloc: Global,
+    file: &File<'_>,
+    oracle: &mut Recorder<'r, O>,
+    types: &mut Typed,
+    before: u32,
+    left: u32,
+    operator: Unary,
+    n: Node,
+) -> Result<Ty, AskFault>
+    requires inside { n.0 < length file.now.nodes }
+    requires left { left ≤ 2000001 }
+    requires keeps { Keeps file.now (⟦<Recorder<'r, O> as Oracle>⟧.tells oracle.old) types.old }
+    ensures asks { Asks (expressions.unary_by file.now (typed file.now (earlier file.now before) left) n (Some operator)) (⟦<Recorder<'r, O> as Oracle>⟧.tells oracle.old) (⟦<Recorder<'r, O> as Oracle>⟧.tells oracle.new) (seen java_type result) }
+    ensures keeps { Keeps file.now (⟦<Recorder<'r, O> as Oracle>⟧.tells oracle.new) types.new }
+{
+    match operator {
+        Unary::Not => Ok(Ty::Prim(Prim::Boolean)),
+        Unary::Step => unary_with(alloc, file, oracle, types, before, left, operator, n),
+        Unary::Sign => unary_with(alloc, file, oracle, types, before, left, operator, n),
+    }
+}
+
 /// The type of a unary expression.
 #[cycle(typing)]
 #[tactic(auto, using(pj_names::proofs::AskingLaws::asking_steps))]
@@ -304,9 +356,8 @@ fn unary_expression<'r, O: Oracle>(
     ensures keeps { Keeps file.now (⟦<Recorder<'r, O> as Oracle>⟧.tells oracle.new) types.new }
 {
     match unary_of(file.tree(), n) {
+        Some(operator) => unary_by(alloc, file, oracle, types, before, left, operator, n),
         None => Ok(Ty::Unknown),
-        Some(Unary::Not) => Ok(Ty::Prim(Prim::Boolean)),
-        Some(other) => unary_with(alloc, file, oracle, types, before, left, other, n),
     }
 }
 

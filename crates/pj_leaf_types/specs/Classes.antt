@@ -6,7 +6,7 @@ use Rattle.pj_tree.specs.Children.{child_of, first_child, has_child}
 use Rattle.pj_tree.specs.Kinds.{is_kind}
 use Rattle.pj_tree.specs.declared.kind.Kind.TheVariants as k
 use Rattle.pj_tree.specs.declared.node.Node.{Node}
-use Rattle.pj_names.specs.JavaType.{JavaType, Unknown}
+use Rattle.pj_names.specs.JavaType.{JavaType, Class, NoMore, Unknown}
 use Rattle.pj_names.specs.Asking.{Asking, Return, bind}
 use Rattle.pj_declared.specs.Bodies.{class_at}
 use Rattle.pj_written.specs.Headers.{class_text, created, is_constant_body}
@@ -14,6 +14,11 @@ use Rattle.pj_written.specs.Types.{class_of_text, object_type}
 use Rattle.pj_written.specs.Words.{is_interface}
 use Rattle.pj_type_names.specs.TypeName.{written_type}
 use Rattle.pj_file_oracle.specs.Supertypes.{enum_type, implied_superclass, is_interface_type, supertype}
+
+-- the class of a type, without arguments; what is no class is not known
+abbrev pub class_alone : JavaType → JavaType
+class_alone (Class name arguments) = Class name NoMore
+class_alone other = Unknown
 
 module _ (t : Tree) where
   -- a class that the file declares, without arguments
@@ -23,11 +28,14 @@ module _ (t : Tree) where
   abbrev pub class_or_unknown : Option Node → JavaType
   class_or_unknown class = option_map_or declared_class class Unknown
 
-  -- ---- `this`: the class that is named, and else the innermost class around
+  -- ---- `this`: the class that is named, and else the innermost class around; both without arguments
+
+  abbrev pub named_class : Node → Asking JavaType
+  named_class name = bind (written_type t [] 0 name) (λ ty. Return (class_alone ty))
 
   abbrev pub this_by : Node → Option Node → Asking JavaType
   this_by n None = Return (class_or_unknown (class_at t n))
-  this_by n (Some name) = written_type t [] 0 name
+  this_by n (Some name) = named_class name
 
   abbrev pub this_type : Node → Asking JavaType
   this_type n = this_by n (child_of t n k.ClassType)

@@ -35,5 +35,6 @@ leaf_by t n (Some k.EnumDeclaration) = Return (declared_class t n)
 leaf_by t n (Some k.RecordDeclaration) = Return (declared_class t n)
 leaf_by t n (Some k.AnnotationTypeDeclaration) = Return (declared_class t n)
 leaf_by t n (Some k.AnonymousClassDeclaration) = Return (declared_class t n)
--- calls, lambda expressions, method references, switch expressions, and what is neither an expression nor a declaration
+-- Every other node has none that is told here: calls, lambda expressions, method references, switch expressions, initializers of arrays, patterns, methods, constructors, type parameters,
+-- and what is neither an expression nor a declaration.
 leaf_by t n other = Return Unknown

@@ -34,10 +34,10 @@ abbrev pub decreases-iterated_variable : goal.decreases-iterated_variable
 decreases-iterated_variable g l = 100000000 * l.before + 20 * l.left + 3
 
 abbrev pub decreases-infix_expression : goal.decreases-infix_expression
-decreases-infix_expression g l = 100000000 * l.before + 20 * l.left + 4
+decreases-infix_expression g l = 100000000 * l.before + 20 * l.left + 5
 
 abbrev pub decreases-unary_expression : goal.decreases-unary_expression
-decreases-unary_expression g l = 100000000 * l.before + 20 * l.left + 4
+decreases-unary_expression g l = 100000000 * l.before + 20 * l.left + 5
 
 abbrev pub decreases-conditional_expression : goal.decreases-conditional_expression
 decreases-conditional_expression g l = 100000000 * l.before + 20 * l.left + 4
@@ -83,3 +83,9 @@ decreases-noted_in g l = 100000000 * l.id.0 + 90000000 + 2
 
 abbrev pub decreases-var_type : goal.decreases-var_type
 decreases-var_type g l = 100000000 * l.id.0 + 90000000 + 1
+
+abbrev pub decreases-infix_by : goal.decreases-infix_by
+decreases-infix_by g l = 100000000 * l.before + 20 * l.left + 4
+
+abbrev pub decreases-unary_by : goal.decreases-unary_by
+decreases-unary_by g l = 100000000 * l.before + 20 * l.left + 4
