@@ -233,6 +233,49 @@ fn for_node<O: Oracle>(
     }
 }
 
+/// Finds a variable; then nothing more is to be done for it.
+fn find_one<'r, O: Oracle>(
+    alloc: Global,
+    file: &File<'_>,
+    oracle: &mut Recorder<'r, O>,
+    types: &mut Typed,
+    id: Node,
+) -> Result<Wanted, AskFault>
+    requires inside { id.0 < length file.now.nodes }
+    requires keeps { Keeps file.now (⟦<Recorder<'r, O> as Oracle>⟧.tells oracle.old) types.old }
+    ensures of { IfOk result (AreOf file.now) }
+    ensures parts { IsTrue (⟦<Recorder<'r, O> as Oracle>⟧.tells oracle.old).is_told → IfOk result (AreParts (⟦<Recorder<'r, O> as Oracle>⟧.tells oracle.old).world file.now (var_of file.now id)) }
+    ensures asks { AsksPart (var_of file.now id) (⟦<Recorder<'r, O> as Oracle>⟧.tells oracle.old) (⟦<Recorder<'r, O> as Oracle>⟧.tells oracle.new) result }
+    ensures keeps { Keeps file.now (⟦<Recorder<'r, O> as Oracle>⟧.tells oracle.new) types.new }
+{
+    let _ty = var_once(alloc, file, oracle, types, id)?;
+    Ok(nothing())
+}
+
+/// Visits a node.
+fn visit_one<'r, O: Oracle>(
+    alloc: Global,
+    file: &File<'_>,
+    oracle: &mut Recorder<'r, O>,
+    types: &mut Typed,
+    before: u32,
+    left: u32,
+    n: Node,
+) -> Result<Wanted, AskFault>
+    requires inside { n.0 < length file.now.nodes }
+    requires left { left ≤ 2000001 }
+    requires keeps { Keeps file.now (⟦<Recorder<'r, O> as Oracle>⟧.tells oracle.old) types.old }
+    ensures of { IfOk result (AreOf file.now) }
+    ensures parts { IsTrue (⟦<Recorder<'r, O> as Oracle>⟧.tells oracle.old).is_told → IfOk result (AreParts (⟦<Recorder<'r, O> as Oracle>⟧.tells oracle.old).world file.now (typed file.now (earlier file.now before) left n)) }
+    ensures asks { AsksPart (typed file.now (earlier file.now before) left n) (⟦<Recorder<'r, O> as Oracle>⟧.tells oracle.old) (⟦<Recorder<'r, O> as Oracle>⟧.tells oracle.new) result }
+    ensures keeps { Keeps file.now (⟦<Recorder<'r, O> as Oracle>⟧.tells oracle.new) types.new }
+{
+    if left == 0 {
+        return Ok(nothing());
+    }
+    for_node(alloc, file, oracle, types, before, left - 1, n)
+}
+
 /// Does what is still to do of one entry, and says what is to be done before the entries behind it.
 fn do_next<'r, O: Oracle>(
     alloc: Global,
@@ -249,15 +292,9 @@ fn do_next<'r, O: Oracle>(
     ensures keeps { Keeps file.now (⟦<Recorder<'r, O> as Oracle>⟧.tells oracle.new) types.new }
 {
     match next {
-        Pending::Find(id) => {
-            let _ = var_once(alloc, file, oracle, types, id)?;
-            Ok(nothing())
-        }
+        Pending::Find(id) => find_one(alloc, file, oracle, types, id),
         Pending::Visit(before, left, n) => {
-            if left == 0 {
-                return Ok(nothing());
-            }
-            for_node(alloc, file, oracle, types, before, left - 1, n)
+            visit_one(alloc, file, oracle, types, before, left, n)
         }
     }
 }

@@ -17,7 +17,25 @@ use pj_outer_names::File;
 use pj_tree::Node;
 use std::alloc::Global;
 
-/// The type of a node; the names that it asks are noted.
+/// The type of a node, behind the variables that are declared by `var` and that it is made of.
+fn type_after<'r, O: Oracle>(
+    alloc: Global,
+    file: &File<'_>,
+    oracle: &mut Recorder<'r, O>,
+    types: &mut Typed,
+    n: Node,
+) -> Result<Ty, AskFault>
+    requires inside { n.0 < length file.now.nodes }
+    requires keeps { Keeps file.now (⟦<Recorder<'r, O> as Oracle>⟧.tells oracle.old) types.old }
+    ensures asks { Asks (type_of file.now n) (⟦<Recorder<'r, O> as Oracle>⟧.tells oracle.old) (⟦<Recorder<'r, O> as Oracle>⟧.tells oracle.new) (seen java_type result) }
+    ensures keeps { Keeps file.now (⟦<Recorder<'r, O> as Oracle>⟧.tells oracle.new) types.new }
+{
+    type_variables(alloc, file, oracle, types, n)?;
+    let count = file.tree().len();
+    typed(alloc, file, oracle, types, count, count + 1, n)
+}
+
+/// The same; the names that it asks are noted.
 fn type_noted<O: Oracle>(
     alloc: Global,
     file: &File<'_>,
@@ -31,13 +49,11 @@ fn type_noted<O: Oracle>(
     ensures asks { Asks (type_of file.now n) (O.tells oracle.old) (O.tells oracle.new) (seen java_type result) }
     ensures keeps { Keeps file.now (O.tells oracle.new) types.new }
 {
-    let count = file.tree().len();
     let mut recorder = Recorder {
         inner: &mut *oracle,
         noted: &mut *noted,
     };
-    type_variables(alloc, file, &mut recorder, types, n)?;
-    typed(alloc, file, &mut recorder, types, count, count + 1, n)
+    type_after(alloc, file, &mut recorder, types, n)
 }
 
 /// The type of a node, over any oracle that answers the classes of the file too.
