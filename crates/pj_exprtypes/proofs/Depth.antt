@@ -50,7 +50,7 @@ parent-before n None j before is = absurd (cc)
 parent-before n (Some p) j before is = omega (arith, before, eqb-true p.0 n.0 is)
 
 no-parent : (n : Node) (parent : Option Node) → parent ≡ None → IsTrue (is_parent n parent) → ⊥
-no-parent n parent none is = let no : is_parent n parent ≡ false = ap (is_parent n) none in cc
+no-parent n parent none is = let missed : is_parent n parent ≡ false = ap (is_parent n) none in cc
 
 after-parent : (t : Tree) → IsSyntaxTree t → (n : Node) (j : ℕ) → j < length t.nodes → IsTrue (is_parent n (parent_of t (record { 0 = j }))) → n.0 < j
 after-parent t tree n zero inside is = absurd (no-parent n (parent_of t (record { 0 = 0 })) tree.root is)

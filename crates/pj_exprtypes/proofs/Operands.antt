@@ -56,7 +56,7 @@ pub variable-var : (t : Tree) (var : Node → Asking JavaType) (id : Node) → I
 variable-var t var id is = at (declaration_of t id) refl
   where
     at : (d : Option Node) → declaration_of t id ≡ d → variable_type t var id ≡ var id
-    at None none = absurd (let no : is_var_name t id ≡ false = ap (λ (d : Option Node). option_map_or (is_var t) d false) none in cc)
+    at None none = absurd (let missed : is_var_name t id ≡ false = ap (λ (d : Option Node). option_map_or (is_var t) d false) none in cc)
     at (Some declaration) some =
         let yes : is_var t declaration ≡ true = sym (ap (λ (d : Option Node). option_map_or (is_var t) d false) some) ∙ is in
         ap (variable_by t var id) some ∙ ap (λ (b : Bool). if b then var id else declared_by t id declaration) yes

@@ -1,6 +1,6 @@
 -- The table of held types, over an oracle and over one that notes its names.
-use Rattle.std.proofs.Common.{◌≡◌, List, [], ◌∷◌, ◌++◌, IsTrue, sym, subst, ◌∙◌}
-use Rattle.std.proofs.lemmas.List.Elements.{All-push}
+use Rattle.std.proofs.Common.{◌≡◌, List, [], ◌∷◌, ◌++◌, IsTrue, ap, sym, subst, ◌∙◌}
+use Rattle.std.proofs.lemmas.List.Elements.{All-cons, All-nil, All-push}
 use Rattle.std.specs.Prelude.{Result, Ok, Err, OnOk, OnErr}
 use Rattle.std.specs.List.{All}
 use Rattle.pj_tree.specs.Tree.{Tree}
@@ -47,3 +47,8 @@ pub keeps-more : {K A : Type 0} {m : Asking A} {told after : Told K} {r : Result
     → Asks m told after r → (IsTrue told.is_told → IsHeld told.world (var_of t id) ty names) → Keeps t after types → Keeps t after more
 keeps-more {told = told} {after = after} t types more id ty names put h held keeps =
     λ is. put after.world (subst (λ (w : Worlds). IsHeld w (var_of t id) ty names) (sym h.same_world) (held (sym h.same_told ∙ is))) (keeps is)
+
+pub all-one : {X : Type 0} (P : X → Type 0) (old new : List X) (x : X) → old ≡ [] → new ≡ old ++ x ∷ [] → P x → All P new
+all-one {X = X} P old new x none is one =
+    let made : new ≡ x ∷ [] = is ∙ ap (λ (l : List X). l ++ x ∷ []) none in
+    subst (λ (l : List X). All P l) (sym made) (All-cons P x [] one (All-nil P))

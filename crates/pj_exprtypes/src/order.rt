@@ -14,7 +14,7 @@ ghost use Rattle.pj_exprtypes.specs.declared.order.Pending.TheVariants as pendin
 ghost use Rattle.pj_exprtypes.specs.Declarations.{declaration_type, variable_or_unknown, variable_type};
 ghost use Rattle.pj_exprtypes.specs.Names.{access_type, meant_type};
 ghost use Rattle.pj_exprtypes.specs.Order.{AreOf, AreParts, IsOf, IsPart, asked_by};
-ghost use Rattle.pj_exprtypes.specs.Parts.{AsksPart};
+ghost use Rattle.pj_exprtypes.specs.Parts.{AsksPart, IsPartOf};
 ghost use Rattle.pj_exprtypes.specs.Table.{Keeps};
 ghost use Rattle.pj_exprtypes.specs.TypeOf.{earlier, type_by, type_of, typed, var_of};
 
@@ -319,6 +319,27 @@ fn put(all: &mut AllPending, wanted: Wanted) -> Result<(), NoMemory>
     put_one(all, wanted.next)
 }
 
+/// Does what is still to do of one entry, and puts what is to be done before the entries behind it.
+fn do_one<'r, O: Oracle>(
+    alloc: Global,
+    file: &File<'_>,
+    oracle: &mut Recorder<'r, O>,
+    types: &mut Typed,
+    all: &mut AllPending,
+    next: Pending,
+) -> Result<(), AskFault>
+    requires next { IsOf file.now next }
+    requires keeps { Keeps file.now (⟦<Recorder<'r, O> as Oracle>⟧.tells oracle.old) types.old }
+    ensures of { All (IsOf file.now) all.old → All (IsOf file.now) all.new }
+    ensures parts { (worlds : Worlds) (whole : Asking JavaType) → IsTrue (⟦<Recorder<'r, O> as Oracle>⟧.tells oracle.old).is_told → (⟦<Recorder<'r, O> as Oracle>⟧.tells oracle.old).world ≡ worlds → IsPartOf worlds (asked_by file.now next) whole → All (IsPart worlds file.now whole) all.old → All (IsPart worlds file.now whole) all.new }
+    ensures asks { AsksPart (asked_by file.now next) (⟦<Recorder<'r, O> as Oracle>⟧.tells oracle.old) (⟦<Recorder<'r, O> as Oracle>⟧.tells oracle.new) result }
+    ensures keeps { Keeps file.now (⟦<Recorder<'r, O> as Oracle>⟧.tells oracle.new) types.new }
+{
+    let wanted = do_next(alloc, file, oracle, types, next)?;
+    put(all, wanted)?;
+    Ok(())
+}
+
 /// Finds and holds the variables that are declared by `var` and that the type of a node is made of, each after those that its own type is made of.
 pub(crate) fn type_variables<'r, O: Oracle>(
     alloc: Global,
@@ -339,8 +360,7 @@ pub(crate) fn type_variables<'r, O: Oracle>(
         let Some(next) = all.pop() else {
             return Ok(());
         };
-        let wanted = do_next(alloc, file, oracle, types, next)?;
-        put(&mut all, wanted)?;
+        do_one(alloc, file, oracle, types, &mut all, next)?;
     }
     Err(AskFault::Memory)
 }
