@@ -9,10 +9,11 @@ use Rattle.pj_names.specs.declared.answer.Broken.TheVariants as broken
 use Rattle.pj_outside.specs.declared.refused.Reading.{Reading}
 use Rattle.pj_outside.specs.declared.refused.Reading.TheVariants as readings
 use Rattle.pj_format.specs.declared.fault.Fault.{Fault}
-use Rattle.pj_format.specs.Format.{Means, fault}
-use Rattle.pj_format.proofs.Spelling.{means_one, whole_means}
+use Rattle.pj_format.specs.Format.{Means, fault, first, whole}
+use Rattle.pj_format.proofs.Spelling.{means_one, read_means, whole_means}
 use Rattle.pj_classfile.specs.ClassFile.{class_file, class_structure}
-use Rattle.pj_classfile.specs.ClassOf.{ClassOf, AnswerOf, answer_from}
+use Rattle.pj_names.specs.ClassName.{Name}
+use Rattle.pj_classfile.specs.ClassOf.{ClassOf, AnswerOf, answer_from, answer_of, class_of, class_read}
 
 -- faults by their places, and back
 abbrev seen : Result ClassInfo ClassFault → Result ClassInfo Fault
@@ -61,3 +62,22 @@ is_found name class same = rw same refl
 
 pub is_other : (name : List ℕ) (class : ClassInfo) → pointwise nat_eq class.name name ≡ false → answer_from name (Ok class) ≡ answers.Broken broken.OtherName
 is_other name class other = rw other refl
+
+-- What reading from the left gives is what is meant.
+
+read_is : (bytes : List ℕ) (r : Result (ClassInfo × ℕ) Fault) → first (whole 10 class_structure) bytes 0 ≡ r → ClassOf bytes (class_read r)
+unfolding class_file
+read_is bytes (Ok found) is = read_means 10 class_structure bytes (Ok found) is
+read_is bytes (Err f) is = read_means 10 class_structure bytes (Err f) is
+
+pub class_is : (bytes : List ℕ) → ClassOf bytes (class_of bytes)
+unfolding class_of class_file
+class_is bytes = read_is bytes (first (whole 10 class_structure) bytes 0) refl
+
+pub answer_is : (name : Name) (reading : Reading) → AnswerOf name reading (answer_of name reading)
+answer_is name readings.Absent = refl
+answer_is name readings.Longer = refl
+answer_is name (readings.Whole bytes) = (class_of bytes, class_is bytes, refl)
+
+pub only_answer : (name : Name) (reading : Reading) (answer : Answer) → AnswerOf name reading answer → answer ≡ answer_of name reading
+only_answer name reading answer is = one_answer name reading answer (answer_of name reading) is (answer_is name reading)

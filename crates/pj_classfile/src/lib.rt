@@ -16,4 +16,4 @@ mod texts;
 pub use answer::answer_of;
 pub use class::parse;
 pub use fault::ClassRefused;
-pub use laws::{one_answer, one_class, texts_are_decoded};
+pub use laws::{folders_are_a_world, one_answer, one_class, texts_are_decoded};

@@ -8,8 +8,8 @@ use crate::member::{Holder, MemberKind};
 use pj_base::NoMemory;
 use pj_names::ClassName;
 use pj_signatures::{
-    class_name, class_signature, descriptor, field_signature, method_descriptor, method_signature,
-    name_of_internal,
+    class_of_internal, class_signature, descriptor, field_signature, method_descriptor,
+    method_signature,
 };
 use std::alloc::Global;
 
@@ -18,8 +18,10 @@ pub fn class_name_of(alloc: Global, internal: &str) -> Result<ClassName, NoMemor
     requires { IsTrue (is_internal_name internal.now) }
     ensures { IfOk result (λ name. name ≡ dotted internal.now) }
 {
-    let text = name_of_internal(alloc, internal)?;
-    class_name(alloc, text.as_str())
+    match class_of_internal(alloc, internal)? {
+        Some(name) => Ok(name),
+        None => unreachable!(),
+    }
 }
 
 /// Whether a text is the descriptor of a field (JVMS 4.3.2).

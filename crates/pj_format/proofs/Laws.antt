@@ -5,8 +5,8 @@ use Rattle.std.specs.Prelude.{MatchResult}
 use Rattle.std.specs.Bool.{MatchBool}
 use Rattle.std.specs.Int.{w16, w32, from_be_bytes}
 use Rattle.pj_format.specs.declared.fault.Fault.{Fault}
-use Rattle.pj_format.specs.Format.{Format, Done, Field, Run, End, fault, judged, ◌and_then◌, first, HasFault, ◌>>=◌, whole}
-use Rattle.pj_format.specs.Fields.{u8_as, u8, u16_as, u16, u32_as, u32}
+use Rattle.pj_format.specs.Format.{Format, Done, Field, Run, Sized, End, fault, judged, ◌and_then◌, first, HasFault, ◌>>=◌, whole}
+use Rattle.pj_format.specs.Fields.{u8_as, u8, u16_as, u16, u32_as, u32, sized_as, sized}
 
 -- each fault stands at the place or behind it
 
@@ -33,6 +33,10 @@ is_behind (Done x) bytes at g h = absurd h
 is_behind (Field less judge next) bytes at g h =
     cut_after (nat_lt (length bytes) (at + suc less)) at 1 _ g (λ p. ruled_after (judge (take (suc less) (drop at bytes))) at (suc less) (λ x f. HasFault (next x) bytes (at + suc less) f) g (λ x q. is_behind (next x) bytes (at + suc less) g q) p) h
 is_behind (Run count next) bytes at g h = cut_after (nat_lt (length bytes) (at + count)) at 1 _ g (λ p. omega (arith, is_behind (next (take count (drop at bytes))) bytes (at + count) g p)) h
+is_behind (Sized judge next) bytes at g h =
+    let count = from_be_bytes w32 (take 4 (drop at bytes)) in
+    cut_after (nat_lt (length bytes) (at + 4)) at 1 _ g
+    (λ p. cut_after (nat_lt (length bytes) (at + 4 + count)) at 1 _ g (λ q. ruled_after (judge (take count (drop (at + 4) bytes))) at (4 + count) (λ x f. HasFault (next x) bytes (at + 4 + count) f) g (λ x r. omega (arith, is_behind (next x) bytes (at + 4 + count) g r)) q) p) h
 is_behind (End kind next) bytes at g h = end_after (nat_eq at (length bytes)) at kind _ g (λ p. is_behind next bytes at g p) h
 
 -- ---- what reading stops at is the least
@@ -82,6 +86,13 @@ stops_at_least (Field less judge next) bytes at f e =
 stops_at_least (Run count next) bytes at f e =
     run_least (nat_lt (length bytes) (at + count)) at (HasFault (next (take count (drop at bytes))) bytes (at + count)) (first (next (take count (drop at bytes))) bytes (at + count)) f
     (λ h. stops_at_least (next (take count (drop at bytes))) bytes (at + count) f h) e
+stops_at_least {A} (Sized judge next) bytes at f e =
+    let count = from_be_bytes w32 (take 4 (drop at bytes)) in
+    let cut = nat_lt (length bytes) (at + 4 + count) in
+    let judgement = judge (take count (drop (at + 4) bytes)) in
+    run_least (nat_lt (length bytes) (at + 4)) at (Has cut judgement at (λ x g. HasFault (next x) bytes (at + 4 + count) g)) (cond cut (Err (fault 1 at)) (judged at judgement and_then λ x. first (next x) bytes (at + 4 + count))) f
+    (λ p. field_least cut judgement at (3 + count) (λ x g. HasFault (next x) bytes (at + 4 + count) g) (λ x. first (next x) bytes (at + 4 + count)) f
+    (λ x g h. omega (arith, is_behind (next x) bytes (at + 4 + count) g h)) (λ x h. stops_at_least (next x) bytes (at + 4 + count) f h) p) e
 stops_at_least (End kind next) bytes at f e = end_least (nat_eq at (length bytes)) at kind (HasFault next bytes at) (first next bytes at) f (λ h. stops_at_least next bytes at f h) e
 
 -- ---- what is read to its end has no fault
@@ -108,6 +119,13 @@ has_none (Field less judge next) bytes at y g e h =
     (λ x p q. has_none (next x) bytes (at + suc less) y g p q) e h
 has_none (Run count next) bytes at y g e h =
     run_none (nat_lt (length bytes) (at + count)) at _ (first (next (take count (drop at bytes))) bytes (at + count)) y g (λ p q. has_none (next (take count (drop at bytes))) bytes (at + count) y g p q) e h
+has_none (Sized judge next) bytes at y g e h =
+    let count = from_be_bytes w32 (take 4 (drop at bytes)) in
+    let cut = nat_lt (length bytes) (at + 4 + count) in
+    let judgement = judge (take count (drop (at + 4) bytes)) in
+    run_none (nat_lt (length bytes) (at + 4)) at _ (cond cut (Err (fault 1 at)) (judged at judgement and_then λ x. first (next x) bytes (at + 4 + count))) y g
+    (λ p q. field_none cut judgement at (λ x f. HasFault (next x) bytes (at + 4 + count) f) (λ x. first (next x) bytes (at + 4 + count)) y g
+    (λ x r s. has_none (next x) bytes (at + 4 + count) y g r s) p q) e h
 has_none (End kind next) bytes at y g e h = end_none (nat_eq at (length bytes)) at kind _ (first next bytes at) y g (λ p q. has_none next bytes at y g p q) e h
 
 -- ---- one format after the other is read one after the other
@@ -135,6 +153,13 @@ first_then (Field less judge next) f bytes at =
     then_field (nat_lt (length bytes) (at + suc less)) (fault 1 at) (judged at (judge (take (suc less) (drop at bytes)))) (λ x. first (next x) bytes (at + suc less)) (λ x. first (f x.0) bytes x.1) (λ x. first (next x >>= f) bytes (at + suc less))
     (λ x. first_then (next x) f bytes (at + suc less))
 first_then (Run count next) f bytes at = then_run (nat_lt (length bytes) (at + count)) (fault 1 at) (first (next (take count (drop at bytes))) bytes (at + count)) (λ x. first (f x.0) bytes x.1) _ (first_then (next (take count (drop at bytes))) f bytes (at + count))
+first_then (Sized judge next) f bytes at =
+    let count = from_be_bytes w32 (take 4 (drop at bytes)) in
+    let cut = nat_lt (length bytes) (at + 4 + count) in
+    let judgement = judge (take count (drop (at + 4) bytes)) in
+    then_run (nat_lt (length bytes) (at + 4)) (fault 1 at) (cond cut (Err (fault 1 at)) (judged at judgement and_then λ x. first (next x) bytes (at + 4 + count))) (λ x. first (f x.0) bytes x.1) _
+    (then_field cut (fault 1 at) (judged at judgement) (λ x. first (next x) bytes (at + 4 + count)) (λ x. first (f x.0) bytes x.1) (λ x. first (next x >>= f) bytes (at + 4 + count))
+    (λ x. first_then (next x) f bytes (at + 4 + count)))
 first_then (End kind next) f bytes at = then_end (nat_eq at (length bytes)) (fault kind at) (first next bytes at) (λ x. first (f x.0) bytes x.1) _ (first_then next f bytes at)
 
 pub first_done : {A : Type 0} (x : A) (bytes : List ℕ) (at : ℕ) → first (Done x) bytes at ≡ Ok (x, at)
@@ -160,8 +185,20 @@ pub first_u8_as : {B : Type 0} (judge : ℕ → Result B ℕ) (bytes : List ℕ)
 unfolding first u8_as u8
 first_u8_as judge bytes at = as_field (nat_lt (length bytes) (at + 1)) (fault 1 at) at (at + 1) (get_or (take 1 (drop at bytes)) 0 0) judge
 
+as_sized : {B : Type 0} (b c : Bool) (f : Fault) (at after : ℕ) (n : List ℕ) (judge : List ℕ → Result B ℕ)
+    → cond b (Err f) (cond c (Err f) (judged at (judge n) and_then λ x. read_as x after)) ≡ (cond b (Err f) (cond c (Err f) (read_as n after)) and_then λ x. judged at (judge x.0) and_then λ y. read_as y x.1)
+as_sized true c f at after n judge = refl
+as_sized false true f at after n judge = refl
+as_sized false false f at after n judge = refl
+
+pub first_sized_as : {B : Type 0} (judge : List ℕ → Result B ℕ) (bytes : List ℕ) (at : ℕ) → first (sized_as judge) bytes at ≡ (first sized bytes at and_then λ x. judged at (judge x.0) and_then λ y. Ok (y, x.1))
+unfolding first sized_as sized
+first_sized_as judge bytes at =
+    let count = from_be_bytes w32 (take 4 (drop at bytes)) in
+    as_sized (nat_lt (length bytes) (at + 4)) (nat_lt (length bytes) (at + 4 + count)) (fault 1 at) at (at + 4 + count) (take count (drop (at + 4) bytes)) judge
+
 pub first_end : {A : Type 0} (kind : ℕ) (next : Format A) (bytes : List ℕ) (at : ℕ) → first (End kind next) bytes at ≡ cond (nat_eq at (length bytes)) (first next bytes at) (Err (fault kind at))
 unfolding first
 first_end kind next bytes at = refl
 
-pub ruleset reads = (arith, first_end, first_then, first_done, first_u16_as, first_u32_as, first_u8_as)
+pub ruleset reads = (arith, first_end, first_then, first_done, first_u16_as, first_u32_as, first_u8_as, first_sized_as)

@@ -1,3 +1,4 @@
 pub mod Laws
 pub mod Spelling
 pub mod Loops
+pub mod Parts

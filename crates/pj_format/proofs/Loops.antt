@@ -1,12 +1,13 @@
 -- Laws of repetitions, with their proofs, for loops in the crates above that read them. Nothing here defines a word of a
 -- contract.
-use Rattle.std.proofs.Common.{◌≡◌, ℕ, suc, ◌-◌, ◌+◌, ◌≤◌, ◌<◌, List, [], ◌∷◌, ◌++◌, Result, Ok, Err, refl, sym, ap, ◌∙◌, append_assoc, arith}
+use Rattle.std.proofs.Common.{◌≡◌, ℕ, suc, ◌-◌, ◌+◌, ◌≤◌, ◌<◌, List, [], ◌∷◌, ◌++◌, length, drop, Result, Ok, Err, refl, sym, ap, ◌∙◌, append_assoc, arith}
+use Rattle.std.proofs.Math.ListN.{drop_of_length-le}
 use Rattle.std.proofs.lemmas.List.{append-nil}
 use Rattle.pj_format.specs.declared.fault.Fault.{Fault}
 use Rattle.pj_format.specs.declared.fault.Refused.{Refused}
 use Rattle.pj_format.specs.declared.fault.Refused.TheVariants as refused
 use Rattle.pj_format.specs.Format.{Format, Done, ◌>>=◌, ◌and_then◌, first}
-use Rattle.pj_format.specs.Fields.{Fails, several, several_from}
+use Rattle.pj_format.specs.Fields.{Fails, several, several_from, each}
 use Rattle.pj_format.proofs.Laws.{first_then}
 
 abbrev pub Read : Type 0 → Type 0
@@ -87,3 +88,26 @@ unfolding several_from first
 several_from_done item bytes count i s at le =
     let k : count - i ≡ 0 = omega arith in
     rw k refl
+
+-- ---- each
+
+each_is : {A B : Type 0} (item : B → Format A) (bytes : List ℕ) (x : B) (xs : List B) (at : ℕ) → first (each item (x ∷ xs)) bytes at ≡ (first (item x) bytes at and_then λ y. first (each item xs) bytes y.1 and_then λ z. Ok (y.0 ∷ z.0, z.1))
+unfolding each first
+each_is {A} item bytes x xs at =
+    first_then (item x) (λ one. each item xs >>= λ others. Done (one ∷ others)) bytes at ∙ inner (first (item x) bytes at) where
+      inner : (r : Result (A × ℕ) Fault) → (r and_then λ y. first (each item xs >>= λ others. Done (y.0 ∷ others)) bytes y.1) ≡ (r and_then λ y. first (each item xs) bytes y.1 and_then λ z. Ok (y.0 ∷ z.0, z.1))
+      inner (Ok y) = first_then (each item xs) (λ others. Done (y.0 ∷ others)) bytes y.1
+      inner (Err e) = refl
+
+-- where the list goes on with a member
+pub each_more : {A B : Type 0} (item : B → Format A) (bytes : List ℕ) (left : List B) (x : B) (xs : List B) (at : ℕ) (n : A) (after : ℕ) → left ≡ x ∷ xs → first (item x) bytes at ≡ Ok (n, after)
+    → first (each item left) bytes at ≡ one_more n (first (each item xs) bytes after)
+each_more item bytes left x xs at n after is h = rw (is, each_is item bytes x xs at, h) refl
+
+pub each_ends : {A B : Type 0} (e : Refused) (item : B → Format A) (bytes : List ℕ) (left : List B) (x : B) (xs : List B) (at : ℕ) → left ≡ x ∷ xs → Fails e (first (item x) bytes at) → Fails e (first (each item left) bytes at)
+each_ends refused.Memory item bytes left x xs at is h = tt
+each_ends (refused.Fault f) item bytes left x xs at is h = rw (is, each_is item bytes x xs at, h) refl
+
+pub each_done : {A B : Type 0} (item : B → Format A) (bytes : List ℕ) (list : List B) (i at : ℕ) → length list ≤ i → first (each item (drop i list)) bytes at ≡ Ok ([], at)
+unfolding each first
+each_done item bytes list i at le = rw (drop_of_length-le list le) refl

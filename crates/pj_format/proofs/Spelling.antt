@@ -5,8 +5,9 @@ use Rattle.std.proofs.Common.{◌≡◌, ℕ, suc, ◌+◌, ◌-◌, ◌<◌, �
 use Rattle.std.proofs.Math.ListN.{drop_of_length-le}
 use Rattle.std.proofs.lemmas.Bool.{ltb-false, le-ltb, eqb-true, eq-eqb}
 use Rattle.std.proofs.lemmas.List.{length-append, length-drop, length-take-le, take-append-drop, drop-drop, take_at, drop_at}
+use Rattle.std.specs.Int.{w32, from_be_bytes}
 use Rattle.pj_format.specs.declared.fault.Fault.{Fault}
-use Rattle.pj_format.specs.Format.{Format, Done, Field, Run, End, Spells, fault, judged, ◌and_then◌, first, IsFirst, Means, whole}
+use Rattle.pj_format.specs.Format.{Format, Done, Field, Run, Sized, End, Spells, fault, judged, ◌and_then◌, first, IsFirst, Means, whole}
 use Rattle.pj_format.proofs.Laws.{first_then, stops_at_least, has_none}
 
 -- A list from a place on, in two parts.
@@ -60,6 +61,18 @@ spelled_is_read (Run count next) bytes at y within h =
     let part = take count (drop at bytes) in
     let spelled : Spells (next part) (drop (at + count) bytes) y = subst (λ p. Spells (next p) (drop (at + count) bytes) y) (sym cut.part_is) (subst (λ l. Spells (next h.part) l y) (sym cut.rest_is) h.holds) in
     rw (le-ltb (length bytes) (at + count) cut.fits) (spelled_is_read (next part) bytes (at + count) y cut.fits spelled)
+spelled_is_read {A} (Sized {B} judge next) bytes at y within h =
+    let size = cut_at 4 at bytes h.part h.rest within h.joined h.count_is in
+    let inner = h.holds in
+    let count = from_be_bytes w32 (take 4 (drop at bytes)) in
+    let same : from_be_bytes w32 h.part ≡ count = ap (from_be_bytes w32) (sym size.part_is) in
+    let cut = cut_at count (at + 4) bytes inner.part inner.rest size.fits (size.rest_is ∙ inner.joined) (inner.count_is ∙ same) in
+    let x : B = inner.holds.0 in
+    rw (le-ltb (length bytes) (at + 4) size.fits)
+    (field_reads (nat_lt (length bytes) (at + 4 + count)) (judge (take count (drop (at + 4) bytes))) at (fault 1 at) (λ v. first (next v) bytes (at + 4 + count)) x (y, length bytes)
+    (le-ltb (length bytes) (at + 4 + count) cut.fits)
+    (ap judge cut.part_is ∙ inner.holds.1)
+    (spelled_is_read (next x) bytes (at + 4 + count) y cut.fits (subst (λ l. Spells (next x) l y) (sym cut.rest_is) inner.holds.2)))
 spelled_is_read (End kind next) bytes at y within h =
     let end = none_left at bytes within h.0 in
     let spelled : Spells next (drop at bytes) y = subst (λ l. Spells next l y) (sym h.0) h.1 in
@@ -123,6 +136,25 @@ read_is_spelled (Run count next) bytes at y e =
       joined = joined_at count at bytes;
       count_is = long_at count at bytes (ltb-false (length bytes) (at + count) read.holds);
       holds = read_is_spelled (next (take count (drop at bytes))) bytes (at + count) y read.reads;
+    }
+read_is_spelled {A} (Sized {B} judge next) bytes at y e =
+    let count = from_be_bytes w32 (take 4 (drop at bytes)) in
+    let cut = nat_lt (length bytes) (at + 4 + count) in
+    let judgement = judge (take count (drop (at + 4) bytes)) in
+    let size = run_read (nat_lt (length bytes) (at + 4)) (fault 1 at) (cond cut (Err (fault 1 at)) (judged at judgement and_then λ x. first (next x) bytes (at + 4 + count))) (y, length bytes) e in
+    let read = field_read cut judgement at (fault 1 at) (λ v. first (next v) bytes (at + 4 + count)) (y, length bytes) size.reads in
+    record {
+      part = take 4 (drop at bytes);
+      rest = drop (at + 4) bytes;
+      joined = joined_at 4 at bytes;
+      count_is = long_at 4 at bytes (ltb-false (length bytes) (at + 4) size.holds);
+      holds = record {
+        part = take count (drop (at + 4) bytes);
+        rest = drop (at + 4 + count) bytes;
+        joined = joined_at count (at + 4) bytes;
+        count_is = long_at count (at + 4) bytes (ltb-false (length bytes) (at + 4 + count) read.fits);
+        holds = (read.value, read.is, read_is_spelled (next read.value) bytes (at + 4 + count) y read.reads);
+      };
     }
 read_is_spelled (End kind next) bytes at y e =
     let read = end_read (nat_eq at (length bytes)) (fault kind at) (first next bytes at) (y, length bytes) e in

@@ -2,7 +2,7 @@
 ghost use Rattle.std.specs.Prelude.{◌≡◌, ◌≤◌, length};
 ghost use Rattle.pj_format.specs.declared.fault.Refused.TheVariants as refusals;
 ghost use Rattle.pj_format.specs.Format.{fault, first};
-ghost use Rattle.pj_format.specs.Fields.{Gives, u8, u16, u32, run};
+ghost use Rattle.pj_format.specs.Fields.{Gives, u8, u16, u32, run, sized};
 
 use crate::fault::{BYTES_END, Fault, Refused};
 
@@ -70,4 +70,19 @@ pub fn run_of(bytes: &[u8], count: u32, at: u32) -> Result<(&[u8], u32), Refused
         return Err(refused(BYTES_END, at));
     }
     Ok((&bytes[from..to], at + count))
+}
+
+/// The bytes behind their number, borrowed.
+#[tactic(auto, using(crate::proofs::Laws::reads), unfolding(crate::specs::Format::first, crate::specs::Fields::sized, crate::specs::Fields::sized_as, crate::specs::Fields::u32, crate::specs::Fields::u32_as))]
+pub fn sized_of(bytes: &[u8], at: u32) -> Result<(&[u8], u32), Refused>
+    requires { length bytes.now ≤ 4294967294 }
+    ensures { Gives (λ x. (x.0.now, x.1)) result (first sized bytes.now at) }
+{
+    let (count, behind) = u32_of(bytes, at)?;
+    let from = behind as usize;
+    let to = from + count as usize;
+    if bytes.len() < to {
+        return Err(refused(BYTES_END, at));
+    }
+    Ok((&bytes[from..to], to as u32))
 }

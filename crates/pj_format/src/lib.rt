@@ -5,4 +5,4 @@ mod fault;
 mod field;
 
 pub use fault::{Fault, Refused};
-pub use field::{refused, run_of, u8_of, u16_of, u32_of};
+pub use field::{refused, run_of, sized_of, u8_of, u16_of, u32_of};

@@ -2,4 +2,5 @@
 pub mod InClass
 pub mod Fields
 pub mod Methods
+pub mod Receivers
 pub mod Seen

@@ -3,3 +3,4 @@ mod Loops
 mod Among
 mod Phased
 mod Chosen
+pub mod InsideLaws

@@ -1,34 +1,11 @@
 -- How an argument fits a parameter: invocation contexts, JLS 5.3. All types are erased.
-use Rattle.std.specs.Prelude.{Bool, true, false, List, [], ◌∷◌, Option, Some, None, codes, map}
-use Rattle.pj_base.specs.WordTable.{value_in}
+use Rattle.std.specs.Prelude.{Bool, true, false, Option, Some, None}
 use Rattle.pj_names.specs.declared.ty.PrimitiveType.{PrimitiveType}
-use Rattle.pj_names.specs.declared.ty.PrimitiveType.TheVariants.{Boolean, Byte, Short, Int, Long, Char, Float, Double}
-use Rattle.pj_names.specs.ClassName.{Name}
-use Rattle.pj_names.specs.JavaType.{JavaType, Primitive, Void, Null, Class, Array, Variable, Unknown, NoMore}
+use Rattle.pj_names.specs.JavaType.{JavaType, Primitive, Void, Null, Class, Array, Variable, Unknown}
 use Rattle.pj_names.specs.Asking.{Asking, Return}
+use Rattle.pj_types.specs.Conversions.{boxed_type, unboxed}
 use Rattle.pj_types.specs.Subtyping.{is_under}
 use Rattle.pj_overload.specs.Testing.{or_then}
-
--- the class that boxing makes of a primitive type, JLS 5.1.7
-abbrev pub boxed_name : PrimitiveType → Name
-boxed_name Boolean = codes "java.lang.Boolean"
-boxed_name Byte = codes "java.lang.Byte"
-boxed_name Short = codes "java.lang.Short"
-boxed_name Int = codes "java.lang.Integer"
-boxed_name Long = codes "java.lang.Long"
-boxed_name Char = codes "java.lang.Character"
-boxed_name Float = codes "java.lang.Float"
-boxed_name Double = codes "java.lang.Double"
-
-abbrev pub boxed_type : PrimitiveType → JavaType
-boxed_type prim = Class (boxed_name prim) NoMore
-
-abbrev pub all_primitives : List PrimitiveType
-all_primitives = Boolean ∷ (Byte ∷ (Short ∷ (Int ∷ (Long ∷ (Char ∷ (Float ∷ (Double ∷ [])))))))
-
--- the primitive type that unboxing makes of a class, JLS 5.1.8: that of which boxing makes the class
-abbrev pub unboxed : Name → Option PrimitiveType
-unboxed name = value_in (map (λ prim. (boxed_name prim, prim)) all_primitives) name
 
 abbrev pub primitive_type : Option PrimitiveType → Option JavaType
 primitive_type None = None

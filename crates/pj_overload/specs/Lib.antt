@@ -6,5 +6,6 @@ pub mod Conversions
 pub mod Phases
 pub mod Specific
 pub mod Choosing
+pub mod Inside
 -- for private clauses
 pub mod Seen

@@ -2,6 +2,7 @@
 ghost use Rattle.std.specs.Prelude.{◌≡◌, IfOk};
 ghost use Rattle.pj_names.specs.JavaType.{java_type, type_list};
 ghost use Rattle.pj_names.specs.Told.{Asks, seen};
+ghost use Rattle.pj_overload.specs.Inside.{AreAmong};
 ghost use Rattle.pj_overload.specs.Phases.{all_fit, applicable, fits, arguments_fit, is_applicable, known_fits, takes, type_fits};
 ghost use Rattle.pj_overload.specs.Seen.{argument_seen, arguments_seen, candidate_seen, candidates_seen};
 
@@ -152,7 +153,8 @@ pub fn applicable<O: Oracle>(
     arguments: &PassedList,
     candidates: &Candidates,
 ) -> Result<Candidates, AskFault>
-    ensures { Asks (applicable phase (arguments_seen arguments.now) (candidates_seen candidates.now)) (O.tells oracle.old) (O.tells oracle.new) (seen candidates_seen result) }
+    ensures asks { Asks (applicable phase (arguments_seen arguments.now) (candidates_seen candidates.now)) (O.tells oracle.old) (O.tells oracle.new) (seen candidates_seen result) }
+    ensures inside { IfOk result (λ found. AreAmong (candidates_seen found) (candidates_seen candidates.now)) }
 {
     let mut found = Candidates::new(alloc);
     for candidate in candidates.as_slice() {

@@ -1,8 +1,10 @@
 //! The choice of a method among candidates (JLS 15.12.2).
+ghost use Rattle.std.specs.Prelude.{IfOk, IfSome, length};
 ghost use Rattle.pj_names.specs.JavaType.{type_list};
 ghost use Rattle.pj_names.specs.Told.{Asks};
 ghost use Rattle.pj_types.specs.Members.{all_methods};
 ghost use Rattle.pj_overload.specs.Choosing.{choice_among, choice_by_phases, choice_in, choose};
+ghost use Rattle.pj_overload.specs.Inside.{IsChoiceAmong, IsInside};
 ghost use Rattle.pj_overload.specs.Seen.{arguments_seen, candidates_seen};
 
 use crate::applicable::applicable;
@@ -25,7 +27,8 @@ fn choice_among<O: Oracle>(
     count: usize,
     found: &Candidates,
 ) -> Result<Option<Choice>, AskFault>
-    ensures { Asks (choice_among phase count (candidates_seen found.now)) (O.tells oracle.old) (O.tells oracle.new) result }
+    ensures asks { Asks (choice_among phase count (candidates_seen found.now)) (O.tells oracle.old) (O.tells oracle.new) result }
+    ensures inside { IfOk result (λ chosen. IfSome chosen (λ choice. IsChoiceAmong choice (candidates_seen found.now))) }
 {
     if found.is_empty() {
         return Ok(None);
@@ -43,7 +46,8 @@ fn choice_in<O: Oracle>(
     arguments: &PassedList,
     candidates: &Candidates,
 ) -> Result<Option<Choice>, AskFault>
-    ensures { Asks (choice_in phase (arguments_seen arguments.now) (candidates_seen candidates.now)) (O.tells oracle.old) (O.tells oracle.new) result }
+    ensures asks { Asks (choice_in phase (arguments_seen arguments.now) (candidates_seen candidates.now)) (O.tells oracle.old) (O.tells oracle.new) result }
+    ensures inside { IfOk result (λ chosen. IfSome chosen (λ choice. IsChoiceAmong choice (candidates_seen candidates.now))) }
 {
     let found = applicable(alloc, oracle, phase, arguments, candidates)?;
     choice_among(alloc, oracle, phase, arguments.len(), &found)
@@ -57,7 +61,8 @@ fn choice_by_phases<O: Oracle>(
     arguments: &PassedList,
     candidates: &Candidates,
 ) -> Result<Choice, AskFault>
-    ensures { Asks (choice_by_phases (arguments_seen arguments.now) (candidates_seen candidates.now)) (O.tells oracle.old) (O.tells oracle.new) result }
+    ensures asks { Asks (choice_by_phases (arguments_seen arguments.now) (candidates_seen candidates.now)) (O.tells oracle.old) (O.tells oracle.new) result }
+    ensures inside { IfOk result (λ choice. IsChoiceAmong choice (candidates_seen candidates.now)) }
 {
     if let Some(choice) = choice_in(alloc, oracle, Phase::Strict, arguments, candidates)? {
         return Ok(choice);
@@ -81,7 +86,8 @@ fn choice_by_phases<O: Oracle>(
 ///
 /// The type that is not known fits every parameter, and a parameter of it takes nothing else. A lambda expression and a method
 /// reference fit each class and interface. In a phase the candidates are asked for in order, the arguments of each from left to
-/// right, up to the first that does not fit; a candidate that takes another number of arguments asks nothing.
+/// right, up to the first that does not fit; a candidate that takes another number of arguments asks nothing. The number of `One`
+/// is one of the candidates' over every oracle, also one that tells nothing.
 #[tactic(auto, using(pj_names::proofs::AskingLaws::asking_steps))]
 pub fn choose<O: Oracle>(
     alloc: Global,
@@ -90,7 +96,8 @@ pub fn choose<O: Oracle>(
     arguments: &TyList,
     functions: &Numbers,
 ) -> Result<Choice, AskFault>
-    ensures { Asks (choose (all_methods candidates.now) (type_list arguments.now) functions.now) (O.tells oracle.old) (O.tells oracle.new) result }
+    ensures asks { Asks (choose (all_methods candidates.now) (type_list arguments.now) functions.now) (O.tells oracle.old) (O.tells oracle.new) result }
+    ensures inside { IfOk result (λ choice. IsInside (length candidates.now) choice) }
 {
     let arguments = arguments_of(alloc, functions, arguments)?;
     let candidates = candidates_of(alloc, candidates)?;

@@ -3,65 +3,20 @@ ghost use Rattle.std.specs.Prelude.{◌≡◌, IfOk};
 ghost use Rattle.pj_names.specs.JavaType.{java_type};
 ghost use Rattle.pj_names.specs.Told.{Asks};
 ghost use Rattle.pj_types.specs.Subtyping.{is_unknown};
-ghost use Rattle.pj_overload.specs.Conversions.{boxed_name, boxed_type, converted, fits_loosely, is_class, is_some_under, unboxed};
+ghost use Rattle.pj_overload.specs.Conversions.{converted, fits_loosely, is_class, is_some_under};
 ghost use Rattle.pj_overload.specs.Seen.{type_seen};
 
-use pj_base::{NoMemory, value_in};
-use pj_names::{AskFault, ClassName, Oracle, Prim, Ty, Types};
-use pj_types::is_subtype;
+use pj_base::NoMemory;
+use pj_names::{AskFault, Oracle, Ty};
+use pj_types::{boxed_type, is_subtype, unboxed};
 use std::alloc::Global;
-
-/// The classes of boxing with their primitive types.
-static BOXED: [(&str, Prim); 8] = [
-    ("java.lang.Boolean", Prim::Boolean),
-    ("java.lang.Byte", Prim::Byte),
-    ("java.lang.Short", Prim::Short),
-    ("java.lang.Integer", Prim::Int),
-    ("java.lang.Long", Prim::Long),
-    ("java.lang.Character", Prim::Char),
-    ("java.lang.Float", Prim::Float),
-    ("java.lang.Double", Prim::Double),
-];
-
-/// The name of the class that boxing makes of a primitive type (JLS 5.1.7).
-fn boxed_name(prim: Prim) -> &'static str
-    ensures { result.now ≡ boxed_name prim }
-{
-    match prim {
-        Prim::Boolean => "java.lang.Boolean",
-        Prim::Byte => "java.lang.Byte",
-        Prim::Short => "java.lang.Short",
-        Prim::Int => "java.lang.Integer",
-        Prim::Long => "java.lang.Long",
-        Prim::Char => "java.lang.Character",
-        Prim::Float => "java.lang.Float",
-        Prim::Double => "java.lang.Double",
-    }
-}
-
-/// The primitive type that unboxing makes of a class (JLS 5.1.8).
-fn unboxed(name: &ClassName) -> Option<Prim>
-    ensures { result ≡ unboxed name.now }
-{
-    value_in(&BOXED, name.as_str())
-}
-
-/// The class that boxing makes of a primitive type. Its name is a class name, so memory alone is wanted.
-fn boxed(alloc: Global, prim: Prim) -> Result<Ty, NoMemory>
-    ensures { IfOk result (λ made. java_type made ≡ boxed_type prim) }
-{
-    match ClassName::of(alloc, boxed_name(prim))? {
-        Some(name) => Ok(Ty::Class(name, Types::End)),
-        None => Err(NoMemory),
-    }
-}
 
 /// What boxing or unboxing makes of a type, where one of them is of it.
 fn converted(alloc: Global, ty: &Ty) -> Result<Option<Ty>, NoMemory>
     ensures { IfOk result (λ made. type_seen made ≡ converted (java_type ty.now)) }
 {
     match ty {
-        Ty::Prim(prim) => Ok(Some(boxed(alloc, *prim)?)),
+        Ty::Prim(prim) => Ok(Some(boxed_type(alloc, *prim)?)),
         Ty::Class(name, _) => match unboxed(name) {
             Some(prim) => Ok(Some(Ty::Prim(prim))),
             None => Ok(None),

@@ -1,9 +1,10 @@
 //! The most specific of applicable candidates (JLS 15.12.2.5).
-ghost use Rattle.std.specs.Prelude.{◌≡◌, IfOk};
+ghost use Rattle.std.specs.Prelude.{◌≡◌, IfOk, IfSome};
 ghost use Rattle.pj_names.specs.JavaType.{java_type, type_list};
 ghost use Rattle.pj_names.specs.Told.{Asks};
+ghost use Rattle.pj_overload.specs.Inside.{IsChoiceAmong, IsNumberAmong};
 ghost use Rattle.pj_overload.specs.Seen.{candidate_seen, candidates_seen};
-ghost use Rattle.pj_overload.specs.Specific.{all_under, best_of, compared, is_itself_or_under, is_more_specific, is_most_specific, most_specific, most_specific_at, under_by_types};
+ghost use Rattle.pj_overload.specs.Specific.{all_under, best_of, compared, is_itself_or_under, is_more_specific, is_most_specific, most_specific, most_specific_at, number_if, one_or_tie, under_by_types};
 
 use crate::candidates::{Candidate, Candidates};
 use crate::choice::Choice;
@@ -129,6 +130,17 @@ fn is_most_specific<O: Oracle>(
     Ok(true)
 }
 
+/// The number of a candidate, where it is chosen.
+fn number_if(candidate: &Candidate, is_chosen: bool) -> Option<u32>
+    ensures { result ≡ number_if (candidate_seen candidate.now) is_chosen }
+{
+    if is_chosen {
+        Some(candidate.number)
+    } else {
+        None
+    }
+}
+
 /// The number of a candidate, where it is the most specific one.
 #[tactic(auto, using(pj_names::proofs::AskingLaws::asking_steps))]
 fn most_specific_at<O: Oracle>(
@@ -139,14 +151,11 @@ fn most_specific_at<O: Oracle>(
     candidates: &Candidates,
     candidate: &Candidate,
 ) -> Result<Option<u32>, AskFault>
-    ensures { Asks (most_specific_at phase count (candidates_seen candidates.now) (candidate_seen candidate.now)) (O.tells oracle.old) (O.tells oracle.new) result }
+    ensures asks { Asks (most_specific_at phase count (candidates_seen candidates.now) (candidate_seen candidate.now)) (O.tells oracle.old) (O.tells oracle.new) result }
+    ensures number { IfOk result (λ found. IfSome found (λ number. number ≡ candidate.now.number)) }
 {
     let is_chosen = is_most_specific(alloc, oracle, phase, count, candidates, candidate)?;
-    let number = if is_chosen {
-        Some(candidate.number)
-    } else {
-        None
-    };
+    let number = number_if(candidate, is_chosen);
     Ok(number)
 }
 
@@ -159,7 +168,8 @@ fn best_of<O: Oracle>(
     count: usize,
     candidates: &Candidates,
 ) -> Result<Option<u32>, AskFault>
-    ensures { Asks (best_of phase count (candidates_seen candidates.now)) (O.tells oracle.old) (O.tells oracle.new) result }
+    ensures asks { Asks (best_of phase count (candidates_seen candidates.now)) (O.tells oracle.old) (O.tells oracle.new) result }
+    ensures inside { IfOk result (λ found. IfSome found (λ number. IsNumberAmong number (candidates_seen candidates.now))) }
 {
     for candidate in candidates.as_slice() {
         let best = most_specific_at(alloc, oracle, phase, count, candidates, candidate)?;
@@ -168,6 +178,16 @@ fn best_of<O: Oracle>(
         }
     }
     Ok(None)
+}
+
+/// The best one, or else a tie.
+fn one_or_tie(best: Option<u32>) -> Choice
+    ensures { result ≡ one_or_tie best }
+{
+    match best {
+        Some(number) => Choice::One(number),
+        None => Choice::Tie,
+    }
 }
 
 /// The choice among candidates that are applicable in a phase, for so many arguments: the first one that is more specific than
@@ -180,12 +200,10 @@ pub fn most_specific<O: Oracle>(
     count: usize,
     candidates: &Candidates,
 ) -> Result<Choice, AskFault>
-    ensures { Asks (most_specific phase count (candidates_seen candidates.now)) (O.tells oracle.old) (O.tells oracle.new) result }
+    ensures asks { Asks (most_specific phase count (candidates_seen candidates.now)) (O.tells oracle.old) (O.tells oracle.new) result }
+    ensures inside { IfOk result (λ choice. IsChoiceAmong choice (candidates_seen candidates.now)) }
 {
     let best = best_of(alloc, oracle, phase, count, candidates)?;
-    let choice = match best {
-        Some(number) => Choice::One(number),
-        None => Choice::Tie,
-    };
+    let choice = one_or_tie(best);
     Ok(choice)
 }

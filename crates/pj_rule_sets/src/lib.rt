@@ -1,6 +1,7 @@
 //! Rules: each with the expressions that its texts spell, in the lists that files make, and in the sets that a run applies.
 #![tactic(auto)]
 
+mod active;
 mod calls;
 mod entry;
 mod expressions;
@@ -16,6 +17,7 @@ mod spelled;
 mod table;
 mod usable;
 
+pub use active::which_are_active;
 pub use entry::{Entry, Origin, Unusable, not_an_xpath_rule, not_available};
 pub use expressions::{RuleExpressions, expressions_of};
 pub use fault::ExpressionFault;
