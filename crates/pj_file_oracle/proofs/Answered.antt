@@ -24,6 +24,7 @@ use Rattle.pj_tree.specs.declared.node.Node.{Node}
 use Rattle.pj_outer_names.specs.Candidates.{file_classes, node_named}
 use Rattle.pj_file_oracle.specs.FileAnswer.{answer_by, class_answer, file_answer}
 use Rattle.pj_file_oracle.specs.Answered.{AreAnswered, IsAnswered}
+use Rattle.pj_file_oracle.proofs.Tables.{entry-found, entry-put}
 
 -- ---- names that are in a set
 
@@ -100,56 +101,23 @@ asks-again {t = t} {m = m} held is =
 
 -- ---- a table of them
 
--- what is found by a key, and what is put there
-same-key : (name key : Name) (o : Ordering) → slice_cmp nat_cmp name key ≡ o → IsTrue (is_eq o) → name ≡ key
-same-key name key Equal is tied = slice_cmp-IsAntisymmetric nat_cmp-IsAntisymmetric name key is
-same-key name key Less is tied = absurd (cc)
-same-key name key Greater is tied = absurd (cc)
-
 module _ {K : Type 0} (meaning_of : Name → Asking Answer) (t : Told K) where
   -- they stay so in every call
   pub all-stay : {A : Type 0} {u : Told K} {n : Asking A} {r : Result A AskFault} (entries : List (Name × Arc Answer Global)) → Asks n t u r → AreAnswered meaning_of t entries → AreAnswered meaning_of u entries
   all-stay [] h held = tt
   all-stay (entry ∷ entries) h held = (answered-stays h held.0, all-stay entries h held.1)
 
-  found-at : (name : Name) (entry : Name × Arc Answer Global) (rest : Option (Arc Answer Global)) (answer : Arc Answer Global) (o : Ordering) → slice_cmp nat_cmp name entry.0 ≡ o
-      → IsAnswered t (meaning_of entry.0) entry.1.value → (rest ≡ Some answer → IsAnswered t (meaning_of name) answer.value) → cond (is_eq o) (Some entry.1) rest ≡ Some answer → IsAnswered t (meaning_of name) answer.value
-  found-at name entry rest answer Equal same here later found =
-      let it : entry.1 ≡ answer = cc in
-      let key : entry.0 ≡ name = sym (same-key name entry.0 Equal same refl) in
-      subst (λ (n : Name). IsAnswered t (meaning_of n) answer.value) key (subst (λ (a : Arc Answer Global). IsAnswered t (meaning_of entry.0) a.value) it here)
-  found-at name entry rest answer Less same here later found = later found
-  found-at name entry rest answer Greater same here later found = later found
-
   -- what is found by a name
   pub answered-found : (entries : List (Name × Arc Answer Global)) (name : Name) (answer : Arc Answer Global)
       → AreAnswered meaning_of t entries → lookup (is_at (slice_cmp nat_cmp name)) entries ≡ Some answer → IsAnswered t (meaning_of name) answer.value
-  answered-found [] name answer held is = absurd (cc)
-  answered-found (entry ∷ entries) name answer held is =
-      found-at name entry (lookup (is_at (slice_cmp nat_cmp name)) entries) answer (slice_cmp nat_cmp name entry.0) refl held.0 (λ found. answered-found entries name answer held.1 found) is
+  answered-found entries name answer held is = entry-found (λ n a. IsAnswered t (meaning_of n) a.value) entries name answer held is
 
-  more-at : (name : Name) (answer : Arc Answer Global) (entry : Name × Arc Answer Global) (entries more : List (Name × Arc Answer Global)) (o : Ordering) → slice_cmp nat_cmp name entry.0 ≡ o
-      → AreAnswered meaning_of t (entry ∷ entries) → IsAnswered t (meaning_of name) answer.value → AreAnswered meaning_of t more
-      → AreAnswered meaning_of t (match_ordering o ((name, answer) ∷ entry ∷ entries) ((entry.0, answer) ∷ entries) (entry ∷ more))
-  more-at name answer entry entries more Less same held new later = (new, held)
-  more-at name answer entry entries more Equal same held new later = (subst (λ (n : Name). IsAnswered t (meaning_of n) answer.value) (same-key name entry.0 Equal same refl) new, held.1)
-  more-at name answer entry entries more Greater same held new later = (held.0, later)
-
-  -- one more
-  answered-more : (entries : List (Name × Arc Answer Global)) (name : Name) (answer : Arc Answer Global)
-      → AreAnswered meaning_of t entries → IsAnswered t (meaning_of name) answer.value → AreAnswered meaning_of t (insert_entry (slice_cmp nat_cmp) entries name answer)
-  answered-more [] name answer held new = (new, tt)
-  answered-more (entry ∷ entries) name answer held new =
-      more-at name answer entry entries (insert_entry (slice_cmp nat_cmp) entries name answer) (slice_cmp nat_cmp name entry.0) refl held new (answered-more entries name answer held.1 new)
-
-  -- also where there was no memory for it: a copy of an answer, by a copy of its name
+  -- one more, also where there was no memory for it: a copy of an answer, by a copy of its name
   pub answered-put : {X E : Type 0} (old new : List (Name × Arc Answer Global)) (name key : Name) (answer : Answer) (copy : Arc Answer Global) (r : Result X E)
       → key ≡ name → copy.value ≡ answer → OnOk r (new ≡ insert_entry (slice_cmp nat_cmp) old key copy) → OnErr r (new ≡ old)
       → AreAnswered meaning_of t old → IsAnswered t (meaning_of name) answer → AreAnswered meaning_of t new
-  answered-put old new name key answer copy (Ok x) same_key same_value ok err held one =
-      let its : IsAnswered t (meaning_of key) copy.value = subst (λ (n : Name). IsAnswered t (meaning_of n) copy.value) (sym same_key) (subst (λ (a : Answer). IsAnswered t (meaning_of name) a) (sym same_value) one) in
-      subst (λ (l : List (Name × Arc Answer Global)). AreAnswered meaning_of t l) (sym ok) (answered-more old key copy held its)
-  answered-put old new name key answer copy (Err e) same_key same_value ok err held one = subst (λ (l : List (Name × Arc Answer Global)). AreAnswered meaning_of t l) (sym err) held
+  answered-put old new name key answer copy r same_key same_value ok err held one =
+      entry-put (λ n a. IsAnswered t (meaning_of n) a.value) old new name key copy r same_key ok err held (subst (λ (a : Answer). IsAnswered t (meaning_of name) a) (sym same_value) one)
 
 -- ---- a class of the file
 

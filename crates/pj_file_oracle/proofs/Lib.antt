@@ -1,2 +1,4 @@
 pub mod Answered
+pub mod Holding
 pub mod Lists
+pub mod Tables

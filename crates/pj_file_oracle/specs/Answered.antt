@@ -28,7 +28,7 @@ AreAnswered meaning_of t entries = AllByRecursion (λ entry. IsAnswered t (meani
 
 -- such a fact has one proof at most
 
-answer_set : IsSet Answer
+pub answer_set : IsSet Answer
 answer_set = Coded-set answers.the_row.coded
 
 were_asked_prop : {K A : Type 0} (t : Told K) (depth : ℕ) (meaning : Asking A) → IsProp (WereAsked t depth meaning)

@@ -39,7 +39,7 @@ found_with t name class signature members =
     Found (record { name = name; flags = class_flags t class; signature = signature; fields = members.fields; methods = members.methods })
 
 -- of a class of the file, by its node
-abbrev pub class_answer : Tree → Name → Node → Asking Answer
+unfoldable pub class_answer : Tree → Name → Node → Asking Answer
 class_answer t name class =
     bind (header_text t class) (λ signature.
     bind (members_of t class) (λ members.

@@ -9,6 +9,7 @@ mod answer;
 mod fields;
 mod file_oracle;
 mod headers;
+mod held;
 mod laws;
 mod members;
 mod methods;
@@ -18,4 +19,5 @@ mod supertypes;
 mod types;
 
 pub use file_oracle::{FileOracle, resolve_type};
+pub use held::{Held, HeldAnswer, HeldAnswers};
 pub use laws::sources_agree;

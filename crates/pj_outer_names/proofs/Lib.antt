@@ -6,3 +6,4 @@ pub mod Listed
 pub mod Looked
 pub mod NameTurns
 pub mod Taken
+pub mod Ends

@@ -1,5 +1,5 @@
 -- The class of a dotted name. A name does not tell where its package ends and its member classes begin (JLS 6.5.2, 13.1).
-use Rattle.std.specs.Prelude.{ℕ, zero, suc, ◌+◌, ◌||◌, Bool, true, false, not, Option, None, Some, if◌then◌else◌, List, [], ◌∷◌, length, find, is_some, unwrap_or, nat_eq}
+use Rattle.std.specs.Prelude.{ℕ, zero, suc, ◌≡◌, ◌+◌, ◌≤◌, ◌||◌, Bool, true, false, not, Option, None, Some, if◌then◌else◌, List, [], ◌∷◌, length, find, is_some, unwrap_or, nat_eq}
 use Rattle.std.specs.Option.{option_map, option_map_or}
 use Rattle.std.specs.Cmp.Lexicographic.{pointwise}
 use Rattle.pj_names.specs.declared.answer.Answer.{Answer}
@@ -69,3 +69,7 @@ dotted_class classes text =
 abbrev pub as_type : Option Name → JavaType
 as_type None = Unknown
 as_type (Some name) = Class name NoMore
+
+-- The number by which candidates are counted is never reached: with a larger one a name has the same candidates.
+abbrev pub CandidatesEnd : List ℕ → Type 0
+CandidatesEnd text = (more : ℕ) → length text + 1 ≤ more → candidates_from more text ≡ candidates text

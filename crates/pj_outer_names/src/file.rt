@@ -1,17 +1,20 @@
 //! A file with its tables.
 
 ghost use Rattle.std.specs.Prelude.{◌≡◌, ◌<◌, length, IfOk, IfSome};
+ghost use Rattle.std.specs.List.{All};
 ghost use Rattle.std.specs.Option.{option_copied};
 ghost use Rattle.pj_symbols.specs.Symbols.{FindsClasses, symbols_of};
 ghost use Rattle.pj_written.specs.Headers.{class_text};
 ghost use Rattle.pj_outer_names.specs.Candidates.{class_named, file_classes, node_named};
 ghost use Rattle.pj_outer_names.specs.ByName.{FindsNames};
+ghost use Rattle.pj_outer_names.specs.Imports.{imports_on_demand};
 
+use crate::on_demand::listed_on_demand;
 use pj_base::NoMemory;
 use pj_declared::Declarations;
 use pj_symbols::{Class, Classes, Symbols};
 use pj_tree::{Node, SyntaxTree};
-use pj_written::class_text;
+use pj_written::{Nodes, class_text};
 use std::alloc::Global;
 use std::collections::BTreeMap;
 use std::marker::Model;
@@ -21,13 +24,14 @@ type ByName<'a> = BTreeMap<&'a str, &'a Class>;
 
 /// A file: its tree, its classes and variables, and the scopes of its names. Contracts see it as the tree.
 ///
-/// A class is found by its name in a time that grows with the logarithm of their number.
+/// A class is found by its name in a time that grows with the logarithm of their number, and the imports on demand are looked for once.
 #[derive(Drop)]
 pub struct File<'a> {
     tree: &'a SyntaxTree<'a>,
     symbols: &'a Symbols,
     declarations: &'a Declarations<'a>,
     by_name: ByName<'a>,
+    on_demand: Nodes,
 }
 
 impl<'a> Model for File<'a> {
@@ -35,12 +39,13 @@ impl<'a> Model for File<'a> {
     ghost use Rattle.pj_tree.specs.Tree.{Tree};
     ghost use Rattle.pj_symbols.specs.Symbols.{FindsClasses, symbols_of};
     ghost use Rattle.pj_outer_names.specs.ByName.{FindsNames};
+    ghost use Rattle.pj_outer_names.specs.Imports.{imports_on_demand};
 
     ghost Value = { Tree };
 
     ghost view = { λ f. f.tree.now };
 
-    ghost invariant = { λ f. (f.symbols.now ≡ symbols_of f.tree.now) × (FindsClasses f.tree.now f.symbols.now.classes × (f.declarations.now ≡ f.tree.now) × FindsNames f.by_name f.symbols.now.classes) };
+    ghost invariant = { λ f. (f.symbols.now ≡ symbols_of f.tree.now) × (FindsClasses f.tree.now f.symbols.now.classes × (f.declarations.now ≡ f.tree.now) × FindsNames f.by_name f.symbols.now.classes × (f.on_demand ≡ imports_on_demand f.tree.now)) };
 }
 
 impl<'a> File<'a> {
@@ -52,16 +57,32 @@ impl<'a> File<'a> {
         declarations: &'a Declarations<'a>,
     ) -> Result<File<'a>, NoMemory>
         requires symbols { symbols.now ≡ symbols_of tree.now }
+        requires declarations { declarations.now ≡ tree.now }
+        ensures { IfOk result (λ file. file ≡ tree.now) }
+    {
+        File::with_tables(alloc, tree, symbols, declarations)
+    }
+
+    /// The same, where each class is known to be found among the symbols.
+    fn with_tables(
+        alloc: Global,
+        tree: &'a SyntaxTree<'a>,
+        symbols: &'a Symbols,
+        declarations: &'a Declarations<'a>,
+    ) -> Result<File<'a>, NoMemory>
+        requires symbols { symbols.now ≡ symbols_of tree.now }
         requires finds { FindsClasses tree.now symbols.now.classes }
         requires declarations { declarations.now ≡ tree.now }
         ensures { IfOk result (λ file. file ≡ tree.now) }
     {
         let by_name = by_name(alloc, symbols.classes())?;
+        let on_demand = listed_on_demand(alloc, tree)?;
         Ok(File {
             tree,
             symbols,
             declarations,
             by_name,
+            on_demand,
         })
     }
 
@@ -109,6 +130,21 @@ impl<'a> File<'a> {
         ensures { result.now ≡ class_text self.now n }
     {
         class_text(self.tree, self.symbols, n)
+    }
+
+    /// The imports on demand of both sorts, in the order of the text.
+    fn on_demand(&self) -> &[Node]
+        ensures { result.now ≡ imports_on_demand self.now }
+    {
+        self.on_demand.as_slice()
+    }
+
+    /// The same, with that each is a node of the tree (JLS 7.5.2, 7.5.4).
+    pub fn imports_on_demand(&self) -> &[Node]
+        ensures value { result.now ≡ imports_on_demand self.now }
+        ensures inside { All (λ (m : Node). m.0 < length self.now.nodes) result.now }
+    {
+        self.on_demand()
     }
 
     /// The scopes of its names.

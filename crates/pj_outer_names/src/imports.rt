@@ -8,15 +8,14 @@ ghost use Rattle.pj_names.specs.Told.{Asks, seen};
 ghost use Rattle.pj_declared.specs.Nearest.{single_import};
 ghost use Rattle.pj_symbols.specs.Names.{package_prefix};
 ghost use Rattle.pj_outer_names.specs.Candidates.{file_classes, first_candidate};
-ghost use Rattle.pj_outer_names.specs.Imports.{all_are, by_import, imported, imported_text, imports_on_demand, in_package, is_on_demand, is_sign, joined, name_in_package, on_demand, one_among, one_class, outside};
+ghost use Rattle.pj_outer_names.specs.Imports.{all_are, by_import, imported, imported_text, imports_on_demand, in_package, is_sign, joined, name_in_package, on_demand, one_among, one_class, outside};
 
 use crate::candidates::{dotted_class, first_candidate, found_class};
 use crate::file::File;
 use pj_base::{Copied, ListOf, NoMemory, Text};
 use pj_declared::ImportSort;
 use pj_names::{AskFault, ClassName, Oracle, Ty, Types};
-use pj_tree::{Children, Kind, Node, OwnTokens, SyntaxTree, has_word, is_kind};
-use pj_written::Nodes;
+use pj_tree::{Node, OwnTokens, SyntaxTree};
 use std::alloc::Global;
 
 /// What imports on demand give for a name, one after the other.
@@ -51,37 +50,6 @@ pub fn imported_text(alloc: Global, tree: &SyntaxTree<'_>, import: Node) -> Resu
     ensures { IfOk result (λ text. text ≡ imported_text tree.now import) }
 {
     joined(alloc, tree.own(import))
-}
-
-/// Whether the node is an import on demand.
-pub fn is_on_demand(tree: &SyntaxTree<'_>, n: Node) -> bool
-    requires inside { n.0 < length tree.now.nodes }
-    ensures { result ≡ is_on_demand tree.now n }
-{
-    is_kind(tree, Kind::ImportDeclaration, n) && has_word(tree, n, "*")
-}
-
-/// The imports on demand of both sorts, in the order of the text.
-fn listed_on_demand(alloc: Global, tree: &SyntaxTree<'_>) -> Result<Nodes, NoMemory>
-    ensures { IfOk result (λ nodes. nodes ≡ imports_on_demand tree.now) }
-{
-    let _nodes = tree.len();
-    let mut nodes = Nodes::new(alloc);
-    for child in tree.children(Node(0)) {
-        if is_on_demand(tree, child) {
-            nodes.push(child)?;
-        }
-    }
-    Ok(nodes)
-}
-
-/// The same, with that each is a node of the tree.
-fn imports_on_demand(alloc: Global, tree: &SyntaxTree<'_>) -> Result<Nodes, NoMemory>
-    ensures value { IfOk result (λ nodes. nodes ≡ imports_on_demand tree.now) }
-    ensures inside { IfOk result (λ nodes. All (λ (m : Node). m.0 < length tree.now.nodes) nodes) }
-{
-    let nodes = listed_on_demand(alloc, tree)?;
-    Ok(nodes)
 }
 
 /// Whether all hits are the class.
@@ -187,8 +155,7 @@ fn by_imports<O: Oracle>(
 ) -> Result<Hits, AskFault>
     ensures { Asks (each (by_import file.now (file_classes file.now) simple.now) (imports_on_demand file.now)) (O.tells oracle.old) (O.tells oracle.new) result }
 {
-    let imports = imports_on_demand(alloc, file.tree())?;
-    by_each(alloc, file, oracle, simple, imports.as_slice())
+    by_each(alloc, file, oracle, simple, file.imports_on_demand())
 }
 
 /// The class of the name in `java.lang` (JLS 7.3).

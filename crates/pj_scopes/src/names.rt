@@ -26,6 +26,7 @@ pub fn resolve_name<O: Oracle>(
     ensures inside { IfOk result (λ variable. IfSome variable (IsInside (length oracle.old.file.now.nodes))) }
     ensures file { oracle.new.file.now ≡ oracle.old.file.now }
     ensures held { oracle.new.inner.ghost_name ≡ oracle.old.inner.ghost_name }
+    ensures same_table { oracle.new.held.ghost_name ≡ oracle.old.held.ghost_name }
 {
     let file = oracle.file;
     variable_name(oracle.alloc, file, oracle, at, name)

@@ -1,5 +1,5 @@
 -- Types as they are written (JLS 4.3, 4.5, 4.5.1, 6.5.5, 10.1, 10.2), by what a simple name means at a place and what a class has as member classes.
-use Rattle.std.specs.Prelude.{ℕ, zero, suc, ◌+◌, Option, Some, if◌then◌else◌, List, [], ◌∷◌, map, codes}
+use Rattle.std.specs.Prelude.{ℕ, zero, suc, ◌≡◌, ◌+◌, ◌≤◌, true, Option, Some, if◌then◌else◌, List, [], ◌∷◌, map, codes}
 use Rattle.std.specs.Option.{option_map_or}
 use Rattle.pj_tree.specs.Tree.{Tree, kind_of}
 use Rattle.pj_tree.specs.declared.kind.Kind.{Kind}
@@ -83,3 +83,7 @@ module _ (t : Tree) (classes : List DeclaredClass) (simple : Node → List ℕ �
   abbrev pub type_written : ℕ → ℕ → Node → Asking JavaType
   type_written around behind n =
       if fits t (around + behind) n then bind (type_by (argument_within most_signs) n) (λ ty. Return (arrays behind ty)) else Return Unknown
+
+  -- The number by which lists of arguments in one another are counted is never reached by a type that fits: with a larger one the type is the same, with the same questions.
+  abbrev pub ArgumentsEnd : ℕ → Node → Type 0
+  ArgumentsEnd around n = fits t around n ≡ true → (more : ℕ) → most_signs ≤ more → type_by (argument_within more) n ≡ type_by (argument_within most_signs) n

@@ -19,13 +19,15 @@
 -- classes, and with more nothing is different (`HeadersEnd`). All else here is said by what the direct supertypes of a class are.
 --
 -- Nothing is held here, and a header within a header is taken anew under the set of the search that needs it.
-use Rattle.std.specs.Prelude.{◌≡◌, ℕ, zero, suc, ◌+◌, ◌≤◌, ◌==◌, Bool, Option, None, Some, if◌then◌else◌, List, [], ◌∷◌, ◌++◌, length}
+use Rattle.std.specs.Prelude.{◌≡◌, ℕ, zero, suc, ◌+◌, ◌≤◌, ◌==◌, Bool, false, Option, None, Some, if◌then◌else◌, List, [], ◌∷◌, ◌++◌, length}
 use Rattle.std.specs.List.{list_any}
 use Rattle.pj_tree.specs.Tree.{Tree}
 use Rattle.pj_tree.specs.declared.node.Node.{Node}
 use Rattle.pj_names.specs.ClassName.{Name, is_class_name, is_object}
 use Rattle.pj_names.specs.JavaType.{JavaType, Class, Variable, Unknown, NoMore}
-use Rattle.pj_names.specs.Asking.{Asking, Return, bind, each, first_hit}
+use Rattle.pj_names.specs.declared.answer.Answer.{Answer}
+use Rattle.pj_names.specs.Asking.{Asking, Return, ask, bind, each, first_hit}
+use Rattle.pj_names.specs.Expand.{expand}
 use Rattle.pj_symbols.specs.declared.class.Class.{Class as DeclaredClass}
 use Rattle.pj_declared.specs.declared.nearest.Declared.{Declared}
 use Rattle.pj_declared.specs.Nearest.{type_meant}
@@ -33,7 +35,7 @@ use Rattle.pj_declared.specs.Rows.{names_type_parameter}
 use Rattle.pj_written.specs.Headers.{all_bounds, bounds_of, class_text, implied_supertypes, written_supertypes}
 use Rattle.pj_written.specs.Types.{class_of_text, object_type}
 use Rattle.pj_written.specs.Written.{name_of_text}
-use Rattle.pj_outer_names.specs.Candidates.{file_classes, node_named}
+use Rattle.pj_outer_names.specs.Candidates.{file_classes, is_known, node_named}
 use Rattle.pj_outer_names.specs.Imports.{outside}
 use Rattle.pj_outer_names.specs.Around.{searched}
 use Rattle.pj_outer_names.specs.Inherited.{class_names, inherited_member, member_along, outside_supertypes}
@@ -173,3 +175,7 @@ written_bound t busy n = bound_type t (file_classes t) (supers_of t busy) n
 -- However many headers more may be entered within one another than `enough`, a class has the same direct supertypes, with the same questions.
 abbrev pub HeadersEnd : Tree → List ℕ → Name → Type 0
 HeadersEnd t busy name = (more : ℕ) → enough t ≤ more → direct t (file_classes t) more busy name ≡ supers_of t busy name
+
+-- No class of the file is asked: where meanings of their own stand in the places of the names of the classes of the file, a meaning is what it was.
+abbrev pub AsksOthersAlone : {A : Type 0} → Tree → Asking A → Type 0
+AsksOthersAlone t meaning = (answer_of : Name → Asking Answer) → ((name : Name) → is_known (file_classes t) name ≡ false → answer_of name ≡ ask name) → expand answer_of meaning ≡ meaning

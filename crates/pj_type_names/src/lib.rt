@@ -7,5 +7,5 @@ mod read;
 mod resolve;
 mod stage;
 
-pub use laws::{headers_end, sources_agree};
+pub use laws::{arguments_end, headers_end, others_are_asked, sources_agree};
 pub use resolve::{type_name, written_bound, written_type};

@@ -5,7 +5,7 @@
 -- before anything is asked. What counts are the brackets and the lists that stand in the type that results: of `A<X>.B<Y>` the
 -- last list, and nothing of what stands behind `? super`. A list that has an argument counts whatever that is, since `?` stands for
 -- `java.lang.Object` there; `<>` has none.
-use Rattle.std.specs.Prelude.{ℕ, zero, suc, ◌+◌, ◌==◌, ◌&&◌, ◌||◌, Bool, true, false, if◌then◌else◌, List, [], length, codes, nat_le, ◌≡◌, refl}
+use Rattle.std.specs.Prelude.{ℕ, zero, suc, ◌+◌, ◌≤◌, ◌==◌, ◌&&◌, ◌||◌, Bool, true, false, if◌then◌else◌, List, [], length, codes, nat_le, ◌≡◌, refl}
 use Rattle.std.specs.List.{list_all}
 use Rattle.std.specs.Option.{option_map_or}
 use Rattle.pj_tree.specs.Tree.{Tree}
@@ -57,3 +57,7 @@ module _ (t : Tree) where
   -- More lists in one another than signs may be open do not fit, so this depth is no bound of its own.
   abbrev pub fits : ℕ → Node → Bool
   fits around n = fits_within (most_signs + 1) around n
+
+-- The number by which lists in one another are counted is never reached: with a larger one a type fits just as well.
+abbrev pub FitsEnd : Tree → ℕ → Node → Type 0
+FitsEnd t around n = (more : ℕ) → most_signs + 1 ≤ more → fits_within t more around n ≡ fits t around n

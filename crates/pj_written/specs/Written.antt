@@ -1,5 +1,5 @@
 -- The name of a class type, as it is written (JLS 4.3).
-use Rattle.std.specs.Prelude.{ℕ, zero, suc, false, Option, None, Some, List, [], ◌++◌, length, codes}
+use Rattle.std.specs.Prelude.{ℕ, zero, suc, ◌≡◌, ◌≤◌, false, Option, None, Some, List, [], ◌++◌, length, codes}
 use Rattle.pj_tree.specs.Tree.{Tree}
 use Rattle.pj_tree.specs.declared.kind.Kind.TheVariants as k
 use Rattle.pj_tree.specs.declared.node.Node.{Node}
@@ -36,3 +36,7 @@ module _ (t : Tree) where
 -- the name that a text is, looked up at a place
 abbrev pub name_of_text : Node → List ℕ → Written
 name_of_text place text = record { at = place; has_package = begins_package (parts text); parts = parts text }
+
+-- The number by which class types in one another are counted is never reached: with a larger one the name is the same.
+abbrev pub WrittenEnd : Tree → Node → Type 0
+WrittenEnd t n = (more : ℕ) → length t.nodes ≤ more → name_within t more n ≡ written_name t n

@@ -6,6 +6,7 @@
 
 mod flags;
 mod headers;
+mod laws;
 mod limits;
 mod names;
 mod nodes;
@@ -18,6 +19,7 @@ pub use headers::{
     all_bounds, bounds_of, class_text, created, enum_around, implied_supertypes, is_constant_body,
     written_supertypes,
 };
+pub use laws::{fits_end, written_names_end};
 pub use limits::{MOST_SIGNS, bare, brackets, fits};
 pub use names::{around_last_dot, last_part, member_name, next_candidate, with_dots};
 pub use nodes::{

@@ -1,7 +1,7 @@
 //! The answer for a row, and the file that its text is.
 
 ghost use Rattle.std.specs.Prelude.{◌≡◌};
-ghost use Rattle.pj_symbols.specs.Symbols.{FindsClasses, symbols_of};
+ghost use Rattle.pj_symbols.specs.Symbols.{symbols_of};
 
 use crate::classes::Classes;
 use crate::file_oracle::put_asked;
@@ -11,7 +11,7 @@ use crate::question::{Asked, Asking, Lookup, Question, question_of};
 use crate::{imports, inherited, type_names, variables};
 use pj_base::{NoMemory, Text};
 use pj_declared::Declarations;
-use pj_file_oracle::FileOracle;
+use pj_file_oracle::{FileOracle, Held};
 use pj_marked::{Java, expanded, named};
 use pj_names::{AskFault, Oracle};
 use pj_outer_names::File;
@@ -139,7 +139,6 @@ fn answer_with(
     asked: &Asked<'_>,
 ) -> Result<Text, NoMemory>
     requires symbols { symbols.now ≡ symbols_of tree.now }
-    requires finds { FindsClasses tree.now symbols.now.classes }
 {
     let declarations = Declarations::of(alloc, tree)?;
     let file = File::new(alloc, tree, symbols, &declarations)?;
@@ -194,7 +193,8 @@ fn answer_over(
     asked: &Asked<'_>,
 ) -> Result<Text, NoMemory> {
     let mut beneath = Classes::of(alloc, asked.classes)?;
-    let mut oracle = FileOracle::new(alloc, &*file, &mut beneath);
+    let mut held = Held::new(alloc);
+    let mut oracle = FileOracle::new(alloc, &*file, &mut beneath, &mut held);
     answer_by(alloc, file, &mut oracle, lookup, asked)
 }
 

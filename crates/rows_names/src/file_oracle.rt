@@ -1,21 +1,23 @@
 //! What is asked over the oracle of a file.
 
 ghost use Rattle.std.specs.Prelude.{◌<◌, length};
+ghost use Rattle.pj_file_oracle.specs.Held.{Holds};
 
 use crate::noted::Beneath;
 use crate::question::{Asked, Asking};
 use crate::shown::{put_answer, put_type, put_word};
 use crate::variables::put_variable;
 use pj_base::{NoMemory, Text};
-use pj_file_oracle::resolve_type;
+use pj_file_oracle::{Held, resolve_type};
 use pj_marked::place_of;
 use pj_members::find_field;
-use pj_names::{AskFault, ClassName, Oracle};
+use pj_names::{Answer, AskFault, ClassName, Oracle};
 use pj_outer_names::File;
 use pj_scopes::{FileOracle, resolve_name};
 use pj_tree::Node;
 use pj_types::{Field, supertypes};
 use std::alloc::Global;
+use std::sync::Arc;
 
 /// The name of the last class of the file whose name begins with a text, and the text where there is none.
 fn last_beginning<'c>(file: &'c File<'_>, name: &'c str) -> &'c str {
@@ -45,7 +47,8 @@ fn put_class(
     class: &ClassName,
     out: &mut Text,
 ) -> Result<(), AskFault> {
-    let mut oracle = FileOracle::new(alloc, file, beneath);
+    let mut held = Held::new(alloc);
+    let mut oracle = FileOracle::new(alloc, file, beneath, &mut held);
     let answer = oracle.ask(class)?;
     Ok(put_answer(alloc, out, &answer)?)
 }
@@ -58,10 +61,41 @@ fn put_class_again(
     class: &ClassName,
     out: &mut Text,
 ) -> Result<(), AskFault> {
-    let mut oracle = FileOracle::new(alloc, file, beneath);
+    let mut held = Held::new(alloc);
+    let mut oracle = FileOracle::new(alloc, file, beneath, &mut held);
     let _ = oracle.ask(class)?;
     oracle.inner.forget();
     let answer = oracle.ask(class)?;
+    Ok(put_answer(alloc, out, &answer)?)
+}
+
+/// Asks a class over an oracle of the file that is made for it.
+fn ask_apart<O: Oracle>(
+    alloc: Global,
+    file: &File<'_>,
+    beneath: &mut O,
+    held: &mut Held,
+    class: &ClassName,
+) -> Result<Arc<Answer>, AskFault>
+    requires { Holds file.now (O.tells beneath.old) held.old }
+    ensures { Holds file.now (O.tells beneath.new) held.new }
+{
+    let mut oracle = FileOracle::new(alloc, file, beneath, held);
+    oracle.ask(class)
+}
+
+/// Puts the answer for a class that another oracle of the file gives, of what is held since it was asked once. Just what is asked then is noted.
+fn put_class_held(
+    alloc: Global,
+    file: &File<'_>,
+    beneath: &mut Beneath,
+    class: &ClassName,
+    out: &mut Text,
+) -> Result<(), AskFault> {
+    let mut held = Held::new(alloc);
+    let _ = ask_apart(alloc, file, beneath, &mut held, class)?;
+    beneath.forget();
+    let answer = ask_apart(alloc, file, beneath, &mut held, class)?;
     Ok(put_answer(alloc, out, &answer)?)
 }
 
@@ -81,7 +115,8 @@ fn put_supertypes(
     class: &ClassName,
     out: &mut Text,
 ) -> Result<(), AskFault> {
-    let mut oracle = FileOracle::new(alloc, file, beneath);
+    let mut held = Held::new(alloc);
+    let mut oracle = FileOracle::new(alloc, file, beneath, &mut held);
     let names = supertypes(alloc, &mut oracle, class)?;
     Ok(put_names(out, names.as_slice())?)
 }
@@ -106,7 +141,8 @@ fn put_found_field(
     class: &ClassName,
     out: &mut Text,
 ) -> Result<(), AskFault> {
-    let mut oracle = FileOracle::new(alloc, file, beneath);
+    let mut held = Held::new(alloc);
+    let mut oracle = FileOracle::new(alloc, file, beneath, &mut held);
     let field = find_field(alloc, &mut oracle, class, "x")?;
     Ok(put_field(out, &field)?)
 }
@@ -122,7 +158,8 @@ fn put_type_at(
 ) -> Result<(), AskFault>
     requires inside { at.0 < length file.now.nodes }
 {
-    let mut oracle = FileOracle::new(alloc, file, beneath);
+    let mut held = Held::new(alloc);
+    let mut oracle = FileOracle::new(alloc, file, beneath, &mut held);
     let ty = resolve_type(&mut oracle, at, name)?;
     Ok(put_type(out, &ty)?)
 }
@@ -138,7 +175,8 @@ fn put_variable_at(
 ) -> Result<(), AskFault>
     requires inside { at.0 < length file.now.nodes }
 {
-    let mut oracle = FileOracle::new(alloc, file, beneath);
+    let mut held = Held::new(alloc);
+    let mut oracle = FileOracle::new(alloc, file, beneath, &mut held);
     let variable = resolve_name(&mut oracle, at, asked.name())?;
     Ok(put_variable(alloc, out, file, asked.text, &variable)?)
 }
@@ -157,6 +195,7 @@ fn put_of_class(
     };
     match asking {
         Asking::AnswerAgain => put_class_again(alloc, file, beneath, &class, out),
+        Asking::AnswerHeld => put_class_held(alloc, file, beneath, &class, out),
         Asking::Supertypes => put_supertypes(alloc, file, beneath, &class, out),
         Asking::Field => put_found_field(alloc, file, beneath, &class, out),
         _ => put_class(alloc, file, beneath, &class, out),

@@ -34,6 +34,8 @@ pub enum Asking {
     Answer,
     /// The answer when it is asked once more.
     AnswerAgain,
+    /// The answer when it is asked once more over another oracle of the file.
+    AnswerHeld,
     /// The list of the supertypes of a class.
     Supertypes,
     /// Its field `x`.
@@ -53,7 +55,7 @@ pub enum Question {
     Asking(Asking),
 }
 
-static QUESTIONS: [(&str, Question); 17] = [
+static QUESTIONS: [(&str, Question); 18] = [
     ("classes around", Question::Around),
     ("class outside", Question::Lookup(Lookup::Outside)),
     ("class with package", Question::Lookup(Lookup::Dotted)),
@@ -70,6 +72,7 @@ static QUESTIONS: [(&str, Question); 17] = [
     ("variable", Question::Lookup(Lookup::Variable)),
     ("answer", Question::Asking(Asking::Answer)),
     ("answer again", Question::Asking(Asking::AnswerAgain)),
+    ("answer held", Question::Asking(Asking::AnswerHeld)),
     ("list of supertypes", Question::Asking(Asking::Supertypes)),
     ("field x", Question::Asking(Asking::Field)),
     ("type over the file", Question::Asking(Asking::Type)),

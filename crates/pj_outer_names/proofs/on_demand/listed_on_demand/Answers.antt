@@ -2,7 +2,7 @@ use Rattle.std.proofs.Common.{◌++◌, ◌∙◌, ap, filter, length, subst, sy
 use Rattle.pj_tree.specs.declared.node.Node.{Node}
 use Rattle.pj_tree.proofs.Inside.{AreInside, are_inside}
 use Rattle.pj_outer_names.specs.Imports.{is_on_demand}
-use Rattle.pj_outer_names.proofs.imports.listed_on_demand.Goals as goal
+use Rattle.pj_outer_names.proofs.on_demand.listed_on_demand.Goals as goal
 
 pub loop-child-init : goal.loop-child-init
 loop-child-init c =

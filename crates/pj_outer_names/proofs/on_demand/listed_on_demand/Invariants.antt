@@ -1,7 +1,7 @@
 use Rattle.std.proofs.Common.{◌≡◌, ◌++◌, filter, length}
 use Rattle.pj_tree.proofs.Inside.{AreInside}
 use Rattle.pj_outer_names.specs.Imports.{imports_on_demand, is_on_demand}
-use Rattle.pj_outer_names.proofs.imports.listed_on_demand.Given as goal
+use Rattle.pj_outer_names.proofs.on_demand.listed_on_demand.Given as goal
 
 abbrev pub invariant-loop-child : goal.invariant-loop-child
 invariant-loop-child l = record {
