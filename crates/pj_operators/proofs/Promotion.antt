@@ -6,10 +6,11 @@ use Rattle.pj_names.specs.declared.ty.PrimitiveType.{PrimitiveType}
 use Rattle.pj_names.specs.declared.ty.PrimitiveType.TheVariants as p
 use Rattle.pj_names.specs.JavaType.{JavaType, Primitive, Void, Null, Class, Array, Variable, Unknown}
 use Rattle.pj_names.specs.Asking.{Return}
-use Rattle.pj_operators.specs.Boxing.{as_primitive, is_same_primitive}
+use Rattle.pj_types.specs.Conversions.{as_primitive}
+use Rattle.pj_types.specs.Subtyping.{is_same_primitive}
 use Rattle.pj_operators.specs.Conditional.{conditional_type, told_or_upper}
 use Rattle.pj_operators.specs.Literals.{string_type}
-use Rattle.pj_operators.specs.Numeric.{are_numeric, is_either, numeric, numeric_in, promoted, promoted_both, promoted_in, promoted_pair, wider}
+use Rattle.pj_types.specs.Conversions.{are_numeric, is_either, numeric, numeric_in, promoted, promoted_both, promoted_in, promoted_pair, wider}
 use Rattle.pj_operators.specs.Operators.{bitwise_type, is_boolean, is_string, sum_type}
 
 either-comm : (prim first second : PrimitiveType) → is_either prim first second ≡ is_either prim second first

@@ -5,7 +5,7 @@ use Rattle.std.specs.Cmp.Lexicographic.{pointwise, nat_list_eq_equiv, same_text}
 use Rattle.pj_names.specs.declared.ty.PrimitiveType.{PrimitiveType}
 use Rattle.pj_names.specs.declared.ty.PrimitiveType.TheVariants as p
 use Rattle.pj_names.specs.JavaType.{JavaType, Primitive, Void, Null, Class, Array, Variable, Unknown, Arguments, NoMore, Argument}
-use Rattle.pj_operators.specs.Boxing.{is_same_primitive}
+use Rattle.pj_types.specs.Subtyping.{is_same_primitive}
 use Rattle.pj_operators.specs.Same.{same_arguments, same_type}
 
 left_of : (a b : Bool) → IsTrue (a && b) → IsTrue a

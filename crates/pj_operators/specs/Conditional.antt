@@ -3,7 +3,7 @@ use Rattle.std.specs.Prelude.{Bool, ◌||◌, Option, None, Some, if◌then◌el
 use Rattle.pj_names.specs.JavaType.{JavaType, Primitive, Void, Null, Class, Array, Variable, Unknown}
 use Rattle.pj_names.specs.Asking.{Asking, Return, bind}
 use Rattle.pj_types.specs.Subtyping.{is_under, is_unknown}
-use Rattle.pj_operators.specs.Numeric.{are_numeric, promoted_both}
+use Rattle.pj_types.specs.Conversions.{are_numeric, promoted_both}
 use Rattle.pj_operators.specs.Same.{same_type}
 
 -- ---- as far as it is told without asking for supertypes

@@ -4,7 +4,7 @@ use Rattle.std.specs.List.{list_any}
 use Rattle.pj_names.specs.declared.ty.PrimitiveType.{PrimitiveType}
 use Rattle.pj_names.specs.declared.ty.PrimitiveType.TheVariants as p
 use Rattle.pj_names.specs.JavaType.{JavaType, Primitive, Void, Null, Class, Array, Variable, Unknown, NoMore, Argument}
-use Rattle.pj_operators.specs.Boxing.{boxed_type}
+use Rattle.pj_types.specs.Conversions.{boxed_type}
 
 -- ---- numbers (JLS 3.10.1, 3.10.2)
 

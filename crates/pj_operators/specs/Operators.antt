@@ -13,8 +13,9 @@ use Rattle.pj_operators.specs.declared.operators.Infix.TheVariants as i
 use Rattle.pj_operators.specs.declared.operators.Unary.{Unary}
 use Rattle.pj_operators.specs.declared.operators.Unary.TheVariants as u
 use Rattle.pj_operators.specs.Literals.{string_type}
-use Rattle.pj_operators.specs.Boxing.{as_primitive, is_same_primitive}
-use Rattle.pj_operators.specs.Numeric.{promoted, promoted_both}
+use Rattle.pj_types.specs.Conversions.{as_primitive}
+use Rattle.pj_types.specs.Subtyping.{is_same_primitive}
+use Rattle.pj_types.specs.Conversions.{promoted, promoted_both}
 
 -- ---- the operator of an expression
 

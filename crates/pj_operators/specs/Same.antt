@@ -2,7 +2,7 @@
 use Rattle.std.specs.Prelude.{Bool, true, false, ◌&&◌, nat_eq}
 use Rattle.std.specs.Cmp.Lexicographic.{pointwise}
 use Rattle.pj_names.specs.JavaType.{JavaType, Primitive, Void, Null, Class, Array, Variable, Unknown, Arguments, NoMore, Argument}
-use Rattle.pj_operators.specs.Boxing.{is_same_primitive}
+use Rattle.pj_types.specs.Subtyping.{is_same_primitive}
 
 abbrev mutual
   pub same_type : JavaType → JavaType → Bool

@@ -7,11 +7,10 @@ ghost use Rattle.pj_types.specs.Subtyping.{is_unknown};
 ghost use Rattle.pj_operators.specs.Conditional.{conditional_type, if_null, if_unknown, or_else, second_or_unknown, third_or_second, told_or_upper, told_type, upper_type};
 ghost use Rattle.pj_operators.specs.Seen.{type_seen};
 
-use crate::numeric::{are_numeric, promoted_both};
 use crate::same::same_type;
 use pj_base::NoMemory;
 use pj_names::{AskFault, Oracle, Ty};
-use pj_types::is_subtype;
+use pj_types::{are_numeric, is_subtype, promoted_both};
 use std::alloc::Global;
 
 /// Where a type is that of `null`, the other one.

@@ -3,7 +3,7 @@
 ghost use Rattle.std.specs.Prelude.{◌≡◌, ◌↔◌, IsTrue};
 ghost use Rattle.pj_names.specs.JavaType.{JavaType, Unknown};
 ghost use Rattle.pj_operators.specs.Conditional.{conditional_type};
-ghost use Rattle.pj_operators.specs.Numeric.{promoted, promoted_both};
+ghost use Rattle.pj_types.specs.Conversions.{promoted, promoted_both};
 ghost use Rattle.pj_operators.specs.Operators.{bitwise_type, infix_type, is_string, sum_type, unary_type};
 ghost use Rattle.pj_operators.specs.Same.{same_type};
 ghost use Rattle.pj_operators.specs.declared.operators.Infix.TheVariants as i;

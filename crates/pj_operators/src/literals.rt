@@ -5,9 +5,9 @@ ghost use Rattle.std.specs.List.{list_any};
 ghost use Rattle.pj_names.specs.JavaType.{Argument, Class, NoMore, java_type};
 ghost use Rattle.pj_operators.specs.Literals.{class_argument, class_literal, either, ends_in, is_decimal_sign, is_floating, is_hexadecimal, is_hexadecimal_mark, mark_of, number_type, string_type};
 
-use crate::boxing::{boxed, plain_class};
 use pj_base::NoMemory;
 use pj_names::{ClassName, Prim, Ty, Types};
+use pj_types::boxed_type;
 use std::alloc::Global;
 
 /// The byte behind a first `0`.
@@ -106,6 +106,16 @@ pub fn number_type(text: &str) -> Prim
     }
 }
 
+/// The class of a text that is the name of one, without arguments, so memory alone is wanted.
+fn plain_class(alloc: Global, text: &str) -> Result<Ty, NoMemory>
+    ensures { IfOk result (λ ty. java_type ty ≡ Class text.now NoMore) }
+{
+    match ClassName::of(alloc, text)? {
+        Some(name) => Ok(Ty::Class(name, Types::End)),
+        None => Err(NoMemory),
+    }
+}
+
 /// The type of a string and of a text block (JLS 3.10.5, 3.10.6).
 pub fn string_type(alloc: Global) -> Result<Ty, NoMemory>
     ensures { IfOk result (λ ty. java_type ty ≡ string_type) }
@@ -118,7 +128,7 @@ fn class_argument(alloc: Global, ty: Ty) -> Result<Ty, NoMemory>
     ensures { IfOk result (λ argument. java_type argument ≡ class_argument (java_type ty)) }
 {
     match ty {
-        Ty::Prim(prim) => boxed(alloc, prim),
+        Ty::Prim(prim) => boxed_type(alloc, prim),
         Ty::Void => plain_class(alloc, "java.lang.Void"),
         other => Ok(other),
     }

@@ -5,12 +5,11 @@ ghost use Rattle.pj_names.specs.JavaType.{java_type};
 ghost use Rattle.pj_tree.specs.Words.{last_of};
 ghost use Rattle.pj_operators.specs.Operators.{bitwise_type, infix_by, infix_of, is_boolean, is_sign, infix_type, is_string, sum_type, unary_of, unary_type};
 
-use crate::boxing::as_primitive;
 use crate::literals::string_type;
-use crate::numeric::{promoted, promoted_both};
 use pj_base::{NoMemory, value_in};
 use pj_names::{Prim, Ty};
 use pj_tree::{Node, OwnTokens, SyntaxTree};
+use pj_types::{as_primitive, promoted, promoted_both};
 use std::alloc::Global;
 
 /// What an infix operator makes of the types of its operands (JLS 15.17 to 15.24).
