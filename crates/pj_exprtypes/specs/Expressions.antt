@@ -12,7 +12,7 @@ use Rattle.pj_operators.specs.declared.operators.Infix.TheVariants as i
 use Rattle.pj_operators.specs.declared.operators.Unary.{Unary}
 use Rattle.pj_operators.specs.declared.operators.Unary.TheVariants as u
 use Rattle.pj_operators.specs.Conditional.{conditional_type}
-use Rattle.pj_operators.specs.Numeric.{promoted}
+use Rattle.pj_types.specs.Conversions.{promoted}
 use Rattle.pj_operators.specs.Operators.{infix_of, infix_type, unary_of, unary_type}
 use Rattle.pj_exprtypes.specs.Declarations.{type_or_none}
 use Rattle.pj_receivers.specs.Elements.{element_of}

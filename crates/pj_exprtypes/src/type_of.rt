@@ -89,6 +89,7 @@ pub fn type_of<O: Oracle>(
     ensures keeps { KeepsOver oracle.old.file.now (O.tells oracle.new.inner.now) types.new }
     ensures file { oracle.new.file.now ≡ oracle.old.file.now }
     ensures held { oracle.new.inner.ghost_name ≡ oracle.old.inner.ghost_name }
+    ensures same_table { oracle.new.held.ghost_name ≡ oracle.old.held.ghost_name }
 {
     let file = oracle.file;
     node_type(oracle.alloc, file, oracle, types, n)

@@ -24,13 +24,14 @@ use pj_leaf_types::{
 };
 use pj_names::{AskFault, ClassNameSet, ClassNames, Oracle, Prim, Recorder, Ty};
 use pj_operators::{
-    Infix, Unary, conditional_type, infix_of, infix_type, promoted, unary_of, unary_type,
+    Infix, Unary, conditional_type, infix_of, infix_type, unary_of, unary_type,
 };
 use pj_outer_names::File;
 use pj_receivers::{element_of, field_of, iterated};
 use pj_scopes::{Variable, variable_name};
 use pj_symbols::declaration_of;
 use pj_tree::{Kind, Node, child_of, first_child, first_word, last_word, second_child};
+use pj_types::promoted;
 use std::alloc::Global;
 
 /// The type of a node, where nodes are typed at most so deep within one another, and variables by `var` are those before a number.

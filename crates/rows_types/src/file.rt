@@ -1,14 +1,14 @@
 //! The answer for a row, and the file that its text is.
 
 ghost use Rattle.std.specs.Prelude.{◌≡◌, ◌<◌, length};
-ghost use Rattle.pj_symbols.specs.Symbols.{FindsClasses, symbols_of};
+ghost use Rattle.pj_symbols.specs.Symbols.{symbols_of};
 
 use crate::noted::Beneath;
 use crate::shown::put_type;
 use pj_base::{NoMemory, Text};
 use pj_declared::Declarations;
 use pj_exprtypes::{Typed, type_of};
-use pj_file_oracle::FileOracle;
+use pj_file_oracle::{FileOracle, Held};
 use pj_marked::{Java, expanded, place_of};
 use pj_names::AskFault;
 use pj_outer_names::File;
@@ -116,7 +116,6 @@ fn answer_with(
     asked: &Asked<'_>,
 ) -> Result<Text, NoMemory>
     requires symbols { symbols.now ≡ symbols_of tree.now }
-    requires finds { FindsClasses tree.now symbols.now.classes }
 {
     let declarations = Declarations::of(alloc, tree)?;
     let file = File::new(alloc, tree, symbols, &declarations)?;
@@ -149,11 +148,13 @@ fn put_found(
 {
     let mut types = Typed::new(alloc);
     if is_again {
-        let mut oracle = FileOracle::new(alloc, file, &mut *beneath);
+        let mut held = Held::new(alloc);
+        let mut oracle = FileOracle::new(alloc, file, &mut *beneath, &mut held);
         let _ = type_of(&mut oracle, &mut types, n)?;
         beneath.forget();
     }
-    let mut oracle = FileOracle::new(alloc, file, beneath);
+    let mut held = Held::new(alloc);
+    let mut oracle = FileOracle::new(alloc, file, beneath, &mut held);
     let ty = type_of(&mut oracle, &mut types, n)?;
     Ok(put_type(out, &ty)?)
 }
