@@ -13,6 +13,7 @@
 mod escapes;
 mod fault;
 mod file;
+mod pieces;
 mod reader;
 mod report;
 mod run;
@@ -21,6 +22,7 @@ mod table;
 pub use escapes::{escape, unescape};
 pub use fault::{LineFault, RowsFault};
 pub use file::{Row, Section, Setting};
+pub use pieces::{put, put_between};
 pub use reader::read_rows;
 pub use report::{Report, report_on};
 pub use run::Run;

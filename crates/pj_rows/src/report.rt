@@ -41,6 +41,20 @@ impl Report {
         self.refuse(line.as_str())
     }
 
+    /// Puts a row where what was found for it is not what it wants.
+    fn put_found(
+        &mut self,
+        alloc: Global,
+        file: &str,
+        row: &Row,
+        found: &str,
+    ) -> Result<(), NoMemory> {
+        if found != row.wanted.as_str() {
+            self.put_row(alloc, file, row, found)?;
+        }
+        Ok(())
+    }
+
     /// Puts what is found of the rows of a section.
     fn put_section<T: Table>(
         &mut self,
@@ -50,9 +64,9 @@ impl Report {
         table: &T,
     ) -> Result<(), NoMemory> {
         for row in &section.rows {
-            let found = table.answer(alloc, section, row)?;
-            if found.as_str() != row.wanted.as_str() {
-                self.put_row(alloc, file, row, found.as_str())?;
+            match table.answer(alloc, section, row) {
+                Ok(found) => self.put_found(alloc, file, row, found.as_str())?,
+                Err(NoMemory) => self.put_row(alloc, file, row, "! out of memory")?,
             }
         }
         Ok(())

@@ -11,6 +11,7 @@ pub trait Table {
     }
 
     /// What is found for what a row gives, as it is to be compared with what the row wants. A refusal begins with `! `, and
-    /// so does the answer for what is given in no form that the table reads.
+    /// so does the answer for what is given in no form that the table reads. Where there is no memory for an answer, the row
+    /// does not hold.
     fn answer(&self, alloc: Global, section: &Section, row: &Row) -> Result<String, NoMemory>;
 }

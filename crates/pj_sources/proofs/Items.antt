@@ -1,15 +1,15 @@
 -- The items of a listing, one after the other.
 use Rattle.std.proofs.Common.{◌≡◌, ◌∙◌, ◌+◌, ◌<◌, ℕ, Bool, true, false, cond, List, [], ◌∷◌, ◌++◌, length, take, drop, get_or, filter, find, None, Some, unwrap_or, ◌≤◌, sym, ap}
-use Rattle.std.specs.Prelude.{count_by, is_none}
+use Rattle.std.specs.Prelude.{Contains, IsTrue, count_by, is_none}
 use Rattle.std.specs.Option.{option_or}
 use Rattle.std.proofs.lemmas.List.{append-nil, take-append-drop, take_more, take_all, drop_more}
 use Rattle.std.proofs.lemmas.List.Concat.{flat_map-append}
-use Rattle.std.proofs.lemmas.List.Elements.{filter-append}
+use Rattle.std.proofs.lemmas.List.Elements.{All-filter, filter-append, filter_passes}
 use Rattle.std.proofs.lemmas.List.Folds.{find-append}
 use Rattle.std.proofs.lemmas.List.Sums.{sum_by-append}
-use Rattle.pj_outside.specs.Files.{Files, Bytes, listed_at}
+use Rattle.pj_outside.specs.Files.{Files, Bytes, is_at_or_below, listed_at}
 use Rattle.pj_sources.specs.Paths.{is_source, is_module_info, path_listed}
-use Rattle.pj_sources.specs.Listing.{IsUnordered, SaysNoItem, SaysNoListing, first_missing, is_missing, listed, listed_by}
+use Rattle.pj_sources.specs.Listing.{AreListedBy, AreSourcesOf, IsUnordered, SaysNoItem, SaysNoListing, first_missing, is_missing, listed, listed_by}
 use Rattle.pj_sources.specs.declared.listing.Listing.{Listing}
 use Rattle.pj_sources.specs.declared.refused.ListRefused.{ListRefused}
 use Rattle.pj_sources.specs.declared.refused.ListRefused.TheVariants.{Failed, Missing, Memory}
@@ -57,3 +57,14 @@ all_items files items i sources past so_far = record {
   paths = so_far.paths ∙ ap (λ xs. filter is_source (listed files xs)) (take_all i items past);
   skipped = so_far.skipped ∙ ap (λ xs. count_by is_module_info (listed files xs)) (take_all i items past);
 }
+
+-- of the paths that one of the items lists, those of source files are sources of the items
+pub sources_of_item : (items : List Bytes) (i : ℕ) (item : Bytes) → i < length items → item ≡ get_or items i item → (paths : List Bytes) → AreListedBy item paths → AreSourcesOf items (filter is_source paths)
+sources_of_item items i item within here paths listed =
+    let is_item : Contains items item = (i, within, sym here) in
+    λ k d below. record {
+      source = filter_passes is_source paths k d below;
+      item = item;
+      is_item = is_item;
+      at_or_below = All-filter is_source (λ path. IsTrue (is_at_or_below (path_listed item) path)) paths listed k d below;
+    }

@@ -1,7 +1,7 @@
 -- The list of sources: of all paths that the items list, those of source files, each once, in order.
 use Rattle.std.specs.Prelude.{⊤, ◌≡◌, ◌↔◌, Bool, IsTrue, List, [], Contains, All, filter, find, count_by, flat_map, Option, None, Some, is_none, unwrap_or}
 use Rattle.std.specs.List.Sorted.{IsStrictlySortedBy}
-use Rattle.pj_outside.specs.Files.{Files, Bytes, listed_at}
+use Rattle.pj_outside.specs.Files.{Files, Bytes, is_at_or_below, listed_at}
 use Rattle.pj_sources.specs.Paths.{is_source, is_module_info, path_listed, byte_order}
 use Rattle.pj_sources.specs.declared.listing.Listing.{Listing}
 use Rattle.pj_sources.specs.declared.refused.ListRefused.{ListRefused}
@@ -28,9 +28,16 @@ pub record IsInOrder (paths ordered : List Bytes) : Type 0 where
   pub ascending : IsStrictlySortedBy byte_order ordered
   pub members : (path : Bytes) → Contains ordered path ↔ Contains paths path
 
--- The paths are all of source files.
-abbrev pub AreSourcePaths : List Bytes → Type 0
-AreSourcePaths paths = All (λ path. IsTrue (is_source path)) paths
+-- The path is of a source file, and it is the one that an item lists, or one below it.
+pub record IsSourceOf (items : List Bytes) (path : Bytes) : Type 0 where
+  pub source : IsTrue (is_source path)
+  pub item : Bytes
+  pub is_item : Contains items item
+  pub at_or_below : IsTrue (is_at_or_below (path_listed item) path)
+
+-- The paths are all such.
+abbrev pub AreSourcesOf : List Bytes → List Bytes → Type 0
+AreSourcesOf items paths = All (IsSourceOf items) paths
 
 -- what the items list, where each lists something
 pub record IsListing (files : Files) (items : List Bytes) (listing : Listing) : Type 0 where
@@ -62,6 +69,10 @@ abbrev pub IsOfItem : Bytes → ListRefused → Type 0
 IsOfItem item Failed = ⊤
 IsOfItem item (Missing written) = written ≡ item
 IsOfItem item Memory = ⊤
+
+-- The paths are all the one that the item lists, or below it.
+abbrev pub AreListedBy : Bytes → List Bytes → Type 0
+AreListedBy item paths = All (λ path. IsTrue (is_at_or_below (path_listed item) path)) paths
 
 -- the sources before they are in order
 pub record IsUnordered (files : Files) (items : List Bytes) (listing : Listing) : Type 0 where

@@ -3,7 +3,7 @@ ghost use Rattle.std.specs.Prelude.{◌≡◌, ◌≢◌, ◌++◌, ◌+◌, Lis
 ghost use Rattle.std.specs.List.Sorted.{IsStrictlySortedBy};
 ghost use Rattle.pj_outside.specs.Files.{listed_at};
 ghost use Rattle.pj_sources.specs.Faults.{CountsListFaults};
-ghost use Rattle.pj_sources.specs.Listing.{IsInOrder, AreSourcePaths, IsListing, SaysNoListing, SaysNoItem, IsOfItems, IsOfItem, IsUnordered};
+ghost use Rattle.pj_sources.specs.Listing.{IsInOrder, AreListedBy, AreSourcesOf, IsListing, SaysNoListing, SaysNoItem, IsOfItems, IsOfItem, IsUnordered};
 ghost use Rattle.pj_sources.specs.Paths.{byte_order, is_source, is_module_info, path_listed};
 
 use crate::paths::{is_module_info, is_source, path_listed};
@@ -76,6 +76,7 @@ fn in_order(paths: Names) -> Names
 /// The paths that an item lists.
 fn list_item<T: Tree>(tree: &mut T, item: &Text) -> Result<Names, ListRefused>
     ensures listed { IfSome (T.holds tree.old) (λ files. MatchResult result (λ paths. listed_at files (path_listed item.now) ≡ Some paths) (SaysNoItem files item.now)) }
+    ensures at_or_below { IfOk result (AreListedBy item.now) }
     ensures named { IfErr result (IsOfItem item.now) }
     ensures same_files { T.holds tree.new ≡ T.holds tree.old }
     ensures counts_faults { CountsListFaults (T.faults tree.old) (T.faults tree.new) result }
@@ -92,7 +93,7 @@ fn list_item<T: Tree>(tree: &mut T, item: &Text) -> Result<Names, ListRefused>
 /// The sources among the paths that the items list, doubles and all, in no order.
 fn list_items<T: Tree>(alloc: Global, tree: &mut T, items: &Names) -> Result<Listing, ListRefused>
     ensures listed { IfSome (T.holds tree.old) (λ files. MatchResult result (IsUnordered files items.now) (SaysNoListing files items.now)) }
-    ensures paths { IfOk result (λ sources. AreSourcePaths sources.paths) }
+    ensures paths { IfOk result (λ sources. AreSourcesOf items.now sources.paths) }
     ensures named { IfErr result (IsOfItems items.now) }
     ensures same_files { T.holds tree.new ≡ T.holds tree.old }
     ensures counts_faults { CountsListFaults (T.faults tree.old) (T.faults tree.new) result }
@@ -122,7 +123,7 @@ pub fn list_sources<T: Tree>(
 ) -> Result<Listing, ListRefused>
     ensures listing { IfSome (T.holds tree.old) (λ files. MatchResult result (IsListing files items.now) (SaysNoListing files items.now)) }
     ensures ascending { IfOk result (λ listing. IsStrictlySortedBy byte_order listing.paths) }
-    ensures paths { IfOk result (λ listing. AreSourcePaths listing.paths) }
+    ensures paths { IfOk result (λ listing. AreSourcesOf items.now listing.paths) }
     ensures named { IfErr result (IsOfItems items.now) }
     ensures same_files { T.holds tree.new ≡ T.holds tree.old }
     ensures counts_faults { CountsListFaults (T.faults tree.old) (T.faults tree.new) result }

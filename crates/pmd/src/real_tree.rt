@@ -1,10 +1,12 @@
 //! A tree over the files of the system.
-ghost use Rattle.std.specs.Prelude.{None, IfOk};
-ghost use Rattle.pj_outside.specs.Files.{HasPath};
+ghost use Rattle.std.specs.Prelude.{◌≡◌, ◌++◌, ◌∷◌, None, IfOk, OnOk, IsTrue, string_bytes};
+ghost use Rattle.pj_outside.specs.Files.{is_at_or_below, Bytes, HasPath, AreAtOrBelow};
+ghost use Rattle.pmd.specs.Below.{AreBelow, FoldersAreBelow};
 
 use crate::real_file::{fault, if_there, is_memory, read_at};
 use pj_base::{Names, Text};
 use pj_outside::{Reading, Refused, Tree};
+use std::alloc::Global;
 use std::rt::Files;
 use std::{fs, io};
 
@@ -31,6 +33,13 @@ fn is_file_there<R: Files>(rt: &R, path: &str) -> io::Result<bool> {
     }
 }
 
+/// The path of an entry of a folder.
+fn entry_path(alloc: Global, folder: &str, name: &str) -> io::Result<String>
+    ensures { IfOk result (λ path. string_bytes path ≡ folder.now ++ 47 ∷ name.now) }
+{
+    Ok(format!(in alloc; "{folder}/{name}")?)
+}
+
 /// Puts an entry of a folder to the paths where it is a file, and to the folders that are left where it is a folder. A
 /// link to a folder is passed over, so that a circle of links ends, and so is a link that leads nowhere.
 fn list_entry<R: Files + AllocGlobal + Clone + Drop>(
@@ -39,7 +48,10 @@ fn list_entry<R: Files + AllocGlobal + Clone + Drop>(
     is_folder: bool,
     paths: &mut Names,
     folders: &mut Vec<String>,
-) -> io::Result<()> {
+) -> io::Result<()>
+    ensures paths { (at : Bytes) → IsTrue (is_at_or_below at (string_bytes path)) → AreBelow at paths.old → OnOk result (AreBelow at paths.new) }
+    ensures folders { (at : Bytes) → IsTrue (is_at_or_below at (string_bytes path)) → FoldersAreBelow at folders.old.items → OnOk result (FoldersAreBelow at folders.new.items) }
+{
     if is_folder {
         folders.push(path)?;
     } else if is_file_there(rt, path.as_str())? {
@@ -58,7 +70,10 @@ fn list_folder<R: Files + AllocGlobal + Clone + Drop>(
     folder: &str,
     paths: &mut Names,
     folders: &mut Vec<String>,
-) -> io::Result<()> {
+) -> io::Result<()>
+    ensures paths { (at : Bytes) → IsTrue (is_at_or_below at folder.now) → AreBelow at paths.old → OnOk result (AreBelow at paths.new) }
+    ensures folders { (at : Bytes) → IsTrue (is_at_or_below at folder.now) → FoldersAreBelow at folders.old.items → OnOk result (FoldersAreBelow at folders.new.items) }
+{
     let alloc = rt.alloc();
     let entries = match if_there(fs::read_dir(rt, folder))? {
         Some(entries) => entries,
@@ -66,8 +81,7 @@ fn list_folder<R: Files + AllocGlobal + Clone + Drop>(
     };
     for entry in entries {
         let entry = entry?;
-        let name = entry.file_name();
-        let path = format!(in alloc; "{folder}/{name}")?;
+        let path = entry_path(alloc, folder, entry.file_name())?;
         if let Some(kind) = if_there(entry.file_type())? {
             list_entry(rt, path, kind.is_dir(), paths, folders)?;
         }
@@ -77,7 +91,8 @@ fn list_folder<R: Files + AllocGlobal + Clone + Drop>(
 
 /// The files at a path and below it, or `None` where there is none.
 fn list_at<R: Files + AllocGlobal + Clone + Drop>(rt: &R, at: &str) -> io::Result<Option<Names>>
-    ensures { IfOk result HasPath }
+    ensures some { IfOk result HasPath }
+    ensures at_or_below { IfOk result (AreAtOrBelow at.now) }
 {
     let alloc = rt.alloc();
     let mut paths = Names::new(alloc);

@@ -1,13 +1,13 @@
-use Rattle.std.proofs.Common.{◌≡◌, ◌∙◌, ◌+◌, List, Some, take, filter, sym, subst, IsTrue}
+use Rattle.std.proofs.Common.{◌≡◌, ◌∙◌, ◌+◌, List, Some, take, filter, sym, subst}
 use Rattle.std.specs.Prelude.{MatchResult, Result}
 use Rattle.std.proofs.lemmas.Result.{err_from_is_err_and}
 use Rattle.pj_sources.specs.declared.listing.Listing.{Listing}
 use Rattle.pj_sources.specs.declared.refused.ListRefused.{ListRefused}
-use Rattle.std.proofs.lemmas.List.Elements.{All-append, filter_passes}
+use Rattle.std.proofs.lemmas.List.Elements.{All-append}
 use Rattle.pj_outside.specs.Files.{Bytes, listed_at}
 use Rattle.pj_sources.specs.Paths.{is_source, path_listed}
-use Rattle.pj_sources.specs.Listing.{AreSourcePaths, IsUnordered, SaysNoItem, SaysNoListing}
-use Rattle.pj_sources.proofs.Items.{next_item, refused_item}
+use Rattle.pj_sources.specs.Listing.{AreSourcesOf, IsSourceOf, IsUnordered, SaysNoItem, SaysNoListing}
+use Rattle.pj_sources.proofs.Items.{next_item, refused_item, sources_of_item}
 use Rattle.pj_sources.proofs.Told.{told_both}
 use Rattle.pj_sources.proofs.listing.list_items.Goals as goal
 
@@ -45,6 +45,8 @@ loop-item-preserved g c =
           (λ files so_far there. next_item files items c.loop-item.item-index c.item-item.result c.loop-item.sources c.loop-item-test.true c.item-item.is so_far c.in_ok-listed.listed c.take_listed.new.sources there took.paths took.skipped)
           kept.listed
           c.in_ok-listed.ensures.listed;
-      paths = subst (λ (paths : List Bytes). AreSourcePaths paths) (sym took.paths)
-          (All-append (λ path. IsTrue (is_source path)) c.loop-item.sources.paths (filter is_source c.in_ok-listed.listed) kept.paths (filter_passes is_source c.in_ok-listed.listed));
+      paths = subst (λ (paths : List Bytes). AreSourcesOf c.args.items.now paths) (sym took.paths)
+          (All-append (IsSourceOf c.args.items.now) c.loop-item.sources.paths (filter is_source c.in_ok-listed.listed) kept.paths
+          (subst (λ (all : List Bytes). AreSourcesOf all (filter is_source c.in_ok-listed.listed)) c.as_slice-item-items.ensures
+          (sources_of_item items c.loop-item.item-index c.item-item.result c.loop-item-test.true c.item-item.is c.in_ok-listed.listed c.in_ok-listed.ensures.at_or_below)));
     }
