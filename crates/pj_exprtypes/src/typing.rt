@@ -23,9 +23,7 @@ use pj_leaf_types::{
     leaf_type, statement_of,
 };
 use pj_names::{AskFault, ClassNameSet, ClassNames, Oracle, Prim, Recorder, Ty};
-use pj_operators::{
-    Infix, Unary, conditional_type, infix_of, infix_type, unary_of, unary_type,
-};
+use pj_operators::{Infix, Unary, conditional_type, infix_of, infix_type, unary_of, unary_type};
 use pj_outer_names::File;
 use pj_receivers::{element_of, field_of, iterated};
 use pj_scopes::{Variable, variable_name};

@@ -20,6 +20,10 @@ abbrev pub class_alone : JavaType → JavaType
 class_alone (Class name arguments) = Class name NoMore
 class_alone other = Unknown
 
+-- a type, or `java.lang.Object` in the place of an interface
+abbrev pub unless_interface : JavaType → Bool → JavaType
+unless_interface ty is = if is then object_type else ty
+
 module _ (t : Tree) where
   -- a class that the file declares, without arguments
   abbrev pub declared_class : Node → JavaType
@@ -42,10 +46,7 @@ module _ (t : Tree) where
 
   -- ---- `super`: the superclass of the innermost class around, which is resolved as in that class's header
 
-  -- that of an anonymous class is the type of its `new`, or `java.lang.Object` where that is an interface (JLS 15.9.5)
-  abbrev pub unless_interface : JavaType → Bool → JavaType
-  unless_interface ty is = if is then object_type else ty
-
+  -- that of an anonymous class is the type of its `new`, unless that is an interface (JLS 15.9.5)
   abbrev pub created_superclass : List ℕ → Option Node → Asking JavaType
   created_superclass busy None = Return object_type
   created_superclass busy (Some n) = bind (supertype t busy n) (λ ty. bind (is_interface_type t ty) (λ is. Return (unless_interface ty is)))
