@@ -1,5 +1,5 @@
 pub mod Parts
 pub mod Steps
 pub mod Tables
-pub mod Operands
+pub mod OperandParts
 pub mod Depth

@@ -16,7 +16,6 @@ use pj_names::{AskFault, ClassNameSet, ClassNames, Oracle, Ty};
 use pj_tree::Node;
 use std::alloc::Global;
 use std::collections::BTreeMap;
-use std::marker::Model;
 
 /// The type of a variable that is declared by `var`, with the names that its definition asks.
 #[derive(Drop)]
@@ -29,29 +28,21 @@ pub struct HeldVariable {
     pub names: ClassNames,
 }
 
-/// The types of a file that were found so far. Contracts see them as a list.
+/// The types of a file that were found so far.
 ///
 /// A type that is held is asked again by its names, so that who finds it held asks what its definition asks.
 #[derive(Drop)]
 pub struct Typed {
-    variables: ListOf<HeldVariable>,
+    /// Those of variables that are declared by `var`.
+    pub variables: ListOf<HeldVariable>,
     /// Where the entry of a variable stands. What is found so is looked at, so nothing is claimed of it.
     places: BTreeMap<u32, usize>,
-}
-
-impl Model for Typed {
-    ghost use Rattle.std.specs.Prelude.{List};
-    ghost use Rattle.pj_exprtypes.specs.declared.held.HeldVariable.{HeldVariable};
-
-    ghost Value = { List HeldVariable };
-
-    ghost view = { λ types. types.variables };
 }
 
 impl Typed {
     /// A table that holds none.
     pub fn new(alloc: Global) -> Typed
-        ensures { result ≡ [] }
+        ensures { result.variables ≡ [] }
     {
         Typed {
             variables: ListOf::new(alloc),
@@ -61,7 +52,7 @@ impl Typed {
 
     /// The entry of a variable, if there is one.
     pub(crate) fn find(&self, id: Node) -> Option<&HeldVariable>
-        ensures { (t : Tree) (worlds : Worlds) → All (Holds t worlds) self.now
+        ensures { (t : Tree) (worlds : Worlds) → All (Holds t worlds) self.now.variables
             → IfSome result (λ entry. IsHeld worlds (var_of t id) (java_type entry.now.ty) (name_set entry.now.names)) }
     {
         let place = *self.places.get(&id.0)?;
@@ -75,7 +66,7 @@ impl Typed {
 
     /// Puts an entry at the end.
     fn put(&mut self, entry: HeldVariable) -> Result<(), NoMemory>
-        ensures { (t : Tree) (worlds : Worlds) → Holds t worlds entry → All (Holds t worlds) self.old → All (Holds t worlds) self.new }
+        ensures { (t : Tree) (worlds : Worlds) → Holds t worlds entry → All (Holds t worlds) self.old.variables → All (Holds t worlds) self.new.variables }
     {
         let node = entry.node;
         let place = self.variables.len();
@@ -97,7 +88,7 @@ pub(crate) fn remember(
     ensures stays { IsWithin noted.old noted.new }
     ensures within { IsWithin noted.new (with_names noted.old found.1) }
     ensures held { (t : Tree) (worlds : Worlds) → IsHeld worlds (var_of t id) (java_type found.0) (name_set found.1)
-        → All (Holds t worlds) types.old → All (Holds t worlds) types.new }
+        → All (Holds t worlds) types.old.variables → All (Holds t worlds) types.new.variables }
 {
     let (ty, names) = found;
     noted.note_all(&names)?;

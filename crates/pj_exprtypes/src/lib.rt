@@ -5,11 +5,11 @@
 
 mod held;
 mod laws;
+mod node_types;
 mod operands;
 mod order;
-mod type_of;
 mod typing;
 
 pub use held::Typed;
 pub use laws::{sources_agree, types_go_on};
-pub use type_of::type_of;
+pub use node_types::type_of;

@@ -242,11 +242,11 @@ fn find_one<'r, O: Oracle>(
     id: Node,
 ) -> Result<Wanted, AskFault>
     requires inside { id.0 < length file.now.nodes }
-    requires keeps { Keeps file.now (⟦<Recorder<'r, O> as Oracle>⟧.tells oracle.old) types.old }
+    requires keeps { Keeps file.now (⟦<Recorder<'r, O> as Oracle>⟧.tells oracle.old) types.old.variables }
     ensures of { IfOk result (AreOf file.now) }
     ensures parts { IsTrue (⟦<Recorder<'r, O> as Oracle>⟧.tells oracle.old).is_told → IfOk result (AreParts (⟦<Recorder<'r, O> as Oracle>⟧.tells oracle.old).world file.now (var_of file.now id)) }
     ensures asks { AsksPart (var_of file.now id) (⟦<Recorder<'r, O> as Oracle>⟧.tells oracle.old) (⟦<Recorder<'r, O> as Oracle>⟧.tells oracle.new) result }
-    ensures keeps { Keeps file.now (⟦<Recorder<'r, O> as Oracle>⟧.tells oracle.new) types.new }
+    ensures keeps { Keeps file.now (⟦<Recorder<'r, O> as Oracle>⟧.tells oracle.new) types.new.variables }
 {
     let _ty = var_once(alloc, file, oracle, types, id)?;
     Ok(nothing())
@@ -264,11 +264,11 @@ fn visit_one<'r, O: Oracle>(
 ) -> Result<Wanted, AskFault>
     requires inside { n.0 < length file.now.nodes }
     requires left { left ≤ 2000001 }
-    requires keeps { Keeps file.now (⟦<Recorder<'r, O> as Oracle>⟧.tells oracle.old) types.old }
+    requires keeps { Keeps file.now (⟦<Recorder<'r, O> as Oracle>⟧.tells oracle.old) types.old.variables }
     ensures of { IfOk result (AreOf file.now) }
     ensures parts { IsTrue (⟦<Recorder<'r, O> as Oracle>⟧.tells oracle.old).is_told → IfOk result (AreParts (⟦<Recorder<'r, O> as Oracle>⟧.tells oracle.old).world file.now (typed file.now (earlier file.now before) left n)) }
     ensures asks { AsksPart (typed file.now (earlier file.now before) left n) (⟦<Recorder<'r, O> as Oracle>⟧.tells oracle.old) (⟦<Recorder<'r, O> as Oracle>⟧.tells oracle.new) result }
-    ensures keeps { Keeps file.now (⟦<Recorder<'r, O> as Oracle>⟧.tells oracle.new) types.new }
+    ensures keeps { Keeps file.now (⟦<Recorder<'r, O> as Oracle>⟧.tells oracle.new) types.new.variables }
 {
     if left == 0 {
         return Ok(nothing());
@@ -285,11 +285,11 @@ fn do_next<'r, O: Oracle>(
     next: Pending,
 ) -> Result<Wanted, AskFault>
     requires next { IsOf file.now next }
-    requires keeps { Keeps file.now (⟦<Recorder<'r, O> as Oracle>⟧.tells oracle.old) types.old }
+    requires keeps { Keeps file.now (⟦<Recorder<'r, O> as Oracle>⟧.tells oracle.old) types.old.variables }
     ensures of { IfOk result (AreOf file.now) }
     ensures parts { IsTrue (⟦<Recorder<'r, O> as Oracle>⟧.tells oracle.old).is_told → IfOk result (AreParts (⟦<Recorder<'r, O> as Oracle>⟧.tells oracle.old).world file.now (asked_by file.now next)) }
     ensures asks { AsksPart (asked_by file.now next) (⟦<Recorder<'r, O> as Oracle>⟧.tells oracle.old) (⟦<Recorder<'r, O> as Oracle>⟧.tells oracle.new) result }
-    ensures keeps { Keeps file.now (⟦<Recorder<'r, O> as Oracle>⟧.tells oracle.new) types.new }
+    ensures keeps { Keeps file.now (⟦<Recorder<'r, O> as Oracle>⟧.tells oracle.new) types.new.variables }
 {
     match next {
         Pending::Find(id) => find_one(alloc, file, oracle, types, id),
@@ -329,11 +329,11 @@ fn do_one<'r, O: Oracle>(
     next: Pending,
 ) -> Result<(), AskFault>
     requires next { IsOf file.now next }
-    requires keeps { Keeps file.now (⟦<Recorder<'r, O> as Oracle>⟧.tells oracle.old) types.old }
+    requires keeps { Keeps file.now (⟦<Recorder<'r, O> as Oracle>⟧.tells oracle.old) types.old.variables }
     ensures of { All (IsOf file.now) all.old → All (IsOf file.now) all.new }
     ensures parts { (worlds : Worlds) (whole : Asking JavaType) → IsTrue (⟦<Recorder<'r, O> as Oracle>⟧.tells oracle.old).is_told → (⟦<Recorder<'r, O> as Oracle>⟧.tells oracle.old).world ≡ worlds → IsPartOf worlds (asked_by file.now next) whole → All (IsPart worlds file.now whole) all.old → All (IsPart worlds file.now whole) all.new }
     ensures asks { AsksPart (asked_by file.now next) (⟦<Recorder<'r, O> as Oracle>⟧.tells oracle.old) (⟦<Recorder<'r, O> as Oracle>⟧.tells oracle.new) result }
-    ensures keeps { Keeps file.now (⟦<Recorder<'r, O> as Oracle>⟧.tells oracle.new) types.new }
+    ensures keeps { Keeps file.now (⟦<Recorder<'r, O> as Oracle>⟧.tells oracle.new) types.new.variables }
 {
     let wanted = do_next(alloc, file, oracle, types, next)?;
     put(all, wanted)?;
@@ -349,9 +349,9 @@ pub(crate) fn type_variables<'r, O: Oracle>(
     n: Node,
 ) -> Result<(), AskFault>
     requires inside { n.0 < length file.now.nodes }
-    requires keeps { Keeps file.now (⟦<Recorder<'r, O> as Oracle>⟧.tells oracle.old) types.old }
+    requires keeps { Keeps file.now (⟦<Recorder<'r, O> as Oracle>⟧.tells oracle.old) types.old.variables }
     ensures asks { AsksPart (type_of file.now n) (⟦<Recorder<'r, O> as Oracle>⟧.tells oracle.old) (⟦<Recorder<'r, O> as Oracle>⟧.tells oracle.new) result }
-    ensures keeps { Keeps file.now (⟦<Recorder<'r, O> as Oracle>⟧.tells oracle.new) types.new }
+    ensures keeps { Keeps file.now (⟦<Recorder<'r, O> as Oracle>⟧.tells oracle.new) types.new.variables }
 {
     let count = file.tree().len();
     let mut all = AllPending::new(alloc);

@@ -46,9 +46,9 @@ pub(crate) fn typed<'r, O: Oracle>(
 ) -> Result<Ty, AskFault>
     requires inside { n.0 < length file.now.nodes }
     requires left { left ≤ 2000001 }
-    requires keeps { Keeps file.now (⟦<Recorder<'r, O> as Oracle>⟧.tells oracle.old) types.old }
+    requires keeps { Keeps file.now (⟦<Recorder<'r, O> as Oracle>⟧.tells oracle.old) types.old.variables }
     ensures asks { Asks (typed file.now (earlier file.now before) left n) (⟦<Recorder<'r, O> as Oracle>⟧.tells oracle.old) (⟦<Recorder<'r, O> as Oracle>⟧.tells oracle.new) (seen java_type result) }
-    ensures keeps { Keeps file.now (⟦<Recorder<'r, O> as Oracle>⟧.tells oracle.new) types.new }
+    ensures keeps { Keeps file.now (⟦<Recorder<'r, O> as Oracle>⟧.tells oracle.new) types.new.variables }
 {
     if left == 0 {
         return Ok(Ty::Unknown);
@@ -70,9 +70,9 @@ fn type_or_none<'r, O: Oracle>(
 ) -> Result<Ty, AskFault>
     requires inside { IfSome n (λ m. m.0 < length file.now.nodes) }
     requires left { left ≤ 2000001 }
-    requires keeps { Keeps file.now (⟦<Recorder<'r, O> as Oracle>⟧.tells oracle.old) types.old }
+    requires keeps { Keeps file.now (⟦<Recorder<'r, O> as Oracle>⟧.tells oracle.old) types.old.variables }
     ensures asks { Asks (declarations.type_or_none file.now (typed file.now (earlier file.now before) left) n) (⟦<Recorder<'r, O> as Oracle>⟧.tells oracle.old) (⟦<Recorder<'r, O> as Oracle>⟧.tells oracle.new) (seen java_type result) }
-    ensures keeps { Keeps file.now (⟦<Recorder<'r, O> as Oracle>⟧.tells oracle.new) types.new }
+    ensures keeps { Keeps file.now (⟦<Recorder<'r, O> as Oracle>⟧.tells oracle.new) types.new.variables }
 {
     match n {
         Some(n) => typed(alloc, file, oracle, types, before, left, n),
@@ -94,9 +94,9 @@ fn first_type<'r, O: Oracle>(
 ) -> Result<Ty, AskFault>
     requires inside { n.0 < length file.now.nodes }
     requires left { left ≤ 2000001 }
-    requires keeps { Keeps file.now (⟦<Recorder<'r, O> as Oracle>⟧.tells oracle.old) types.old }
+    requires keeps { Keeps file.now (⟦<Recorder<'r, O> as Oracle>⟧.tells oracle.old) types.old.variables }
     ensures asks { Asks (expressions.first_type file.now (typed file.now (earlier file.now before) left) n) (⟦<Recorder<'r, O> as Oracle>⟧.tells oracle.old) (⟦<Recorder<'r, O> as Oracle>⟧.tells oracle.new) (seen java_type result) }
-    ensures keeps { Keeps file.now (⟦<Recorder<'r, O> as Oracle>⟧.tells oracle.new) types.new }
+    ensures keeps { Keeps file.now (⟦<Recorder<'r, O> as Oracle>⟧.tells oracle.new) types.new.variables }
 {
     let child = first_child(file.tree(), n);
     type_or_none(alloc, file, oracle, types, before, left, child)
@@ -116,9 +116,9 @@ fn second_type<'r, O: Oracle>(
 ) -> Result<Ty, AskFault>
     requires inside { n.0 < length file.now.nodes }
     requires left { left ≤ 2000001 }
-    requires keeps { Keeps file.now (⟦<Recorder<'r, O> as Oracle>⟧.tells oracle.old) types.old }
+    requires keeps { Keeps file.now (⟦<Recorder<'r, O> as Oracle>⟧.tells oracle.old) types.old.variables }
     ensures asks { Asks (expressions.second_type file.now (typed file.now (earlier file.now before) left) n) (⟦<Recorder<'r, O> as Oracle>⟧.tells oracle.old) (⟦<Recorder<'r, O> as Oracle>⟧.tells oracle.new) (seen java_type result) }
-    ensures keeps { Keeps file.now (⟦<Recorder<'r, O> as Oracle>⟧.tells oracle.new) types.new }
+    ensures keeps { Keeps file.now (⟦<Recorder<'r, O> as Oracle>⟧.tells oracle.new) types.new.variables }
 {
     let child = second_child(file.tree(), n);
     type_or_none(alloc, file, oracle, types, before, left, child)
@@ -138,9 +138,9 @@ fn third_type<'r, O: Oracle>(
 ) -> Result<Ty, AskFault>
     requires inside { n.0 < length file.now.nodes }
     requires left { left ≤ 2000001 }
-    requires keeps { Keeps file.now (⟦<Recorder<'r, O> as Oracle>⟧.tells oracle.old) types.old }
+    requires keeps { Keeps file.now (⟦<Recorder<'r, O> as Oracle>⟧.tells oracle.old) types.old.variables }
     ensures asks { Asks (expressions.third_type file.now (typed file.now (earlier file.now before) left) n) (⟦<Recorder<'r, O> as Oracle>⟧.tells oracle.old) (⟦<Recorder<'r, O> as Oracle>⟧.tells oracle.new) (seen java_type result) }
-    ensures keeps { Keeps file.now (⟦<Recorder<'r, O> as Oracle>⟧.tells oracle.new) types.new }
+    ensures keeps { Keeps file.now (⟦<Recorder<'r, O> as Oracle>⟧.tells oracle.new) types.new.variables }
 {
     let child = third_child(file.tree(), n);
     type_or_none(alloc, file, oracle, types, before, left, child)
@@ -160,9 +160,9 @@ fn typed_by<'r, O: Oracle>(
 ) -> Result<Ty, AskFault>
     requires inside { n.0 < length file.now.nodes }
     requires left { left ≤ 2000001 }
-    requires keeps { Keeps file.now (⟦<Recorder<'r, O> as Oracle>⟧.tells oracle.old) types.old }
+    requires keeps { Keeps file.now (⟦<Recorder<'r, O> as Oracle>⟧.tells oracle.old) types.old.variables }
     ensures asks { Asks (type_by file.now (earlier file.now before) (typed file.now (earlier file.now before) left) n (kind_of file.now n)) (⟦<Recorder<'r, O> as Oracle>⟧.tells oracle.old) (⟦<Recorder<'r, O> as Oracle>⟧.tells oracle.new) (seen java_type result) }
-    ensures keeps { Keeps file.now (⟦<Recorder<'r, O> as Oracle>⟧.tells oracle.new) types.new }
+    ensures keeps { Keeps file.now (⟦<Recorder<'r, O> as Oracle>⟧.tells oracle.new) types.new.variables }
 {
     match file.tree().kind(n) {
         Kind::VariableAccess => access_type(alloc, file, oracle, types, before, n),
@@ -203,9 +203,9 @@ fn both_by<'r, O: Oracle>(
 ) -> Result<Ty, AskFault>
     requires inside { n.0 < length file.now.nodes }
     requires left { left ≤ 2000001 }
-    requires keeps { Keeps file.now (⟦<Recorder<'r, O> as Oracle>⟧.tells oracle.old) types.old }
+    requires keeps { Keeps file.now (⟦<Recorder<'r, O> as Oracle>⟧.tells oracle.old) types.old.variables }
     ensures asks { Asks (expressions.both_by file.now (typed file.now (earlier file.now before) left) operator n) (⟦<Recorder<'r, O> as Oracle>⟧.tells oracle.old) (⟦<Recorder<'r, O> as Oracle>⟧.tells oracle.new) (seen java_type result) }
-    ensures keeps { Keeps file.now (⟦<Recorder<'r, O> as Oracle>⟧.tells oracle.new) types.new }
+    ensures keeps { Keeps file.now (⟦<Recorder<'r, O> as Oracle>⟧.tells oracle.new) types.new.variables }
 {
     let of_left = first_type(alloc, file, oracle, types, before, left, n)?;
     let of_right = second_type(alloc, file, oracle, types, before, left, n)?;
@@ -227,9 +227,9 @@ fn shift<'r, O: Oracle>(
 ) -> Result<Ty, AskFault>
     requires inside { n.0 < length file.now.nodes }
     requires left { left ≤ 2000001 }
-    requires keeps { Keeps file.now (⟦<Recorder<'r, O> as Oracle>⟧.tells oracle.old) types.old }
+    requires keeps { Keeps file.now (⟦<Recorder<'r, O> as Oracle>⟧.tells oracle.old) types.old.variables }
     ensures asks { Asks (expressions.shift file.now (typed file.now (earlier file.now before) left) n) (⟦<Recorder<'r, O> as Oracle>⟧.tells oracle.old) (⟦<Recorder<'r, O> as Oracle>⟧.tells oracle.new) (seen java_type result) }
-    ensures keeps { Keeps file.now (⟦<Recorder<'r, O> as Oracle>⟧.tells oracle.new) types.new }
+    ensures keeps { Keeps file.now (⟦<Recorder<'r, O> as Oracle>⟧.tells oracle.new) types.new.variables }
 {
     let operand = first_type(alloc, file, oracle, types, before, left, n)?;
     Ok(promoted(&operand))
@@ -250,9 +250,9 @@ fn infix_by<'r, O: Oracle>(
 ) -> Result<Ty, AskFault>
     requires inside { n.0 < length file.now.nodes }
     requires left { left ≤ 2000001 }
-    requires keeps { Keeps file.now (⟦<Recorder<'r, O> as Oracle>⟧.tells oracle.old) types.old }
+    requires keeps { Keeps file.now (⟦<Recorder<'r, O> as Oracle>⟧.tells oracle.old) types.old.variables }
     ensures asks { Asks (expressions.infix_by file.now (typed file.now (earlier file.now before) left) n (Some operator)) (⟦<Recorder<'r, O> as Oracle>⟧.tells oracle.old) (⟦<Recorder<'r, O> as Oracle>⟧.tells oracle.new) (seen java_type result) }
-    ensures keeps { Keeps file.now (⟦<Recorder<'r, O> as Oracle>⟧.tells oracle.new) types.new }
+    ensures keeps { Keeps file.now (⟦<Recorder<'r, O> as Oracle>⟧.tells oracle.new) types.new.variables }
 {
     match operator {
         Infix::Test => Ok(Ty::Prim(Prim::Boolean)),
@@ -277,9 +277,9 @@ fn infix_expression<'r, O: Oracle>(
 ) -> Result<Ty, AskFault>
     requires inside { n.0 < length file.now.nodes }
     requires left { left ≤ 2000001 }
-    requires keeps { Keeps file.now (⟦<Recorder<'r, O> as Oracle>⟧.tells oracle.old) types.old }
+    requires keeps { Keeps file.now (⟦<Recorder<'r, O> as Oracle>⟧.tells oracle.old) types.old.variables }
     ensures asks { Asks (expressions.infix_expression file.now (typed file.now (earlier file.now before) left) n) (⟦<Recorder<'r, O> as Oracle>⟧.tells oracle.old) (⟦<Recorder<'r, O> as Oracle>⟧.tells oracle.new) (seen java_type result) }
-    ensures keeps { Keeps file.now (⟦<Recorder<'r, O> as Oracle>⟧.tells oracle.new) types.new }
+    ensures keeps { Keeps file.now (⟦<Recorder<'r, O> as Oracle>⟧.tells oracle.new) types.new.variables }
 {
     match infix_of(file.tree(), n) {
         Some(operator) => infix_by(alloc, file, oracle, types, before, left, operator, n),
@@ -302,9 +302,9 @@ fn unary_with<'r, O: Oracle>(
 ) -> Result<Ty, AskFault>
     requires inside { n.0 < length file.now.nodes }
     requires left { left ≤ 2000001 }
-    requires keeps { Keeps file.now (⟦<Recorder<'r, O> as Oracle>⟧.tells oracle.old) types.old }
+    requires keeps { Keeps file.now (⟦<Recorder<'r, O> as Oracle>⟧.tells oracle.old) types.old.variables }
     ensures asks { Asks (expressions.unary_with file.now (typed file.now (earlier file.now before) left) operator n) (⟦<Recorder<'r, O> as Oracle>⟧.tells oracle.old) (⟦<Recorder<'r, O> as Oracle>⟧.tells oracle.new) (seen java_type result) }
-    ensures keeps { Keeps file.now (⟦<Recorder<'r, O> as Oracle>⟧.tells oracle.new) types.new }
+    ensures keeps { Keeps file.now (⟦<Recorder<'r, O> as Oracle>⟧.tells oracle.new) types.new.variables }
 {
     let operand = first_type(alloc, file, oracle, types, before, left, n)?;
     Ok(unary_type(operator, operand))
@@ -325,9 +325,9 @@ fn unary_by<'r, O: Oracle>(
 ) -> Result<Ty, AskFault>
     requires inside { n.0 < length file.now.nodes }
     requires left { left ≤ 2000001 }
-    requires keeps { Keeps file.now (⟦<Recorder<'r, O> as Oracle>⟧.tells oracle.old) types.old }
+    requires keeps { Keeps file.now (⟦<Recorder<'r, O> as Oracle>⟧.tells oracle.old) types.old.variables }
     ensures asks { Asks (expressions.unary_by file.now (typed file.now (earlier file.now before) left) n (Some operator)) (⟦<Recorder<'r, O> as Oracle>⟧.tells oracle.old) (⟦<Recorder<'r, O> as Oracle>⟧.tells oracle.new) (seen java_type result) }
-    ensures keeps { Keeps file.now (⟦<Recorder<'r, O> as Oracle>⟧.tells oracle.new) types.new }
+    ensures keeps { Keeps file.now (⟦<Recorder<'r, O> as Oracle>⟧.tells oracle.new) types.new.variables }
 {
     match operator {
         Unary::Not => Ok(Ty::Prim(Prim::Boolean)),
@@ -350,9 +350,9 @@ fn unary_expression<'r, O: Oracle>(
 ) -> Result<Ty, AskFault>
     requires inside { n.0 < length file.now.nodes }
     requires left { left ≤ 2000001 }
-    requires keeps { Keeps file.now (⟦<Recorder<'r, O> as Oracle>⟧.tells oracle.old) types.old }
+    requires keeps { Keeps file.now (⟦<Recorder<'r, O> as Oracle>⟧.tells oracle.old) types.old.variables }
     ensures asks { Asks (expressions.unary_expression file.now (typed file.now (earlier file.now before) left) n) (⟦<Recorder<'r, O> as Oracle>⟧.tells oracle.old) (⟦<Recorder<'r, O> as Oracle>⟧.tells oracle.new) (seen java_type result) }
-    ensures keeps { Keeps file.now (⟦<Recorder<'r, O> as Oracle>⟧.tells oracle.new) types.new }
+    ensures keeps { Keeps file.now (⟦<Recorder<'r, O> as Oracle>⟧.tells oracle.new) types.new.variables }
 {
     match unary_of(file.tree(), n) {
         Some(operator) => unary_by(alloc, file, oracle, types, before, left, operator, n),
@@ -374,9 +374,9 @@ fn conditional_expression<'r, O: Oracle>(
 ) -> Result<Ty, AskFault>
     requires inside { n.0 < length file.now.nodes }
     requires left { left ≤ 2000001 }
-    requires keeps { Keeps file.now (⟦<Recorder<'r, O> as Oracle>⟧.tells oracle.old) types.old }
+    requires keeps { Keeps file.now (⟦<Recorder<'r, O> as Oracle>⟧.tells oracle.old) types.old.variables }
     ensures asks { Asks (expressions.conditional_expression file.now (typed file.now (earlier file.now before) left) n) (⟦<Recorder<'r, O> as Oracle>⟧.tells oracle.old) (⟦<Recorder<'r, O> as Oracle>⟧.tells oracle.new) (seen java_type result) }
-    ensures keeps { Keeps file.now (⟦<Recorder<'r, O> as Oracle>⟧.tells oracle.new) types.new }
+    ensures keeps { Keeps file.now (⟦<Recorder<'r, O> as Oracle>⟧.tells oracle.new) types.new.variables }
 {
     let of_second = second_type(alloc, file, oracle, types, before, left, n)?;
     let of_third = third_type(alloc, file, oracle, types, before, left, n)?;
@@ -397,9 +397,9 @@ fn array_access<'r, O: Oracle>(
 ) -> Result<Ty, AskFault>
     requires inside { n.0 < length file.now.nodes }
     requires left { left ≤ 2000001 }
-    requires keeps { Keeps file.now (⟦<Recorder<'r, O> as Oracle>⟧.tells oracle.old) types.old }
+    requires keeps { Keeps file.now (⟦<Recorder<'r, O> as Oracle>⟧.tells oracle.old) types.old.variables }
     ensures asks { Asks (expressions.array_access file.now (typed file.now (earlier file.now before) left) n) (⟦<Recorder<'r, O> as Oracle>⟧.tells oracle.old) (⟦<Recorder<'r, O> as Oracle>⟧.tells oracle.new) (seen java_type result) }
-    ensures keeps { Keeps file.now (⟦<Recorder<'r, O> as Oracle>⟧.tells oracle.new) types.new }
+    ensures keeps { Keeps file.now (⟦<Recorder<'r, O> as Oracle>⟧.tells oracle.new) types.new.variables }
 {
     let array = first_type(alloc, file, oracle, types, before, left, n)?;
     let ty = element_of(&array)?;
@@ -420,9 +420,9 @@ fn field_access<'r, O: Oracle>(
 ) -> Result<Ty, AskFault>
     requires inside { n.0 < length file.now.nodes }
     requires left { left ≤ 2000001 }
-    requires keeps { Keeps file.now (⟦<Recorder<'r, O> as Oracle>⟧.tells oracle.old) types.old }
+    requires keeps { Keeps file.now (⟦<Recorder<'r, O> as Oracle>⟧.tells oracle.old) types.old.variables }
     ensures asks { Asks (expressions.field_access file.now (typed file.now (earlier file.now before) left) n) (⟦<Recorder<'r, O> as Oracle>⟧.tells oracle.old) (⟦<Recorder<'r, O> as Oracle>⟧.tells oracle.new) (seen java_type result) }
-    ensures keeps { Keeps file.now (⟦<Recorder<'r, O> as Oracle>⟧.tells oracle.new) types.new }
+    ensures keeps { Keeps file.now (⟦<Recorder<'r, O> as Oracle>⟧.tells oracle.new) types.new.variables }
 {
     let receiver = first_type(alloc, file, oracle, types, before, left, n)?;
     field_of(alloc, file, oracle, last_word(file.tree(), n), &receiver)
@@ -442,9 +442,9 @@ fn meant_type<'r, O: Oracle>(
 ) -> Result<Ty, AskFault>
     requires inside { n.0 < length file.now.nodes }
     requires meant { IfSome meant (IsInside (length file.now.nodes)) }
-    requires keeps { Keeps file.now (⟦<Recorder<'r, O> as Oracle>⟧.tells oracle.old) types.old }
+    requires keeps { Keeps file.now (⟦<Recorder<'r, O> as Oracle>⟧.tells oracle.old) types.old.variables }
     ensures asks { Asks (names.meant_type file.now (earlier file.now before) n (seen_variable meant)) (⟦<Recorder<'r, O> as Oracle>⟧.tells oracle.old) (⟦<Recorder<'r, O> as Oracle>⟧.tells oracle.new) (seen java_type result) }
-    ensures keeps { Keeps file.now (⟦<Recorder<'r, O> as Oracle>⟧.tells oracle.new) types.new }
+    ensures keeps { Keeps file.now (⟦<Recorder<'r, O> as Oracle>⟧.tells oracle.new) types.new.variables }
 {
     match meant {
         None => Ok(Ty::Unknown),
@@ -470,9 +470,9 @@ fn access_type<'r, O: Oracle>(
     n: Node,
 ) -> Result<Ty, AskFault>
     requires inside { n.0 < length file.now.nodes }
-    requires keeps { Keeps file.now (⟦<Recorder<'r, O> as Oracle>⟧.tells oracle.old) types.old }
+    requires keeps { Keeps file.now (⟦<Recorder<'r, O> as Oracle>⟧.tells oracle.old) types.old.variables }
     ensures asks { Asks (names.access_type file.now (earlier file.now before) n) (⟦<Recorder<'r, O> as Oracle>⟧.tells oracle.old) (⟦<Recorder<'r, O> as Oracle>⟧.tells oracle.new) (seen java_type result) }
-    ensures keeps { Keeps file.now (⟦<Recorder<'r, O> as Oracle>⟧.tells oracle.new) types.new }
+    ensures keeps { Keeps file.now (⟦<Recorder<'r, O> as Oracle>⟧.tells oracle.new) types.new.variables }
 {
     let meant = variable_name(alloc, file, oracle, n, first_word(file.tree(), n))?;
     meant_type(alloc, file, oracle, types, before, n, meant)
@@ -490,9 +490,9 @@ fn variable_type<'r, O: Oracle>(
     id: Node,
 ) -> Result<Ty, AskFault>
     requires inside { id.0 < length file.now.nodes }
-    requires keeps { Keeps file.now (⟦<Recorder<'r, O> as Oracle>⟧.tells oracle.old) types.old }
+    requires keeps { Keeps file.now (⟦<Recorder<'r, O> as Oracle>⟧.tells oracle.old) types.old.variables }
     ensures asks { Asks (declarations.variable_type file.now (earlier file.now before) id) (⟦<Recorder<'r, O> as Oracle>⟧.tells oracle.old) (⟦<Recorder<'r, O> as Oracle>⟧.tells oracle.new) (seen java_type result) }
-    ensures keeps { Keeps file.now (⟦<Recorder<'r, O> as Oracle>⟧.tells oracle.new) types.new }
+    ensures keeps { Keeps file.now (⟦<Recorder<'r, O> as Oracle>⟧.tells oracle.new) types.new.variables }
 {
     match declaration_of(file.tree(), id) {
         None => Ok(Ty::Unknown),
@@ -518,9 +518,9 @@ fn variable_or_unknown<'r, O: Oracle>(
     id: Option<Node>,
 ) -> Result<Ty, AskFault>
     requires inside { IfSome id (λ m. m.0 < length file.now.nodes) }
-    requires keeps { Keeps file.now (⟦<Recorder<'r, O> as Oracle>⟧.tells oracle.old) types.old }
+    requires keeps { Keeps file.now (⟦<Recorder<'r, O> as Oracle>⟧.tells oracle.old) types.old.variables }
     ensures asks { Asks (declarations.variable_or_unknown file.now (earlier file.now before) id) (⟦<Recorder<'r, O> as Oracle>⟧.tells oracle.old) (⟦<Recorder<'r, O> as Oracle>⟧.tells oracle.new) (seen java_type result) }
-    ensures keeps { Keeps file.now (⟦<Recorder<'r, O> as Oracle>⟧.tells oracle.new) types.new }
+    ensures keeps { Keeps file.now (⟦<Recorder<'r, O> as Oracle>⟧.tells oracle.new) types.new.variables }
 {
     match id {
         Some(id) => variable_type(alloc, file, oracle, types, before, id),
@@ -540,9 +540,9 @@ fn named_type<'r, O: Oracle>(
     n: Node,
 ) -> Result<Ty, AskFault>
     requires inside { n.0 < length file.now.nodes }
-    requires keeps { Keeps file.now (⟦<Recorder<'r, O> as Oracle>⟧.tells oracle.old) types.old }
+    requires keeps { Keeps file.now (⟦<Recorder<'r, O> as Oracle>⟧.tells oracle.old) types.old.variables }
     ensures asks { Asks (declarations.named_type file.now (earlier file.now before) n) (⟦<Recorder<'r, O> as Oracle>⟧.tells oracle.old) (⟦<Recorder<'r, O> as Oracle>⟧.tells oracle.new) (seen java_type result) }
-    ensures keeps { Keeps file.now (⟦<Recorder<'r, O> as Oracle>⟧.tells oracle.new) types.new }
+    ensures keeps { Keeps file.now (⟦<Recorder<'r, O> as Oracle>⟧.tells oracle.new) types.new.variables }
 {
     let id = child_of(file.tree(), n, Kind::VariableId);
     variable_or_unknown(alloc, file, oracle, types, before, id)
@@ -560,9 +560,9 @@ fn declaration_type<'r, O: Oracle>(
     n: Node,
 ) -> Result<Ty, AskFault>
     requires inside { n.0 < length file.now.nodes }
-    requires keeps { Keeps file.now (⟦<Recorder<'r, O> as Oracle>⟧.tells oracle.old) types.old }
+    requires keeps { Keeps file.now (⟦<Recorder<'r, O> as Oracle>⟧.tells oracle.old) types.old.variables }
     ensures asks { Asks (declarations.declaration_type file.now (earlier file.now before) n) (⟦<Recorder<'r, O> as Oracle>⟧.tells oracle.old) (⟦<Recorder<'r, O> as Oracle>⟧.tells oracle.new) (seen java_type result) }
-    ensures keeps { Keeps file.now (⟦<Recorder<'r, O> as Oracle>⟧.tells oracle.new) types.new }
+    ensures keeps { Keeps file.now (⟦<Recorder<'r, O> as Oracle>⟧.tells oracle.new) types.new.variables }
 {
     if is_var(file.tree(), n) {
         let id = first_name(file.tree(), n);
@@ -584,9 +584,9 @@ fn var<'r, O: Oracle>(
     id: Node,
 ) -> Result<Ty, AskFault>
     requires inside { id.0 < length file.now.nodes }
-    requires keeps { Keeps file.now (⟦<Recorder<'r, O> as Oracle>⟧.tells oracle.old) types.old }
+    requires keeps { Keeps file.now (⟦<Recorder<'r, O> as Oracle>⟧.tells oracle.old) types.old.variables }
     ensures asks { Asks (earlier file.now before id) (⟦<Recorder<'r, O> as Oracle>⟧.tells oracle.old) (⟦<Recorder<'r, O> as Oracle>⟧.tells oracle.new) (seen java_type result) }
-    ensures keeps { Keeps file.now (⟦<Recorder<'r, O> as Oracle>⟧.tells oracle.new) types.new }
+    ensures keeps { Keeps file.now (⟦<Recorder<'r, O> as Oracle>⟧.tells oracle.new) types.new.variables }
 {
     if id.0 >= before {
         return Ok(Ty::Unknown);
@@ -604,9 +604,9 @@ pub(crate) fn var_once<'r, O: Oracle>(
     id: Node,
 ) -> Result<Ty, AskFault>
     requires inside { id.0 < length file.now.nodes }
-    requires keeps { Keeps file.now (⟦<Recorder<'r, O> as Oracle>⟧.tells oracle.old) types.old }
+    requires keeps { Keeps file.now (⟦<Recorder<'r, O> as Oracle>⟧.tells oracle.old) types.old.variables }
     ensures asks { Asks (var_of file.now id) (⟦<Recorder<'r, O> as Oracle>⟧.tells oracle.old) (⟦<Recorder<'r, O> as Oracle>⟧.tells oracle.new) (seen java_type result) }
-    ensures keeps { Keeps file.now (⟦<Recorder<'r, O> as Oracle>⟧.tells oracle.new) types.new }
+    ensures keeps { Keeps file.now (⟦<Recorder<'r, O> as Oracle>⟧.tells oracle.new) types.new.variables }
 {
     if let Some(entry) = types.find(id) {
         return held(oracle, &entry.ty, &entry.names);
@@ -624,9 +624,9 @@ fn var_found<'r, O: Oracle>(
     id: Node,
 ) -> Result<Ty, AskFault>
     requires inside { id.0 < length file.now.nodes }
-    requires keeps { Keeps file.now (⟦<Recorder<'r, O> as Oracle>⟧.tells oracle.old) types.old }
+    requires keeps { Keeps file.now (⟦<Recorder<'r, O> as Oracle>⟧.tells oracle.old) types.old.variables }
     ensures asks { Asks (var_of file.now id) (⟦<Recorder<'r, O> as Oracle>⟧.tells oracle.old) (⟦<Recorder<'r, O> as Oracle>⟧.tells oracle.new) (seen java_type result) }
-    ensures keeps { Keeps file.now (⟦<Recorder<'r, O> as Oracle>⟧.tells oracle.new) types.new }
+    ensures keeps { Keeps file.now (⟦<Recorder<'r, O> as Oracle>⟧.tells oracle.new) types.new.variables }
 {
     let found = noted_apart(alloc, file, &mut *oracle.inner, types, id)?;
     Ok(remember(oracle.noted, types, id, found)?)
@@ -642,10 +642,10 @@ fn noted_apart<O: Oracle>(
     id: Node,
 ) -> Result<(Ty, ClassNames), AskFault>
     requires inside { id.0 < length file.now.nodes }
-    requires keeps { Keeps file.now (O.tells oracle.old) types.old }
+    requires keeps { Keeps file.now (O.tells oracle.old) types.old.variables }
     ensures asks { Asks (var_of file.now id) (O.tells oracle.old) (O.tells oracle.new) (seen (λ found. java_type found.0) result) }
     ensures names { IsTrue (O.tells oracle.old).is_told → IfOk result (λ found. IsHeld (O.tells oracle.old).world (var_of file.now id) (java_type found.0) (name_set found.1)) }
-    ensures keeps { Keeps file.now (O.tells oracle.new) types.new }
+    ensures keeps { Keeps file.now (O.tells oracle.new) types.new.variables }
 {
     let mut noted = ClassNameSet::new(alloc);
     let ty = noted_in(alloc, file, oracle, &mut noted, types, id)?;
@@ -664,10 +664,10 @@ fn noted_in<O: Oracle>(
     id: Node,
 ) -> Result<Ty, AskFault>
     requires inside { id.0 < length file.now.nodes }
-    requires keeps { Keeps file.now (O.tells oracle.old) types.old }
+    requires keeps { Keeps file.now (O.tells oracle.old) types.old.variables }
     ensures asks { Asks (var_of file.now id) (O.tells oracle.old) (O.tells oracle.new) (seen java_type result) }
     ensures notes { Notes (var_of file.now id) (O.tells oracle.old).is_told (O.tells oracle.old).world noted.old noted.new (seen java_type result) }
-    ensures keeps { Keeps file.now (O.tells oracle.new) types.new }
+    ensures keeps { Keeps file.now (O.tells oracle.new) types.new.variables }
 {
     let mut recorder = Recorder {
         inner: &mut *oracle,
@@ -687,9 +687,9 @@ fn var_type<'r, O: Oracle>(
     id: Node,
 ) -> Result<Ty, AskFault>
     requires inside { id.0 < length file.now.nodes }
-    requires keeps { Keeps file.now (⟦<Recorder<'r, O> as Oracle>⟧.tells oracle.old) types.old }
+    requires keeps { Keeps file.now (⟦<Recorder<'r, O> as Oracle>⟧.tells oracle.old) types.old.variables }
     ensures asks { Asks (var_of file.now id) (⟦<Recorder<'r, O> as Oracle>⟧.tells oracle.old) (⟦<Recorder<'r, O> as Oracle>⟧.tells oracle.new) (seen java_type result) }
-    ensures keeps { Keeps file.now (⟦<Recorder<'r, O> as Oracle>⟧.tells oracle.new) types.new }
+    ensures keeps { Keeps file.now (⟦<Recorder<'r, O> as Oracle>⟧.tells oracle.new) types.new.variables }
 {
     let left = file.tree().len() + 1;
     match statement_of(file.tree(), id) {
@@ -715,9 +715,9 @@ fn iterated_variable<'r, O: Oracle>(
 ) -> Result<Ty, AskFault>
     requires inside { n.0 < length file.now.nodes }
     requires left { left ≤ 2000001 }
-    requires keeps { Keeps file.now (⟦<Recorder<'r, O> as Oracle>⟧.tells oracle.old) types.old }
+    requires keeps { Keeps file.now (⟦<Recorder<'r, O> as Oracle>⟧.tells oracle.old) types.old.variables }
     ensures asks { Asks (declarations.iterated_variable file.now (typed file.now (earlier file.now before) left) n) (⟦<Recorder<'r, O> as Oracle>⟧.tells oracle.old) (⟦<Recorder<'r, O> as Oracle>⟧.tells oracle.new) (seen java_type result) }
-    ensures keeps { Keeps file.now (⟦<Recorder<'r, O> as Oracle>⟧.tells oracle.new) types.new }
+    ensures keeps { Keeps file.now (⟦<Recorder<'r, O> as Oracle>⟧.tells oracle.new) types.new.variables }
 {
     let ty = second_type(alloc, file, oracle, types, before, left, n)?;
     iterated(alloc, oracle, &ty)

@@ -1,5 +1,5 @@
 -- Types that an expression writes.
-use Rattle.std.specs.Prelude.{Option, None, Some, if◌then◌else◌}
+use Rattle.std.specs.Prelude.{Option, Some, if◌then◌else◌}
 use Rattle.std.specs.Option.{option_and_then}
 use Rattle.pj_tree.specs.Tree.{Tree}
 use Rattle.pj_tree.specs.Children.{child_of, first_child}

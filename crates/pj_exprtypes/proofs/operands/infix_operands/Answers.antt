@@ -1,7 +1,7 @@
 use Rattle.std.proofs.Common.{◌≡◌, ◌<◌, ◌≤◌, ◌+◌, ◌-◌, Bool, Option, None, Some, IsTrue, rules, arith, ap, refl, subst, sym, ◌∙◌, length}
 use Rattle.pj_exprtypes.specs.Expressions.{infix_by}
 use Rattle.pj_exprtypes.specs.Order.{AreOperands}
-use Rattle.pj_exprtypes.proofs.Operands.{no-operands}
+use Rattle.pj_exprtypes.proofs.OperandParts.{no-operands}
 use Rattle.pj_operators.specs.Operators.{infix_of}
 use Rattle.pj_exprtypes.proofs.operands.infix_operands.Goals as goal
 

@@ -4,7 +4,7 @@ use Rattle.pj_tree.specs.Children.{first_child}
 use Rattle.pj_operators.specs.declared.operators.Unary.TheVariants as u
 use Rattle.pj_operators.specs.Operators.{unary_type}
 use Rattle.pj_exprtypes.specs.Expressions.{unary_by}
-use Rattle.pj_exprtypes.proofs.Operands.{no-operands, one-operand}
+use Rattle.pj_exprtypes.proofs.OperandParts.{no-operands, one-operand}
 use Rattle.pj_exprtypes.proofs.operands.operand_by.Goals as goal
 
 pub returns-in-Not-clause-parts : goal.returns-in-Not-clause-parts

@@ -10,7 +10,7 @@ use Rattle.pj_operators.specs.Operators.{infix_type}
 use Rattle.pj_exprtypes.specs.declared.operands.Operands.{Operands}
 use Rattle.pj_exprtypes.specs.Expressions.{infix_by}
 use Rattle.pj_exprtypes.specs.Order.{AreOperands}
-use Rattle.pj_exprtypes.proofs.Operands.{both-operands, no-operands, one-operand}
+use Rattle.pj_exprtypes.proofs.OperandParts.{both-operands, no-operands, one-operand}
 use Rattle.pj_exprtypes.proofs.operands.operands_by.Goals as goal
 
 pub returns-in-Test-clause-parts : goal.returns-in-Test-clause-parts

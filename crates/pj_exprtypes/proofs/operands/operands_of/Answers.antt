@@ -11,7 +11,7 @@ use Rattle.pj_receivers.specs.Fields.{field_of}
 use Rattle.pj_exprtypes.specs.Expressions.{array_access, conditional_expression, field_access, first_type, third_child}
 use Rattle.pj_exprtypes.specs.Order.{AreOperands}
 use Rattle.pj_exprtypes.specs.TypeOf.{type_by}
-use Rattle.pj_exprtypes.proofs.Operands.{both-operands, no-operands, one-operand, operand-itself}
+use Rattle.pj_exprtypes.proofs.OperandParts.{both-operands, no-operands, one-operand, operand-itself}
 use Rattle.pj_exprtypes.proofs.operands.operands_of.Goals as goal
 
 pub returns-in-InfixExpression-clause-parts : goal.returns-in-InfixExpression-clause-parts

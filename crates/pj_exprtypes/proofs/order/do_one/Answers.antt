@@ -4,7 +4,7 @@ use Rattle.pj_names.specs.Told.{Worlds}
 use Rattle.pj_names.specs.Noting.{tells_noting}
 use Rattle.pj_exprtypes.specs.Order.{AreParts, IsOf, IsPart, asked_by}
 use Rattle.pj_exprtypes.specs.TypeOf.{earlier, type_of, typed}
-use Rattle.pj_exprtypes.proofs.Operands.{parts-of-whole}
+use Rattle.pj_exprtypes.proofs.OperandParts.{parts-of-whole}
 use Rattle.pj_exprtypes.proofs.Parts.{part-as, part-late, part-same}
 use Rattle.pj_exprtypes.proofs.order.do_one.Goals as goal
 

@@ -9,7 +9,7 @@ use Rattle.pj_names.specs.Told.{longest}
 use Rattle.pj_scopes.specs.Seen.{seen_variable}
 use Rattle.pj_scopes.specs.VariableName.{variable_name}
 use Rattle.pj_exprtypes.specs.Names.{access_type, meant_type}
-use Rattle.pj_exprtypes.proofs.Operands.{parts-of-whole}
+use Rattle.pj_exprtypes.proofs.OperandParts.{parts-of-whole}
 use Rattle.pj_exprtypes.proofs.Parts.{part-begin, part-err, part-first, part-lift, part-next, part-ok}
 use Rattle.pj_scopes.specs.VariableName.{Meant}
 use Rattle.pj_exprtypes.proofs.order.for_access.Goals as goal

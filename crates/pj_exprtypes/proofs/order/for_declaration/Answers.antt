@@ -6,7 +6,7 @@ use Rattle.pj_exprtypes.specs.Order.{AreOf, AreParts, IsOf, IsPart, asked_by}
 use Rattle.pj_exprtypes.specs.TypeOf.{deep, earlier, type_by, typed, var_of}
 use Rattle.pj_leaf_types.specs.Variables.{first_name, is_var}
 use Rattle.pj_exprtypes.specs.Declarations.{variable_or_unknown}
-use Rattle.pj_exprtypes.proofs.Operands.{declaration-var}
+use Rattle.pj_exprtypes.proofs.OperandParts.{declaration-var}
 use Rattle.pj_exprtypes.proofs.order.for_declaration.Goals as goal
 
 pub returns-then-is_var-clause-parts : goal.returns-then-is_var-clause-parts

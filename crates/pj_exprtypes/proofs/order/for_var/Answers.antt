@@ -6,7 +6,7 @@ use Rattle.pj_exprtypes.specs.Order.{AreOf, AreParts, IsOf, IsPart, asked_by}
 use Rattle.pj_exprtypes.specs.TypeOf.{deep, earlier, type_by, typed, var_of}
 use Rattle.pj_exprtypes.specs.Declarations.{type_or_none, var_type}
 use Rattle.pj_exprtypes.specs.Parts.{IsPartOf}
-use Rattle.pj_exprtypes.proofs.Operands.{visit-of, visit-part}
+use Rattle.pj_exprtypes.proofs.OperandParts.{visit-of, visit-part}
 use Rattle.pj_exprtypes.proofs.Parts.{part-self}
 use Rattle.pj_exprtypes.proofs.Steps.{earlier-var}
 use Rattle.pj_exprtypes.proofs.order.for_var.Goals as goal

@@ -4,7 +4,7 @@ use Rattle.pj_tree.specs.declared.node.Node.{Node}
 use Rattle.pj_tree.specs.Tree.{Tree, kind_of}
 use Rattle.pj_exprtypes.specs.Order.{AreOf, AreParts, IsOf, IsPart, asked_by}
 use Rattle.pj_exprtypes.specs.TypeOf.{deep, earlier, type_by, typed, var_of}
-use Rattle.pj_exprtypes.proofs.Operands.{variable-open}
+use Rattle.pj_exprtypes.proofs.OperandParts.{variable-open}
 use Rattle.pj_exprtypes.proofs.order.for_variable.Goals as goal
 
 pub returns-then-is_open-clause-parts : goal.returns-then-is_open-clause-parts

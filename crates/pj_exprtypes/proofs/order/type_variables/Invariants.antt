@@ -13,7 +13,7 @@ invariant-loop-_step g l = record {
   asks :
       AsksPart (type_of l.fn.file l.fn.n) (tells_noting l.fn.oracle.inner.ghost_name l.fn.oracle.noted.ghost_name l.fn.oracle.noted.now (g.O.Oracle.tells l.fn.oracle.inner.now))
       (tells_noting l.oracle.inner.ghost_name l.oracle.noted.ghost_name l.oracle.noted.now (g.O.Oracle.tells l.oracle.inner.now)) (Ok tt);
-  keeps : Keeps l.file (tells_noting l.oracle.inner.ghost_name l.oracle.noted.ghost_name l.oracle.noted.now (g.O.Oracle.tells l.oracle.inner.now)) l.types;
+  keeps : Keeps l.file (tells_noting l.oracle.inner.ghost_name l.oracle.noted.ghost_name l.oracle.noted.now (g.O.Oracle.tells l.oracle.inner.now)) l.types.variables;
   of : All (IsOf l.file) l.all;
   parts :
       IsTrue (g.O.Oracle.tells l.fn.oracle.inner.now).is_told

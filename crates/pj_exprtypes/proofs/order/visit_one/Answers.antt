@@ -30,4 +30,4 @@ returns-clause-parts g c = λ told.
     subst (λ m. IfOk c.for_node.result (AreParts (tells_noting c.args.oracle.now.inner.ghost_name c.args.oracle.now.noted.ghost_name c.args.oracle.now.noted.now (g.O.Oracle.tells c.args.oracle.now.inner.now)).world t m)) (sym same) (c.for_node.ensures.parts told)
 
 pub returns-clause-keeps : goal.returns-clause-keeps
-returns-clause-keeps g c = keeps-part c.args.file.now c.args.types.now c.for_node.ensures.asks c.requires.keeps
+returns-clause-keeps g c = keeps-part c.args.file.now c.args.types.now.variables c.for_node.ensures.asks c.requires.keeps

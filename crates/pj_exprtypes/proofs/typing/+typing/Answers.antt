@@ -96,7 +96,7 @@ typed_by-returns-in-VariableId-clause-asks g t c =
     asks-as (ap (type_by c.args.file.now (earlier c.args.file.now c.args.before) (typed c.args.file.now (earlier c.args.file.now c.args.before) c.args.left) c.args.n) kind) c.variable_type.ensures.asks
 
 pub typed_by-returns-in_default-clause-keeps : goal.typed_by-returns-in_default-clause-keeps
-typed_by-returns-in_default-clause-keeps g t c = keeps-on c.args.file.now c.args.types.now c.leaf_type.ensures c.requires.keeps
+typed_by-returns-in_default-clause-keeps g t c = keeps-on c.args.file.now c.args.types.now.variables c.leaf_type.ensures c.requires.keeps
 
 pub both_by-returns-in_err-of_left-clause-asks : goal.both_by-returns-in_err-of_left-clause-asks
 both_by-returns-in_err-of_left-clause-asks g t c = asks-refused _ c.in_err-of_left.ensures.asks (search rules)
@@ -161,7 +161,7 @@ access_type-returns-in_err-meant-clause-asks g t c =
     asks-refused _ asked (search rules)
 
 pub access_type-returns-in_err-meant-clause-keeps : goal.access_type-returns-in_err-meant-clause-keeps
-access_type-returns-in_err-meant-clause-keeps g t c = keeps-on c.args.file.now c.args.types.now c.in_err-meant.ensures.asks c.requires.keeps
+access_type-returns-in_err-meant-clause-keeps g t c = keeps-on c.args.file.now c.args.types.now.variables c.in_err-meant.ensures.asks c.requires.keeps
 
 pub access_type-returns-clause-asks : goal.access_type-returns-clause-asks
 access_type-returns-clause-asks g t c =
@@ -169,7 +169,7 @@ access_type-returns-clause-asks g t c =
     asks-then _ asked c.meant_type.ensures.asks
 
 pub access_type-meant_type-requires-clause-keeps : goal.access_type-meant_type-requires-clause-keeps
-access_type-meant_type-requires-clause-keeps g t c = keeps-on c.args.file.now c.args.types.now c.in_ok-meant.ensures.asks c.requires.keeps
+access_type-meant_type-requires-clause-keeps g t c = keeps-on c.args.file.now c.args.types.now.variables c.in_ok-meant.ensures.asks c.requires.keeps
 
 pub iterated_variable-returns-in_err-ty-clause-asks : goal.iterated_variable-returns-in_err-ty-clause-asks
 iterated_variable-returns-in_err-ty-clause-asks g t c = asks-refused _ c.in_err-ty.ensures.asks (search rules)
@@ -262,12 +262,12 @@ var_once-returns-in-Some-clause-asks g t c =
 
 pub var_once-returns-in-Some-clause-keeps : goal.var_once-returns-in-Some-clause-keeps
 var_once-returns-in-Some-clause-keeps g t c =
-    keeps-on c.args.file.now c.args.types.now
+    keeps-on c.args.file.now c.args.types.now.variables
     (c.held.ensures (var_of c.args.file.now c.args.id) (λ told. c.in-Some.ensures c.args.file.now _ (c.requires.keeps told))) c.requires.keeps
 
 pub var_found-noted_apart-requires-clause-keeps : goal.var_found-noted_apart-requires-clause-keeps
 var_found-noted_apart-requires-clause-keeps g t c =
-    λ is. all-noted c.args.file.now (g.O.Oracle.tells c.args.oracle.now.inner.now).world c.args.types.now (c.requires.keeps is)
+    λ is. all-noted c.args.file.now (g.O.Oracle.tells c.args.oracle.now.inner.now).world c.args.types.now.variables (c.requires.keeps is)
 
 pub var_found-returns-in_err-found-clause-asks : goal.var_found-returns-in_err-found-clause-asks
 var_found-returns-in_err-found-clause-asks g t c =
@@ -317,7 +317,7 @@ noted_apart-returns-clause-names g t c =
 
 pub noted_in-var_type-requires-clause-keeps : goal.noted_in-var_type-requires-clause-keeps
 noted_in-var_type-requires-clause-keeps g t c =
-    λ is. all-noting c.args.file.now (g.O.Oracle.tells c.args.oracle.now).world c.args.types.now (c.requires.keeps is)
+    λ is. all-noting c.args.file.now (g.O.Oracle.tells c.args.oracle.now).world c.args.types.now.variables (c.requires.keeps is)
 
 pub noted_in-returns-clause-asks : goal.noted_in-returns-clause-asks
 noted_in-returns-clause-asks g t c =

@@ -3,7 +3,7 @@ use Rattle.pj_tree.specs.Tree.{Tree}
 use Rattle.pj_scopes.proofs.Turns.{asks-as}
 use Rattle.pj_exprtypes.specs.TypeOf.{earlier, type_of, typed}
 use Rattle.pj_exprtypes.proofs.Parts.{part-done, part-refused}
-use Rattle.pj_exprtypes.proofs.type_of.type_after.Goals as goal
+use Rattle.pj_exprtypes.proofs.node_types.type_after.Goals as goal
 
 pub returns-in_err-type_variables-clause-asks : goal.returns-in_err-type_variables-clause-asks
 returns-in_err-type_variables-clause-asks g c = part-refused (type_of c.args.file.now c.args.n) c.in_err-type_variables.ensures.asks (search rules)
