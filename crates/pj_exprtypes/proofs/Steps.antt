@@ -42,16 +42,16 @@ earlier-var t id =
 pub earlier-some : (t : Tree) (before : ℕ) (id : Node) → id.0 < before → earlier t before id ≡ var_of t id
 unfolding earlier
 earlier-some t zero id above = absurd (omega (arith, above))
-earlier-some t (suc last) id above = at (id.0 == last) refl
+earlier-some t (suc last) id above = at (id.0 == last) refl (λ less. earlier-some t last id less)
   where
-    at : (b : Bool) → (id.0 == last) ≡ b → earlier t (suc last) id ≡ var_of t id
-    at true same =
+    at : (b : Bool) → (id.0 == last) ≡ b → (id.0 < last → earlier t last id ≡ var_of t id) → earlier t (suc last) id ≡ var_of t id
+    at true same deeper =
         let it : id.0 ≡ last = eqb-true id.0 last same in
         let more : suc last ≡ id.0 + 1 = omega (arith, it) in
         ap (λ (n : ℕ). earlier t n id) more
-    at false other =
+    at false other deeper =
         let less : id.0 < last = omega (arith, above, eqb-false id.0 last other) in
-        ap (λ (b : Bool). if b then var_type t (typed t (earlier t last) (deep t)) id else earlier t last id) other ∙ earlier-some t last id less
+        ap (λ (b : Bool). if b then var_type t (typed t (earlier t last) (deep t)) id else earlier t last id) other ∙ deeper less
 
 -- for a function that goes a level deeper
 pub ruleset typed_steps = (within-self, within-trans, within-insert, within-names, within-after, value_of-bind, asked_after-bind, typed-none, typed-some)

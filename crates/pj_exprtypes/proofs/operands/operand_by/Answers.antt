@@ -14,4 +14,4 @@ pub returns-in-Step-clause-parts : goal.returns-in-Step-clause-parts
 returns-in-Step-clause-parts c = λ w f. rw (c.in-Step.is, c.one_operand.ensures, c.first_child.ensures.value) (one-operand w c.args.tree.now f (first_child c.args.tree.now c.args.n) (λ operand. Return (unary_type u.Step operand)))
 
 pub returns-in-Sign-clause-parts : goal.returns-in-Sign-clause-parts
-returns-in-Sign-clause-parts c = λ w f. rw (c.in-Sign.is, c.one_operand.ensures, c.first_child.ensures.value) (one-operand w c.args.tree.now f (first_child c.args.tree.now c.args.n) (λ operand. Return (unary_type u.Sign operand)))
+returns-in-Sign-clause-parts c = λ w f. rw (c.in-Sign.is, c.one_operand-in-Sign.ensures, c.first_child-in-Sign.ensures.value) (one-operand w c.args.tree.now f (first_child c.args.tree.now c.args.n) (λ operand. Return (unary_type u.Sign operand)))

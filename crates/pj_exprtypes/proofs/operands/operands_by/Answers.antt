@@ -23,7 +23,7 @@ pub returns-in-Sum-clause-parts : goal.returns-in-Sum-clause-parts
 returns-in-Sum-clause-parts c = λ w f. rw (c.in-Sum.is, c.both_operands.ensures.value) (both-operands w c.args.tree.now f (first_child c.args.tree.now c.args.n) (second_child c.args.tree.now c.args.n) (λ left right. Return (infix_type i.Sum left right)))
 
 pub returns-in-Bitwise-clause-parts : goal.returns-in-Bitwise-clause-parts
-returns-in-Bitwise-clause-parts c = λ w f. rw (c.in-Bitwise.is, c.both_operands.ensures.value) (both-operands w c.args.tree.now f (first_child c.args.tree.now c.args.n) (second_child c.args.tree.now c.args.n) (λ left right. Return (infix_type i.Bitwise left right)))
+returns-in-Bitwise-clause-parts c = λ w f. rw (c.in-Bitwise.is, c.both_operands-in-Bitwise.ensures.value) (both-operands w c.args.tree.now f (first_child c.args.tree.now c.args.n) (second_child c.args.tree.now c.args.n) (λ left right. Return (infix_type i.Bitwise left right)))
 
 pub returns-in-Arithmetic-clause-parts : goal.returns-in-Arithmetic-clause-parts
-returns-in-Arithmetic-clause-parts c = λ w f. rw (c.in-Arithmetic.is, c.both_operands.ensures.value) (both-operands w c.args.tree.now f (first_child c.args.tree.now c.args.n) (second_child c.args.tree.now c.args.n) (λ left right. Return (infix_type i.Arithmetic left right)))
+returns-in-Arithmetic-clause-parts c = λ w f. rw (c.in-Arithmetic.is, c.both_operands-in-Arithmetic.ensures.value) (both-operands w c.args.tree.now f (first_child c.args.tree.now c.args.n) (second_child c.args.tree.now c.args.n) (λ left right. Return (infix_type i.Arithmetic left right)))
