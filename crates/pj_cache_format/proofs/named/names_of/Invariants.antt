@@ -1,0 +1,7 @@
+use Rattle.std.proofs.Common.{◌≡◌, [], take}
+use Rattle.std.specs.List.{flat_map}
+use Rattle.pj_cache_format.specs.FormatTwo.{with_more, results_of}
+use Rattle.pj_cache_format.proofs.named.names_of.Given as goal
+
+abbrev pub invariant-loop-entry : goal.invariant-loop-entry
+invariant-loop-entry l = l.held.keys ≡ with_more [] (flat_map (λ r. r.names) (results_of (take l.entry-index l.entries)))

@@ -1,0 +1,7 @@
+use Rattle.std.proofs.Common.{◌≡◌, drop, map}
+use Rattle.std.specs.List.{flat_map}
+use Rattle.pj_cache_format.specs.FormatTwo.{with_more, with_places, results_of}
+use Rattle.pj_cache_format.proofs.named.note_classes.Given as goal
+
+abbrev pub invariant-loop-name : goal.invariant-loop-name
+invariant-loop-name l = with_more l.held.keys (drop l.name-index l.names) ≡ with_more l.fn.held.keys l.names
