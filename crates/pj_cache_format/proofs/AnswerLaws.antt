@@ -37,10 +37,10 @@ passed test x y e = passed_by test x y (test x) refl e
 pub passes : {A : Type 0} (test : A → Bool) (x : A) → test x ≡ true → passing test x ≡ Ok x
 passes test x is = rw is refl
 
-pub tag_text : (test : ℕ → Bool) → IsText (u8_as (passing test)) (λ n. n ∷ []) (λ n. (n < 256) × (test n ≡ true))
+pub tag_text : (test : ℕ → Bool) → IsText (u8_as (passing test)) (λ (n : ℕ). n ∷ []) (λ (n : ℕ). (n < 256) × (test n ≡ true))
 tag_text test = u8_text (λ n. n) (λ n. test n ≡ true) (passing test) (passed test) (passes test)
 
-pub number_text : (test : ℕ → Bool) → IsText (u32_as (passing test)) number (λ n. (n < 2 ^ 32) × (test n ≡ true))
+pub number_text : (test : ℕ → Bool) → IsText (u32_as (passing test)) number (λ (n : ℕ). (n < 2 ^ 32) × (test n ≡ true))
 number_text test = u32_text (λ n. n) (λ n. test n ≡ true) (passing test) (passed test) (passes test)
 
 pub string_text : (test : List ℕ → Bool) → IsText (sized_as (passing test)) string (λ s. HasRoom s × (test s ≡ true))
@@ -53,17 +53,17 @@ text_text = string_text is_utf8
 any_read : {A : Type 0} (x y : A) → good x ≡ good y → (x ≡ y) × Unit {0}
 any_read x y e = (cc, tt)
 
-pub u8_law : IsText u8 (λ n. n ∷ []) (λ n. n < 256)
+pub u8_law : IsText u8 (λ (n : ℕ). n ∷ []) (λ (n : ℕ). n < 256)
 unfolding u8
-u8_law = text_as (u8_as (λ n. Ok n)) (λ n. n ∷ []) (λ n. n ∷ []) (λ n. (n < 256) × Unit {0}) (λ n. n < 256) (u8_text (λ n. n) (λ n. Unit {0}) (λ n. Ok n) any_read (λ n h. refl)) (λ n h. (h.0, refl)) (λ n h. ((h, tt), refl))
+u8_law = text_as (u8_as (λ n. Ok n)) (λ (n : ℕ). n ∷ []) (λ (n : ℕ). n ∷ []) (λ (n : ℕ). (n < 256) × Unit {0}) (λ (n : ℕ). n < 256) (u8_text (λ n. n) (λ n. Unit {0}) (λ n. Ok n) any_read (λ n h. refl)) (λ n h. (h.0, refl)) (λ n h. ((h, tt), refl))
 
-pub u16_law : IsText u16 flags (λ n. n < 2 ^ 16)
+pub u16_law : IsText u16 flags (λ (n : ℕ). n < 2 ^ 16)
 unfolding u16
-u16_law = text_as (u16_as (λ n. Ok n)) flags flags (λ n. (n < 2 ^ 16) × Unit {0}) (λ n. n < 2 ^ 16) (u16_text (λ n. n) (λ n. Unit {0}) (λ n. Ok n) any_read (λ n h. refl)) (λ n h. (h.0, refl)) (λ n h. ((h, tt), refl))
+u16_law = text_as (u16_as (λ n. Ok n)) flags flags (λ (n : ℕ). (n < 2 ^ 16) × Unit {0}) (λ (n : ℕ). n < 2 ^ 16) (u16_text (λ n. n) (λ n. Unit {0}) (λ n. Ok n) any_read (λ n h. refl)) (λ n h. (h.0, refl)) (λ n h. ((h, tt), refl))
 
-pub u32_law : IsText u32 number (λ n. n < 2 ^ 32)
+pub u32_law : IsText u32 number (λ (n : ℕ). n < 2 ^ 32)
 unfolding u32
-u32_law = text_as (u32_as (λ n. Ok n)) number number (λ n. (n < 2 ^ 32) × Unit {0}) (λ n. n < 2 ^ 32) (u32_text (λ n. n) (λ n. Unit {0}) (λ n. Ok n) any_read (λ n h. refl)) (λ n h. (h.0, refl)) (λ n h. ((h, tt), refl))
+u32_law = text_as (u32_as (λ n. Ok n)) number number (λ (n : ℕ). (n < 2 ^ 32) × Unit {0}) (λ (n : ℕ). n < 2 ^ 32) (u32_text (λ n. n) (λ n. Unit {0}) (λ n. Ok n) any_read (λ n h. refl)) (λ n h. (h.0, refl)) (λ n h. ((h, tt), refl))
 
 pub sized_law : IsText sized string HasRoom
 unfolding sized
@@ -73,7 +73,7 @@ sized_law = text_as (sized_as (λ s. Ok s)) string string (λ s. HasRoom s × Un
 pub counted_text : {A : Type 0} (item : Format A) (t : A → List ℕ) (F : A → Type 0) → IsText item t F → IsText (u32 >>= λ count. several item count) (counted t) (λ list. HasRoom list × AllByRecursion F list)
 counted_text {A} item t F law =
     text_as (u32 >>= λ count. several item count) (counted t) (counted t) (λ list. HasRoom list × ((length list ≡ length list) × AllByRecursion F list)) (λ list. HasRoom list × AllByRecursion F list)
-    (text_next u32 (λ count. several item count) number (λ n. n < 2 ^ 32) (flat_map t) (λ n list. (length list ≡ n) × AllByRecursion F list) length u32_law (λ count. several_text item t F law count) (λ n list g h. h.0))
+    (text_next u32 (λ count. several item count) number (λ (n : ℕ). n < 2 ^ 32) (flat_map t) (λ n list. (length list ≡ n) × AllByRecursion F list) length u32_law (λ count. several_text item t F law count) (λ n list g h. h.0))
     (λ list h. ((h.0, h.1.1), refl)) (λ list h. ((h.0, (refl, h.1)), refl))
 
 -- the same where each says what the next one depends on
@@ -81,7 +81,7 @@ pub counted_from : {A S : Type 0} (item : S → Format (A × S)) (t : A → List
     → IsText (u32 >>= λ count. several_from item count s) (counted t) (λ list. HasRoom list × Chain F step s list)
 counted_from item t F step s law =
     text_as (u32 >>= λ count. several_from item count s) (counted t) (counted t) (λ list. HasRoom list × ((length list ≡ length list) × Chain F step s list)) (λ list. HasRoom list × Chain F step s list)
-    (text_next u32 (λ count. several_from item count s) number (λ n. n < 2 ^ 32) (flat_map t) (λ n list. (length list ≡ n) × Chain F step s list) length u32_law (λ count. from_text item t F step law count s) (λ n list g h. h.0))
+    (text_next u32 (λ count. several_from item count s) number (λ (n : ℕ). n < 2 ^ 32) (flat_map t) (λ n list. (length list ≡ n) × Chain F step s list) length u32_law (λ count. from_text item t F step law count s) (λ n list g h. h.0))
     (λ list h. ((h.0, h.1.1), refl)) (λ list h. ((h.0, (refl, h.1)), refl))
 
 -- ---- answers
@@ -89,8 +89,8 @@ counted_from item t F step s law =
 pub member_law : IsText member member_text IsMember
 unfolding member
 member_law =
-    text_as ((u16) >>= λ flags. (text) >>= λ name. (text) >>= λ signature. Done (let made : Member = record { flags = flags; name = name; signature = signature } in made)) (λ y. (flags) ((λ (z : Member). z.flags) y) ++ ((string) ((λ (z : Member). z.name) y) ++ ((string) ((λ (z : Member). z.signature) y)))) (member_text) (λ y. ((λ n. n < 2 ^ 16) ((λ (z : Member). z.flags) y)) × ((λ (flags : ℕ). ((IsTextFor) ((λ (z : Member). z.name) y)) × ((λ (name : List ℕ). ((IsTextFor) ((λ (z : Member). z.signature) y)) × (y ≡ (λ (signature : List ℕ). let made : Member = record { flags = flags; name = name; signature = signature } in made) ((λ (z : Member). z.signature) y))) ((λ (z : Member). z.name) y))) ((λ (z : Member). z.flags) y))) (IsMember)
-    (text_next (u16) (λ flags. (text) >>= λ name. (text) >>= λ signature. Done (let made : Member = record { flags = flags; name = name; signature = signature } in made)) (flags) (λ n. n < 2 ^ 16) (λ y. (string) ((λ (z : Member). z.name) y) ++ ((string) ((λ (z : Member). z.signature) y))) (λ flags y. ((IsTextFor) ((λ (z : Member). z.name) y)) × ((λ (name : List ℕ). ((IsTextFor) ((λ (z : Member). z.signature) y)) × (y ≡ (λ (signature : List ℕ). let made : Member = record { flags = flags; name = name; signature = signature } in made) ((λ (z : Member). z.signature) y))) ((λ (z : Member). z.name) y))) (λ (z : Member). z.flags)
+    text_as ((u16) >>= λ flags. (text) >>= λ name. (text) >>= λ signature. Done (let made : Member = record { flags = flags; name = name; signature = signature } in made)) (λ y. (flags) ((λ (z : Member). z.flags) y) ++ ((string) ((λ (z : Member). z.name) y) ++ ((string) ((λ (z : Member). z.signature) y)))) (member_text) (λ y. ((λ (n : ℕ). n < 2 ^ 16) ((λ (z : Member). z.flags) y)) × ((λ (flags : ℕ). ((IsTextFor) ((λ (z : Member). z.name) y)) × ((λ (name : List ℕ). ((IsTextFor) ((λ (z : Member). z.signature) y)) × (y ≡ (λ (signature : List ℕ). let made : Member = record { flags = flags; name = name; signature = signature } in made) ((λ (z : Member). z.signature) y))) ((λ (z : Member). z.name) y))) ((λ (z : Member). z.flags) y))) (IsMember)
+    (text_next (u16) (λ flags. (text) >>= λ name. (text) >>= λ signature. Done (let made : Member = record { flags = flags; name = name; signature = signature } in made)) (flags) (λ (n : ℕ). n < 2 ^ 16) (λ y. (string) ((λ (z : Member). z.name) y) ++ ((string) ((λ (z : Member). z.signature) y))) (λ flags y. ((IsTextFor) ((λ (z : Member). z.name) y)) × ((λ (name : List ℕ). ((IsTextFor) ((λ (z : Member). z.signature) y)) × (y ≡ (λ (signature : List ℕ). let made : Member = record { flags = flags; name = name; signature = signature } in made) ((λ (z : Member). z.signature) y))) ((λ (z : Member). z.name) y))) (λ (z : Member). z.flags)
     (u16_law)
     (λ flags. text_next (text) (λ name. (text) >>= λ signature. Done (let made : Member = record { flags = flags; name = name; signature = signature } in made)) (string) (IsTextFor) (λ y. (string) ((λ (z : Member). z.signature) y)) (λ name y. ((IsTextFor) ((λ (z : Member). z.signature) y)) × (y ≡ (λ (signature : List ℕ). let made : Member = record { flags = flags; name = name; signature = signature } in made) ((λ (z : Member). z.signature) y))) (λ (z : Member). z.name)
     (text_text)
@@ -138,8 +138,8 @@ found_to name (answers.Found class) h =
 pub found_law : (name : Name) → IsText (found name) answer_content (λ a. (answer_tag a ≡ 1) × IsAnswerFor name a)
 unfolding found
 found_law name =
-    text_as ((u16) >>= λ flags. (text) >>= λ signature. (members) >>= λ fields. (members) >>= λ methods. Done (class_made name flags signature fields methods)) (λ y. (flags) ((λ (z : Answer). (class_in z).flags) y) ++ ((string) ((λ (z : Answer). (class_in z).signature) y) ++ ((counted member_text) ((λ (z : Answer). (class_in z).fields) y) ++ ((counted member_text) ((λ (z : Answer). (class_in z).methods) y))))) (answer_content) (λ y. ((λ n. n < 2 ^ 16) ((λ (z : Answer). (class_in z).flags) y)) × ((λ (flags : ℕ). ((IsTextFor) ((λ (z : Answer). (class_in z).signature) y)) × ((λ (signature : List ℕ). ((AreMembers) ((λ (z : Answer). (class_in z).fields) y)) × ((λ (fields : List Member). ((AreMembers) ((λ (z : Answer). (class_in z).methods) y)) × (y ≡ (λ (methods : List Member). class_made name flags signature fields methods) ((λ (z : Answer). (class_in z).methods) y))) ((λ (z : Answer). (class_in z).fields) y))) ((λ (z : Answer). (class_in z).signature) y))) ((λ (z : Answer). (class_in z).flags) y))) (λ a. (answer_tag a ≡ 1) × IsAnswerFor name a)
-    (text_next (u16) (λ flags. (text) >>= λ signature. (members) >>= λ fields. (members) >>= λ methods. Done (class_made name flags signature fields methods)) (flags) (λ n. n < 2 ^ 16) (λ y. (string) ((λ (z : Answer). (class_in z).signature) y) ++ ((counted member_text) ((λ (z : Answer). (class_in z).fields) y) ++ ((counted member_text) ((λ (z : Answer). (class_in z).methods) y)))) (λ flags y. ((IsTextFor) ((λ (z : Answer). (class_in z).signature) y)) × ((λ (signature : List ℕ). ((AreMembers) ((λ (z : Answer). (class_in z).fields) y)) × ((λ (fields : List Member). ((AreMembers) ((λ (z : Answer). (class_in z).methods) y)) × (y ≡ (λ (methods : List Member). class_made name flags signature fields methods) ((λ (z : Answer). (class_in z).methods) y))) ((λ (z : Answer). (class_in z).fields) y))) ((λ (z : Answer). (class_in z).signature) y))) (λ (z : Answer). (class_in z).flags)
+    text_as ((u16) >>= λ flags. (text) >>= λ signature. (members) >>= λ fields. (members) >>= λ methods. Done (class_made name flags signature fields methods)) (λ y. (flags) ((λ (z : Answer). (class_in z).flags) y) ++ ((string) ((λ (z : Answer). (class_in z).signature) y) ++ ((counted member_text) ((λ (z : Answer). (class_in z).fields) y) ++ ((counted member_text) ((λ (z : Answer). (class_in z).methods) y))))) (answer_content) (λ y. ((λ (n : ℕ). n < 2 ^ 16) ((λ (z : Answer). (class_in z).flags) y)) × ((λ (flags : ℕ). ((IsTextFor) ((λ (z : Answer). (class_in z).signature) y)) × ((λ (signature : List ℕ). ((AreMembers) ((λ (z : Answer). (class_in z).fields) y)) × ((λ (fields : List Member). ((AreMembers) ((λ (z : Answer). (class_in z).methods) y)) × (y ≡ (λ (methods : List Member). class_made name flags signature fields methods) ((λ (z : Answer). (class_in z).methods) y))) ((λ (z : Answer). (class_in z).fields) y))) ((λ (z : Answer). (class_in z).signature) y))) ((λ (z : Answer). (class_in z).flags) y))) (λ a. (answer_tag a ≡ 1) × IsAnswerFor name a)
+    (text_next (u16) (λ flags. (text) >>= λ signature. (members) >>= λ fields. (members) >>= λ methods. Done (class_made name flags signature fields methods)) (flags) (λ (n : ℕ). n < 2 ^ 16) (λ y. (string) ((λ (z : Answer). (class_in z).signature) y) ++ ((counted member_text) ((λ (z : Answer). (class_in z).fields) y) ++ ((counted member_text) ((λ (z : Answer). (class_in z).methods) y)))) (λ flags y. ((IsTextFor) ((λ (z : Answer). (class_in z).signature) y)) × ((λ (signature : List ℕ). ((AreMembers) ((λ (z : Answer). (class_in z).fields) y)) × ((λ (fields : List Member). ((AreMembers) ((λ (z : Answer). (class_in z).methods) y)) × (y ≡ (λ (methods : List Member). class_made name flags signature fields methods) ((λ (z : Answer). (class_in z).methods) y))) ((λ (z : Answer). (class_in z).fields) y))) ((λ (z : Answer). (class_in z).signature) y))) (λ (z : Answer). (class_in z).flags)
     (u16_law)
     (λ flags. text_next (text) (λ signature. (members) >>= λ fields. (members) >>= λ methods. Done (class_made name flags signature fields methods)) (string) (IsTextFor) (λ y. (counted member_text) ((λ (z : Answer). (class_in z).fields) y) ++ ((counted member_text) ((λ (z : Answer). (class_in z).methods) y))) (λ signature y. ((AreMembers) ((λ (z : Answer). (class_in z).fields) y)) × ((λ (fields : List Member). ((AreMembers) ((λ (z : Answer). (class_in z).methods) y)) × (y ≡ (λ (methods : List Member). class_made name flags signature fields methods) ((λ (z : Answer). (class_in z).methods) y))) ((λ (z : Answer). (class_in z).fields) y))) (λ (z : Answer). (class_in z).signature)
     (text_text)
@@ -173,10 +173,10 @@ fault_to broken.TooLong h = absurd (omega (arith, h.0))
 pub class_fault_law : IsText class_fault broken_content (λ b. (broken_tag b ≡ 1) × IsBrokenFor b)
 unfolding class_fault
 class_fault_law =
-    text_as ((u8) >>= λ kind. (u32) >>= λ offset. Done (fault_made kind offset)) (λ y. (λ n. n ∷ []) ((λ (z : Broken). (fault_in z).kind) y) ++ ((number) ((λ (z : Broken). (fault_in z).offset) y))) (broken_content) (λ y. ((λ n. n < 256) ((λ (z : Broken). (fault_in z).kind) y)) × ((λ (kind : ℕ). ((λ n. n < 2 ^ 32) ((λ (z : Broken). (fault_in z).offset) y)) × (y ≡ (λ (offset : ℕ). fault_made kind offset) ((λ (z : Broken). (fault_in z).offset) y))) ((λ (z : Broken). (fault_in z).kind) y))) (λ b. (broken_tag b ≡ 1) × IsBrokenFor b)
-    (text_next (u8) (λ kind. (u32) >>= λ offset. Done (fault_made kind offset)) (λ n. n ∷ []) (λ n. n < 256) (λ y. (number) ((λ (z : Broken). (fault_in z).offset) y)) (λ kind y. ((λ n. n < 2 ^ 32) ((λ (z : Broken). (fault_in z).offset) y)) × (y ≡ (λ (offset : ℕ). fault_made kind offset) ((λ (z : Broken). (fault_in z).offset) y))) (λ (z : Broken). (fault_in z).kind)
+    text_as ((u8) >>= λ kind. (u32) >>= λ offset. Done (fault_made kind offset)) (λ y. (λ (n : ℕ). n ∷ []) ((λ (z : Broken). (fault_in z).kind) y) ++ ((number) ((λ (z : Broken). (fault_in z).offset) y))) (broken_content) (λ y. ((λ (n : ℕ). n < 256) ((λ (z : Broken). (fault_in z).kind) y)) × ((λ (kind : ℕ). ((λ (n : ℕ). n < 2 ^ 32) ((λ (z : Broken). (fault_in z).offset) y)) × (y ≡ (λ (offset : ℕ). fault_made kind offset) ((λ (z : Broken). (fault_in z).offset) y))) ((λ (z : Broken). (fault_in z).kind) y))) (λ b. (broken_tag b ≡ 1) × IsBrokenFor b)
+    (text_next (u8) (λ kind. (u32) >>= λ offset. Done (fault_made kind offset)) (λ (n : ℕ). n ∷ []) (λ (n : ℕ). n < 256) (λ y. (number) ((λ (z : Broken). (fault_in z).offset) y)) (λ kind y. ((λ (n : ℕ). n < 2 ^ 32) ((λ (z : Broken). (fault_in z).offset) y)) × (y ≡ (λ (offset : ℕ). fault_made kind offset) ((λ (z : Broken). (fault_in z).offset) y))) (λ (z : Broken). (fault_in z).kind)
     (u8_law)
-    (λ kind. text_made (u32) (λ offset. fault_made kind offset) (λ (z : Broken). (fault_in z).offset) (number) (λ n. n < 2 ^ 32) (λ offset g. refl) (u32_law))
+    (λ kind. text_made (u32) (λ offset. fault_made kind offset) (λ (z : Broken). (fault_in z).offset) (number) (λ (n : ℕ). n < 2 ^ 32) (λ offset g. refl) (u32_law))
     (λ kind y g h. ap (λ (z : Broken). (fault_in z).kind) h.1))
     (fault_from)
     (fault_to)
@@ -245,7 +245,7 @@ broken_law name =
     text_as (u8_as (passing is_broken_tag) >>= λ tag. broken_behind tag >>= λ what. Done (answers.Broken what)) (λ y. broken_tag (what_in y) ∷ [] ++ broken_content (what_in y)) answer_content
     (λ y. ((broken_tag (what_in y) < 256) × (is_broken_tag (broken_tag (what_in y)) ≡ true)) × (((broken_tag (what_in y) ≡ broken_tag (what_in y)) × IsBrokenFor (what_in y)) × (y ≡ answers.Broken (what_in y))))
     (λ a. (answer_tag a ≡ 2) × IsAnswerFor name a)
-    (text_then (u8_as (passing is_broken_tag)) (λ tag. broken_behind tag >>= λ what. Done (answers.Broken what)) (λ n. n ∷ []) (λ n. (n < 256) × (is_broken_tag n ≡ true)) (λ y. broken_content (what_in y)) (λ tag y. ((broken_tag (what_in y) ≡ tag) × IsBrokenFor (what_in y)) × (y ≡ answers.Broken (what_in y))) (λ y. broken_tag (what_in y))
+    (text_then (u8_as (passing is_broken_tag)) (λ tag. broken_behind tag >>= λ what. Done (answers.Broken what)) (λ (n : ℕ). n ∷ []) (λ (n : ℕ). (n < 256) × (is_broken_tag n ≡ true)) (λ y. broken_content (what_in y)) (λ tag y. ((broken_tag (what_in y) ≡ tag) × IsBrokenFor (what_in y)) × (y ≡ answers.Broken (what_in y))) (λ y. broken_tag (what_in y))
     (tag_text is_broken_tag)
     (λ tag p. text_made (broken_behind tag) (λ what. answers.Broken what) what_in broken_content (λ b. (broken_tag b ≡ tag) × IsBrokenFor b) (λ what g. refl) (broken_behind_law tag p.1))
     (λ tag. made_open (broken_behind tag) (λ what. answers.Broken what) (broken_behind_open tag))
@@ -291,7 +291,7 @@ named_made name a = ((name, a), Some name)
 tagged_law : (name : Name) → IsText (u8_as (passing (is_below 3)) >>= λ tag. answer_behind name tag >>= λ a. Done (named_made name a)) (λ y. answer_tag y.0.1 ∷ [] ++ answer_content y.0.1)
     (λ y. ((answer_tag y.0.1 < 256) × (is_below 3 (answer_tag y.0.1) ≡ true)) × (((answer_tag y.0.1 ≡ answer_tag y.0.1) × IsAnswerFor name y.0.1) × (y ≡ named_made name y.0.1)))
 tagged_law name =
-    text_then (u8_as (passing (is_below 3))) (λ tag. answer_behind name tag >>= λ a. Done (named_made name a)) (λ n. n ∷ []) (λ n. (n < 256) × (is_below 3 n ≡ true)) (λ y. answer_content y.0.1) (λ tag y. ((answer_tag y.0.1 ≡ tag) × IsAnswerFor name y.0.1) × (y ≡ named_made name y.0.1)) (λ y. answer_tag y.0.1)
+    text_then (u8_as (passing (is_below 3))) (λ tag. answer_behind name tag >>= λ a. Done (named_made name a)) (λ (n : ℕ). n ∷ []) (λ (n : ℕ). (n < 256) × (is_below 3 n ≡ true)) (λ y. answer_content y.0.1) (λ tag y. ((answer_tag y.0.1 ≡ tag) × IsAnswerFor name y.0.1) × (y ≡ named_made name y.0.1)) (λ y. answer_tag y.0.1)
     (tag_text (is_below 3))
     (λ tag p. text_made (answer_behind name tag) (λ a. named_made name a) (λ y. y.0.1) answer_content (λ a. (answer_tag a ≡ tag) × IsAnswerFor name a) (λ a g. refl) (answer_behind_law name tag p.1))
     (λ tag. made_open (answer_behind name tag) (λ a. named_made name a) (answer_behind_open name tag))

@@ -72,7 +72,7 @@ placed_keys keys sorted count is used before (p ∷ ps) (k ∷ ks) chain along =
 
 counted_places : (keys : List (List ℕ)) (group : List KeyRows) → counted number (map (λ (k : KeyRows). place_in keys k.key) group) ≡ counted (λ (k : KeyRows). number (place_in keys k.key)) group
 counted_places keys group =
-    let long : length (map (λ (k : KeyRows). place_in keys k.key) group) ≡ length group = length-map (λ (k : KeyRows). place_in keys k.key) group in
+    let long : length (map (λ (k : KeyRows). place_in keys k.key) group) ≡ length group = length-map group (λ (k : KeyRows). place_in keys k.key) in
     let texts : flat_map number (map (λ (k : KeyRows). place_in keys k.key) group) ≡ flat_map (λ (k : KeyRows). number (place_in keys k.key)) group = each_place group in
     λ i. number (long i) ++ texts i
   where

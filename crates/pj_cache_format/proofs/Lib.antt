@@ -1,4 +1,3 @@
-pub mod Texts
 pub mod Order
 pub mod AnswerLaws
 pub mod ResultLaws
@@ -6,4 +5,4 @@ pub mod EntryLaws
 pub mod CacheLaws
 pub mod StoredLaws
 pub mod Noted
-pub mod Same
+pub mod Written

@@ -80,16 +80,16 @@ reason_below (Some reasons.Comment) = omega arith
 reason_below (Some reasons.Regex) = omega arith
 reason_below (Some reasons.XPath) = omega arith
 
-reason_law : IsText (u8_as reason_of) (λ r. reason_byte r ∷ []) (λ r. (reason_byte r < 256) × Unit {0})
+reason_law : IsText (u8_as reason_of) (λ (r : Option Reason). reason_byte r ∷ []) (λ (r : Option Reason). (reason_byte r < 256) × Unit {0})
 reason_law = u8_text reason_byte (λ r. Unit {0}) reason_of reason_read reason_again
 
 pub place_law : IsText place place_text IsPlace
 unfolding place
 place_law =
-    text_as ((u32) >>= λ line. (u32) >>= λ column. Done (let made : Place = record { line = line; column = column } in made)) (λ y. (number) ((λ (z : Place). z.line) y) ++ ((number) ((λ (z : Place). z.column) y))) (place_text) (λ y. ((λ n. n < 2 ^ 32) ((λ (z : Place). z.line) y)) × ((λ (line : ℕ). ((λ n. n < 2 ^ 32) ((λ (z : Place). z.column) y)) × (y ≡ (λ (column : ℕ). let made : Place = record { line = line; column = column } in made) ((λ (z : Place). z.column) y))) ((λ (z : Place). z.line) y))) (IsPlace)
-    (text_next (u32) (λ line. (u32) >>= λ column. Done (let made : Place = record { line = line; column = column } in made)) (number) (λ n. n < 2 ^ 32) (λ y. (number) ((λ (z : Place). z.column) y)) (λ line y. ((λ n. n < 2 ^ 32) ((λ (z : Place). z.column) y)) × (y ≡ (λ (column : ℕ). let made : Place = record { line = line; column = column } in made) ((λ (z : Place). z.column) y))) (λ (z : Place). z.line)
+    text_as ((u32) >>= λ line. (u32) >>= λ column. Done (let made : Place = record { line = line; column = column } in made)) (λ y. (number) ((λ (z : Place). z.line) y) ++ ((number) ((λ (z : Place). z.column) y))) (place_text) (λ y. ((λ (n : ℕ). n < 2 ^ 32) ((λ (z : Place). z.line) y)) × ((λ (line : ℕ). ((λ (n : ℕ). n < 2 ^ 32) ((λ (z : Place). z.column) y)) × (y ≡ (λ (column : ℕ). let made : Place = record { line = line; column = column } in made) ((λ (z : Place). z.column) y))) ((λ (z : Place). z.line) y))) (IsPlace)
+    (text_next (u32) (λ line. (u32) >>= λ column. Done (let made : Place = record { line = line; column = column } in made)) (number) (λ (n : ℕ). n < 2 ^ 32) (λ y. (number) ((λ (z : Place). z.column) y)) (λ line y. ((λ (n : ℕ). n < 2 ^ 32) ((λ (z : Place). z.column) y)) × (y ≡ (λ (column : ℕ). let made : Place = record { line = line; column = column } in made) ((λ (z : Place). z.column) y))) (λ (z : Place). z.line)
     (u32_law)
-    (λ line. text_made (u32) (λ column. let made : Place = record { line = line; column = column } in made) (λ (z : Place). z.column) (number) (λ n. n < 2 ^ 32) (λ column g. refl) (u32_law))
+    (λ line. text_made (u32) (λ column. let made : Place = record { line = line; column = column } in made) (λ (z : Place). z.column) (number) (λ (n : ℕ). n < 2 ^ 32) (λ column g. refl) (u32_law))
     (λ line y g h. ap (λ (z : Place). z.line) h.1))
     (λ y h. ((h.0, h.1.0), refl))
     (λ y h. ((h.0, (h.1, refl)), refl))
@@ -103,14 +103,14 @@ spot_made node begin end reason = (record { node = node; begin = begin; end = en
 pub spot_law : (before : Option ℕ) → IsText (spot before) (λ y. spot_text y.0) (λ y. IsSpotBehind before y.0 × (y.1 ≡ Some y.0.node))
 unfolding spot
 spot_law before =
-    text_as ((u32_as (passing (is_behind nat_cmp before))) >>= λ node. (place) >>= λ begin. (place) >>= λ end. (u8_as reason_of) >>= λ reason. Done (spot_made node begin end reason)) (λ y. (number) ((λ (z : SpotRead). z.0.node) y) ++ ((place_text) ((λ (z : SpotRead). z.0.begin) y) ++ ((place_text) ((λ (z : SpotRead). z.0.end) y) ++ ((λ r. reason_byte r ∷ []) ((λ (z : SpotRead). z.0.reason) y))))) (λ y. spot_text y.0) (λ y. ((λ n. (n < 2 ^ 32) × (is_behind nat_cmp before n ≡ true)) ((λ (z : SpotRead). z.0.node) y)) × ((λ (node : ℕ). ((IsPlace) ((λ (z : SpotRead). z.0.begin) y)) × ((λ (begin : Place). ((IsPlace) ((λ (z : SpotRead). z.0.end) y)) × ((λ (end : Place). ((λ r. (reason_byte r < 256) × Unit {0}) ((λ (z : SpotRead). z.0.reason) y)) × (y ≡ (λ (reason : Option Reason). spot_made node begin end reason) ((λ (z : SpotRead). z.0.reason) y))) ((λ (z : SpotRead). z.0.end) y))) ((λ (z : SpotRead). z.0.begin) y))) ((λ (z : SpotRead). z.0.node) y))) (λ y. IsSpotBehind before y.0 × (y.1 ≡ Some y.0.node))
-    (text_next (u32_as (passing (is_behind nat_cmp before))) (λ node. (place) >>= λ begin. (place) >>= λ end. (u8_as reason_of) >>= λ reason. Done (spot_made node begin end reason)) (number) (λ n. (n < 2 ^ 32) × (is_behind nat_cmp before n ≡ true)) (λ y. (place_text) ((λ (z : SpotRead). z.0.begin) y) ++ ((place_text) ((λ (z : SpotRead). z.0.end) y) ++ ((λ r. reason_byte r ∷ []) ((λ (z : SpotRead). z.0.reason) y)))) (λ node y. ((IsPlace) ((λ (z : SpotRead). z.0.begin) y)) × ((λ (begin : Place). ((IsPlace) ((λ (z : SpotRead). z.0.end) y)) × ((λ (end : Place). ((λ r. (reason_byte r < 256) × Unit {0}) ((λ (z : SpotRead). z.0.reason) y)) × (y ≡ (λ (reason : Option Reason). spot_made node begin end reason) ((λ (z : SpotRead). z.0.reason) y))) ((λ (z : SpotRead). z.0.end) y))) ((λ (z : SpotRead). z.0.begin) y))) (λ (z : SpotRead). z.0.node)
+    text_as ((u32_as (passing (is_behind nat_cmp before))) >>= λ node. (place) >>= λ begin. (place) >>= λ end. (u8_as reason_of) >>= λ reason. Done (spot_made node begin end reason)) (λ y. (number) ((λ (z : SpotRead). z.0.node) y) ++ ((place_text) ((λ (z : SpotRead). z.0.begin) y) ++ ((place_text) ((λ (z : SpotRead). z.0.end) y) ++ ((λ (r : Option Reason). reason_byte r ∷ []) ((λ (z : SpotRead). z.0.reason) y))))) (λ y. spot_text y.0) (λ y. ((λ (n : ℕ). (n < 2 ^ 32) × (is_behind nat_cmp before n ≡ true)) ((λ (z : SpotRead). z.0.node) y)) × ((λ (node : ℕ). ((IsPlace) ((λ (z : SpotRead). z.0.begin) y)) × ((λ (begin : Place). ((IsPlace) ((λ (z : SpotRead). z.0.end) y)) × ((λ (end : Place). ((λ (r : Option Reason). (reason_byte r < 256) × Unit {0}) ((λ (z : SpotRead). z.0.reason) y)) × (y ≡ (λ (reason : Option Reason). spot_made node begin end reason) ((λ (z : SpotRead). z.0.reason) y))) ((λ (z : SpotRead). z.0.end) y))) ((λ (z : SpotRead). z.0.begin) y))) ((λ (z : SpotRead). z.0.node) y))) (λ y. IsSpotBehind before y.0 × (y.1 ≡ Some y.0.node))
+    (text_next (u32_as (passing (is_behind nat_cmp before))) (λ node. (place) >>= λ begin. (place) >>= λ end. (u8_as reason_of) >>= λ reason. Done (spot_made node begin end reason)) (number) (λ (n : ℕ). (n < 2 ^ 32) × (is_behind nat_cmp before n ≡ true)) (λ y. (place_text) ((λ (z : SpotRead). z.0.begin) y) ++ ((place_text) ((λ (z : SpotRead). z.0.end) y) ++ ((λ (r : Option Reason). reason_byte r ∷ []) ((λ (z : SpotRead). z.0.reason) y)))) (λ node y. ((IsPlace) ((λ (z : SpotRead). z.0.begin) y)) × ((λ (begin : Place). ((IsPlace) ((λ (z : SpotRead). z.0.end) y)) × ((λ (end : Place). ((λ (r : Option Reason). (reason_byte r < 256) × Unit {0}) ((λ (z : SpotRead). z.0.reason) y)) × (y ≡ (λ (reason : Option Reason). spot_made node begin end reason) ((λ (z : SpotRead). z.0.reason) y))) ((λ (z : SpotRead). z.0.end) y))) ((λ (z : SpotRead). z.0.begin) y))) (λ (z : SpotRead). z.0.node)
     (number_text (is_behind nat_cmp before))
-    (λ node. text_next (place) (λ begin. (place) >>= λ end. (u8_as reason_of) >>= λ reason. Done (spot_made node begin end reason)) (place_text) (IsPlace) (λ y. (place_text) ((λ (z : SpotRead). z.0.end) y) ++ ((λ r. reason_byte r ∷ []) ((λ (z : SpotRead). z.0.reason) y))) (λ begin y. ((IsPlace) ((λ (z : SpotRead). z.0.end) y)) × ((λ (end : Place). ((λ r. (reason_byte r < 256) × Unit {0}) ((λ (z : SpotRead). z.0.reason) y)) × (y ≡ (λ (reason : Option Reason). spot_made node begin end reason) ((λ (z : SpotRead). z.0.reason) y))) ((λ (z : SpotRead). z.0.end) y))) (λ (z : SpotRead). z.0.begin)
+    (λ node. text_next (place) (λ begin. (place) >>= λ end. (u8_as reason_of) >>= λ reason. Done (spot_made node begin end reason)) (place_text) (IsPlace) (λ y. (place_text) ((λ (z : SpotRead). z.0.end) y) ++ ((λ (r : Option Reason). reason_byte r ∷ []) ((λ (z : SpotRead). z.0.reason) y))) (λ begin y. ((IsPlace) ((λ (z : SpotRead). z.0.end) y)) × ((λ (end : Place). ((λ (r : Option Reason). (reason_byte r < 256) × Unit {0}) ((λ (z : SpotRead). z.0.reason) y)) × (y ≡ (λ (reason : Option Reason). spot_made node begin end reason) ((λ (z : SpotRead). z.0.reason) y))) ((λ (z : SpotRead). z.0.end) y))) (λ (z : SpotRead). z.0.begin)
     (place_law)
-    (λ begin. text_next (place) (λ end. (u8_as reason_of) >>= λ reason. Done (spot_made node begin end reason)) (place_text) (IsPlace) (λ y. (λ r. reason_byte r ∷ []) ((λ (z : SpotRead). z.0.reason) y)) (λ end y. ((λ r. (reason_byte r < 256) × Unit {0}) ((λ (z : SpotRead). z.0.reason) y)) × (y ≡ (λ (reason : Option Reason). spot_made node begin end reason) ((λ (z : SpotRead). z.0.reason) y))) (λ (z : SpotRead). z.0.end)
+    (λ begin. text_next (place) (λ end. (u8_as reason_of) >>= λ reason. Done (spot_made node begin end reason)) (place_text) (IsPlace) (λ y. (λ (r : Option Reason). reason_byte r ∷ []) ((λ (z : SpotRead). z.0.reason) y)) (λ end y. ((λ (r : Option Reason). (reason_byte r < 256) × Unit {0}) ((λ (z : SpotRead). z.0.reason) y)) × (y ≡ (λ (reason : Option Reason). spot_made node begin end reason) ((λ (z : SpotRead). z.0.reason) y))) (λ (z : SpotRead). z.0.end)
     (place_law)
-    (λ end. text_made (u8_as reason_of) (λ reason. spot_made node begin end reason) (λ (z : SpotRead). z.0.reason) (λ r. reason_byte r ∷ []) (λ r. (reason_byte r < 256) × Unit {0}) (λ reason g. refl) (reason_law))
+    (λ end. text_made (u8_as reason_of) (λ reason. spot_made node begin end reason) (λ (z : SpotRead). z.0.reason) (λ (r : Option Reason). reason_byte r ∷ []) (λ (r : Option Reason). (reason_byte r < 256) × Unit {0}) (λ reason g. refl) (reason_law))
     (λ end y g h. ap (λ (z : SpotRead). z.0.end) h.1))
     (λ begin y g h. ap (λ (z : SpotRead). z.0.begin) h.1.1))
     (λ node y g h. ap (λ (z : SpotRead). z.0.node) h.1.1.1))
@@ -174,7 +174,7 @@ pub rows_law : IsText rows rows_text AreRows
 unfolding rows
 rows_law =
     text_as (u8_as (passing (is_below 2)) >>= λ tag. rows_behind tag) (λ y. rows_tag y ∷ [] ++ rows_content y) rows_text (λ y. ((rows_tag y < 256) × (is_below 2 (rows_tag y) ≡ true)) × ((rows_tag y ≡ rows_tag y) × AreRows y)) AreRows
-    (text_then (u8_as (passing (is_below 2))) (λ tag. rows_behind tag) (λ n. n ∷ []) (λ n. (n < 256) × (is_below 2 n ≡ true)) rows_content (λ tag y. (rows_tag y ≡ tag) × AreRows y) rows_tag
+    (text_then (u8_as (passing (is_below 2))) (λ tag. rows_behind tag) (λ (n : ℕ). n ∷ []) (λ (n : ℕ). (n < 256) × (is_below 2 n ≡ true)) rows_content (λ tag y. (rows_tag y ≡ tag) × AreRows y) rows_tag
     (tag_text (is_below 2))
     (λ tag p. rows_cases tag (eqb tag 0) refl (ltb-true tag 2 p.1))
     (λ tag. cond_open (eqb tag 0) spots rule_message spots_law.is_open message_law.is_open)
@@ -223,7 +223,7 @@ unfolding key_places
 key_places_law count used before =
     text_as (u32_as (passing (ltb 0)) >>= λ n. several_from (key_place count used) n before) (counted number) (counted number)
     (λ places. ((length places < 2 ^ 32) × (ltb 0 (length places) ≡ true)) × ((length places ≡ length places) × Chain (IsKeyPlace count used) (λ b p. Some p) before places)) (AreKeyPlaces count used before)
-    (text_next (u32_as (passing (ltb 0))) (λ n. several_from (key_place count used) n before) number (λ n. (n < 2 ^ 32) × (ltb 0 n ≡ true)) (flat_map number) (λ n places. (length places ≡ n) × Chain (IsKeyPlace count used) (λ b p. Some p) before places) length
+    (text_next (u32_as (passing (ltb 0))) (λ n. several_from (key_place count used) n before) number (λ (n : ℕ). (n < 2 ^ 32) × (ltb 0 n ≡ true)) (flat_map number) (λ n places. (length places ≡ n) × Chain (IsKeyPlace count used) (λ b p. Some p) before places) length
     (number_text (ltb 0))
     (λ n. from_text (key_place count used) number (IsKeyPlace count used) (λ b p. Some p) (key_place_law count used) n before)
     (λ n places g h. h.0))
@@ -249,7 +249,7 @@ unfolding name_at
 name_at_law names sorted before =
     text_as (u32_as (passing (is_name_place (length names) before)) >>= λ place. Done (name_made names place)) (λ y. number (place_in names y.0)) (λ y. number (place_in names y.0))
     (λ y. ((place_in names y.0 < 2 ^ 32) × (is_name_place (length names) before (place_in names y.0) ≡ true)) × (y ≡ name_made names (place_in names y.0))) (λ y. IsNameBehind names before y.0 × (y.1 ≡ Some (place_in names y.0)))
-    (text_made (u32_as (passing (is_name_place (length names) before))) (name_made names) (λ y. place_in names y.0) number (λ n. (n < 2 ^ 32) × (is_name_place (length names) before n ≡ true))
+    (text_made (u32_as (passing (is_name_place (length names) before))) (name_made names) (λ y. place_in names y.0) number (λ (n : ℕ). (n < 2 ^ 32) × (is_name_place (length names) before n ≡ true))
     (λ place g. place_of_member names place sorted (within (length names) before place g.1)) (number_text (is_name_place (length names) before)))
     (λ y h. (name_from names before y h, refl)) (λ y h. (name_to names before y h, refl))
 

@@ -43,7 +43,7 @@ fn listed_keys(alloc: Global, held: &BTreeSet<Key>) -> Result<Vec<Key>, NoMemory
 }
 
 /// The keys that entries have, in the order of their bytes, each once.
-pub(crate) fn keys_of(alloc: Global, entries: &[Entry]) -> Result<Vec<Key>, NoMemory>
+pub fn keys_of(alloc: Global, entries: &[Entry]) -> Result<Vec<Key>, NoMemory>
     ensures keys { IfOk result (λ keys. keys.items ≡ keys_of entries.now) }
     ensures ascending { IfOk result (λ keys. IsStrictlySortedBy byte_order keys.items) }
 {
@@ -86,7 +86,7 @@ fn listed_names(alloc: Global, held: &BTreeSet<ClassName>) -> Result<Vec<ClassNa
 }
 
 /// The classes that entries name, in the order of their bytes, each once.
-pub(crate) fn names_of(alloc: Global, entries: &[Entry]) -> Result<Vec<ClassName>, NoMemory>
+pub fn names_of(alloc: Global, entries: &[Entry]) -> Result<Vec<ClassName>, NoMemory>
     ensures { IfOk result (λ names. names.items ≡ names_of entries.now) }
 {
     let mut held = BTreeSet::new(alloc);

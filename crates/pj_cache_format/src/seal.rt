@@ -8,7 +8,7 @@ use pj_base::{Bytes, NoMemory};
 use sha2::{Digest, Sha256};
 
 /// The digest of bytes.
-pub(crate) fn digest_of(bytes: &[u8]) -> Digest32
+pub fn digest_of(bytes: &[u8]) -> Digest32
     ensures { result ≡ sha256 bytes.now }
 {
     let mut hasher = Sha256::new();

@@ -3,7 +3,7 @@ ghost use Rattle.std.specs.Prelude.{◌≡◌, ◌++◌, ◌∷◌, [], OnOk, If
 ghost use Rattle.std.specs.List.Sorted.{IsStrictlySortedBy};
 ghost use Rattle.pj_cache.specs.Places.{byte_order};
 ghost use Rattle.pj_cache_format.specs.FormatTwo.{keys_of};
-ghost use Rattle.pj_cache_format.specs.Texts.{number, string, counted};
+ghost use Rattle.pj_cache_format.specs.Texts.{number, string, counted, answer_text};
 ghost use Rattle.pj_cache.specs.Places.{place_in};
 ghost use Rattle.pj_cache_format.specs.TextTwo.{place_text, reason_byte, spot_text, rows_text, head_text, result_text, entry_text, cache_text};
 
@@ -167,7 +167,8 @@ fn put_result(
 {
     put_key_places(out, keys, item.group.as_slice())?;
     put_name_places(out, answers, item.names.as_slice())?;
-    put_group(out, item.group.as_slice())
+    put_group(out, item.group.as_slice())?;
+    Ok(())
 }
 
 /// Puts results at the end, behind their number.
@@ -252,6 +253,23 @@ fn put_keys(out: &mut Vec<u8>, keys: &[Key]) -> Result<(), NoMemory>
     Ok(())
 }
 
+/// Puts keys, answers and entries at the end, behind the language of the files.
+fn put_content(
+    out: &mut Vec<u8>,
+    keys: &[Key],
+    answers: &[(ClassName, Arc<Answer>)],
+    entries: &[Entry],
+) -> Result<(), NoMemory>
+    requires keys { IsStrictlySortedBy byte_order keys.now }
+    requires answers { IsStrictlySortedBy byte_order (map (λ a. a.0) answers.now) }
+    ensures { OnOk result (out.new.items ≡ out.old.items ++ (string (codes "java-17") ++ (counted string keys.now ++ (counted (λ a. answer_text (a.0, a.1.value)) answers.now ++ counted (entry_text keys.now (map (λ a. a.0) answers.now)) entries.now)))) }
+{
+    put_text(out, "java-17")?;
+    put_keys(out, keys)?;
+    put_answers(out, answers)?;
+    put_entries(out, keys, answers, entries)
+}
+
 /// Puts all of a cache behind the number of the format at the end.
 pub(crate) fn put_cache(
     alloc: Global,
@@ -262,8 +280,8 @@ pub(crate) fn put_cache(
     ensures { OnOk result (out.new.items ≡ out.old.items ++ cache_text cache.now) }
 {
     let keys = keys_of(alloc, cache.entries.as_slice())?;
-    put_text(out, "java-17")?;
-    put_keys(out, &keys)?;
-    put_answers(out, cache.answers.as_slice())?;
-    put_entries(out, &keys, cache.answers.as_slice(), cache.entries.as_slice())
+    let answers = cache.answers.as_slice();
+    let entries = cache.entries.as_slice();
+    put_content(out, &keys, answers, entries)?;
+    Ok(())
 }

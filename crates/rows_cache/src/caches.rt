@@ -4,7 +4,8 @@ use crate::row_fault::{RowFault, answer_text};
 use crate::shown::cache_text;
 use pj_base::NoMemory;
 use pj_cache::Cache;
-use pj_cache_format::{CacheFault, CacheRefused, decode};
+use pj_cache_format::{CacheFault, CacheRefused};
+use pj_cache_reading::decode;
 use pj_rows::{Row, Section, Table};
 use std::alloc::Global;
 

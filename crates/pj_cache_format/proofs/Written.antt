@@ -1,0 +1,39 @@
+-- Texts that are put at the end one after the other, and the text of a cache by its parts.
+use Rattle.std.proofs.Common.{◌≡◌, ℕ, List, [], ◌∷◌, ◌++◌, length, map, refl, sym, ap, ◌∙◌, append_assoc}
+use Rattle.std.specs.Prelude.{codes}
+use Rattle.std.specs.List.{flat_map}
+use Rattle.std.proofs.lemmas.List.{length-map}
+use Rattle.std.proofs.lemmas.List.Concat.{flat_map-cons}
+use Rattle.pj_names.specs.declared.answer.Answer.{Answer}
+use Rattle.pj_cache.specs.declared.cache.Entry.{Entry}
+use Rattle.pj_cache.specs.declared.cache.Cache.{Cache}
+use Rattle.pj_cache_format.specs.FormatTwo.{keys_of}
+use Rattle.pj_cache_format.specs.Texts.{number, string, counted, answer_text}
+use Rattle.pj_cache_format.specs.TextTwo.{entry_text, cache_text}
+
+pub three_put : (o first second third a b c : List ℕ) → first ≡ o ++ a → second ≡ first ++ b → third ≡ second ++ c → third ≡ o ++ (a ++ (b ++ c))
+three_put o first second third a b c one two three =
+    three ∙ ap (λ (l : List ℕ). l ++ c) (two ∙ ap (λ (l : List ℕ). l ++ b) one) ∙ append_assoc (o ++ a) b c ∙ append_assoc o a (b ++ c)
+
+pub firsts : {A B C : Type 0} (f : A → B) (g : A → C) (l : List A) → map (λ (p : B × C). p.0) (map (λ (a : A). (f a, g a)) l) ≡ map f l
+firsts f g [] = refl
+firsts {A} {B} f g (x ∷ xs) = ap (λ (t : List B). f x ∷ t) (firsts f g xs)
+
+flat_pairs : {A B : Type 0} (h : B → List ℕ) (g : A → B) (l : List A) → flat_map h (map g l) ≡ flat_map (λ (a : A). h (g a)) l
+flat_pairs h g [] = refl
+flat_pairs {A} h g (x ∷ xs) = flat_map-cons h (g x) (map g xs) ∙ ap (λ (t : List ℕ). h (g x) ++ t) (flat_pairs h g xs) ∙ sym (flat_map-cons (λ (a : A). h (g a)) x xs)
+
+counted_pairs : {A B : Type 0} (h : B → List ℕ) (g : A → B) (l : List A) → counted h (map g l) ≡ counted (λ (a : A). h (g a)) l
+counted_pairs h g l =
+    let long : length (map g l) ≡ length l = length-map l g in
+    let texts = flat_pairs h g l in
+    λ i. number (long i) ++ texts i
+
+pub cache_written : {A : Type 0} (f : A → List ℕ) (g : A → Answer) (c : Cache) (keys : List (List ℕ)) (as : List A) (es : List Entry) → keys ≡ keys_of es → map (λ (a : A). (f a, g a)) as ≡ c.answers → es ≡ c.entries
+    → string (codes "java-17") ++ (counted string keys ++ (counted (λ (a : A). answer_text (f a, g a)) as ++ counted (entry_text keys (map f as)) es)) ≡ cache_text c
+cache_written {A} f g c keys as es k a e =
+    let pair : A → List ℕ × Answer = λ (x : A). (f x, g x) in
+    let names : map f as ≡ map (λ (p : List ℕ × Answer). p.0) c.answers = sym (firsts f g as) ∙ ap (map (λ (p : List ℕ × Answer). p.0)) a in
+    let texts : counted (λ (x : A). answer_text (f x, g x)) as ≡ counted answer_text c.answers = sym (counted_pairs answer_text pair as) ∙ ap (counted answer_text) a in
+    let all_keys : keys ≡ keys_of c.entries = k ∙ ap keys_of e in
+    λ i. string (codes "java-17") ++ (counted string (all_keys i) ++ (texts i ++ counted (entry_text (all_keys i) (names i)) (e i)))
