@@ -38,7 +38,6 @@ use Rattle.pj_cache_format.specs.Whole.{HasRoom, IsTextFor}
 use Rattle.pj_cache_format.specs.WholeTwo.{IsPlace, IsSpotBehind, AreRows, IsKeyBehind, AreKeys, places_of, AreKeyPlaces, AreKeyRows, IsNameBehind, AreNames, IsResultBehind, result_step, IsHead, AreResults, IsEntryBehind}
 use Rattle.pj_cache.proofs.Places.{place_of_member}
 use Rattle.pj_cache_format.proofs.AnswerLaws.{passed, passes, tag_text, number_text, string_text, text_text, u8_law, u32_law, sized_law, counted_text, counted_from, both_true}
-
 use Rattle.pj_cache_format.specs.FormatTwo.{keys_of, is_same_list, are_named, cache}
 use Rattle.pj_cache_format.specs.TextTwo.{cache_text}
 use Rattle.pj_cache_format.specs.Whole.{AreAnswers}
@@ -76,9 +75,9 @@ counted_places keys group =
     let texts : flat_map number (map (λ (k : KeyRows). place_in keys k.key) group) ≡ flat_map (λ (k : KeyRows). number (place_in keys k.key)) group = each_place group in
     λ i. number (long i) ++ texts i
   where
-  each_place : (ks : List KeyRows) → flat_map number (map (λ (k : KeyRows). place_in keys k.key) ks) ≡ flat_map (λ (k : KeyRows). number (place_in keys k.key)) ks
-  each_place [] = refl
-  each_place (k ∷ ks) = flat_map-cons number (place_in keys k.key) (map (λ (k : KeyRows). place_in keys k.key) ks) ∙ ap (λ (l : List ℕ). number (place_in keys k.key) ++ l) (each_place ks) ∙ sym (flat_map-cons (λ (k : KeyRows). number (place_in keys k.key)) k ks)
+    each_place : (ks : List KeyRows) → flat_map number (map (λ (k : KeyRows). place_in keys k.key) ks) ≡ flat_map (λ (k : KeyRows). number (place_in keys k.key)) ks
+    each_place [] = refl
+    each_place (k ∷ ks) = flat_map-cons number (place_in keys k.key) (map (λ (k : KeyRows). place_in keys k.key) ks) ∙ ap (λ (l : List ℕ). number (place_in keys k.key) ++ l) (each_place ks) ∙ sym (flat_map-cons (λ (k : KeyRows). number (place_in keys k.key)) k ks)
 
 abbrev group_text : List KeyRows → List ℕ
 group_text group = flat_map (λ (k : KeyRows). rows_text k.rows) group

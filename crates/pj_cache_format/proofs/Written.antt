@@ -29,11 +29,11 @@ counted_pairs h g l =
     let texts = flat_pairs h g l in
     λ i. number (long i) ++ texts i
 
-pub cache_written : {A : Type 0} (f : A → List ℕ) (g : A → Answer) (c : Cache) (keys : List (List ℕ)) (as : List A) (es : List Entry) → keys ≡ keys_of es → map (λ (a : A). (f a, g a)) as ≡ c.answers → es ≡ c.entries
-    → string (codes "java-17") ++ (counted string keys ++ (counted (λ (a : A). answer_text (f a, g a)) as ++ counted (entry_text keys (map f as)) es)) ≡ cache_text c
-cache_written {A} f g c keys as es k a e =
+pub cache_written : {A : Type 0} (f : A → List ℕ) (g : A → Answer) (c : Cache) (keys : List (List ℕ)) (pairs : List A) (es : List Entry) → keys ≡ keys_of es → map (λ (a : A). (f a, g a)) pairs ≡ c.answers → es ≡ c.entries
+    → string (codes "java-17") ++ (counted string keys ++ (counted (λ (a : A). answer_text (f a, g a)) pairs ++ counted (entry_text keys (map f pairs)) es)) ≡ cache_text c
+cache_written {A} f g c keys pairs es k a e =
     let pair : A → List ℕ × Answer = λ (x : A). (f x, g x) in
-    let names : map f as ≡ map (λ (p : List ℕ × Answer). p.0) c.answers = sym (firsts f g as) ∙ ap (map (λ (p : List ℕ × Answer). p.0)) a in
-    let texts : counted (λ (x : A). answer_text (f x, g x)) as ≡ counted answer_text c.answers = sym (counted_pairs answer_text pair as) ∙ ap (counted answer_text) a in
+    let names : map f pairs ≡ map (λ (p : List ℕ × Answer). p.0) c.answers = sym (firsts f g pairs) ∙ ap (map (λ (p : List ℕ × Answer). p.0)) a in
+    let texts : counted (λ (x : A). answer_text (f x, g x)) pairs ≡ counted answer_text c.answers = sym (counted_pairs answer_text pair pairs) ∙ ap (counted answer_text) a in
     let all_keys : keys ≡ keys_of c.entries = k ∙ ap keys_of e in
     λ i. string (codes "java-17") ++ (counted string (all_keys i) ++ (texts i ++ counted (entry_text (all_keys i) (names i)) (e i)))

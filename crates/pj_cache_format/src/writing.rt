@@ -271,11 +271,7 @@ fn put_content(
 }
 
 /// Puts all of a cache behind the number of the format at the end.
-pub(crate) fn put_cache(
-    alloc: Global,
-    out: &mut Vec<u8>,
-    cache: &Cache,
-) -> Result<(), NoMemory>
+pub(crate) fn put_cache(alloc: Global, out: &mut Vec<u8>, cache: &Cache) -> Result<(), NoMemory>
     requires { IsStrictlySortedBy byte_order (map (λ a. a.0) cache.now.answers) }
     ensures { OnOk result (out.new.items ≡ out.old.items ++ cache_text cache.now) }
 {
