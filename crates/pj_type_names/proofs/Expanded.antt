@@ -42,7 +42,7 @@ use Rattle.pj_type_names.specs.TypeName.{direct}
 -- ---- the parts of a meaning
 
 module _ (F : Name → Asking Answer) where
-  returned : {A : Type 0} (v : A) → expand F (Return v) ≡ Return v
+  pub returned : {A : Type 0} (v : A) → expand F (Return v) ≡ Return v
   unfolding expand
   returned v = refl
 
@@ -50,14 +50,14 @@ module _ (F : Name → Asking Answer) where
   unfolding expand
   deeper f g same = λ i. Unbounded (λ d. same d i)
 
-  asked : (name : Name) → expand F (ask name) ≡ F name
+  pub asked : (name : Name) → expand F (ask name) ≡ F name
   unfolding expand
   asked name = bind-Return (F name)
 
-  sequenced : {A B : Type 0} (m n : Asking A) (f g : A → Asking B) → expand F m ≡ n → ((v : A) → expand F (f v) ≡ g v) → expand F (bind m f) ≡ bind n g
+  pub sequenced : {A B : Type 0} (m n : Asking A) (f g : A → Asking B) → expand F m ≡ n → ((v : A) → expand F (f v) ≡ g v) → expand F (bind m f) ≡ bind n g
   sequenced m n f g first rest = expand-bind F m f ∙ (λ i. bind (first i) (λ v. rest v i))
 
-  either : {A : Type 0} (b : Bool) (m n x y : Asking A) → (b ≡ true → expand F m ≡ x) → (b ≡ false → expand F n ≡ y) → expand F (if b then m else n) ≡ (if b then x else y)
+  pub either : {A : Type 0} (b : Bool) (m n x y : Asking A) → (b ≡ true → expand F m ≡ x) → (b ≡ false → expand F n ≡ y) → expand F (if b then m else n) ≡ (if b then x else y)
   either true m n x y first second = first refl
   either false m n x y first second = second refl
 
@@ -165,7 +165,7 @@ module _ (t : Tree) (classes : List DeclaredClass) (F : Name → Asking Answer) 
       imported_or_same (single_import t OfType simple) (imported_or t classes (single_import t Static simple) (in_package t classes simple))
       (imported_or_same (single_import t Static simple) (in_package t classes simple) (in_package_same simple))
 
-  supertypes_same : (name : Name) → is_known classes name ≡ false → expand F (outside_supertypes name) ≡ outside_supertypes name
+  pub supertypes_same : (name : Name) → is_known classes name ≡ false → expand F (outside_supertypes name) ≡ outside_supertypes name
   supertypes_same name unknown = outside_asked name (λ answer. listed_names (of_answer None answer)) unknown
 
   -- ---- by what the direct supertypes of a class are
@@ -184,7 +184,7 @@ module _ (t : Tree) (classes : List DeclaredClass) (F : Name → Asking Answer) 
         (λ outcome. Return outcome.0) (λ outcome. Return outcome.0)
         (visits F (member_in classes passed_over simple) supers other most (member_in_same passed_over simple) same_supers most [] class) (λ outcome. returned F outcome.0))
 
-    member_same : (class : Name) (simple : List ℕ) → expand F (names.member t classes supers class simple) ≡ names.member t classes other class simple
+    pub member_same : (class : Name) (simple : List ℕ) → expand F (names.member t classes supers class simple) ≡ names.member t classes other class simple
     member_same class simple =
         sequenced F (member_along classes supers class simple) (member_along classes other class simple) (λ hit. Return (names.member_found class simple hit)) (λ hit. Return (names.member_found class simple hit))
         (first_member_same (λ name. false) class simple) (λ hit. returned F (names.member_found class simple hit))
@@ -255,7 +255,7 @@ module _ (t : Tree) (classes : List DeclaredClass) (F : Name → Asking Answer) 
       sequenced F (simple place first) (simply place first) (λ ty. writing.members_along t classes simple member ty more) (λ ty. writing.members_along t classes simply other ty more)
       (same_simple place first) (λ ty. members_same ty more)
 
-  class_of_same : (name : Written) → expand F (writing.class_of t classes simple member name) ≡ writing.class_of t classes simply other name
+  pub class_of_same : (name : Written) → expand F (writing.class_of t classes simple member name) ≡ writing.class_of t classes simply other name
   class_of_same name =
       either F name.has_package (writing.packaged classes name.parts) (writing.class_along t classes simple member name.at name.parts) (writing.packaged classes name.parts)
       (writing.class_along t classes simply other name.at name.parts) (λ package_first. packaged_same name.parts) (λ none. along_same name.at name.parts)
@@ -327,17 +327,17 @@ module _ (t : Tree) (classes : List DeclaredClass) (F : Name → Asking Answer) 
 
 module _ (t : Tree) (classes : List DeclaredClass) (F : Name → Asking Answer) (others : (name : Name) → is_known classes name ≡ false → F name ≡ ask name)
     (supers other : Name → Asking (List Name)) (same_supers : (name : Name) → expand F (supers name) ≡ other name) where
-  bound_same : (bounds : ℕ) (n : Node) → expand F (names.bound_within t classes supers bounds n) ≡ names.bound_within t classes other bounds n
+  pub bound_same : (bounds : ℕ) (n : Node) → expand F (names.bound_within t classes supers bounds n) ≡ names.bound_within t classes other bounds n
   bound_same zero n = returned F object_type
   bound_same (suc more) n =
       written_same t classes F others (names.simple_name t classes supers (names.bound_within t classes supers more)) (names.simple_name t classes other (names.bound_within t classes other more))
       (simple_same t classes F others supers other same_supers (names.bound_within t classes supers more) (names.bound_within t classes other more) (bound_same more))
       (names.member t classes supers) (names.member t classes other) (member_same t classes F others supers other same_supers) 1 0 n
 
-  meant_same : (place : Node) (simple : List ℕ) → expand F (names.name_meant t classes supers place simple) ≡ names.name_meant t classes other place simple
+  pub meant_same : (place : Node) (simple : List ℕ) → expand F (names.name_meant t classes supers place simple) ≡ names.name_meant t classes other place simple
   meant_same place simple = simple_same t classes F others supers other same_supers (names.bound_type t classes supers) (names.bound_type t classes other) (bound_same 1) place simple
 
-  type_same : (behind : ℕ) (n : Node) → expand F (names.type_in t classes supers behind n) ≡ names.type_in t classes other behind n
+  pub type_same : (behind : ℕ) (n : Node) → expand F (names.type_in t classes supers behind n) ≡ names.type_in t classes other behind n
   type_same behind n =
       written_same t classes F others (names.name_meant t classes supers) (names.name_meant t classes other) meant_same
       (names.member t classes supers) (names.member t classes other) (member_same t classes F others supers other same_supers) 0 behind n
@@ -350,7 +350,7 @@ module _ (t : Tree) (classes : List DeclaredClass) (F : Name → Asking Answer) 
       (names.member t classes supers) (names.member t classes other) (member_same t classes F others supers other same_supers) (name_of_text place text))
       (λ none. returned F Unknown)
 
-  header_same : (class : Node) → expand F (names.header_supertypes t classes supers class) ≡ names.header_supertypes t classes other class
+  pub header_same : (class : Node) → expand F (names.header_supertypes t classes supers class) ≡ names.header_supertypes t classes other class
   header_same class =
       sequenced F (names.header_bounds t classes supers class) (names.header_bounds t classes other class) (λ bounds. names.header_names t classes supers class) (λ bounds. names.header_names t classes other class)
       (in_each F (names.bound_type t classes supers) (names.bound_type t classes other) (bound_same 1) (all_bounds t class))

@@ -3,3 +3,10 @@ pub mod Inside
 pub mod Turns
 pub mod Expanded
 pub mod Deep
+pub mod Headers
+pub mod Again
+pub mod Alike
+pub mod Beneath
+pub mod Helped
+pub mod Freed
+pub mod Tables

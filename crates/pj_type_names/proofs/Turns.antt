@@ -29,7 +29,7 @@ use Rattle.pj_written.specs.Words.{below_child}
 use Rattle.pj_tree.specs.declared.kind.Kind.TheVariants as k
 use Rattle.pj_outer_names.specs.Candidates.{file_classes, node_named}
 use Rattle.pj_type_names.specs.Searching as resolution
-use Rattle.pj_type_names.specs.TypeName.{direct, supertypes_by}
+use Rattle.pj_type_names.specs.Headers.{asked_by, asked_supers, told_supers}
 
 -- ---- asking
 
@@ -41,43 +41,33 @@ asks-as {t = t} {u = u} {r = r} same asks = subst (λ m. Asks m t u r) (sym same
 pub comes-as : {K B : Type 0} {m : Asking B} {n other : Asking B} {t u : Told K} → n ≡ other → ComesTo m t n u → ComesTo m t other u
 comes-as {m = m} {t = t} {u = u} same comes = subst (λ n. ComesTo m t n u) same comes
 
--- ---- headers
-
-pub direct-none : (t : Tree) (left : ℕ) (busy : List ℕ) (name : Name) → left ≡ 0 → resolution.supers t left busy name ≡ Return []
-unfolding direct
-direct-none t left busy name none = ap (λ n. direct t (file_classes t) n busy name) none
-
-pub direct-some : (t : Tree) (left : ℕ) (busy : List ℕ) (name : Name) → 0 < left → resolution.supers t left busy name ≡ resolution.supers_by t (left - 1) busy name
-unfolding direct
-direct-some t left busy name some = let more : left ≡ suc (left - 1) = omega (arith, some) in ap (λ n. direct t (file_classes t) n busy name) more
-
 -- ---- bounds of type parameters
 
-pub bound-none : (t : Tree) (left : ℕ) (busy : List ℕ) (bounds : ℕ) (n : Node) → bounds ≡ 0 → resolution.bound t left busy bounds n ≡ Return object_type
-bound-none t left busy bounds n none = ap (λ b. resolution.bound t left busy b n) none
+pub bound-none : (t : Tree) (bounds : ℕ) (n : Node) → bounds ≡ 0 → resolution.bound t bounds n ≡ Return object_type
+bound-none t bounds n none = ap (λ b. resolution.bound t b n) none
 
-pub bound-some : (t : Tree) (left : ℕ) (busy : List ℕ) (bounds fewer : ℕ) (n : Node) → fewer + 1 ≡ bounds → resolution.bound t left busy bounds n ≡ resolution.type_written t left busy fewer 1 0 n
-bound-some t left busy bounds fewer n more = let one : bounds ≡ suc fewer = omega (arith, more) in ap (λ b. resolution.bound t left busy b n) one
+pub bound-some : (t : Tree) (bounds fewer : ℕ) (n : Node) → fewer + 1 ≡ bounds → resolution.bound t bounds n ≡ resolution.type_written t fewer 1 0 n
+bound-some t bounds fewer n more = let one : bounds ≡ suc fewer = omega (arith, more) in ap (λ b. resolution.bound t b n) one
 
 -- the bounds that a header writes: no bound may be entered within one of them
-pub bounds-each : (t : Tree) (left : ℕ) (busy : List ℕ) (bounds : ℕ) (nodes written : List Node) → bounds ≡ 0 → written ≡ nodes
-    → each (resolution.bound t left busy 1) nodes ≡ each (resolution.type_written t left busy bounds 1 0) written
-bounds-each t left busy bounds nodes written none same =
-    ap (λ (ns : List Node). each (resolution.bound t left busy 1) ns) (sym same) ∙ ap (λ b. each (resolution.type_written t left busy b 1 0) written) (sym none)
+pub bounds-each : (t : Tree) (bounds : ℕ) (nodes written : List Node) → bounds ≡ 0 → written ≡ nodes
+    → each (resolution.bound t 1) nodes ≡ each (resolution.type_written t bounds 1 0) written
+bounds-each t bounds nodes written none same =
+    ap (λ (ns : List Node). each (resolution.bound t 1) ns) (sym same) ∙ ap (λ b. each (resolution.type_written t b 1 0) written) (sym none)
 
 -- and the supertypes that it writes
-pub types-each : (t : Tree) (left : ℕ) (busy : List ℕ) (bounds : ℕ) (nodes written : List Node) → bounds ≡ 1 → written ≡ nodes
-    → each (resolution.type_written t left busy 1 0 0) nodes ≡ each (resolution.type_written t left busy bounds 0 0) written
-types-each t left busy bounds nodes written one same =
-    ap (λ (ns : List Node). each (resolution.type_written t left busy 1 0 0) ns) (sym same) ∙ ap (λ b. each (resolution.type_written t left busy b 0 0) written) (sym one)
+pub types-each : (t : Tree) (bounds : ℕ) (nodes written : List Node) → bounds ≡ 1 → written ≡ nodes
+    → each (resolution.type_written t 1 0 0) nodes ≡ each (resolution.type_written t bounds 0 0) written
+types-each t bounds nodes written one same =
+    ap (λ (ns : List Node). each (resolution.type_written t 1 0 0) ns) (sym same) ∙ ap (λ b. each (resolution.type_written t b 0 0) written) (sym one)
 
 -- ---- type arguments
 
-pub argument-none : (t : Tree) (left : ℕ) (busy : List ℕ) (bounds deep : ℕ) (n : Node) → deep ≡ 0 → resolution.argument t left busy bounds deep n ≡ Return Unknown
-argument-none t left busy bounds deep n none = ap (λ d. resolution.argument t left busy bounds d n) none
+pub argument-none : (t : Tree) (bounds deep : ℕ) (n : Node) → deep ≡ 0 → resolution.argument t bounds deep n ≡ Return Unknown
+argument-none t bounds deep n none = ap (λ d. resolution.argument t bounds d n) none
 
-pub argument-some : (t : Tree) (left : ℕ) (busy : List ℕ) (bounds deep : ℕ) (n : Node) → 0 < deep → resolution.argument t left busy bounds deep n ≡ resolution.argument_by t left busy bounds (deep - 1) n
-argument-some t left busy bounds deep n some = let more : deep ≡ suc (deep - 1) = omega (arith, some) in ap (λ d. resolution.argument t left busy bounds d n) more
+pub argument-some : (t : Tree) (bounds deep : ℕ) (n : Node) → 0 < deep → resolution.argument t bounds deep n ≡ resolution.argument_by t bounds (deep - 1) n
+argument-some t bounds deep n some = let more : deep ≡ suc (deep - 1) = omega (arith, some) in ap (λ d. resolution.argument t bounds d n) more
 
 -- ---- the first of a list
 
@@ -92,22 +82,22 @@ pub length-some : (n : ℕ) (b : Bool) → b ≡ (n == 0) → b ≡ false → 0 
 length-some zero b is fails = absurd (let other : b ≡ true = is in cc)
 length-some (suc n) b is fails = omega arith
 
-module _ (t : Tree) (left : ℕ) (busy : List ℕ) (bounds : ℕ) where
-  pub variable-none : (simple : List ℕ) (among : List Node) → length among ≡ 0 → resolution.variable_by t left busy bounds simple among ≡ Return (Variable simple object_type)
-  variable-none simple among none = ap (resolution.variable_by t left busy bounds simple) (empty_is among none)
+module _ (t : Tree) (bounds : ℕ) where
+  pub variable-none : (simple : List ℕ) (among : List Node) → length among ≡ 0 → resolution.variable_by t bounds simple among ≡ Return (Variable simple object_type)
+  variable-none simple among none = ap (resolution.variable_by t bounds simple) (empty_is among none)
 
   pub variable-some : (simple : List ℕ) (among : List Node) (first : Node) → 0 < length among
-      → resolution.variable_by t left busy bounds simple among ≡ bind (resolution.bound t left busy bounds (get_or among 0 first)) (λ ty. Return (Variable simple ty))
-  variable-some simple among first some = ap (resolution.variable_by t left busy bounds simple) (left_from among 0 first some)
+      → resolution.variable_by t bounds simple among ≡ bind (resolution.bound t bounds (get_or among 0 first)) (λ ty. Return (Variable simple ty))
+  variable-some simple among first some = ap (resolution.variable_by t bounds simple) (left_from among 0 first some)
 
-  pub along-none : (place : Node) (parts : List (List ℕ)) → length parts ≡ 0 → resolution.class_along t left busy bounds place parts ≡ Return Unknown
-  along-none place parts none = ap (resolution.class_along t left busy bounds place) (empty_is parts none)
+  pub along-none : (place : Node) (parts : List (List ℕ)) → length parts ≡ 0 → resolution.class_along t bounds place parts ≡ Return Unknown
+  along-none place parts none = ap (resolution.class_along t bounds place) (empty_is parts none)
 
   pub along-some : (place : Node) (parts : List (List ℕ)) (first : List ℕ) → 0 < length parts → first ≡ get_or parts 0 first
-      → resolution.class_along t left busy bounds place parts ≡ bind (resolution.simple_name t left busy bounds place first) (λ ty. resolution.members_along t left busy bounds ty (drop 1 parts))
+      → resolution.class_along t bounds place parts ≡ bind (resolution.simple_name t bounds place first) (λ ty. resolution.members_along t bounds ty (drop 1 parts))
   along-some place parts first some is =
-      ap (resolution.class_along t left busy bounds place) (left_from parts 0 first some)
-      ∙ ap (λ x. bind (resolution.simple_name t left busy bounds place x) (λ ty. resolution.members_along t left busy bounds ty (drop 1 parts))) (sym is)
+      ap (resolution.class_along t bounds place) (left_from parts 0 first some)
+      ∙ ap (λ x. bind (resolution.simple_name t bounds place x) (λ ty. resolution.members_along t bounds ty (drop 1 parts))) (sym is)
 
 -- what a slice from the second one on has
 pub rest-is : (parts : List (List ℕ)) → take (length parts - 1) (drop 1 parts) ≡ drop 1 parts
@@ -132,57 +122,53 @@ searched-end t u place found next same given is =
 
 -- ---- types that fit
 
-pub written-fits : (t : Tree) (left : ℕ) (busy : List ℕ) (bounds around behind : ℕ) (n : Node) (deep : ℕ) → most_signs ≡ deep → fits t (around + behind) n ≡ true
-    → resolution.type_written t left busy bounds around behind n ≡ bind (resolution.type_by t left busy bounds deep n) (λ ty. Return (arrays behind ty))
-written-fits t left busy bounds around behind n deep same is =
-    ap (λ b. if b then bind (resolution.type_by t left busy bounds most_signs n) (λ ty. Return (arrays behind ty)) else Return Unknown) is
-    ∙ ap (λ d. bind (resolution.type_by t left busy bounds d n) (λ ty. Return (arrays behind ty))) same
+pub written-fits : (t : Tree) (bounds around behind : ℕ) (n : Node) (deep : ℕ) → most_signs ≡ deep → fits t (around + behind) n ≡ true
+    → resolution.type_written t bounds around behind n ≡ bind (resolution.type_by t bounds deep n) (λ ty. Return (arrays behind ty))
+written-fits t bounds around behind n deep same is =
+    ap (λ b. if b then bind (resolution.type_by t bounds most_signs n) (λ ty. Return (arrays behind ty)) else Return Unknown) is
+    ∙ ap (λ d. bind (resolution.type_by t bounds d n) (λ ty. Return (arrays behind ty))) same
 
 -- ---- names of classes
 
 -- a text that is a name
-pub simple-named : (t : Tree) (left : ℕ) (busy : List ℕ) (bounds : ℕ) (place : Node) (simple : List ℕ) (found : Option Declared) → is_class_name simple ≡ true → found ≡ type_meant t simple place
-    → resolution.simple_name t left busy bounds place simple ≡ resolution.found_or t left busy bounds place simple found
-simple-named t left busy bounds place simple found named is =
-    ap (λ b. if b then resolution.found_or t left busy bounds place simple (type_meant t simple place) else Return Unknown) named
-    ∙ ap (resolution.found_or t left busy bounds place simple) (sym is)
+pub simple-named : (t : Tree) (bounds : ℕ) (place : Node) (simple : List ℕ) (found : Option Declared) → is_class_name simple ≡ true → found ≡ type_meant t simple place
+    → resolution.simple_name t bounds place simple ≡ resolution.found_or t bounds place simple found
+simple-named t bounds place simple found named is =
+    ap (λ b. if b then resolution.found_or t bounds place simple (type_meant t simple place) else Return Unknown) named
+    ∙ ap (resolution.found_or t bounds place simple) (sym is)
 
 -- and one that is none
-pub simple-none : (t : Tree) (left : ℕ) (busy : List ℕ) (bounds : ℕ) (place : Node) (simple : List ℕ) → is_class_name simple ≡ false
-    → resolution.simple_name t left busy bounds place simple ≡ Return Unknown
-simple-none t left busy bounds place simple fails =
-    ap (λ b. if b then resolution.found_or t left busy bounds place simple (type_meant t simple place) else Return Unknown) fails
+pub simple-none : (t : Tree) (bounds : ℕ) (place : Node) (simple : List ℕ) → is_class_name simple ≡ false
+    → resolution.simple_name t bounds place simple ≡ Return Unknown
+simple-none t bounds place simple fails =
+    ap (λ b. if b then resolution.found_or t bounds place simple (type_meant t simple place) else Return Unknown) fails
 
-pub inherited-named : (t : Tree) (left : ℕ) (busy : List ℕ) (simple : List ℕ) (class : Node) (text name : List ℕ) → text ≡ class_text t class → is_class_name text ≡ true → name ≡ text
-    → resolution.inherited t left busy simple class ≡ resolution.first_member t left busy false name simple
-inherited-named t left busy simple class text name is named same =
-    ap (λ x. if is_class_name x then inherited_member (file_classes t) (resolution.supers t left busy) x simple else Return None) (sym is)
-    ∙ ap (λ b. if b then inherited_member (file_classes t) (resolution.supers t left busy) text simple else Return None) named
-    ∙ ap (λ x. inherited_member (file_classes t) (resolution.supers t left busy) x simple) (sym same)
+pub inherited-named : (t : Tree) (simple : List ℕ) (class : Node) (text name : List ℕ) → text ≡ class_text t class → is_class_name text ≡ true → name ≡ text
+    → resolution.inherited t simple class ≡ resolution.first_member t false name simple
+inherited-named t simple class text name is named same =
+    ap (λ x. if is_class_name x then inherited_member (file_classes t) (resolution.supers t) x simple else Return None) (sym is)
+    ∙ ap (λ b. if b then inherited_member (file_classes t) (resolution.supers t) text simple else Return None) named
+    ∙ ap (λ x. inherited_member (file_classes t) (resolution.supers t) x simple) (sym same)
 
-pub inherited-none : (t : Tree) (left : ℕ) (busy : List ℕ) (simple : List ℕ) (class : Node) (text : List ℕ) → text ≡ class_text t class → is_class_name text ≡ false
-    → resolution.inherited t left busy simple class ≡ Return None
-inherited-none t left busy simple class text is fails =
-    ap (λ x. if is_class_name x then inherited_member (file_classes t) (resolution.supers t left busy) x simple else Return None) (sym is)
-    ∙ ap (λ b. if b then inherited_member (file_classes t) (resolution.supers t left busy) text simple else Return None) fails
+pub inherited-none : (t : Tree) (simple : List ℕ) (class : Node) (text : List ℕ) → text ≡ class_text t class → is_class_name text ≡ false
+    → resolution.inherited t simple class ≡ Return None
+inherited-none t simple class text is fails =
+    ap (λ x. if is_class_name x then inherited_member (file_classes t) (resolution.supers t) x simple else Return None) (sym is)
+    ∙ ap (λ b. if b then inherited_member (file_classes t) (resolution.supers t) text simple else Return None) fails
 
 -- ---- classes by their names
 
-module _ (t : Tree) (left : ℕ) (busy : List ℕ) where
-  pub by-object : (name : Name) → is_object name ≡ true → resolution.supers_by t left busy name ≡ Return []
-  by-object name is = ap (λ b. if b then Return [] else supertypes_by t (file_classes t) (direct t (file_classes t) left) busy name (node_named (file_classes t) name)) is
+pub by-object : (classes : List DeclaredClass) (name : Name) → is_object name ≡ true → asked_supers classes name ≡ Return []
+by-object classes name is = ap (λ b. if b then Return [] else asked_by name (node_named classes name)) is
 
-  by-found : (name : Name) (found : Option Node) → is_object name ≡ false → node_named (file_classes t) name ≡ found
-      → resolution.supers_by t left busy name ≡ supertypes_by t (file_classes t) (direct t (file_classes t) left) busy name found
-  by-found name found other is =
-      ap (λ b. if b then Return [] else supertypes_by t (file_classes t) (direct t (file_classes t) left) busy name (node_named (file_classes t) name)) other
-      ∙ ap (supertypes_by t (file_classes t) (direct t (file_classes t) left) busy name) is
+by-found : (classes : List DeclaredClass) (name : Name) (found : Option Node) → is_object name ≡ false → node_named classes name ≡ found → asked_supers classes name ≡ asked_by name found
+by-found classes name found other is = ap (λ b. if b then Return [] else asked_by name (node_named classes name)) other ∙ ap (asked_by name) is
 
-  pub by-none : (name : Name) → is_object name ≡ false → node_named (file_classes t) name ≡ None → resolution.supers_by t left busy name ≡ outside_supertypes name
-  by-none name other is = by-found name None other is
+pub by-none : (classes : List DeclaredClass) (name : Name) → is_object name ≡ false → node_named classes name ≡ None → asked_supers classes name ≡ outside_supertypes name
+by-none classes name other is = by-found classes name None other is
 
-  pub by-some : (name : Name) (class : Node) → is_object name ≡ false → node_named (file_classes t) name ≡ Some class → resolution.supers_by t left busy name ≡ resolution.of_file t left busy class
-  by-some name class other is = by-found name (Some class) other is
+pub by-some : (classes : List DeclaredClass) (name : Name) (class : Node) → is_object name ≡ false → node_named classes name ≡ Some class → asked_supers classes name ≡ told_supers name
+by-some classes name class other is = by-found classes name (Some class) other is
 
 -- ---- types that a loop gathers
 

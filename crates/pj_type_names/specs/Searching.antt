@@ -1,5 +1,4 @@
--- What each function of the recursion over headers computes: the definitions of `specs/TypeName.antt` where some headers are being resolved, and so
--- many may still be entered within one another.
+-- What each function of a search computes: the definitions of `specs/TypeName.antt` where the direct supertypes of classes are asked.
 use Rattle.std.specs.Prelude.{ℕ, Bool, List, Option}
 use Rattle.pj_tree.specs.Tree.{Tree, kind_of}
 use Rattle.pj_tree.specs.declared.kind.Kind.TheVariants as k
@@ -15,19 +14,13 @@ use Rattle.pj_written.specs.Written.{written_name}
 use Rattle.pj_outer_names.specs.Candidates.{file_classes}
 use Rattle.pj_outer_names.specs.Inherited as inheriting
 use Rattle.pj_outer_names.specs.NameWalks.{left_out}
+use Rattle.pj_type_names.specs.Headers.{asked_supers}
 use Rattle.pj_type_names.specs.Resolved as writing
 use Rattle.pj_type_names.specs.TypeName as names
 
-module _ (t : Tree) (left : ℕ) (busy : List ℕ) where
+module _ (t : Tree) where
   abbrev pub supers : Name → Asking (List Name)
-  supers name = names.direct t (file_classes t) left busy name
-
-  -- where a header may be entered
-  abbrev pub supers_by : Name → Asking (List Name)
-  supers_by name = names.direct_by t (file_classes t) (names.direct t (file_classes t) left) busy name
-
-  abbrev pub of_file : Node → Asking (List Name)
-  of_file class = names.supertypes_of_file t (file_classes t) (names.direct t (file_classes t) left) busy class
+  supers name = asked_supers (file_classes t) name
 
   abbrev pub header : Node → Asking (List Name)
   header class = names.header_supertypes t (file_classes t) supers class

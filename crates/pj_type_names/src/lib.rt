@@ -2,10 +2,15 @@
 //! the file and what its classes inherit, and behind them by imports and the package; as computations that ask an oracle for classes.
 #![tactic(auto)]
 
+mod header_oracle;
+mod held;
 mod laws;
+mod part;
 mod read;
 mod resolve;
+mod sought;
 mod stage;
+mod told;
 
 pub use laws::{arguments_end, headers_end, others_are_asked, sources_agree};
 pub use resolve::{type_name, written_bound, written_type};

@@ -1,9 +1,4 @@
-//! Names of types at a place, and the types that are written.
-//!
-//! What a class of the file inherits is found by its header, which writes types, whose names may be inherited in turn: the functions here
-//! are one recursion over headers. A call counts the headers that it has entered, and how many stand open within one another with
-//! lists of type arguments; past a number of either it wants memory, so that no file costs the power of its depth, nor a stack as
-//! deep as it has classes.
+//! Names of types at a place, the types that are written, and headers, where an oracle is asked for the direct supertypes of the classes of the file.
 
 ghost use Rattle.std.specs.Prelude.{◌≡◌, ◌<◌, ◌≤◌, ◌-◌, [], length, IfSome};
 ghost use Rattle.std.specs.List.{All};
@@ -15,15 +10,15 @@ ghost use Rattle.pj_outer_names.specs.Candidates.{file_classes};
 ghost use Rattle.pj_outer_names.specs.Around.{searched};
 ghost use Rattle.pj_type_names.specs.Searching as resolution;
 ghost use Rattle.pj_type_names.specs.Resolved.{packaged};
-ghost use Rattle.pj_type_names.specs.TypeName.{enough, type_name, written_bound, written_type};
-ghost use Rattle.pj_written.specs.Written.{name_of_text};
+ghost use Rattle.pj_type_names.specs.Headers.{asked_supers, names_in, told_supers};
 
 use crate::read::{
-    absent_member, enough, fits_behind, made_variable, name_written, names_type_parameter,
-    type_meant, with_implied,
+    absent_member, fits_behind, made_variable, name_written, names_type_parameter, type_meant,
+    with_implied,
 };
-use crate::stage::{Entered, MOST_ENTERED, MOST_NESTED, Stage, is_busy};
-use pj_base::{Copied, Names, Numbers, Text};
+use crate::told::names_in;
+use crate::stage::{MOST_NESTED, Stage};
+use pj_base::{Names, Text};
 use pj_declared::Declared;
 use pj_names::{AskFault, ClassName, ClassNames, Oracle, Ty, TyList, Types};
 use pj_outer_names::{
@@ -32,7 +27,7 @@ use pj_outer_names::{
 use pj_tree::{Kind, Node, has_word, is_kind};
 use pj_written::{
     MOST_SIGNS, Written, all_bounds, arguments_of, arrays, bare, below_child, bounds_of, brackets,
-    class_of_text, last_child, name_of_text, object_type, primitive_of, with_dots,
+    class_of_text, last_child, object_type, primitive_of, with_dots,
     written_supertypes,
 };
 use std::alloc::Global;
@@ -40,172 +35,122 @@ use std::alloc::Global;
 /// The most classes that a walk is followed: a list has no more members.
 const MOST_CLASSES: u64 = 4294967294;
 
-/// The direct supertypes of a class.
-#[cycle(resolving)]
+/// The direct supertypes of a class of the file, for which the oracle is asked.
+#[tactic(auto, using(pj_names::proofs::AskingLaws::asking_steps))]
+fn told_supertypes<O: Oracle>(
+    alloc: Global,
+    oracle: &mut O,
+    name: &ClassName,
+) -> Result<ClassNames, AskFault>
+    ensures { Asks (told_supers name.now) (O.tells oracle.old) (O.tells oracle.new) result }
+{
+    let answer = oracle.ask(name)?;
+    let names = names_in(alloc, &answer)?;
+    Ok(names)
+}
+
+/// The direct supertypes of a class: of the file what the oracle tells of its header, and of another one by its signature.
 #[tactic(auto, using(pj_names::proofs::AskingLaws::asking_steps))]
 fn direct_supertypes<O: Oracle>(
     alloc: Global,
-    stage: &Stage<'_, '_>,
+    file: &File<'_>,
     oracle: &mut O,
-    entered: &mut Entered,
     name: &ClassName,
 ) -> Result<ClassNames, AskFault>
-    ensures { Asks (resolution.supers stage.now.file.now stage.now.left stage.now.busy.now name.now) (O.tells oracle.old) (O.tells oracle.new) result }
-{
-    if stage.left == 0 {
-        return Ok(ClassNames::new(alloc));
-    }
-    supertypes_by(alloc, stage, oracle, entered, name)
-}
-
-/// The same where a header may be entered: of a class of the file by its header alone.
-#[cycle(resolving)]
-#[tactic(auto, using(pj_names::proofs::AskingLaws::asking_steps))]
-fn supertypes_by<O: Oracle>(
-    alloc: Global,
-    stage: &Stage<'_, '_>,
-    oracle: &mut O,
-    entered: &mut Entered,
-    name: &ClassName,
-) -> Result<ClassNames, AskFault>
-    requires left { 0 < stage.now.left }
-    ensures { Asks (resolution.supers_by stage.now.file.now (stage.now.left - 1) stage.now.busy.now name.now) (O.tells oracle.old) (O.tells oracle.new) result }
+    ensures { Asks (asked_supers (file_classes file.now) name.now) (O.tells oracle.old) (O.tells oracle.new) result }
 {
     if name.is_object() {
         return Ok(ClassNames::new(alloc));
     }
-    match stage.file.node_named(name.as_str()) {
-        Some(class) => of_file(alloc, stage, oracle, entered, class),
+    match file.node_named(name.as_str()) {
+        Some(_class) => told_supertypes(alloc, oracle, name),
         None => outside_supertypes(alloc, oracle, name),
     }
 }
 
-/// The direct supertypes of a class of the file: a class whose header is being resolved has none.
-#[cycle(resolving)]
-#[tactic(auto, using(pj_names::proofs::AskingLaws::asking_steps))]
-fn of_file<O: Oracle>(
-    alloc: Global,
-    stage: &Stage<'_, '_>,
-    oracle: &mut O,
-    entered: &mut Entered,
-    class: Node,
-) -> Result<ClassNames, AskFault>
-    requires left { 0 < stage.now.left }
-    requires inside { class.0 < length stage.now.file.now.nodes }
-    ensures { Asks (resolution.of_file stage.now.file.now (stage.now.left - 1) stage.now.busy.now class) (O.tells oracle.old) (O.tells oracle.new) result }
-{
-    if is_busy(stage.busy, class) {
-        return Ok(ClassNames::new(alloc));
-    }
-    if stage.nested >= MOST_NESTED || entered.headers >= MOST_ENTERED {
-        return Err(AskFault::Memory);
-    }
-    entered.headers += 1;
-    let mut busy = stage.busy.copied()?;
-    busy.push(class.0)?;
-    let deeper = Stage {
-        file: stage.file,
-        left: stage.left - 1,
-        busy: &busy,
-        bounds: 1,
-        nested: stage.nested + 1,
-    };
-    header_supertypes(alloc, &deeper, oracle, entered, class)
-}
-
 /// The direct supertypes that a header gives: all of it is resolved, its bounds and then its supertypes.
-#[cycle(resolving)]
 #[tactic(auto, using(pj_names::proofs::AskingLaws::asking_steps))]
-fn header_supertypes<O: Oracle>(
+pub fn header_supertypes<O: Oracle>(
     alloc: Global,
     stage: &Stage<'_, '_>,
     oracle: &mut O,
-    entered: &mut Entered,
     class: Node,
 ) -> Result<ClassNames, AskFault>
     requires bounds { stage.now.bounds ≡ 1 }
     requires inside { class.0 < length stage.now.file.now.nodes }
-    ensures { Asks (resolution.header stage.now.file.now stage.now.left stage.now.busy.now class) (O.tells oracle.old) (O.tells oracle.new) result }
+    ensures { Asks (resolution.header stage.now.file.now class) (O.tells oracle.old) (O.tells oracle.new) result }
 {
-    let _ = header_bounds(alloc, stage, oracle, entered, class)?;
-    header_names(alloc, stage, oracle, entered, class)
+    let _ = header_bounds(alloc, stage, oracle, class)?;
+    header_names(alloc, stage, oracle, class)
 }
 
 /// The bounds of all type parameters of a class.
-#[cycle(resolving)]
 #[tactic(auto, using(pj_names::proofs::AskingLaws::asking_steps))]
 fn header_bounds<O: Oracle>(
     alloc: Global,
     stage: &Stage<'_, '_>,
     oracle: &mut O,
-    entered: &mut Entered,
     class: Node,
 ) -> Result<TyList, AskFault>
     requires bounds { stage.now.bounds ≡ 1 }
     requires inside { class.0 < length stage.now.file.now.nodes }
-    ensures { Asks (resolution.header_bounds stage.now.file.now stage.now.left stage.now.busy.now class) (O.tells oracle.old) (O.tells oracle.new) (seen type_list result) }
+    ensures { Asks (resolution.header_bounds stage.now.file.now class) (O.tells oracle.old) (O.tells oracle.new) (seen type_list result) }
 {
     let bounds = all_bounds(alloc, stage.file.tree(), class)?;
     let within = stage.within_bound();
-    types_of(alloc, &within, oracle, entered, 1, bounds.as_slice())
+    types_of(alloc, &within, oracle, 1, bounds.as_slice())
 }
 
 /// The names of the supertypes that a header writes or implies.
-#[cycle(resolving)]
 #[tactic(auto, using(pj_names::proofs::AskingLaws::asking_steps))]
 fn header_names<O: Oracle>(
     alloc: Global,
     stage: &Stage<'_, '_>,
     oracle: &mut O,
-    entered: &mut Entered,
     class: Node,
 ) -> Result<ClassNames, AskFault>
     requires bounds { stage.now.bounds ≡ 1 }
     requires inside { class.0 < length stage.now.file.now.nodes }
-    ensures { Asks (resolution.header_names stage.now.file.now stage.now.left stage.now.busy.now class) (O.tells oracle.old) (O.tells oracle.new) result }
+    ensures { Asks (resolution.header_names stage.now.file.now class) (O.tells oracle.old) (O.tells oracle.new) result }
 {
-    let types = header_types(alloc, stage, oracle, entered, class)?;
+    let types = header_types(alloc, stage, oracle, class)?;
     let names = with_implied(alloc, stage.file, class, types)?;
     Ok(names)
 }
 
 /// The supertypes that a header writes.
-#[cycle(resolving)]
 #[tactic(auto, using(pj_names::proofs::AskingLaws::asking_steps))]
 fn header_types<O: Oracle>(
     alloc: Global,
     stage: &Stage<'_, '_>,
     oracle: &mut O,
-    entered: &mut Entered,
     class: Node,
 ) -> Result<TyList, AskFault>
     requires bounds { stage.now.bounds ≡ 1 }
     requires inside { class.0 < length stage.now.file.now.nodes }
-    ensures { Asks (resolution.header_types stage.now.file.now stage.now.left stage.now.busy.now class) (O.tells oracle.old) (O.tells oracle.new) (seen type_list result) }
+    ensures { Asks (resolution.header_types stage.now.file.now class) (O.tells oracle.old) (O.tells oracle.new) (seen type_list result) }
 {
     let written = written_supertypes(alloc, stage.file.tree(), class)?;
-    types_of(alloc, stage, oracle, entered, 0, written.as_slice())
+    types_of(alloc, stage, oracle, 0, written.as_slice())
 }
 
 /// Written types, one after the other, with so many signs of a signature open around each.
-#[cycle(resolving)]
 #[tactic(auto, using(pj_names::proofs::AskingLaws::asking_loops))]
 fn types_of<O: Oracle>(
     alloc: Global,
     stage: &Stage<'_, '_>,
     oracle: &mut O,
-    entered: &mut Entered,
     around: u32,
     nodes: &[Node],
 ) -> Result<TyList, AskFault>
     requires bounds { stage.now.bounds ≤ 1 }
     requires around { around ≤ 1 }
     requires inside { All (λ (n : Node). n.0 < length stage.now.file.now.nodes) nodes.now }
-    ensures { Asks (each (resolution.type_written stage.now.file.now stage.now.left stage.now.busy.now stage.now.bounds around 0) nodes.now) (O.tells oracle.old) (O.tells oracle.new) (seen type_list result) }
+    ensures { Asks (each (resolution.type_written stage.now.file.now stage.now.bounds around 0) nodes.now) (O.tells oracle.old) (O.tells oracle.new) (seen type_list result) }
 {
     let mut types = TyList::new(alloc);
     for n in nodes {
-        let ty = type_written(alloc, stage, oracle, entered, around, 0, *n)?;
+        let ty = type_written(alloc, stage, oracle, around, 0, *n)?;
         types.push(ty)?;
     }
     Ok(types)
@@ -213,18 +158,16 @@ fn types_of<O: Oracle>(
 
 /// The first member class of a name along the list of supertypes of a class; its own is left out where it is told by its
 /// declaration.
-#[cycle(resolving)]
 #[tactic(auto, using(pj_names::proofs::AskingLaws::asking_steps))]
 fn first_member<O: Oracle>(
     alloc: Global,
     stage: &Stage<'_, '_>,
     oracle: &mut O,
-    entered: &mut Entered,
     class: &ClassName,
     own_counts: bool,
     simple: &str,
 ) -> Result<Option<ClassName>, AskFault>
-    ensures { Asks (resolution.first_member stage.now.file.now stage.now.left stage.now.busy.now own_counts class.now simple.now) (O.tells oracle.old) (O.tells oracle.new) result }
+    ensures { Asks (resolution.first_member stage.now.file.now own_counts class.now simple.now) (O.tells oracle.old) (O.tells oracle.new) result }
 {
     let mut walk = NameWalk::of(alloc, class)?;
     for _class in 0..MOST_CLASSES {
@@ -235,26 +178,24 @@ fn first_member<O: Oracle>(
         if let Some(hit) = hit {
             return Ok(Some(hit));
         }
-        let more = direct_supertypes(alloc, stage, oracle, entered, &next)?;
+        let more = direct_supertypes(alloc, stage.file, oracle, &next)?;
         walk.put(more)?;
     }
     Err(AskFault::Memory)
 }
 
 /// The member class of a class, of its own or inherited. One that is not there is the class `C$S`.
-#[cycle(resolving)]
 #[tactic(auto, using(pj_names::proofs::AskingLaws::asking_steps))]
 fn member_type<O: Oracle>(
     alloc: Global,
     stage: &Stage<'_, '_>,
     oracle: &mut O,
-    entered: &mut Entered,
     class: &ClassName,
     simple: &str,
 ) -> Result<Ty, AskFault>
-    ensures { Asks (resolution.member stage.now.file.now stage.now.left stage.now.busy.now class.now simple.now) (O.tells oracle.old) (O.tells oracle.new) (seen java_type result) }
+    ensures { Asks (resolution.member stage.now.file.now class.now simple.now) (O.tells oracle.old) (O.tells oracle.new) (seen java_type result) }
 {
-    match first_member(alloc, stage, oracle, entered, class, true, simple)? {
+    match first_member(alloc, stage, oracle, class, true, simple)? {
         Some(hit) => Ok(Ty::Class(hit, Types::End)),
         None => {
             let ty = absent_member(alloc, class, simple)?;
@@ -264,20 +205,18 @@ fn member_type<O: Oracle>(
 }
 
 /// The member class that a class of the file inherits.
-#[cycle(resolving)]
 #[tactic(auto, using(pj_names::proofs::AskingLaws::asking_steps))]
 fn inherited<O: Oracle>(
     alloc: Global,
     stage: &Stage<'_, '_>,
     oracle: &mut O,
-    entered: &mut Entered,
     class: Node,
     simple: &str,
 ) -> Result<Option<ClassName>, AskFault>
-    ensures { Asks (resolution.inherited stage.now.file.now stage.now.left stage.now.busy.now simple.now class) (O.tells oracle.old) (O.tells oracle.new) result }
+    ensures { Asks (resolution.inherited stage.now.file.now simple.now class) (O.tells oracle.old) (O.tells oracle.new) result }
 {
     match ClassName::of(alloc, stage.file.class_text(class))? {
-        Some(name) => first_member(alloc, stage, oracle, entered, &name, false, simple),
+        Some(name) => first_member(alloc, stage, oracle, &name, false, simple),
         None => Ok(None),
     }
 }
@@ -285,23 +224,22 @@ fn inherited<O: Oracle>(
 /// A bound of a type parameter: a variable within a bound has the bound `java.lang.Object`.
 #[cycle(resolving)]
 #[tactic(auto, using(pj_names::proofs::AskingLaws::asking_steps))]
-fn bound_type<O: Oracle>(
+pub fn bound_type<O: Oracle>(
     alloc: Global,
     stage: &Stage<'_, '_>,
     oracle: &mut O,
-    entered: &mut Entered,
     n: Node,
 ) -> Result<Ty, AskFault>
     requires bounds { stage.now.bounds ≤ 1 }
     requires inside { n.0 < length stage.now.file.now.nodes }
-    ensures { Asks (resolution.bound stage.now.file.now stage.now.left stage.now.busy.now stage.now.bounds n) (O.tells oracle.old) (O.tells oracle.new) (seen java_type result) }
+    ensures { Asks (resolution.bound stage.now.file.now stage.now.bounds n) (O.tells oracle.old) (O.tells oracle.new) (seen java_type result) }
 {
     if stage.bounds == 0 {
         let object = object_type(alloc)?;
         return Ok(object);
     }
     let within = stage.within_bound();
-    type_written(alloc, &within, oracle, entered, 1, 0, n)
+    type_written(alloc, &within, oracle, 1, 0, n)
 }
 
 /// A type parameter as a variable with the first of its bounds.
@@ -311,20 +249,19 @@ fn variable_by<O: Oracle>(
     alloc: Global,
     stage: &Stage<'_, '_>,
     oracle: &mut O,
-    entered: &mut Entered,
     bounds: &[Node],
     simple: &str,
 ) -> Result<Ty, AskFault>
     requires bounds { stage.now.bounds ≤ 1 }
     requires inside { All (λ (n : Node). n.0 < length stage.now.file.now.nodes) bounds.now }
-    ensures { Asks (resolution.variable_by stage.now.file.now stage.now.left stage.now.busy.now stage.now.bounds simple.now bounds.now) (O.tells oracle.old) (O.tells oracle.new) (seen java_type result) }
+    ensures { Asks (resolution.variable_by stage.now.file.now stage.now.bounds simple.now bounds.now) (O.tells oracle.old) (O.tells oracle.new) (seen java_type result) }
 {
     if bounds.is_empty() {
         let object = object_type(alloc)?;
         let ty = made_variable(alloc, simple, object)?;
         return Ok(ty);
     }
-    let bound = bound_type(alloc, stage, oracle, entered, bounds[0])?;
+    let bound = bound_type(alloc, stage, oracle, bounds[0])?;
     let ty = made_variable(alloc, simple, bound)?;
     Ok(ty)
 }
@@ -336,16 +273,15 @@ fn variable<O: Oracle>(
     alloc: Global,
     stage: &Stage<'_, '_>,
     oracle: &mut O,
-    entered: &mut Entered,
     parameter: Node,
     simple: &str,
 ) -> Result<Ty, AskFault>
     requires bounds { stage.now.bounds ≤ 1 }
     requires inside { parameter.0 < length stage.now.file.now.nodes }
-    ensures { Asks (resolution.variable stage.now.file.now stage.now.left stage.now.busy.now stage.now.bounds simple.now parameter) (O.tells oracle.old) (O.tells oracle.new) (seen java_type result) }
+    ensures { Asks (resolution.variable stage.now.file.now stage.now.bounds simple.now parameter) (O.tells oracle.old) (O.tells oracle.new) (seen java_type result) }
 {
     let bounds = bounds_of(alloc, stage.file.tree(), parameter)?;
-    variable_by(alloc, stage, oracle, entered, bounds.as_slice(), simple)
+    variable_by(alloc, stage, oracle, bounds.as_slice(), simple)
 }
 
 /// The type that a declaration of the file has as a simple name.
@@ -355,16 +291,15 @@ fn declared_type<O: Oracle>(
     alloc: Global,
     stage: &Stage<'_, '_>,
     oracle: &mut O,
-    entered: &mut Entered,
     n: Node,
     simple: &str,
 ) -> Result<Ty, AskFault>
     requires bounds { stage.now.bounds ≤ 1 }
     requires inside { n.0 < length stage.now.file.now.nodes }
-    ensures { Asks (resolution.declared_type stage.now.file.now stage.now.left stage.now.busy.now stage.now.bounds simple.now n) (O.tells oracle.old) (O.tells oracle.new) (seen java_type result) }
+    ensures { Asks (resolution.declared_type stage.now.file.now stage.now.bounds simple.now n) (O.tells oracle.old) (O.tells oracle.new) (seen java_type result) }
 {
     if names_type_parameter(stage.file.tree(), n) {
-        return variable(alloc, stage, oracle, entered, n, simple);
+        return variable(alloc, stage, oracle, n, simple);
     }
     let ty = class_of_text(alloc, stage.file.class_text(n))?;
     Ok(ty)
@@ -377,16 +312,15 @@ fn declared_or<O: Oracle>(
     alloc: Global,
     stage: &Stage<'_, '_>,
     oracle: &mut O,
-    entered: &mut Entered,
     simple: &str,
     found: Option<Declared>,
 ) -> Result<Ty, AskFault>
     requires bounds { stage.now.bounds ≤ 1 }
     requires found { IfSome found (λ d. d.node.0 < length stage.now.file.now.nodes) }
-    ensures { Asks (resolution.declared_or stage.now.file.now stage.now.left stage.now.busy.now stage.now.bounds simple.now found) (O.tells oracle.old) (O.tells oracle.new) (seen java_type result) }
+    ensures { Asks (resolution.declared_or stage.now.file.now stage.now.bounds simple.now found) (O.tells oracle.old) (O.tells oracle.new) (seen java_type result) }
 {
     match found {
-        Some(found) => declared_type(alloc, stage, oracle, entered, found.node, simple),
+        Some(found) => declared_type(alloc, stage, oracle, found.node, simple),
         None => outside(alloc, stage.file, oracle, simple),
     }
 }
@@ -398,7 +332,6 @@ fn found_or<O: Oracle>(
     alloc: Global,
     stage: &Stage<'_, '_>,
     oracle: &mut O,
-    entered: &mut Entered,
     place: Node,
     simple: &str,
     found: Option<Declared>,
@@ -406,12 +339,12 @@ fn found_or<O: Oracle>(
     requires bounds { stage.now.bounds ≤ 1 }
     requires inside { place.0 < length stage.now.file.now.nodes }
     requires found { IfSome found (λ d. d.node.0 < length stage.now.file.now.nodes) }
-    ensures { Asks (resolution.found_or stage.now.file.now stage.now.left stage.now.busy.now stage.now.bounds place simple.now found) (O.tells oracle.old) (O.tells oracle.new) (seen java_type result) }
+    ensures { Asks (resolution.found_or stage.now.file.now stage.now.bounds place simple.now found) (O.tells oracle.old) (O.tells oracle.new) (seen java_type result) }
 {
-    let hit = first_inherited(alloc, stage, oracle, entered, place, simple, found)?;
+    let hit = first_inherited(alloc, stage, oracle, place, simple, found)?;
     match hit {
         Some(hit) => Ok(Ty::Class(hit, Types::End)),
-        None => declared_or(alloc, stage, oracle, entered, simple, found),
+        None => declared_or(alloc, stage, oracle, simple, found),
     }
 }
 
@@ -422,41 +355,38 @@ fn simple_name<O: Oracle>(
     alloc: Global,
     stage: &Stage<'_, '_>,
     oracle: &mut O,
-    entered: &mut Entered,
     place: Node,
     simple: &str,
 ) -> Result<Ty, AskFault>
     requires bounds { stage.now.bounds ≤ 1 }
     requires inside { place.0 < length stage.now.file.now.nodes }
-    ensures { Asks (resolution.simple_name stage.now.file.now stage.now.left stage.now.busy.now stage.now.bounds place simple.now) (O.tells oracle.old) (O.tells oracle.new) (seen java_type result) }
+    ensures { Asks (resolution.simple_name stage.now.file.now stage.now.bounds place simple.now) (O.tells oracle.old) (O.tells oracle.new) (seen java_type result) }
 {
     match ClassName::of(alloc, simple)? {
         Some(_name) => {
             let found = type_meant(stage.file, simple, place);
-            found_or(alloc, stage, oracle, entered, place, simple, found)
+            found_or(alloc, stage, oracle, place, simple, found)
         }
         None => Ok(Ty::Unknown),
     }
 }
 
 /// The first member class that one of the classes around a place inherits, of those that stand further in than what was found.
-#[cycle(resolving)]
 #[tactic(auto, using(pj_names::proofs::AskingLaws::asking_steps))]
 fn first_inherited<O: Oracle>(
     alloc: Global,
     stage: &Stage<'_, '_>,
     oracle: &mut O,
-    entered: &mut Entered,
     place: Node,
     simple: &str,
     found: Option<Declared>,
 ) -> Result<Option<ClassName>, AskFault>
     requires inside { place.0 < length stage.now.file.now.nodes }
-    ensures { Asks (first_hit (resolution.inherited stage.now.file.now stage.now.left stage.now.busy.now simple.now) (searched stage.now.file.now place found)) (O.tells oracle.old) (O.tells oracle.new) result }
+    ensures { Asks (first_hit (resolution.inherited stage.now.file.now simple.now) (searched stage.now.file.now place found)) (O.tells oracle.old) (O.tells oracle.new) result }
 {
     let mut inside = place;
     while let Some(class) = next_searched(stage.file.tree(), found, inside) {
-        let hit = inherited(alloc, stage, oracle, entered, class, simple)?;
+        let hit = inherited(alloc, stage, oracle, class, simple)?;
         if let Some(hit) = hit {
             return Ok(Some(hit));
         }
@@ -485,16 +415,15 @@ fn packaged_class<O: Oracle>(
 /// The class of a name with dots, without arguments.
 #[cycle(resolving)]
 #[tactic(auto, using(pj_names::proofs::AskingLaws::asking_steps))]
-fn class_of<O: Oracle>(
+pub fn class_of<O: Oracle>(
     alloc: Global,
     stage: &Stage<'_, '_>,
     oracle: &mut O,
-    entered: &mut Entered,
     name: &Written,
 ) -> Result<Ty, AskFault>
     requires bounds { stage.now.bounds ≤ 1 }
     requires inside { name.now.at.0 < length stage.now.file.now.nodes }
-    ensures { Asks (resolution.class_of stage.now.file.now stage.now.left stage.now.busy.now stage.now.bounds name.now) (O.tells oracle.old) (O.tells oracle.new) (seen java_type result) }
+    ensures { Asks (resolution.class_of stage.now.file.now stage.now.bounds name.now) (O.tells oracle.old) (O.tells oracle.new) (seen java_type result) }
 {
     if name.has_package {
         return packaged_class(alloc, stage.file, oracle, &name.parts);
@@ -503,7 +432,6 @@ fn class_of<O: Oracle>(
         alloc,
         stage,
         oracle,
-        entered,
         name.at,
         name.parts.as_slice(),
     )
@@ -516,56 +444,51 @@ fn class_along<O: Oracle>(
     alloc: Global,
     stage: &Stage<'_, '_>,
     oracle: &mut O,
-    entered: &mut Entered,
     place: Node,
     parts: &[Text],
 ) -> Result<Ty, AskFault>
     requires bounds { stage.now.bounds ≤ 1 }
     requires inside { place.0 < length stage.now.file.now.nodes }
-    ensures { Asks (resolution.class_along stage.now.file.now stage.now.left stage.now.busy.now stage.now.bounds place parts.now) (O.tells oracle.old) (O.tells oracle.new) (seen java_type result) }
+    ensures { Asks (resolution.class_along stage.now.file.now stage.now.bounds place parts.now) (O.tells oracle.old) (O.tells oracle.new) (seen java_type result) }
 {
     if parts.is_empty() {
         return Ok(Ty::Unknown);
     }
-    let ty = simple_name(alloc, stage, oracle, entered, place, parts[0].as_str())?;
-    members_along(alloc, stage, oracle, entered, ty, &parts[1..])
+    let ty = simple_name(alloc, stage, oracle, place, parts[0].as_str())?;
+    members_along(alloc, stage, oracle, ty, &parts[1..])
 }
 
 /// The member class of a type that the further parts of a name lead to.
-#[cycle(resolving)]
 #[tactic(auto, using(pj_names::proofs::AskingLaws::asking_loops))]
 fn members_along<O: Oracle>(
     alloc: Global,
     stage: &Stage<'_, '_>,
     oracle: &mut O,
-    entered: &mut Entered,
     ty: Ty,
     parts: &[Text],
 ) -> Result<Ty, AskFault>
-    ensures { Asks (resolution.members_along stage.now.file.now stage.now.left stage.now.busy.now stage.now.bounds (java_type ty) parts.now) (O.tells oracle.old) (O.tells oracle.new) (seen java_type result) }
+    ensures { Asks (resolution.members_along stage.now.file.now stage.now.bounds (java_type ty) parts.now) (O.tells oracle.old) (O.tells oracle.new) (seen java_type result) }
 {
     let mut ty = ty;
     for part in parts {
-        ty = member_of(alloc, stage, oracle, entered, ty, part.as_str())?;
+        ty = member_of(alloc, stage, oracle, ty, part.as_str())?;
     }
     Ok(ty)
 }
 
 /// The member class of a type: of an unknown type and of a type variable none is known.
-#[cycle(resolving)]
 #[tactic(auto, using(pj_names::proofs::AskingLaws::asking_steps))]
 fn member_of<O: Oracle>(
     alloc: Global,
     stage: &Stage<'_, '_>,
     oracle: &mut O,
-    entered: &mut Entered,
     ty: Ty,
     simple: &str,
 ) -> Result<Ty, AskFault>
-    ensures { Asks (resolution.member_of stage.now.file.now stage.now.left stage.now.busy.now stage.now.bounds (java_type ty) simple.now) (O.tells oracle.old) (O.tells oracle.new) (seen java_type result) }
+    ensures { Asks (resolution.member_of stage.now.file.now stage.now.bounds (java_type ty) simple.now) (O.tells oracle.old) (O.tells oracle.new) (seen java_type result) }
 {
     match ty {
-        Ty::Class(outer, _) => member_type(alloc, stage, oracle, entered, &outer, simple),
+        Ty::Class(outer, _) => member_type(alloc, stage, oracle, &outer, simple),
         _ => Ok(Ty::Unknown),
     }
 }
@@ -577,18 +500,17 @@ fn argument_types<O: Oracle>(
     alloc: Global,
     stage: &Stage<'_, '_>,
     oracle: &mut O,
-    entered: &mut Entered,
     deep: u32,
     list: &[Node],
 ) -> Result<TyList, AskFault>
     requires bounds { stage.now.bounds ≤ 1 }
     requires deep { deep ≤ 255 }
     requires inside { All (λ (n : Node). n.0 < length stage.now.file.now.nodes) list.now }
-    ensures { Asks (each (resolution.argument stage.now.file.now stage.now.left stage.now.busy.now stage.now.bounds deep) list.now) (O.tells oracle.old) (O.tells oracle.new) (seen type_list result) }
+    ensures { Asks (each (resolution.argument stage.now.file.now stage.now.bounds deep) list.now) (O.tells oracle.old) (O.tells oracle.new) (seen type_list result) }
 {
     let mut types = TyList::new(alloc);
     for n in list {
-        let ty = argument(alloc, stage, oracle, entered, deep, *n)?;
+        let ty = argument(alloc, stage, oracle, deep, *n)?;
         types.push(ty)?;
     }
     Ok(types)
@@ -601,20 +523,19 @@ fn listed_arguments<O: Oracle>(
     alloc: Global,
     stage: &Stage<'_, '_>,
     oracle: &mut O,
-    entered: &mut Entered,
     deep: u32,
     list: &[Node],
 ) -> Result<Types, AskFault>
     requires bounds { stage.now.bounds ≤ 1 }
     requires deep { deep ≤ 255 }
     requires inside { All (λ (n : Node). n.0 < length stage.now.file.now.nodes) list.now }
-    ensures { Asks (resolution.arguments stage.now.file.now stage.now.left stage.now.busy.now stage.now.bounds deep list.now) (O.tells oracle.old) (O.tells oracle.new) (seen java_types result) }
+    ensures { Asks (resolution.arguments stage.now.file.now stage.now.bounds deep list.now) (O.tells oracle.old) (O.tells oracle.new) (seen java_types result) }
 {
     if stage.nested >= MOST_NESTED {
         return Err(AskFault::Memory);
     }
     let within = stage.within_list();
-    let types = argument_types(alloc, &within, oracle, entered, deep, list)?;
+    let types = argument_types(alloc, &within, oracle, deep, list)?;
     let arguments = arguments_of(alloc, types)?;
     Ok(arguments)
 }
@@ -626,17 +547,16 @@ fn arguments<O: Oracle>(
     alloc: Global,
     stage: &Stage<'_, '_>,
     oracle: &mut O,
-    entered: &mut Entered,
     deep: u32,
     n: Node,
 ) -> Result<Types, AskFault>
     requires bounds { stage.now.bounds ≤ 1 }
     requires deep { deep ≤ 255 }
     requires inside { n.0 < length stage.now.file.now.nodes }
-    ensures { Asks (resolution.own_arguments stage.now.file.now stage.now.left stage.now.busy.now stage.now.bounds deep n) (O.tells oracle.old) (O.tells oracle.new) (seen java_types result) }
+    ensures { Asks (resolution.own_arguments stage.now.file.now stage.now.bounds deep n) (O.tells oracle.old) (O.tells oracle.new) (seen java_types result) }
 {
     let list = below_child(alloc, stage.file.tree(), n, Kind::TypeArguments)?;
-    listed_arguments(alloc, stage, oracle, entered, deep, list.as_slice())
+    listed_arguments(alloc, stage, oracle, deep, list.as_slice())
 }
 
 /// A type argument, where at most so many lists of arguments stand in one another.
@@ -646,19 +566,18 @@ fn argument<O: Oracle>(
     alloc: Global,
     stage: &Stage<'_, '_>,
     oracle: &mut O,
-    entered: &mut Entered,
     deep: u32,
     n: Node,
 ) -> Result<Ty, AskFault>
     requires bounds { stage.now.bounds ≤ 1 }
     requires deep { deep ≤ 255 }
     requires inside { n.0 < length stage.now.file.now.nodes }
-    ensures { Asks (resolution.argument stage.now.file.now stage.now.left stage.now.busy.now stage.now.bounds deep n) (O.tells oracle.old) (O.tells oracle.new) (seen java_type result) }
+    ensures { Asks (resolution.argument stage.now.file.now stage.now.bounds deep n) (O.tells oracle.old) (O.tells oracle.new) (seen java_type result) }
 {
     if deep == 0 {
         return Ok(Ty::Unknown);
     }
-    argument_by(alloc, stage, oracle, entered, deep - 1, n)
+    argument_by(alloc, stage, oracle, deep - 1, n)
 }
 
 /// A type argument: `? extends X` is X, and `?` and `? super X` are `java.lang.Object`.
@@ -668,25 +587,24 @@ fn argument_by<O: Oracle>(
     alloc: Global,
     stage: &Stage<'_, '_>,
     oracle: &mut O,
-    entered: &mut Entered,
     deep: u32,
     n: Node,
 ) -> Result<Ty, AskFault>
     requires bounds { stage.now.bounds ≤ 1 }
     requires deep { deep ≤ 255 }
     requires inside { n.0 < length stage.now.file.now.nodes }
-    ensures { Asks (resolution.argument_by stage.now.file.now stage.now.left stage.now.busy.now stage.now.bounds deep n) (O.tells oracle.old) (O.tells oracle.new) (seen java_type result) }
+    ensures { Asks (resolution.argument_by stage.now.file.now stage.now.bounds deep n) (O.tells oracle.old) (O.tells oracle.new) (seen java_type result) }
 {
     let tree = stage.file.tree();
     if !is_kind(tree, Kind::WildcardType, n) {
-        return type_by(alloc, stage, oracle, entered, deep, n);
+        return type_by(alloc, stage, oracle, deep, n);
     }
     if !has_word(tree, n, "extends") {
         let object = object_type(alloc)?;
         return Ok(object);
     }
     match last_child(tree, n) {
-        Some(bound) => type_by(alloc, stage, oracle, entered, deep, bound),
+        Some(bound) => type_by(alloc, stage, oracle, deep, bound),
         None => Ok(Ty::Unknown),
     }
 }
@@ -698,15 +616,14 @@ fn class_written<O: Oracle>(
     alloc: Global,
     stage: &Stage<'_, '_>,
     oracle: &mut O,
-    entered: &mut Entered,
     n: Node,
 ) -> Result<Ty, AskFault>
     requires bounds { stage.now.bounds ≤ 1 }
     requires inside { n.0 < length stage.now.file.now.nodes }
-    ensures { Asks (resolution.class_written stage.now.file.now stage.now.left stage.now.busy.now stage.now.bounds n) (O.tells oracle.old) (O.tells oracle.new) (seen java_type result) }
+    ensures { Asks (resolution.class_written stage.now.file.now stage.now.bounds n) (O.tells oracle.old) (O.tells oracle.new) (seen java_type result) }
 {
     let name = name_written(alloc, stage.file.tree(), n)?;
-    class_of(alloc, stage, oracle, entered, &name)
+    class_of(alloc, stage, oracle, &name)
 }
 
 /// A type with the arguments of a class type: where it is not known, or is a type variable, they are not resolved.
@@ -716,7 +633,6 @@ fn with_arguments<O: Oracle>(
     alloc: Global,
     stage: &Stage<'_, '_>,
     oracle: &mut O,
-    entered: &mut Entered,
     deep: u32,
     n: Node,
     ty: Ty,
@@ -724,11 +640,11 @@ fn with_arguments<O: Oracle>(
     requires bounds { stage.now.bounds ≤ 1 }
     requires deep { deep ≤ 255 }
     requires inside { n.0 < length stage.now.file.now.nodes }
-    ensures { Asks (resolution.with_arguments stage.now.file.now stage.now.left stage.now.busy.now stage.now.bounds deep n (java_type ty)) (O.tells oracle.old) (O.tells oracle.new) (seen java_type result) }
+    ensures { Asks (resolution.with_arguments stage.now.file.now stage.now.bounds deep n (java_type ty)) (O.tells oracle.old) (O.tells oracle.new) (seen java_type result) }
 {
     match ty {
         Ty::Class(class, _) => {
-            let arguments = arguments(alloc, stage, oracle, entered, deep, n)?;
+            let arguments = arguments(alloc, stage, oracle, deep, n)?;
             Ok(Ty::Class(class, arguments))
         }
         other => Ok(other),
@@ -742,17 +658,16 @@ fn class_type<O: Oracle>(
     alloc: Global,
     stage: &Stage<'_, '_>,
     oracle: &mut O,
-    entered: &mut Entered,
     deep: u32,
     n: Node,
 ) -> Result<Ty, AskFault>
     requires bounds { stage.now.bounds ≤ 1 }
     requires deep { deep ≤ 255 }
     requires inside { n.0 < length stage.now.file.now.nodes }
-    ensures { Asks (resolution.class_type stage.now.file.now stage.now.left stage.now.busy.now stage.now.bounds deep n) (O.tells oracle.old) (O.tells oracle.new) (seen java_type result) }
+    ensures { Asks (resolution.class_type stage.now.file.now stage.now.bounds deep n) (O.tells oracle.old) (O.tells oracle.new) (seen java_type result) }
 {
-    let ty = class_written(alloc, stage, oracle, entered, n)?;
-    with_arguments(alloc, stage, oracle, entered, deep, n, ty)
+    let ty = class_written(alloc, stage, oracle, n)?;
+    with_arguments(alloc, stage, oracle, deep, n, ty)
 }
 
 /// What stands before the brackets of a type, by its kind.
@@ -762,20 +677,19 @@ fn bare_type<O: Oracle>(
     alloc: Global,
     stage: &Stage<'_, '_>,
     oracle: &mut O,
-    entered: &mut Entered,
     deep: u32,
     n: Node,
 ) -> Result<Ty, AskFault>
     requires bounds { stage.now.bounds ≤ 1 }
     requires deep { deep ≤ 255 }
     requires inside { n.0 < length stage.now.file.now.nodes }
-    ensures { Asks (resolution.bare_type stage.now.file.now stage.now.left stage.now.busy.now stage.now.bounds deep n) (O.tells oracle.old) (O.tells oracle.new) (seen java_type result) }
+    ensures { Asks (resolution.bare_type stage.now.file.now stage.now.bounds deep n) (O.tells oracle.old) (O.tells oracle.new) (seen java_type result) }
 {
     let tree = stage.file.tree();
     match tree.kind(n) {
         Kind::PrimitiveType => Ok(primitive_of(tree, n)),
         Kind::VoidType => Ok(Ty::Void),
-        Kind::ClassType => class_type(alloc, stage, oracle, entered, deep, n),
+        Kind::ClassType => class_type(alloc, stage, oracle, deep, n),
         _ => Ok(Ty::Unknown),
     }
 }
@@ -787,17 +701,16 @@ fn type_by<O: Oracle>(
     alloc: Global,
     stage: &Stage<'_, '_>,
     oracle: &mut O,
-    entered: &mut Entered,
     deep: u32,
     n: Node,
 ) -> Result<Ty, AskFault>
     requires bounds { stage.now.bounds ≤ 1 }
     requires deep { deep ≤ 255 }
     requires inside { n.0 < length stage.now.file.now.nodes }
-    ensures { Asks (resolution.type_by stage.now.file.now stage.now.left stage.now.busy.now stage.now.bounds deep n) (O.tells oracle.old) (O.tells oracle.new) (seen java_type result) }
+    ensures { Asks (resolution.type_by stage.now.file.now stage.now.bounds deep n) (O.tells oracle.old) (O.tells oracle.new) (seen java_type result) }
 {
     let tree = stage.file.tree();
-    let member = bare_type(alloc, stage, oracle, entered, deep, bare(tree, n))?;
+    let member = bare_type(alloc, stage, oracle, deep, bare(tree, n))?;
     let ty = arrays(alloc, brackets(tree, n), member)?;
     Ok(ty)
 }
@@ -806,11 +719,10 @@ fn type_by<O: Oracle>(
 /// past the bounds of signatures is not known, as a whole.
 #[cycle(resolving)]
 #[tactic(auto, using(pj_names::proofs::AskingLaws::asking_steps))]
-fn type_written<O: Oracle>(
+pub fn type_written<O: Oracle>(
     alloc: Global,
     stage: &Stage<'_, '_>,
     oracle: &mut O,
-    entered: &mut Entered,
     around: u32,
     behind: u32,
     n: Node,
@@ -818,108 +730,13 @@ fn type_written<O: Oracle>(
     requires bounds { stage.now.bounds ≤ 1 }
     requires around { around ≤ 1 }
     requires inside { n.0 < length stage.now.file.now.nodes }
-    ensures { Asks (resolution.type_written stage.now.file.now stage.now.left stage.now.busy.now stage.now.bounds around behind n) (O.tells oracle.old) (O.tells oracle.new) (seen java_type result) }
+    ensures { Asks (resolution.type_written stage.now.file.now stage.now.bounds around behind n) (O.tells oracle.old) (O.tells oracle.new) (seen java_type result) }
 {
     if !fits_behind(stage.file.tree(), around, behind, n) {
         return Ok(Ty::Unknown);
     }
-    let member = type_by(alloc, stage, oracle, entered, MOST_SIGNS, n)?;
+    let member = type_by(alloc, stage, oracle, MOST_SIGNS, n)?;
     let ty = arrays(alloc, behind, member)?;
     Ok(ty)
 }
 
-/// The class of a text at a place, where the text is a name of a class. There no header is being resolved.
-#[tactic(auto, using(pj_names::proofs::AskingLaws::asking_steps))]
-fn class_at<O: Oracle>(
-    alloc: Global,
-    file: &File<'_>,
-    oracle: &mut O,
-    place: Node,
-    text: &str,
-) -> Result<Ty, AskFault>
-    requires inside { place.0 < length file.now.nodes }
-    ensures { Asks (resolution.class_of file.now (enough file.now) [] 1 (name_of_text place text.now)) (O.tells oracle.old) (O.tells oracle.new) (seen java_type result) }
-{
-    let name = name_of_text(alloc, place, text)?;
-    let busy = Numbers::new(alloc);
-    let stage = Stage {
-        file,
-        left: enough(file),
-        busy: &busy,
-        bounds: 1,
-        nested: 0,
-    };
-    class_of(alloc, &stage, oracle, &mut Entered { headers: 0 }, &name)
-}
-
-/// The type that a name means at a place: a simple name or one with dots.
-#[tactic(auto, using(pj_names::proofs::AskingLaws::asking_steps))]
-pub fn type_name<O: Oracle>(
-    alloc: Global,
-    file: &File<'_>,
-    oracle: &mut O,
-    place: Node,
-    text: &str,
-) -> Result<Ty, AskFault>
-    requires inside { place.0 < length file.now.nodes }
-    ensures { Asks (type_name file.now place text.now) (O.tells oracle.old) (O.tells oracle.new) (seen java_type result) }
-{
-    match ClassName::of(alloc, text)? {
-        Some(_name) => class_at(alloc, file, oracle, place, text),
-        None => Ok(Ty::Unknown),
-    }
-}
-
-/// The type that is written in a node, where the headers of some classes are being resolved, with so many brackets behind the
-/// name that it is the type of.
-#[tactic(auto, using(pj_names::proofs::AskingLaws::asking_steps))]
-pub fn written_type<O: Oracle>(
-    alloc: Global,
-    file: &File<'_>,
-    oracle: &mut O,
-    busy: &Numbers,
-    behind: u32,
-    n: Node,
-) -> Result<Ty, AskFault>
-    requires inside { n.0 < length file.now.nodes }
-    ensures { Asks (written_type file.now busy.now behind n) (O.tells oracle.old) (O.tells oracle.new) (seen java_type result) }
-{
-    let stage = Stage {
-        file,
-        left: enough(file),
-        busy,
-        bounds: 1,
-        nested: 0,
-    };
-    type_written(
-        alloc,
-        &stage,
-        oracle,
-        &mut Entered { headers: 0 },
-        0,
-        behind,
-        n,
-    )
-}
-
-/// A bound of a type parameter, where the headers of some classes are being resolved.
-#[tactic(auto, using(pj_names::proofs::AskingLaws::asking_steps))]
-pub fn written_bound<O: Oracle>(
-    alloc: Global,
-    file: &File<'_>,
-    oracle: &mut O,
-    busy: &Numbers,
-    n: Node,
-) -> Result<Ty, AskFault>
-    requires inside { n.0 < length file.now.nodes }
-    ensures { Asks (written_bound file.now busy.now n) (O.tells oracle.old) (O.tells oracle.new) (seen java_type result) }
-{
-    let stage = Stage {
-        file,
-        left: enough(file),
-        busy,
-        bounds: 1,
-        nested: 0,
-    };
-    bound_type(alloc, &stage, oracle, &mut Entered { headers: 0 }, n)
-}

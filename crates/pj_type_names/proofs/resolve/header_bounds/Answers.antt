@@ -1,0 +1,30 @@
+use Rattle.std.proofs.Common.{rules, arith, ◌≡◌, ◌<◌, ◌+◌, ◌-◌, List, ap, false, length, true, refl, subst, sym, ◌∙◌}
+use Rattle.std.specs.Prelude.{Ok, if◌then◌else◌, [], ◌∷◌, ◌++◌}
+use Rattle.pj_names.specs.Asking.{Return, each, first_hit}
+use Rattle.pj_names.proofs.AskingLaws.{ComesTo, asks-refused, asks-return, asks-settled, asks-stop, asks-then, comes-begin, comes-ends, comes-then}
+use Rattle.pj_names.specs.ClassName.{is_object}
+use Rattle.pj_names.specs.JavaType.{Variable, java_type, type_list}
+use Rattle.pj_names.proofs.MeaningLaws.{each-gather, gather}
+use Rattle.pj_names.specs.Told.{longest, longest_is}
+use Rattle.pj_names.specs.declared.ty.Ty.{Ty}
+use Rattle.pj_outer_names.specs.Candidates.{file_classes}
+use Rattle.pj_outer_names.specs.Inherited.{member_in}
+use Rattle.pj_outer_names.specs.NameWalks.{Standing, left_out}
+use Rattle.pj_outer_names.proofs.NameTurns.{names-begin, names-end, names-missed, names-turn, to_come}
+use Rattle.pj_written.specs.Fits.{fits, most_signs_is}
+use Rattle.pj_written.specs.Headers.{all_bounds, written_supertypes}
+use Rattle.pj_type_names.specs.Searching as resolution
+use Rattle.pj_type_names.specs.TypeName.{is_busy}
+use Rattle.pj_type_names.proofs.Turns.{along-none, along-some, argument-none, argument-some, asks-as, bound-none, bound-some, bounds-each, by-none, by-object, by-some, comes-as, direct-none, direct-some, inherited-named, inherited-none, length-none, length-some, rest-is, searched-end, searched-turn, simple-named, simple-none, types-each, types-turn, variable-none, variable-some, written-fits}
+use Rattle.pj_type_names.proofs.resolve.header_bounds.Goals as goal
+
+pub returns-in_err-bounds : goal.returns-in_err-bounds
+returns-in_err-bounds g c = asks-stop (search rules)
+
+pub returns : goal.returns
+returns g c =
+    let stage = c.args.stage.now in
+    let none : c.within_bound-within.result.bounds ≡ 0 = omega (arith, c.within_bound-within.ensures.bounds, c.requires.bounds) in
+    let nodes : c.as_slice.result.now ≡ all_bounds stage.file.now c.args.class = search rules in
+    let within = rw (c.within_bound-within.ensures.file) at c.types_of.ensures in
+    asks-as (bounds-each stage.file.now c.within_bound-within.result.bounds (all_bounds stage.file.now c.args.class) c.as_slice.result.now none nodes) within
