@@ -8,3 +8,4 @@ pub mod Alike
 pub mod HeldHeaders
 pub mod Parts
 pub mod Sought
+pub mod Summaries

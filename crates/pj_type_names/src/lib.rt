@@ -5,12 +5,17 @@
 mod header_oracle;
 mod held;
 mod laws;
+mod names;
+mod once;
 mod part;
 mod read;
 mod resolve;
 mod sought;
 mod stage;
+mod summary;
 mod told;
+mod turns;
 
 pub use laws::{arguments_end, headers_end, others_are_asked, sources_agree};
-pub use resolve::{type_name, written_bound, written_type};
+pub use held::{FreeHeader, FreeHeaders, HeldAnswer, HeldAnswers};
+pub use names::{type_name, written_bound, written_type};
