@@ -48,6 +48,10 @@ module _ (t : Tree) where
   abbrev pub statement_of : Node → Option Node
   statement_of id = option_and_then if_iterates (option_and_then (parent_of t) (declaration_of t id))
 
-  -- the initializer of a variable
+  -- what stands behind the name in a declarator (JLS 8.3, 14.4)
+  abbrev pub initializer_in : Node → Option Node
+  initializer_in above = if is_kind t k.VariableDeclarator above then second_child t above else None
+
+  -- the initializer of a variable: only a declarator has one, and no parameter or constant of an enum
   abbrev pub initializer_of : Node → Option Node
-  initializer_of id = option_and_then (second_child t) (parent_of t id)
+  initializer_of id = option_and_then initializer_in (parent_of t id)

@@ -86,7 +86,7 @@ pub fn declared_by<O: Oracle>(
     declared_type(alloc, file, oracle, behind, declaration)
 }
 
-/// The initializer of a variable.
+/// The initializer of a variable (JLS 8.3, 14.4): only a declarator has one, and no parameter or constant of an enum.
 pub fn initializer_of(tree: &SyntaxTree<'_>, id: Node) -> Option<Node>
     requires inside { id.0 < length tree.now.nodes }
     ensures value { result ≡ initializer_of tree.now id }
@@ -94,7 +94,13 @@ pub fn initializer_of(tree: &SyntaxTree<'_>, id: Node) -> Option<Node>
 {
     let _nodes = tree.len();
     match tree.parent(id) {
-        Some(declarator) => second_child(tree, declarator),
+        Some(above) => {
+            if is_kind(tree, Kind::VariableDeclarator, above) {
+                second_child(tree, above)
+            } else {
+                None
+            }
+        }
         None => None,
     }
 }
