@@ -110,8 +110,11 @@ unhidden_as earlier (declared ∷ others) (method ∷ rest) =
 abbrev pub declared_methods : Name → List ℕ → Asking (List FoundMethod)
 declared_methods class name = bind (searched class name) (λ types. found_in class name [] types)
 
+-- the methods of a name of a receiver, those that are hidden too
+abbrev pub given_of_receiver : Name → Arguments → List ℕ → Asking (List FoundMethod)
+given_of_receiver class arguments name = bind (look_up class) (λ known. given_methods name (head_of class arguments known))
+
 -- The methods of a name of a receiver (JLS 15.12.2.1), in the order of its list of supertypes.
 abbrev pub methods_of_receiver : Name → Arguments → List ℕ → Asking (List FoundMethod)
 methods_of_receiver class arguments name =
-    bind (declared_methods class name) (λ declared. bind (look_up class) (λ known.
-    bind (given_methods name (head_of class arguments known)) (λ given. Return (unhidden_as set.empty declared given))))
+    bind (declared_methods class name) (λ declared. bind (given_of_receiver class arguments name) (λ given. Return (unhidden_as set.empty declared given)))

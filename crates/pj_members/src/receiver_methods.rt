@@ -6,7 +6,7 @@ ghost use Rattle.pj_names.specs.JavaType.{java_types};
 ghost use Rattle.pj_names.specs.Told.{Asks, seen};
 ghost use Rattle.pj_types.specs.Members.{FoundMethod, all_methods, method_view};
 ghost use Rattle.pj_members.specs.Methods.{key_of};
-ghost use Rattle.pj_members.specs.Receivers.{classes_for, declared_methods, given_in, given_methods, list_from, methods_of_receiver, methods_on_list, unhidden_as};
+ghost use Rattle.pj_members.specs.Receivers.{classes_for, declared_methods, given_in, given_methods, given_of_receiver, list_from, methods_of_receiver, methods_on_list, unhidden_as};
 ghost use Rattle.pj_members.specs.SupertypeWalks.{all_supertypes, supertype_view};
 
 use crate::keys::Keys;
@@ -117,6 +117,22 @@ fn given_methods<O: Oracle>(
     given_in(alloc, oracle, name, &classes)
 }
 
+/// The methods of a name of a receiver, those that are hidden too.
+#[tactic(auto, using(pj_names::proofs::AskingLaws::asking_steps))]
+fn given_of_receiver<O: Oracle>(
+    alloc: Global,
+    oracle: &mut O,
+    class: &ClassName,
+    arguments: &Types,
+    name: &str,
+) -> Result<Methods, AskFault>
+    ensures { Asks (given_of_receiver class.now (java_types arguments.now) name.now) (O.tells oracle.old) (O.tells oracle.new) (seen all_methods result) }
+{
+    let known = look_up(oracle, class)?;
+    let head = head_of(alloc, class, arguments, &known)?;
+    given_methods(alloc, oracle, name, head)
+}
+
 /// The methods of a name as the classes declare them, those that are hidden too.
 #[tactic(auto, using(pj_names::proofs::AskingLaws::asking_steps))]
 fn declared_methods<O: Oracle>(
@@ -186,9 +202,7 @@ pub fn methods_of_receiver<O: Oracle>(
     ensures { Asks (methods_of_receiver class.now (java_types arguments.now) name.now) (O.tells oracle.old) (O.tells oracle.new) (seen all_methods result) }
 {
     let declared = declared_methods(alloc, oracle, class, name)?;
-    let known = look_up(oracle, class)?;
-    let head = head_of(alloc, class, arguments, &known)?;
-    let given = given_methods(alloc, oracle, name, head)?;
+    let given = given_of_receiver(alloc, oracle, class, arguments, name)?;
     let left = unhidden_as(alloc, declared, given)?;
     Ok(left)
 }

@@ -78,10 +78,7 @@ static QUESTIONS: [(&str, Question); 21] = [
     ("variable", Question::Lookup(Lookup::Variable)),
     ("type of node", Question::Lookup(Lookup::NodeType)),
     ("type of variable", Question::Lookup(Lookup::VariableType)),
-    (
-        "member of variable",
-        Question::Lookup(Lookup::MemberType),
-    ),
+    ("member of variable", Question::Lookup(Lookup::MemberType)),
     (
         "elements of variable",
         Question::Lookup(Lookup::ElementType),
