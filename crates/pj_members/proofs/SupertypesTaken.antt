@@ -49,9 +49,9 @@ pub given-one : (visited noted : NameSet) (to_visit rest : List Supertype) (clas
     → Gives (at visited (all_supertypes (reverse to_visit))) (at noted (all_supertypes (reverse rest))) (Some (supertype_view class))
 given-one visited noted to_visit rest class one more = (one, more)
 
-pub put-standing : (visited same : NameSet) (to_visit more pushed : List Supertype) → same ≡ visited → pushed ≡ to_visit ++ reverse more
-    → at same (all_supertypes (reverse pushed)) ≡ at visited (all_supertypes more ++ all_supertypes (reverse to_visit))
-put-standing visited same to_visit more pushed stays put = λ i. (stays i, put-back to_visit more pushed put i)
+pub put-standing : (visited : NameSet) (to_visit more pushed : List Supertype) → pushed ≡ to_visit ++ reverse more
+    → at visited (all_supertypes (reverse pushed)) ≡ at visited (all_supertypes more ++ all_supertypes (reverse to_visit))
+put-standing visited to_visit more pushed put = ap (at visited) (put-back to_visit more pushed put)
 
 pub ruleset begins = (begun)
 

@@ -64,8 +64,8 @@ fn bound_to(alloc: Global, bound: &Bindings) -> Result<TyList, NoMemory>
     ensures { IfOk result (λ types. type_list types ≡ map (λ pair. pair.1) (bound_types bound.now)) }
 {
     let mut types = TyList::new(alloc);
-    for (_, ty) in bound.as_slice() {
-        types.push(ty.copied()?)?;
+    for pair in bound.as_slice() {
+        types.push(pair.1.copied()?)?;
     }
     Ok(types)
 }
