@@ -5,27 +5,21 @@ use Rattle.std.proofs.lemmas.List.{length-map}
 use Rattle.std.proofs.lemmas.Option.{slice_get_past}
 use Rattle.std.specs.Prelude.{slice_index_or}
 use Rattle.std.specs.List.{enumerate_from}
-use Rattle.std.specs.Option.{IfSome, IsSomeAnd, option_map}
+use Rattle.std.specs.Option.{IsSomeAnd, option_map}
 use Rattle.pj_tree.specs.Tree.{IsSyntaxTree, Tree, children_of, is_parent, kind_of, node_numbered, parent_of, parents}
-use Rattle.pj_tree.specs.Children.{first_child, first_in, second_child, second_in}
-use Rattle.pj_tree.specs.Words.{last_of, words_of}
 use Rattle.pj_tree.specs.declared.kind.Kind.{Kind}
 use Rattle.pj_tree.specs.declared.kind.Kind.TheVariants as k
 use Rattle.pj_tree.specs.declared.node.Node.{Node}
-use Rattle.pj_names.specs.JavaType.{JavaType}
-use Rattle.pj_names.specs.Asking.{Asking, Return, bind}
+use Rattle.pj_names.specs.JavaType.{JavaType, Unknown}
+use Rattle.pj_names.specs.Asking.{Asking, Return, bind, each}
 use Rattle.pj_operators.specs.declared.operators.Infix.{Infix}
 use Rattle.pj_operators.specs.declared.operators.Infix.TheVariants as i
 use Rattle.pj_operators.specs.declared.operators.Unary.{Unary}
 use Rattle.pj_operators.specs.declared.operators.Unary.TheVariants as u
-use Rattle.pj_operators.specs.Conditional.{conditional_type}
-use Rattle.pj_types.specs.Conversions.{promoted}
-use Rattle.pj_operators.specs.Operators.{infix_of, infix_type, unary_of, unary_type}
-use Rattle.pj_receivers.specs.Elements.{element_of}
-use Rattle.pj_receivers.specs.Fields.{field_of}
-use Rattle.pj_exprtypes.specs.Declarations.{type_or_none}
-use Rattle.pj_exprtypes.specs.Expressions.{infix_by, third_child, third_in, unary_by}
-use Rattle.pj_exprtypes.specs.TypeOf.{deep, earlier, type_by, type_of, typed}
+use Rattle.pj_operators.specs.Operators.{infix_of, unary_of}
+use Rattle.pj_exprtypes.specs.Operands.{but_first, first_only, infix_operands, operands, operands_by, unary_operands}
+use Rattle.pj_exprtypes.specs.Typing.{final_type}
+use Rattle.pj_exprtypes.specs.TypeOf.{deep, earlier, made_type, type_of, type_with, typed, whole_type}
 use Rattle.pj_exprtypes.proofs.Steps.{typed-some}
 
 -- ---- children
@@ -60,80 +54,75 @@ children-after : (t : Tree) → IsSyntaxTree t → (n : Node) → AreAfter n.0 (
 children-after t tree n =
     enumerated n 0 (parents t.nodes) (λ j inside is. omega (arith, after-parent t tree n j (omega (arith, inside, length-map t.nodes (λ x. x.parent))) is))
 
-abbrev IsAfter : ℕ → Option Node → Type 0
-IsAfter n o = IfSome o (λ (m : Node). n < m.0)
+-- ---- the operands are among them
 
-first-after : (n : ℕ) (ms : List Node) → AreAfter n ms → IsAfter n (first_in ms)
-first-after n [] after = tt
-first-after n (m ∷ ms) after = after.0
+first-only-after : (n : ℕ) (ms : List Node) → AreAfter n ms → AreAfter n (first_only ms)
+first-only-after n [] after = tt
+first-only-after n (m ∷ ms) after = (after.0, tt)
 
-second-after : (n : ℕ) (ms : List Node) → AreAfter n ms → IsAfter n (second_in ms)
-second-after n [] after = tt
-second-after n (m ∷ ms) after = first-after n ms after.1
+but-first-after : (n : ℕ) (ms : List Node) → AreAfter n ms → AreAfter n (but_first ms)
+but-first-after n [] after = tt
+but-first-after n (m ∷ ms) after = after.1
 
-third-after : (n : ℕ) (ms : List Node) → AreAfter n ms → IsAfter n (third_in ms)
-third-after n [] after = tt
-third-after n (m ∷ ms) after = second-after n ms after.1
+infix-after : (n : ℕ) (o : Option Infix) (ms : List Node) → AreAfter n ms → AreAfter n (infix_operands o ms)
+infix-after n None ms after = tt
+infix-after n (Some i.Test) ms after = tt
+infix-after n (Some i.Shift) ms after = first-only-after n ms after
+infix-after n (Some i.Sum) ms after = after
+infix-after n (Some i.Bitwise) ms after = after
+infix-after n (Some i.Arithmetic) ms after = after
+
+unary-after : (n : ℕ) (o : Option Unary) (ms : List Node) → AreAfter n ms → AreAfter n (unary_operands o ms)
+unary-after n None ms after = tt
+unary-after n (Some u.Not) ms after = tt
+unary-after n (Some u.Step) ms after = first-only-after n ms after
+unary-after n (Some u.Sign) ms after = first-only-after n ms after
+
+operands-after : (t : Tree) → IsSyntaxTree t → (n : Node) (kind : Option Kind) → AreAfter n.0 (operands_by t n kind)
+operands-after t tree n (Some k.InfixExpression) = infix-after n.0 (infix_of t n) (children_of t n) (children-after t tree n)
+operands-after t tree n (Some k.UnaryExpression) = unary-after n.0 (unary_of t n) (children_of t n) (children-after t tree n)
+operands-after t tree n (Some k.ConditionalExpression) = but-first-after n.0 (children_of t n) (children-after t tree n)
+operands-after t tree n (Some k.FieldAccess) = first-only-after n.0 (children_of t n) (children-after t tree n)
+operands-after t tree n (Some k.AssignmentExpression) = first-only-after n.0 (children_of t n) (children-after t tree n)
+operands-after t tree n (Some k.ArrayAccess) = first-only-after n.0 (children_of t n) (children-after t tree n)
+operands-after t tree n other = tt
 
 -- ---- types by those of the nodes below
 
 module _ (t : Tree) (tree : IsSyntaxTree t) (var f g : Node → Asking JavaType) (n : Node) (alike : (m : Node) → n.0 < m.0 → f m ≡ g m) where
-  none-or-alike : (o : Option Node) → IsAfter n.0 o → type_or_none t f o ≡ type_or_none t g o
-  none-or-alike None after = refl
-  none-or-alike (Some m) after = alike m after
+  each-alike : (ms : List Node) → AreAfter n.0 ms → each f ms ≡ each g ms
+  each-alike [] after = refl
+  each-alike (m ∷ ms) after = λ j. bind (alike m after.0 j) (λ value. bind (each-alike ms after.1 j) (λ values. Return (value ∷ values)))
 
-  first-alike : type_or_none t f (first_child t n) ≡ type_or_none t g (first_child t n)
-  first-alike = none-or-alike (first_child t n) (first-after n.0 (children_of t n) (children-after t tree n))
-
-  second-alike : type_or_none t f (second_child t n) ≡ type_or_none t g (second_child t n)
-  second-alike = none-or-alike (second_child t n) (second-after n.0 (children_of t n) (children-after t tree n))
-
-  third-alike : type_or_none t f (third_child t n) ≡ type_or_none t g (third_child t n)
-  third-alike = none-or-alike (third_child t n) (third-after n.0 (children_of t n) (children-after t tree n))
-
-  infix-alike : (o : Option Infix) → infix_by t f n o ≡ infix_by t g n o
-  infix-alike None = refl
-  infix-alike (Some i.Test) = refl
-  infix-alike (Some i.Shift) = ap (λ m. bind m (λ left. Return (promoted left))) first-alike
-  infix-alike (Some i.Sum) = λ j. bind (first-alike j) (λ left. bind (second-alike j) (λ right. Return (infix_type i.Sum left right)))
-  infix-alike (Some i.Bitwise) = λ j. bind (first-alike j) (λ left. bind (second-alike j) (λ right. Return (infix_type i.Bitwise left right)))
-  infix-alike (Some i.Arithmetic) = λ j. bind (first-alike j) (λ left. bind (second-alike j) (λ right. Return (infix_type i.Arithmetic left right)))
-
-  unary-alike : (o : Option Unary) → unary_by t f n o ≡ unary_by t g n o
-  unary-alike None = refl
-  unary-alike (Some u.Not) = refl
-  unary-alike (Some u.Step) = ap (λ m. bind m (λ operand. Return (unary_type u.Step operand))) first-alike
-  unary-alike (Some u.Sign) = ap (λ m. bind m (λ operand. Return (unary_type u.Sign operand))) first-alike
-
-  types-alike : (kind : Option Kind) → type_by t var f n kind ≡ type_by t var g n kind
-  types-alike (Some k.FieldAccess) = ap (λ m. bind m (λ receiver. field_of t (last_of [] (words_of t n)) receiver)) first-alike
-  types-alike (Some k.InfixExpression) = infix-alike (infix_of t n)
-  types-alike (Some k.UnaryExpression) = unary-alike (unary_of t n)
-  types-alike (Some k.AssignmentExpression) = first-alike
-  types-alike (Some k.ConditionalExpression) = λ j. bind (second-alike j) (λ second. bind (third-alike j) (λ third. conditional_type second third))
-  types-alike (Some k.ArrayAccess) = ap (λ m. bind m (λ array. Return (element_of array))) first-alike
-  types-alike other = refl
+  whole-alike : whole_type t var f n ≡ whole_type t var g n
+  whole-alike = ap (λ (m : Asking (List JavaType)). bind m (λ types. made_type t var n types)) (each-alike (operands t n) (operands-after t tree n (kind_of t n)))
 
 -- ---- counting further changes nothing
 
 no-kind : (t : Tree) (n : Node) → length t.nodes ≤ n.0 → kind_of t n ≡ None
 no-kind t n past = ap (option_map (λ x. x.kind)) (slice_get_past t.nodes n.0 past)
 
+-- past the last node there is no type
+whole-by : Tree → (Node → Asking JavaType) → (Node → Asking JavaType) → Node → Option Kind → Asking JavaType
+whole-by t var f n kind = bind (each f (operands_by t n kind)) (λ types. bind (type_with t n kind types) (λ found. final_type var found))
+
+whole-none : (t : Tree) (var f : Node → Asking JavaType) (n : Node) → length t.nodes ≤ n.0 → whole_type t var f n ≡ Return Unknown
+whole-none t var f n past = ap (whole-by t var f n) (no-kind t n past)
+
 typed-more : (t : Tree) → IsSyntaxTree t → (var : Node → Asking JavaType) (left : ℕ) (n : Node) → length t.nodes ≤ n.0 + left → typed t var left n ≡ typed t var (suc left) n
 unfolding typed
-typed-more t tree var zero n past = sym (ap (type_by t var (typed t var zero) n) (no-kind t n (omega (arith, past))))
+typed-more t tree var zero n past = sym (whole-none t var (typed t var zero) n (omega (arith, past)))
 typed-more t tree var (suc left) n past =
-    types-alike t tree var (typed t var left) (typed t var (suc left)) n (λ m after. typed-more t tree var left m (omega (arith, past, after))) (kind_of t n)
+    whole-alike t tree var (typed t var left) (typed t var (suc left)) n (λ m after. typed-more t tree var left m (omega (arith, past, after)))
 
-pub type-goes-on : (t : Tree) → IsSyntaxTree t → (n : Node) → type_of t n ≡ type_by t (earlier t (length t.nodes)) (type_of t) n (kind_of t n)
+pub type-goes-on : (t : Tree) → IsSyntaxTree t → (n : Node) → type_of t n ≡ whole_type t (earlier t (length t.nodes)) (type_of t) n
 type-goes-on t tree n =
     let var = earlier t (length t.nodes) in
     let less : deep t - 1 ≡ length t.nodes = omega arith in
     let more : suc (length t.nodes) ≡ deep t = omega arith in
     typed-some t var (deep t) n (omega arith)
-    ∙ types-alike t tree var (typed t var (deep t - 1)) (typed t var (deep t)) n
+    ∙ whole-alike t tree var (typed t var (deep t - 1)) (typed t var (deep t)) n
     (λ m after. ap (λ left. typed t var left m) less ∙ typed-more t tree var (length t.nodes) m (omega arith) ∙ ap (λ left. typed t var left m) more)
-    (kind_of t n)
 
 pub types-go-deeper : (t : Tree) → IsSyntaxTree t → (var : Node → Asking JavaType) (more : ℕ) (n : Node) → typed t var (deep t + more) n ≡ typed t var (deep t) n
 types-go-deeper t tree var zero n = let none : deep t + 0 ≡ deep t = omega arith in ap (λ left. typed t var left n) none

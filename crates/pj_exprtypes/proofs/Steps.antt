@@ -2,14 +2,14 @@
 use Rattle.std.proofs.Common.{◌≡◌, ℕ, ◌<◌, ◌≤◌, ◌-◌, ◌+◌, ◌==◌, zero, suc, ap, arith, Bool, true, false, refl, sym, ◌∙◌}
 use Rattle.std.proofs.lemmas.Bool.{eq-eqb, eqb-false, eqb-true, ne_eqb}
 use Rattle.std.specs.Prelude.{if◌then◌else◌}
-use Rattle.pj_tree.specs.Tree.{Tree, kind_of}
+use Rattle.pj_tree.specs.Tree.{Tree}
 use Rattle.pj_tree.specs.declared.node.Node.{Node}
 use Rattle.pj_names.specs.JavaType.{JavaType, Unknown}
 use Rattle.pj_names.specs.Asking.{Asking, Return}
 use Rattle.pj_names.proofs.AskingLaws.{within-self, within-trans, within-insert, within-names, within-after, asked_after-bind}
 use Rattle.pj_names.proofs.MeaningLaws.{value_of-bind}
 use Rattle.pj_exprtypes.specs.Declarations.{var_type}
-use Rattle.pj_exprtypes.specs.TypeOf.{deep, earlier, type_by, typed, var_of}
+use Rattle.pj_exprtypes.specs.TypeOf.{deep, earlier, typed, var_of, whole_type}
 
 -- ---- nodes within one another
 
@@ -17,7 +17,7 @@ pub typed-none : (t : Tree) (var : Node → Asking JavaType) (left : ℕ) (n : N
 unfolding typed
 typed-none t var left n none = ap (λ k. typed t var k n) none
 
-pub typed-some : (t : Tree) (var : Node → Asking JavaType) (left : ℕ) (n : Node) → 0 < left → typed t var left n ≡ type_by t var (typed t var (left - 1)) n (kind_of t n)
+pub typed-some : (t : Tree) (var : Node → Asking JavaType) (left : ℕ) (n : Node) → 0 < left → typed t var left n ≡ whole_type t var (typed t var (left - 1)) n
 unfolding typed
 typed-some t var left n some = let more : left ≡ suc (left - 1) = omega (arith, some) in ap (λ k. typed t var k n) more
 
