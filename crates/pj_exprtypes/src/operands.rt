@@ -100,11 +100,10 @@ fn unary_operands(
     }
 }
 
-/// The operands of a node: the nodes whose types its own type is made of, in the order in which they are typed (JLS 15.7).
-pub fn operands(alloc: Global, tree: &SyntaxTree<'_>, n: Node) -> Result<Nodes, NoMemory>
+/// The operands of a node by its kind.
+fn listed_operands(alloc: Global, tree: &SyntaxTree<'_>, n: Node) -> Result<Nodes, NoMemory>
     requires inside { n.0 < length tree.now.nodes }
     ensures value { IfOk result (λ nodes. nodes ≡ operands tree.now n) }
-    ensures inside { IfOk result (λ nodes. All (λ (m : Node). m.0 < length tree.now.nodes) nodes) }
 {
     match tree.kind(n) {
         Kind::InfixExpression => infix_operands(alloc, tree, n, infix_of(tree, n)),
@@ -115,6 +114,16 @@ pub fn operands(alloc: Global, tree: &SyntaxTree<'_>, n: Node) -> Result<Nodes, 
         }
         _ => Ok(Nodes::new(alloc)),
     }
+}
+
+/// The operands of a node: the nodes whose types its own type is made of, in the order in which they are typed (JLS 15.7).
+pub fn operands(alloc: Global, tree: &SyntaxTree<'_>, n: Node) -> Result<Nodes, NoMemory>
+    requires inside { n.0 < length tree.now.nodes }
+    ensures value { IfOk result (λ nodes. nodes ≡ operands tree.now n) }
+    ensures inside { IfOk result (λ nodes. All (λ (m : Node). m.0 < length tree.now.nodes) nodes) }
+{
+    let nodes = listed_operands(alloc, tree, n)?;
+    Ok(nodes)
 }
 
 /// What the type of a variable is made of that is declared by `var`: what its enhanced `for` goes through, and else its initializer.
@@ -135,5 +144,6 @@ pub fn var_operands(alloc: Global, tree: &SyntaxTree<'_>, id: Node) -> Result<No
     ensures value { IfOk result (λ nodes. nodes ≡ var_operands tree.now id) }
     ensures inside { IfOk result (λ nodes. All (λ (m : Node). m.0 < length tree.now.nodes) nodes) }
 {
-    if_some(alloc, source_of(tree, id))
+    let nodes = if_some(alloc, source_of(tree, id))?;
+    Ok(nodes)
 }
