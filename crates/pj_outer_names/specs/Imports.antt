@@ -29,12 +29,12 @@ joined (word ∷ words) = (if is_sign word then [] else word) ++ joined words
 abbrev pub imported_text : Tree → Node → List ℕ
 imported_text t import = joined (words_of t import)
 
-abbrev pub is_on_demand : Tree → Node → Bool
-is_on_demand t n = is_kind t k.ImportDeclaration n && has (codes "*") (words_of t n)
+abbrev pub is_import_on_demand : Tree → Node → Bool
+is_import_on_demand t n = is_kind t k.ImportDeclaration n && has (codes "*") (words_of t n)
 
 -- the imports on demand of both sorts, in the order of the text (JLS 7.5.2, 7.5.4)
 abbrev pub imports_on_demand : Tree → List Node
-imports_on_demand t = filter (is_on_demand t) (children_of t (record { 0 = 0 }))
+imports_on_demand t = filter (is_import_on_demand t) (children_of t (record { 0 = 0 }))
 
 -- the name that a class of the simple name has in the package of the file
 abbrev pub name_in_package : Tree → List ℕ → List ℕ

@@ -16,8 +16,8 @@ fn is_found_within(found: Option<Declared>, class: Node) -> bool
     }
 }
 
-/// The innermost class around the place, behind which the further ones around that class stand.
-fn class_around(tree: &SyntaxTree<'_>, place: Node) -> Option<Node>
+/// The innermost class around the place: in its body or record header the place is. Behind it the further ones around that class stand.
+fn innermost_class(tree: &SyntaxTree<'_>, place: Node) -> Option<Node>
     requires inside { place.0 < length tree.now.nodes }
     ensures value { MatchOption result (classes_around tree.now place ≡ []) (λ class. classes_around tree.now place ≡ class ∷ classes_around tree.now class) }
     ensures before { IfSome result (λ class. class.0 < place.0) }
@@ -33,7 +33,7 @@ pub fn next_searched(tree: &SyntaxTree<'_>, found: Option<Declared>, place: Node
     ensures value { MatchOption result (further_in found (classes_around tree.now place) ≡ []) (λ class. further_in found (classes_around tree.now place) ≡ class ∷ further_in found (classes_around tree.now class)) }
     ensures before { IfSome result (λ class. class.0 < place.0) }
 {
-    let class = class_around(tree, place)?;
+    let class = innermost_class(tree, place)?;
     if is_found_within(found, class) {
         return None;
     }

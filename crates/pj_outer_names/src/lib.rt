@@ -17,5 +17,5 @@ pub use file::File;
 pub use imports::{imported_text, outside};
 pub use laws::candidates_end;
 pub use member::member_in;
-pub use on_demand::is_on_demand;
+pub use on_demand::is_import_on_demand;
 pub use supertypes::{outside_supertypes, with_classes};

@@ -10,7 +10,7 @@ use Rattle.pj_declared.specs.declared.imports.ImportSort.TheVariants.{Static}
 use Rattle.pj_declared.specs.Imports.{imported_name, is_single}
 use Rattle.pj_written.specs.Names.{around_last_dot}
 use Rattle.pj_written.specs.Words.{same_text}
-use Rattle.pj_outer_names.specs.Imports.{imported_text, is_on_demand}
+use Rattle.pj_outer_names.specs.Imports.{imported_text, is_import_on_demand}
 
 -- the class whose static members are imported: what stands before the last dot, behind which the name of one of them stands, or `*`
 abbrev pub imported_class : Tree → Node → List ℕ
@@ -25,7 +25,7 @@ imports_name t name n = is_kind t k.ImportDeclaration n && (is_single t Static n
 
 -- whether a node imports all static members of a class
 abbrev pub imports_all : Tree → Node → Bool
-imports_all t n = is_on_demand t n && has (codes "static") (words_of t n)
+imports_all t n = is_import_on_demand t n && has (codes "static") (words_of t n)
 
 -- Those of the name go before those on demand (JLS 6.4.1), each in the order of the text.
 abbrev pub static_imports : Tree → List ℕ → List Node

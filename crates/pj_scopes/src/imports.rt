@@ -8,7 +8,7 @@ ghost use Rattle.pj_scopes.specs.StaticImports.{imported_class, imports_all, imp
 
 use pj_base::{NoMemory, Text};
 use pj_declared::{ImportSort, imported_name, is_single};
-use pj_outer_names::{imported_text, is_on_demand};
+use pj_outer_names::{imported_text, is_import_on_demand};
 use pj_tree::{Children, Kind, Node, SyntaxTree, has_word, is_kind};
 use pj_written::{Nodes, around_last_dot};
 use std::alloc::Global;
@@ -51,7 +51,7 @@ fn imports_all(tree: &SyntaxTree<'_>, n: Node) -> bool
     requires inside { n.0 < length tree.now.nodes }
     ensures { result ≡ imports_all tree.now n }
 {
-    is_on_demand(tree, n) && has_word(tree, n, "static")
+    is_import_on_demand(tree, n) && has_word(tree, n, "static")
 }
 
 /// Puts the imports of the name at the end.

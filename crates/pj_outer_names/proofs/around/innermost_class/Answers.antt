@@ -1,6 +1,6 @@
 use Rattle.std.proofs.Common.{subst, sym}
 use Rattle.pj_outer_names.proofs.Enclosing.{IsNext, class-next}
-use Rattle.pj_outer_names.proofs.around.class_around.Goals as goal
+use Rattle.pj_outer_names.proofs.around.innermost_class.Goals as goal
 
 pub returns-clause-value : goal.returns-clause-value
 returns-clause-value c =
