@@ -6,9 +6,11 @@ ghost use Rattle.pj_names.specs.Told.{Asks, seen};
 ghost use Rattle.pj_scopes.specs.Seen.{IsInside, seen_variable};
 ghost use Rattle.pj_tree.specs.Tree.{kind_of};
 ghost use Rattle.pj_exprtypes.specs.Declarations as declarations;
+ghost use Rattle.pj_exprtypes.specs.Expressions.{expression_with};
 ghost use Rattle.pj_exprtypes.specs.Names as names;
 ghost use Rattle.pj_exprtypes.specs.Seen.{IsVarInside, seen_typing};
 ghost use Rattle.pj_exprtypes.specs.TypeOf as types;
+ghost use Rattle.pj_exprtypes.specs.Typing.{known};
 
 use crate::expressions::{expression_with, only};
 use crate::type_or_var::TypeOrVar;
@@ -158,6 +160,23 @@ fn access_type<O: Oracle>(
     meant_type(alloc, file, oracle, n, meant)
 }
 
+/// The type of a node that is no name and no declaration of variables.
+#[tactic(auto, using(pj_names::proofs::AskingLaws::asking_steps))]
+fn known_type<O: Oracle>(
+    alloc: Global,
+    file: &File<'_>,
+    oracle: &mut O,
+    n: Node,
+    operand_types: TyList,
+) -> Result<TypeOrVar, AskFault>
+    requires inside { n.0 < length file.now.nodes }
+    ensures inside { IfOk result (IsVarInside (length file.now.nodes)) }
+    ensures asks { Asks (known (expression_with file.now n (kind_of file.now n) (type_list operand_types))) (O.tells oracle.old) (O.tells oracle.new) (seen seen_typing result) }
+{
+    let ty = expression_with(alloc, file, oracle, n, operand_types)?;
+    Ok(TypeOrVar::Type(ty))
+}
+
 /// What tells the type of a node, by its kind and the types of its operands.
 #[tactic(auto, using(pj_names::proofs::AskingLaws::asking_steps))]
 pub fn type_with<O: Oracle>(
@@ -183,10 +202,7 @@ pub fn type_with<O: Oracle>(
         Kind::FieldDeclaration | Kind::LocalVariableDeclaration => {
             declaration_type(alloc, file, oracle, n)
         }
-        _ => {
-            let ty = expression_with(alloc, file, oracle, n, operand_types)?;
-            Ok(TypeOrVar::Type(ty))
-        }
+        _ => known_type(alloc, file, oracle, n, operand_types),
     }
 }
 

@@ -8,4 +8,4 @@ use Rattle.pj_exprtypes.proofs.operands.operands.Goals as goal
 pub returns-clause-inside : goal.returns-clause-inside
 returns-clause-inside c =
     let t = c.args.tree.now in
-    inside_by (length t.nodes) _ (operands t c.args.n) c.in_ok-nodes.ensures (operands_inside t c.args.n (kind_of t c.args.n))
+    inside_by (length t.nodes) _ (operands t c.args.n) c.in_ok-nodes.ensures.value (operands_inside t c.args.n (kind_of t c.args.n))
