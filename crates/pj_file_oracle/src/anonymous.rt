@@ -91,9 +91,10 @@ fn interface_named<O: Oracle>(
     }
 }
 
-/// Whether a type is an interface.
+/// Whether a type is an interface (JLS 9.1): a class of the file by its declaration, and any other one by its answer, for which it is asked. No other type is one, nor is
+/// `java.lang.Object` or a member class of it, which are not asked.
 #[tactic(auto, using(pj_names::proofs::AskingLaws::asking_steps))]
-fn is_interface_type<O: Oracle>(
+pub fn is_interface_type<O: Oracle>(
     alloc: Global,
     file: &File<'_>,
     oracle: &mut O,
@@ -178,8 +179,8 @@ fn created_supertypes<O: Oracle>(
     }
 }
 
-/// The enum around the body of one of its constants.
-fn enum_type(alloc: Global, file: &File<'_>, class: Node) -> Result<Ty, NoMemory>
+/// The enum around the body of one of its constants, without arguments (JLS 8.9.1).
+pub fn enum_type(alloc: Global, file: &File<'_>, class: Node) -> Result<Ty, NoMemory>
     requires inside { class.0 < length file.now.nodes }
     ensures { IfOk result (λ ty. java_type ty ≡ enum_type file.now class) }
 {

@@ -18,6 +18,9 @@ mod nodes;
 mod supertypes;
 mod types;
 
+pub use anonymous::{enum_type, is_interface_type};
 pub use file_oracle::{FileOracle, resolve_type};
 pub use held::{Held, HeldAnswer, HeldAnswers};
 pub use laws::sources_agree;
+pub use named::implied_superclass;
+pub use supertypes::supertype;

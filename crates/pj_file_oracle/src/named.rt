@@ -78,8 +78,8 @@ fn enum_superclass(alloc: Global, file: &File<'_>, class: Node) -> Result<Ty, No
     with_argument(alloc, "java.lang.Enum", own)
 }
 
-/// The superclass of a class that writes none.
-fn implied_superclass(alloc: Global, file: &File<'_>, class: Node) -> Result<Ty, NoMemory>
+/// The superclass of a class that writes none (JLS 8.1.4, 8.9, 8.10): `java.lang.Enum` of the enum, `java.lang.Record`, and else `java.lang.Object`. Nothing is asked.
+pub fn implied_superclass(alloc: Global, file: &File<'_>, class: Node) -> Result<Ty, NoMemory>
     requires inside { class.0 < length file.now.nodes }
     ensures { IfOk result (λ ty. java_type ty ≡ implied_superclass file.now class) }
 {

@@ -64,7 +64,7 @@ fn as_supertype(ty: Ty) -> Ty
     }
 }
 
-/// The supertype that is written in a node.
+/// The supertype that is written in a node (JLS 8.1.4, 8.1.5), where the headers of some classes are being resolved: one that is no class is not known.
 #[tactic(auto, using(pj_names::proofs::AskingLaws::asking_steps), unfolding(crate::specs::Supertypes::supertype))]
 pub fn supertype<O: Oracle>(
     alloc: Global,

@@ -3,11 +3,13 @@
 #![tactic(auto)]
 
 mod classes;
+mod laws;
 mod leaves;
 mod superclass;
 mod variables;
 mod written;
 
+pub use laws::sources_agree;
 pub use leaves::leaf_type;
 pub use variables::{
     declared_by, first_name, initializer_of, is_in_own_initializer, is_var, is_var_name,

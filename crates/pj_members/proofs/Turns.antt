@@ -16,6 +16,9 @@ use Rattle.pj_types.specs.declared.members.Method.{Method}
 use Rattle.pj_types.specs.Members.{FoundMethod, all_methods, method_view}
 use Rattle.pj_members.specs.InClass.{Bound, is_bound, method_from, methods_from, with_method, without}
 use Rattle.pj_names.specs.Asking.{bind}
+use Rattle.pj_members.specs.declared.supertypes.Supertype.{Supertype}
+use Rattle.pj_members.specs.Receivers.{given_in, methods_on_list, unhidden_as}
+use Rattle.pj_members.specs.SupertypeWalks.{all_supertypes, supertype_view}
 use Rattle.pj_members.specs.Methods.{erasure_text, found_in, key_of, methods_in, parameters_text, unhidden}
 
 left_at : {X : Type 0} (xs : List X) (i : ℕ) (x : X) → i < length xs → x ≡ get_or xs i x → drop i xs ≡ x ∷ drop (i + 1) xs
@@ -148,3 +151,44 @@ pub ruleset hiding_turns = (hidden-turn, shown-turn)
 pub found-turn : (class : Name) (name : List ℕ) (found : List FoundMethod) (types : List Ty) (i : ℕ) (ty : Ty) → i < length types → ty ≡ get_or types i ty
     → found_in class name found (type_list (drop i types)) ≡ bind (methods_in class name (java_type ty)) (λ more. found_in class name (found ++ more) (type_list (drop (i + 1) types)))
 found-turn class name found types i ty below is = ap (λ (l : List Ty). found_in class name found (type_list l)) (left_at types i ty below is)
+
+-- The methods of one class more.
+pub given-turn : (name : List ℕ) (found : List FoundMethod) (classes : List Supertype) (i : ℕ) (class : Supertype) → i < length classes → class ≡ get_or classes i class
+    → given_in name found (all_supertypes (drop i classes)) ≡ bind (methods_on_list name (supertype_view class)) (λ more. given_in name (found ++ more) (all_supertypes (drop (i + 1) classes)))
+given-turn name found classes i class below is = ap (λ (l : List Supertype). given_in name found (all_supertypes l)) (left_at classes i class below is)
+
+-- Methods of a receiver, hidden as they are declared.
+
+hides-as : (keys : NameSet) (declared given : FoundMethod) (others rest : List FoundMethod) (b : Bool) → set.contains keys (key_of declared) ≡ b
+    → unhidden_as keys (declared ∷ others) (given ∷ rest) ≡ (if b then unhidden_as keys others rest else given ∷ unhidden_as (set.insert keys (key_of declared)) others rest)
+hides-as keys declared given others rest b is = ap (λ b. if b then unhidden_as keys others rest else given ∷ unhidden_as (set.insert keys (key_of declared)) others rest) is
+
+-- one that is hidden
+pub hidden-as : (keys more : NameSet) (left : List FoundMethod) (declared given : FoundMethod) (others rest : List FoundMethod) (key : List ℕ) (added : Bool)
+    → key ≡ key_of declared → added ≡ not (set.contains keys key) → added ≡ false → more ≡ set.insert keys key
+    → left ++ unhidden_as more others rest ≡ left ++ unhidden_as keys (declared ∷ others) (given ∷ rest)
+hidden-as keys more left declared given others rest key added is was none grown =
+    let there : set.contains keys key ≡ true = at (set.contains keys key) (sym was ∙ none) in
+    ap (λ k. left ++ unhidden_as k others rest) (grown ∙ sym (insert-there keys key (sym there)))
+    ∙ sym (ap (λ l. left ++ l) (hides-as keys declared given others rest true (ap (λ k. set.contains keys k) (sym is) ∙ there)))
+  where
+    at : (b : Bool) → not b ≡ false → b ≡ true
+    at true h = refl
+    at false h = sym h
+
+-- one that is not
+pub shown-as : (keys more : NameSet) (left : List Method) (declared : FoundMethod) (method : Method) (others rest : List FoundMethod) (key : List ℕ) (added : Bool)
+    → key ≡ key_of declared → added ≡ not (set.contains keys key) → added ≡ true → more ≡ set.insert keys key
+    → all_methods (left ++ method ∷ []) ++ unhidden_as more others rest ≡ all_methods left ++ unhidden_as keys (declared ∷ others) (method_view method ∷ rest)
+shown-as keys more left declared method others rest key added is was one grown =
+    let new : set.contains keys key ≡ false = at (set.contains keys key) (sym was ∙ one) in
+    ap (λ l. l ++ unhidden_as more others rest) (map-append method_view left (method ∷ []))
+    ∙ push (all_methods left) (method_view method) (unhidden_as more others rest)
+    ∙ ap (λ k. all_methods left ++ method_view method ∷ unhidden_as k others rest) (grown ∙ ap (λ k. set.insert keys k) is)
+    ∙ sym (ap (λ l. all_methods left ++ l) (hides-as keys declared (method_view method) others rest false (ap (λ k. set.contains keys k) (sym is) ∙ new)))
+  where
+    at : (b : Bool) → not b ≡ true → b ≡ false
+    at true h = sym h
+    at false h = refl
+
+pub ruleset receiver_turns = (hidden-as, shown-as)

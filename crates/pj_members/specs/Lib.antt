@@ -4,3 +4,5 @@ pub mod Fields
 pub mod Methods
 pub mod Receivers
 pub mod Seen
+-- for private clauses
+pub mod SupertypeWalks

@@ -75,7 +75,7 @@ fn field_of_class(
 }
 
 /// The field of a class, from what is known of it.
-fn field_of_known(
+pub fn field_of_known(
     alloc: Global,
     owner: &ClassName,
     is_own: bool,

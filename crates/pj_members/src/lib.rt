@@ -6,9 +6,13 @@ mod fields;
 mod keys;
 mod laws;
 mod methods;
+mod receiver_methods;
 mod receivers;
+mod supertype_walk;
+mod supertypes;
 
 pub use fields::find_field;
 pub use laws::sources_agree;
 pub use methods::methods_named;
-pub use receivers::{in_receiver, method_of_receiver, methods_of_receiver, receiver_bindings};
+pub use receiver_methods::methods_of_receiver;
+pub use receivers::{field_of_receiver, supertype_of_receiver};

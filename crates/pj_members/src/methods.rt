@@ -95,7 +95,7 @@ fn methods_of_class(
 }
 
 /// The methods of a class, from what is known of it.
-fn methods_of_known(
+pub fn methods_of_known(
     alloc: Global,
     owner: &ClassName,
     is_own: bool,
@@ -153,7 +153,7 @@ fn methods_in<O: Oracle>(
 
 /// The methods of some types, one after the other.
 #[tactic(auto, using(pj_names::proofs::AskingLaws::asking_loops))]
-fn found_in<O: Oracle>(
+pub fn found_in<O: Oracle>(
     alloc: Global,
     oracle: &mut O,
     class: &ClassName,
@@ -181,7 +181,7 @@ fn one_class(alloc: Global, class: &ClassName) -> Result<TyList, NoMemory>
 
 /// The types that methods of a name are looked for in.
 #[tactic(auto, using(pj_names::proofs::AskingLaws::asking_steps))]
-fn searched<O: Oracle>(
+pub fn searched<O: Oracle>(
     alloc: Global,
     oracle: &mut O,
     class: &ClassName,
@@ -241,7 +241,7 @@ fn push_class(text: &mut Text, name: &ClassName) -> Result<(), NoMemory>
 
 /// The erased parameters of a method, as a descriptor spells them.
 #[tactic(auto, using(crate::proofs::Turns::text_turns))]
-fn key_of(alloc: Global, method: &Method) -> Result<Text, NoMemory>
+pub fn key_of(alloc: Global, method: &Method) -> Result<Text, NoMemory>
     ensures { IfOk result (λ key. key ≡ key_of (method_view method.now)) }
 {
     let mut key = Text::new(alloc);

@@ -33,7 +33,8 @@ told_type second third =
     else if are_numeric second third then Some (promoted_both second third)
     else or_else (or_else (if_null second third) (if_null third second)) (if_unknown second third)
 
--- ---- the upper one of two types, where one is under the other; whether the second operand's is under the third's is tested first
+-- ---- The upper one of two types, where one is under the other. Whether the second operand's is under the third's is tested first. Subtyping is by erasure, so two
+-- types of one class are under one another: of `G<D>` and `G<E>` it is the third operand's. (JLS 15.25.3: their least upper bound, `G` of a wildcard.)
 
 abbrev pub second_or_unknown : JavaType → Bool → JavaType
 second_or_unknown second is_upper = if is_upper then second else Unknown

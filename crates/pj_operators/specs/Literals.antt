@@ -40,7 +40,7 @@ ends_in test [] = false
 ends_in test (c ∷ []) = test c
 ends_in test (c ∷ d ∷ cs) = ends_in test (d ∷ cs)
 
--- A floating point number is a `float` with a suffix f or F, and else a `double`; an integer is a `long` with a suffix l or L, and else an `int`.
+-- The type of a text that is a numeric literal; of other texts nothing is meant. A floating point number is a `float` with a suffix f or F, and else a `double`; an integer is a `long` with a suffix l or L, and else an `int`.
 abbrev pub number_type : List ℕ → PrimitiveType
 number_type text =
     if is_floating text

@@ -6,6 +6,8 @@ use Rattle.pj_base.specs.WordTable.{value_in}
 use Rattle.pj_tree.specs.Tree.{Tree}
 use Rattle.pj_tree.specs.declared.node.Node.{Node}
 use Rattle.pj_tree.specs.Words.{words_of, last_of}
+use Rattle.pj_tree.specs.Kinds.{is_kind}
+use Rattle.pj_tree.specs.declared.kind.Kind.TheVariants as k
 use Rattle.pj_names.specs.declared.ty.PrimitiveType.TheVariants as p
 use Rattle.pj_names.specs.JavaType.{JavaType, Primitive, Void, Null, Class, Array, Variable, Unknown}
 use Rattle.pj_operators.specs.declared.operators.Infix.{Infix}
@@ -36,24 +38,33 @@ infix_words =
     ∷ (codes "-", i.Arithmetic) ∷ (codes "*", i.Arithmetic) ∷ (codes "/", i.Arithmetic) ∷ (codes "%", i.Arithmetic)
     ∷ (codes "&", i.Bitwise) ∷ (codes "|", i.Bitwise) ∷ (codes "^", i.Bitwise) ∷ []
 
--- several tokens are `>=`, and else `>>` or `>>>`
+abbrev pub is_word : List ℕ → List ℕ → Bool
+is_word word last = pointwise nat_eq last word
+
+-- By how many tokens it has and by the last of them: those of several tokens are `>=`, `>>` and `>>>`, and no others.
 abbrev pub infix_by : ℕ → List ℕ → Option Infix
 infix_by count last =
-    if count == 0 then None
-    else if count == 1 then value_in infix_words last
-    else if pointwise nat_eq last (codes "=") then Some i.Test
-    else Some i.Shift
+    if count == 1 then value_in infix_words last
+    else if count == 2 && is_word (codes "=") last then Some i.Test
+    else if (count == 2 || count == 3) && is_word (codes ">") last then Some i.Shift
+    else None
 
+-- the operator of an infix expression; no other node has one
 abbrev pub infix_of : Tree → Node → Option Infix
-infix_of t n = infix_by (length (signs_of t n)) (last_of [] (signs_of t n))
+infix_of t n = if is_kind t k.InfixExpression n then infix_by (length (signs_of t n)) (last_of [] (signs_of t n)) else None
 
 abbrev pub unary_words : List (List ℕ × Unary)
 unary_words =
     (codes "!", u.Not) ∷ (codes "++", u.Step) ∷ (codes "--", u.Step)
     ∷ (codes "+", u.Sign) ∷ (codes "-", u.Sign) ∷ (codes "~", u.Sign) ∷ []
 
+-- each is one token
+abbrev pub unary_by : ℕ → List ℕ → Option Unary
+unary_by count last = if count == 1 then value_in unary_words last else None
+
+-- the operator of a unary expression; no other node has one
 abbrev pub unary_of : Tree → Node → Option Unary
-unary_of t n = value_in unary_words (last_of [] (signs_of t n))
+unary_of t n = if is_kind t k.UnaryExpression n then unary_by (length (signs_of t n)) (last_of [] (signs_of t n)) else None
 
 -- ---- what it makes of types
 

@@ -23,6 +23,7 @@ pub fn promotion_is_commutative()
 /// Where an operand that is looked at has no known type, neither has the expression, and nothing is asked.
 pub fn unknown_operands()
     ensures unary { unary_type u.Sign Unknown ≡ Unknown }
+    ensures steps { unary_type u.Step Unknown ≡ Unknown }
     ensures shift { (second : JavaType) → infix_type i.Shift Unknown second ≡ Unknown }
     ensures left { (second : JavaType) → infix_type i.Arithmetic Unknown second ≡ Unknown }
     ensures right { (first : JavaType) → infix_type i.Arithmetic first Unknown ≡ Unknown }

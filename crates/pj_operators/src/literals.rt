@@ -89,7 +89,7 @@ fn ends_in(text: &str, small: u8, large: u8) -> bool
     }
 }
 
-/// The type of a number (JLS 3.10.1, 3.10.2).
+/// The type of a numeric literal by its text (JLS 3.10.1, 3.10.2). The text is one that the grammar has at a NumericLiteral; what comes of another text means nothing.
 pub fn number_type(text: &str) -> Prim
     ensures { result ≡ number_type text.now }
 {

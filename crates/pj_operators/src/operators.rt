@@ -3,12 +3,12 @@
 ghost use Rattle.std.specs.Prelude.{◌≡◌, ◌<◌, ◌≤◌, [], IfOk, length, filter};
 ghost use Rattle.pj_names.specs.JavaType.{java_type};
 ghost use Rattle.pj_tree.specs.Words.{last_of};
-ghost use Rattle.pj_operators.specs.Operators.{bitwise_type, infix_by, infix_of, is_boolean, is_sign, infix_type, is_string, sum_type, unary_of, unary_type};
+ghost use Rattle.pj_operators.specs.Operators.{bitwise_type, infix_by, infix_of, is_boolean, is_sign, infix_type, is_string, sum_type, unary_by, unary_of, unary_type};
 
 use crate::literals::string_type;
 use pj_base::{NoMemory, value_in};
 use pj_names::{Prim, Ty};
-use pj_tree::{Node, OwnTokens, SyntaxTree};
+use pj_tree::{Kind, Node, OwnTokens, SyntaxTree, is_kind};
 use pj_types::{as_primitive, promoted, promoted_both};
 use std::alloc::Global;
 
@@ -107,31 +107,52 @@ fn last_sign<'t>(words: OwnTokens<'t>) -> &'t str
 fn infix_by(count: u32, last: &str) -> Option<Infix>
     ensures { result ≡ infix_by count last.now }
 {
-    if count == 0 {
-        None
-    } else if count == 1 {
+    if count == 1 {
         value_in(&INFIX, last)
-    } else if last == "=" {
+    } else if count == 2 && last == "=" {
         Some(Infix::Test)
-    } else {
+    } else if (count == 2 || count == 3) && last == ">" {
         Some(Infix::Shift)
+    } else {
+        None
     }
 }
 
-/// The operator of an infix expression, and `None` where its node has none.
+/// The operator of an infix expression (JLS 15.17 to 15.24). It is `None` for a node of another kind, and where the words of the node but its parentheses are no
+/// infix operator.
 pub fn infix_of(tree: &SyntaxTree<'_>, n: Node) -> Option<Infix>
     requires inside { n.0 < length tree.now.nodes }
     ensures { result ≡ infix_of tree.now n }
 {
-    infix_by(sign_count(tree.own(n)), last_sign(tree.own(n)))
+    if is_kind(tree, Kind::InfixExpression, n) {
+        infix_by(sign_count(tree.own(n)), last_sign(tree.own(n)))
+    } else {
+        None
+    }
 }
 
-/// The operator of a unary expression, and `None` where its node has none.
+/// The unary operator of so many tokens with this last one.
+fn unary_by(count: u32, last: &str) -> Option<Unary>
+    ensures { result ≡ unary_by count last.now }
+{
+    if count == 1 {
+        value_in(&UNARY, last)
+    } else {
+        None
+    }
+}
+
+/// The operator of a unary expression (JLS 15.14, 15.15). It is `None` for a node of another kind, and where the words of the node but its parentheses are no
+/// unary operator.
 pub fn unary_of(tree: &SyntaxTree<'_>, n: Node) -> Option<Unary>
     requires inside { n.0 < length tree.now.nodes }
     ensures { result ≡ unary_of tree.now n }
 {
-    value_in(&UNARY, last_sign(tree.own(n)))
+    if is_kind(tree, Kind::UnaryExpression, n) {
+        unary_by(sign_count(tree.own(n)), last_sign(tree.own(n)))
+    } else {
+        None
+    }
 }
 
 /// Whether a type is the class `java.lang.String`.

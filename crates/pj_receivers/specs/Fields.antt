@@ -1,6 +1,6 @@
 -- What a name behind a dot means of the type of a receiver: a field (JLS 15.11.1), the length of an array (JLS 10.7), and else a member class (JLS 6.5.2, 8.5). Classes are asked of
 -- an oracle that answers those of the file too.
-use Rattle.std.specs.Prelude.{ℕ, true, Option, None, Some, if◌then◌else◌, List, codes}
+use Rattle.std.specs.Prelude.{ℕ, Bool, false, Option, None, Some, if◌then◌else◌, List, codes}
 use Rattle.pj_tree.specs.Tree.{Tree}
 use Rattle.pj_names.specs.declared.ty.PrimitiveType.TheVariants as p
 use Rattle.pj_names.specs.ClassName.{Name}
@@ -8,21 +8,23 @@ use Rattle.pj_names.specs.JavaType.{JavaType, Primitive, Void, Null, Class, Arra
 use Rattle.pj_names.specs.Asking.{Asking, Return, bind}
 use Rattle.pj_types.specs.Along.{first_along}
 use Rattle.pj_types.specs.Members.{FoundField}
-use Rattle.pj_members.specs.Fields.{find_field}
 use Rattle.pj_written.specs.Words.{same_text}
 use Rattle.pj_outer_names.specs.Candidates.{file_classes}
 use Rattle.pj_outer_names.specs.Inherited.{member_in}
-use Rattle.pj_outer_names.specs.NameWalks.{left_out}
-use Rattle.pj_members.specs.Receivers.{in_receiver}
+use Rattle.pj_members.specs.Receivers.{field_of_receiver}
 use Rattle.pj_receivers.specs.Receivers.{as_receiver}
 
 abbrev pub member_or_unknown : Option Name → JavaType
 member_or_unknown None = Unknown
 member_or_unknown (Some class) = Class class NoMore
 
+-- no class is left out of the search: what each class of the list declares itself counts
+abbrev pub none_is_left_out : Name → Bool
+none_is_left_out class = false
+
 -- the member class that a class has of its own, where it is there; of `java.lang.Object` none is looked for
 abbrev pub member_of_class : Tree → List ℕ → Name → Asking (Option Name)
-member_of_class t name class = member_in (file_classes t) (left_out true class) name class
+member_of_class t name class = member_in (file_classes t) none_is_left_out name class
 
 -- the same of a type on a list of supertypes
 abbrev pub member_on_list : Tree → List ℕ → JavaType → Asking (Option Name)
@@ -41,12 +43,12 @@ member_class t class name = first_along (member_on_list t name) class
 unfoldable pub member_type : Tree → Name → List ℕ → Asking JavaType
 member_type t class name = bind (member_class t class name) (λ hit. Return (member_or_unknown hit))
 
-abbrev pub field_or_member : Tree → Name → Arguments → List ℕ → Option FoundField → Asking JavaType
-field_or_member t class arguments name None = member_type t class name
-field_or_member t class arguments name (Some field) = in_receiver class arguments field.ty
+abbrev pub field_or_member : Tree → Name → List ℕ → Option FoundField → Asking JavaType
+field_or_member t class name None = member_type t class name
+field_or_member t class name (Some field) = Return field.ty
 
 unfoldable pub field_of_class : Tree → Name → Arguments → List ℕ → Asking JavaType
-field_of_class t class arguments name = bind (find_field class name) (λ found. field_or_member t class arguments name found)
+field_of_class t class arguments name = bind (field_of_receiver class arguments name) (λ found. field_or_member t class name found)
 
 -- the one field of an array
 abbrev pub field_of_array : List ℕ → JavaType

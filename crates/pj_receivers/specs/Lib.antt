@@ -2,5 +2,3 @@
 pub mod Receivers
 pub mod Fields
 pub mod Elements
--- for clauses
-pub mod Seen

@@ -7,7 +7,7 @@ ghost use Rattle.pj_members.specs.Seen.{seen_field};
 ghost use Rattle.pj_receivers.specs.Fields.{field_in, field_of, field_of_array, field_of_class, field_or_member, member_class, member_or_unknown, member_type};
 
 use crate::receivers::as_receiver;
-use pj_members::{find_field, in_receiver};
+use pj_members::field_of_receiver;
 use pj_names::{AskFault, ClassName, Oracle, Prim, Ty, Types};
 use pj_outer_names::{File, member_in};
 use pj_types::{Field, NameWalk, direct_names};
@@ -75,19 +75,18 @@ fn field_or_member<O: Oracle>(
     file: &File<'_>,
     oracle: &mut O,
     class: &ClassName,
-    arguments: &Types,
     name: &str,
-    found: &Option<Field>,
+    found: Option<Field>,
 ) -> Result<Ty, AskFault>
-    ensures { Asks (field_or_member file.now class.now (java_types arguments.now) name.now (seen_field found.now)) (O.tells oracle.old) (O.tells oracle.new) (seen java_type result) }
+    ensures { Asks (field_or_member file.now class.now name.now (seen_field found)) (O.tells oracle.old) (O.tells oracle.new) (seen java_type result) }
 {
     match found {
-        Some(field) => in_receiver(alloc, oracle, class, arguments, &field.ty),
+        Some(field) => Ok(field.ty),
         None => member_type(alloc, file, oracle, class, name),
     }
 }
 
-/// The type of a field of a class, and else its member class.
+/// The type of a field of a class with type arguments, and else its member class.
 #[tactic(auto, using(pj_names::proofs::AskingLaws::asking_steps), unfolding(crate::specs::Fields::field_of_class))]
 fn field_of_class<O: Oracle>(
     alloc: Global,
@@ -99,8 +98,8 @@ fn field_of_class<O: Oracle>(
 ) -> Result<Ty, AskFault>
     ensures { Asks (field_of_class file.now class.now (java_types arguments.now) name.now) (O.tells oracle.old) (O.tells oracle.new) (seen java_type result) }
 {
-    let found = find_field(alloc, oracle, class, name)?;
-    field_or_member(alloc, file, oracle, class, arguments, name, &found)
+    let found = field_of_receiver(alloc, oracle, class, arguments, name)?;
+    field_or_member(alloc, file, oracle, class, name, found)
 }
 
 /// The type of a field of an array: it has its length alone.

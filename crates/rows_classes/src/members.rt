@@ -3,8 +3,10 @@ use crate::classes::{class_name, oracle_of};
 use crate::row_fault::{RowFault, answer_text};
 use crate::shown::{put_asked, put_type, put_types};
 use pj_base::{NoMemory, Text};
-use pj_members::{find_field, in_receiver, methods_named, methods_of_receiver, receiver_bindings};
-use pj_names::{Bindings, MapOracle, Ty};
+use pj_members::{
+    field_of_receiver, find_field, methods_named, methods_of_receiver, supertype_of_receiver,
+};
+use pj_names::{Bindings, ClassName, MapOracle, Ty, Types};
 use pj_rows::{Row, Section, Table};
 use pj_signatures::field_signature;
 use pj_types::{Field, Method, Methods};
@@ -23,9 +25,13 @@ impl Table for MembersOfClasses {
     }
 }
 
-/// The members of a class and a name, as `p.A.x`, or `p.A.m()` for methods; with `in` and a type behind it those of a receiver.
+/// The members of a class and a name, as `p.A.x`, or `p.A.m()` for methods; with `in` and a type behind it those of a receiver. With `above` and a type it is a
+/// supertype of that receiver.
 fn answer(alloc: Global, section: &Section, given: &str) -> Result<String, RowFault> {
     let oracle = oracle_of(alloc, section)?;
+    if let Some((wanted, receiver)) = given.split_once(" above ") {
+        return supertype(alloc, oracle, wanted, receiver);
+    }
     if let Some((member, receiver)) = given.split_once(" in ") {
         return of_receiver(alloc, oracle, member, receiver);
     }
@@ -64,8 +70,15 @@ fn field(alloc: Global, oracle: MapOracle, class: &str, name: &str) -> Result<St
     Ok(text.into_string())
 }
 
-/// The field of a receiver of a type, as `x`, or its methods, as `m()`, with what stands in the place of the type parameters of its
-/// class, and the names that are asked.
+/// The class and the type arguments of a receiver.
+fn receiver_of(alloc: Global, receiver: &str) -> Result<(ClassName, Types), RowFault> {
+    match field_signature(alloc, receiver)? {
+        Some(Ty::Class(class, arguments)) => Ok((class, arguments)),
+        _ => Err(RowFault::Unread("no class as a receiver")),
+    }
+}
+
+/// The field of a receiver of a type, as `x`, or its methods, as `m()`, and the names that are asked.
 fn of_receiver(
     alloc: Global,
     oracle: MapOracle,
@@ -73,24 +86,35 @@ fn of_receiver(
     receiver: &str,
 ) -> Result<String, RowFault> {
     let mut oracle = oracle;
-    let Some(Ty::Class(class, arguments)) = field_signature(alloc, receiver)? else {
-        return Err(RowFault::Unread("no class as a receiver"));
-    };
+    let (class, arguments) = receiver_of(alloc, receiver)?;
     let mut text = Text::new(alloc);
     match member.strip_suffix("()") {
         Some(name) => {
-            let methods = methods_named(alloc, &mut oracle, &class, name)?;
-            let bound = receiver_bindings(alloc, &mut oracle, &class, &arguments)?;
-            put_methods(&mut text, &methods_of_receiver(alloc, &bound, &methods)?)?;
+            let methods = methods_of_receiver(alloc, &mut oracle, &class, &arguments, name)?;
+            put_methods(&mut text, &methods)?;
         }
-        None => {
-            let Some(field) = find_field(alloc, &mut oracle, &class, member)? else {
-                return Err(RowFault::Unread("no such field"));
-            };
-            let ty = in_receiver(alloc, &mut oracle, &class, &arguments, &field.ty)?;
-            let owner = field.owner;
-            put_field(&mut text, &Field { owner, ty }, member)?;
-        }
+        None => match field_of_receiver(alloc, &mut oracle, &class, &arguments, member)? {
+            Some(field) => put_field(&mut text, &field, member)?,
+            None => text.push_str("none")?,
+        },
+    }
+    put_asked(&mut text, alloc, &oracle, "; asks")?;
+    Ok(text.into_string())
+}
+
+/// A class among the supertypes of a receiver, with its type arguments there, and the names that are asked.
+fn supertype(
+    alloc: Global,
+    oracle: MapOracle,
+    wanted: &str,
+    receiver: &str,
+) -> Result<String, RowFault> {
+    let mut oracle = oracle;
+    let (class, arguments) = receiver_of(alloc, receiver)?;
+    let mut text = Text::new(alloc);
+    match supertype_of_receiver(alloc, &mut oracle, &class, &arguments, wanted)? {
+        Some(given) => put_type(&mut text, &Ty::Class(class_name(alloc, wanted)?, given))?,
+        None => text.push_str("none")?,
     }
     put_asked(&mut text, alloc, &oracle, "; asks")?;
     Ok(text.into_string())

@@ -8,7 +8,7 @@ use crate::file_oracle::put_asked;
 use crate::inherited::put_classes_around;
 use crate::noted::{Beneath, Noted, Over};
 use crate::question::{Asked, Asking, Lookup, Question, question_of};
-use crate::{imports, inherited, type_names, variables};
+use crate::{imports, inherited, node_types, type_names, variables};
 use pj_base::{NoMemory, Text};
 use pj_declared::Declarations;
 use pj_file_oracle::{FileOracle, Held};
@@ -241,5 +241,9 @@ fn put_lookup<O: Oracle>(
         Lookup::TypeInHeader => type_names::put_written(alloc, file, over, true, asked, out),
         Lookup::Bound => type_names::put_bound(alloc, file, over, asked, out),
         Lookup::Variable => variables::put_name(alloc, file, over, asked, out),
+        Lookup::NodeType => node_types::put_node(alloc, file, over, asked, out),
+        Lookup::VariableType => node_types::put_variable(alloc, file, over, asked, out),
+        Lookup::MemberType => node_types::put_member(alloc, file, over, asked, out),
+        Lookup::ElementType => node_types::put_elements(alloc, file, over, asked, out),
     }
 }

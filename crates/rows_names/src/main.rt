@@ -6,6 +6,7 @@ mod file;
 mod file_oracle;
 mod imports;
 mod inherited;
+mod node_types;
 mod noted;
 mod question;
 mod shown;
@@ -18,13 +19,14 @@ use pj_rows::Run;
 use std::process::ExitCode;
 
 /// The file of each table, and what is asked where a section of it does not say it.
-static TABLES: [(&str, &str); 6] = [
+static TABLES: [(&str, &str); 7] = [
     ("imports.rows", "class outside"),
     ("inherited.rows", "inherited member"),
     ("type_names.rows", "type of name"),
     ("file_oracle.rows", "answer"),
     ("variables.rows", "variable"),
     ("scopes.rows", "variable over the file"),
+    ("node_types.rows", "type of node"),
 ];
 
 fn main(rt: HostRuntime) -> ExitCode {

@@ -25,6 +25,14 @@ pub enum Lookup {
     Bound,
     /// A name of a variable.
     Variable,
+    /// The type of a node.
+    NodeType,
+    /// The type that is declared for a variable.
+    VariableType,
+    /// What a name behind a dot means of a variable.
+    MemberType,
+    /// What an enhanced `for` over a variable goes through.
+    ElementType,
 }
 
 /// What is asked over the oracle of the file.
@@ -53,7 +61,7 @@ pub enum Question {
     Asking(Asking),
 }
 
-static QUESTIONS: [(&str, Question); 17] = [
+static QUESTIONS: [(&str, Question); 21] = [
     ("classes around", Question::Around),
     ("class outside", Question::Lookup(Lookup::Outside)),
     ("class with package", Question::Lookup(Lookup::Dotted)),
@@ -68,6 +76,13 @@ static QUESTIONS: [(&str, Question); 17] = [
     ),
     ("written bound", Question::Lookup(Lookup::Bound)),
     ("variable", Question::Lookup(Lookup::Variable)),
+    ("type of node", Question::Lookup(Lookup::NodeType)),
+    ("type of variable", Question::Lookup(Lookup::VariableType)),
+    ("member of variable", Question::Lookup(Lookup::MemberType)),
+    (
+        "elements of variable",
+        Question::Lookup(Lookup::ElementType),
+    ),
     ("answer", Question::Asking(Asking::Answer)),
     ("answer again", Question::Asking(Asking::AnswerAgain)),
     ("list of supertypes", Question::Asking(Asking::Supertypes)),

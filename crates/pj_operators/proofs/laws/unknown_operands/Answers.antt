@@ -5,6 +5,9 @@ use Rattle.pj_operators.proofs.laws.unknown_operands.Goals as goal
 pub returns-clause-unary : goal.returns-clause-unary
 returns-clause-unary c = refl
 
+pub returns-clause-steps : goal.returns-clause-steps
+returns-clause-steps c = refl
+
 pub returns-clause-shift : goal.returns-clause-shift
 returns-clause-shift c = λ second. refl
 

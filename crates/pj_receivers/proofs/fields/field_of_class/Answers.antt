@@ -1,9 +1,7 @@
 use Rattle.pj_names.proofs.AskingLaws.{asks-then}
-use Rattle.pj_names.specs.JavaType.{java_types}
 use Rattle.pj_receivers.specs.Fields.{field_of_class, field_or_member}
 use Rattle.pj_receivers.proofs.fields.field_of_class.Goals as goal
 
 pub returns : goal.returns
 unfolding field_of_class
-returns g c =
-    asks-then (λ found. field_or_member c.args.file.now c.args.class.now (java_types c.args.arguments.now) c.args.name.now found) c.in_ok-found.ensures c.field_or_member.ensures
+returns g c = asks-then (λ found. field_or_member c.args.file.now c.args.class.now c.args.name.now found) c.in_ok-found.ensures c.field_or_member.ensures
