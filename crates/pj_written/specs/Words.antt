@@ -1,5 +1,5 @@
 -- Small words that the definitions of this crate share: lists of nodes, and types among them.
-use Rattle.std.specs.Prelude.{ℕ, ◌||◌, Bool, true, false, Option, None, Some, if◌then◌else◌, List, [], ◌∷◌, ◌++◌, find, codes, nat_eq}
+use Rattle.std.specs.Prelude.{ℕ, ◌&&◌, ◌||◌, Bool, true, false, Option, None, Some, if◌then◌else◌, List, [], ◌∷◌, ◌++◌, find, codes, nat_eq}
 use Rattle.std.specs.Option.{option_map_or}
 use Rattle.std.specs.Cmp.Lexicographic.{pointwise}
 use Rattle.pj_tree.specs.Tree.{Tree, kind_of, children_of}
