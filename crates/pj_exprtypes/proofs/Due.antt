@@ -1,5 +1,6 @@
 -- What is still to do, and what is put to it: of nodes of the tree, and of parts of what a meaning asks.
-use Rattle.std.proofs.Common.{◌≡◌, ℕ, ◌+◌, ◌-◌, ◌<◌, ◌==◌, Bool, true, List, [], ◌∷◌, ◌++◌, IsTrue, length, map, reverse, get_or, refl, sym, ap, subst, ◌∙◌, arith, append_assoc, append-nil}
+use Rattle.std.proofs.Common.{◌≡◌, ℕ, ◌+◌, ◌-◌, ◌<◌, ◌≤◌, ◌==◌, Bool, true, List, [], ◌∷◌, ◌++◌, IsTrue, length, map, reverse, get_or, refl, sym, ap, subst, ◌∙◌, arith, append_assoc, append-nil}
+use Rattle.std.proofs.lemmas.Bool.{eqb-true}
 use Rattle.std.proofs.lemmas.List.{get_or-reverse, length-reverse, reverse-append}
 use Rattle.std.proofs.lemmas.List.Elements.{All-append, All-cons, All-map, All-nil, All-weaker}
 use Rattle.std.specs.List.{All}
@@ -69,11 +70,11 @@ leaf-variable w t before left n id found none less is comes =
     (subst (λ part. IsPartOf w part (bind (type_with t n (kind_of t n) []) next)) (earlier-some t before id less) at)
 
 -- what asks as it is told asks a part
-pub leaf-asked : {K A B : Type 0} (t : Tree) (var : Node → Asking JavaType) (left : ℕ) (n : Node) {a b : Told K} {v : Typing} (r : B) → operands t n ≡ []
+pub leaf-asked : {K B : Type 0} (t : Tree) (var : Node → Asking JavaType) (left : ℕ) (n : Node) {a b : Told K} {v : Typing} (r : B) → operands t n ≡ []
     → Asks (type_with t n (kind_of t n) []) a b (Ok v) → AsksPart (typed t var (left + 1) n) a b (Ok r)
 leaf-asked t var left n {a = a} r none h = part-lift (typed t var (left + 1) n) (type_with t n (kind_of t n) []) (λ told. leaf-first a.world t var left n none) (part-ok r h)
 
-pub leaf-refused : {K A B : Type 0} (t : Tree) (var : Node → Asking JavaType) (left : ℕ) (n : Node) {a b : Told K} {e : AskFault} {r : Result B AskFault} → operands t n ≡ []
+pub leaf-refused : {K B : Type 0} (t : Tree) (var : Node → Asking JavaType) (left : ℕ) (n : Node) {a b : Told K} {e : AskFault} {r : Result B AskFault} → operands t n ≡ []
     → Asks (type_with t n (kind_of t n) []) a b (Err e) → r ≡ Err e → AsksPart (typed t var (left + 1) n) a b r
 leaf-refused t var left n {a = a} none h is = part-lift (typed t var (left + 1) n) (type_with t n (kind_of t n) []) (λ told. leaf-first a.world t var left n none) (part-err h is)
 
@@ -83,15 +84,15 @@ pub adds-nothing : (t : Tree) (is_told : Bool) (w : Worlds) (whole : Asking Java
 adds-nothing t is_told w whole all = record { more = []; puts = sym (append-nil all); are_due = All-nil (IsDue t is_told w whole) }
 
 All-reverse : {X : Type 0} (P : X → Type 0) (xs : List X) → All P xs → All P (reverse xs)
-All-reverse P xs all = λ k d below.
+All-reverse {X = X} P xs all = λ k d below.
     let less : k < length xs = subst (λ (n : ℕ). k < n) (length-reverse xs) below in
-    subst (λ x. P x) (sym (get_or-reverse xs k d less)) (all (length xs - 1 - k) d (omega arith))
+    subst (λ (x : X). P x) (sym (get_or-reverse xs k d less)) (all (length xs - 1 - k) d (omega arith))
 
 visits-due : (t : Tree) (is_told : Bool) (w : Worlds) (whole : Asking JavaType) (before left : ℕ) (nodes : List Node) → All (λ (m : Node). m.0 < length t.nodes) nodes
     → (IsTrue is_told → All (λ m. IsPartOf w (typed t (earlier t before) left m) whole) nodes) → All (IsDue t is_told w whole) (visits before left nodes)
 visits-due t is_told w whole before left nodes inside parts =
-    All-map (IsDue t is_told w whole) (λ n. pending.Visit before left n) (reverse nodes)
-    (All-reverse (λ m. IsDue t is_told w whole (pending.Visit before left m)) nodes (λ k d below. record { inside = inside k d below; part = λ told. parts told k d below }))
+    All-map (IsDue t is_told w whole) (λ (n : Node). pending.Visit before left n) (reverse nodes)
+    (All-reverse (λ (m : Node). IsDue t is_told w whole (pending.Visit before left m)) nodes (λ k d below. record { inside = inside k d below; part = λ told. parts told k d below }))
 
 -- the operands of a node
 pub adds-operands : (t : Tree) (is_told : Bool) (w : Worlds) (before left : ℕ) (n : Node) (nodes : List Node) (old new : List Pending) → nodes ≡ operands t n → All (λ (m : Node). m.0 < length t.nodes) nodes
@@ -141,7 +142,7 @@ due-added t is_told w part whole old new is_part all adds =
 pub visits-next : (before left : ℕ) (all next : List Pending) (rest : List Node) (n : Node) → next ≡ all ++ pending.Visit before left n ∷ [] → next ++ visits before left rest ≡ all ++ visits before left (rest ++ n ∷ [])
 visits-next before left all next rest n puts =
     ap (λ l. l ++ visits before left rest) puts ∙ append_assoc all (pending.Visit before left n ∷ []) (visits before left rest)
-    ∙ ap (λ (ns : List Node). all ++ map (λ n. pending.Visit before left n) ns) (sym (reverse-append rest (n ∷ [])))
+    ∙ ap (λ (ns : List Node). all ++ map (λ (n : Node). pending.Visit before left n) ns) (sym (reverse-append rest (n ∷ [])))
 
 -- ---- the whole
 
@@ -153,7 +154,7 @@ due-whole t is_told w count n is inside =
 -- a list of no members
 pub none-left : {X : Type 0} (xs : List X) → (length xs == 0) ≡ true → xs ≡ []
 none-left [] is = refl
-none-left (x ∷ xs) is = absurd (cc)
+none-left (x ∷ xs) is = absurd (let none : length (x ∷ xs) ≡ 0 = eqb-true (length (x ∷ xs)) 0 is in omega (arith, none))
 
 -- what holds anyway
 pub on-ok : {A E : Type 0} {P : Type 0} (r : Result A E) → P → OnOk r P

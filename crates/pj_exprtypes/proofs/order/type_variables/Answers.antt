@@ -19,7 +19,7 @@ loop-init g c =
     let old = tells_noting c.args.oracle.now.inner.ghost_name c.args.oracle.now.noted.ghost_name c.args.oracle.now.noted.now (g.O.Oracle.tells c.args.oracle.now.inner.now) in
     let count : c.len-count.result ≡ length t.nodes = c.len-count.ensures.value ∙ ap (λ (t : Tree). length t.nodes) c.tree.ensures in
     record {
-      asks = part-begin;
+      asks = part-begin {t = old};
       keeps = c.requires.keeps;
       due = all-one (IsDue t old.is_told old.world (type_of t c.args.n)) c.new-all.result c.push.new.self (pending.Visit c.len-count.result (c.len-count.result + 1) c.args.n) c.new-all.ensures c.in_ok-push.ensures.ok
           (due-whole t old.is_told old.world c.len-count.result c.args.n count c.requires.inside);
