@@ -8,6 +8,7 @@ use Rattle.pj_names.specs.Held.{IsHeld}
 use Rattle.pj_names.specs.JavaType.{java_type, type_list}
 use Rattle.pj_names.specs.Noting.{Notes, tells_noting}
 use Rattle.pj_names.specs.declared.ty.Ty.{Ty}
+use Rattle.pj_names.specs.Told.{Asks, seen}
 use Rattle.pj_names.proofs.AskingLaws.{ComesTo, asks-refused, asks-return, asks-stop, asks-then, comes-begin, comes-ends}
 use Rattle.pj_names.proofs.Held.{asks-late, done-apart, late-apart, noted-held, refused-apart}
 use Rattle.pj_names.proofs.MeaningLaws.{each-gather, gather}
@@ -16,7 +17,7 @@ use Rattle.pj_file_oracle.proofs.Lists.{gather-turn}
 use Rattle.pj_scopes.proofs.Turns.{asks-as}
 use Rattle.pj_exprtypes.specs.Operands.{operands, var_operands}
 use Rattle.pj_exprtypes.specs.TypeOf.{deep, earlier, typed, var_of}
-use Rattle.pj_exprtypes.proofs.Steps.{earlier-none, earlier-some, earlier-var, typed-none, typed-some}
+use Rattle.pj_exprtypes.proofs.Steps.{earlier-var, typed-none, typed-some}
 use Rattle.pj_exprtypes.proofs.Tables.{all-noted, all-noting, keeps-more, keeps-on}
 use Rattle.pj_exprtypes.proofs.typing.+typing.Goals as goal
 
@@ -49,9 +50,6 @@ typed-returns-in_err-found-clause-asks g t c =
 pub typed-returns-in_err-found-clause-keeps : goal.typed-returns-in_err-found-clause-keeps
 typed-returns-in_err-found-clause-keeps g t c = keeps-on c.args.file.now _ c.in_err-found.ensures.asks c.in_ok-operand_types.ensures.keeps
 
-pub typed-final_type-requires-clause-keeps : goal.typed-final_type-requires-clause-keeps
-typed-final_type-requires-clause-keeps g t c = keeps-on c.args.file.now _ c.in_ok-found.ensures.asks c.in_ok-operand_types.ensures.keeps
-
 pub typed-returns-clause-asks : goal.typed-returns-clause-asks
 typed-returns-clause-asks g t c =
     let file = c.args.file.now in
@@ -80,18 +78,6 @@ types_of-loop-n-preserved g t c =
       keeps = c.in_ok-ty.ensures.keeps;
     }
 
--- ---- what tells a type
-
-pub final_type-returns-in-Var-then-id-ge-before-clause-asks : goal.final_type-returns-in-Var-then-id-ge-before-clause-asks
-final_type-returns-in-Var-then-id-ge-before-clause-asks g t c =
-    let below : c.args.before ≤ c.in-Var.id.0 = omega arith in
-    asks-as (earlier-none c.args.file.now c.args.before c.in-Var.id below) (asks-return refl)
-
-pub final_type-returns-in-Var-clause-asks : goal.final_type-returns-in-Var-clause-asks
-final_type-returns-in-Var-clause-asks g t c =
-    let above : c.in-Var.id.0 < c.args.before = omega arith in
-    asks-as (earlier-some c.args.file.now c.args.before c.in-Var.id above) c.var_once.ensures.asks
-
 -- ---- a variable that is held, or found
 
 pub var_once-returns-in-Some-clause-asks : goal.var_once-returns-in-Some-clause-asks
@@ -102,10 +88,6 @@ pub var_once-returns-in-Some-clause-keeps : goal.var_once-returns-in-Some-clause
 var_once-returns-in-Some-clause-keeps g t c =
     keeps-on c.args.file.now c.args.types.now.variables
     (c.held.ensures (var_of c.args.file.now c.args.id) (λ told. c.in-Some.ensures c.args.file.now _ (c.requires.keeps told))) c.requires.keeps
-
-pub var_found-noted_apart-requires-clause-keeps : goal.var_found-noted_apart-requires-clause-keeps
-var_found-noted_apart-requires-clause-keeps g t c =
-    λ is. all-noted c.args.file.now (g.O.Oracle.tells c.args.oracle.now.inner.now).world c.args.types.now.variables (c.requires.keeps is)
 
 pub var_found-returns-in_err-found-clause-asks : goal.var_found-returns-in_err-found-clause-asks
 var_found-returns-in_err-found-clause-asks g t c =
@@ -153,15 +135,12 @@ noted_apart-returns-clause-names g t c =
     subst (λ (s : NameSet). Notes meaning told.is_told told.world s c.noted_in.new.noted (Ok ty)) c.new-noted.ensures c.in_ok-ty.ensures.notes in
     subst (λ (s : NameSet). IsHeld told.world meaning ty s) (sym c.in_ok-names.ensures.members) (noted-held meaning told after ty c.noted_in.new.noted is c.in_ok-ty.ensures.asks notes)
 
-pub noted_in-var_type-requires-clause-keeps : goal.noted_in-var_type-requires-clause-keeps
-noted_in-var_type-requires-clause-keeps g t c =
-    λ is. all-noting c.args.file.now (g.O.Oracle.tells c.args.oracle.now).world c.args.types.now.variables (c.requires.keeps is)
-
 pub noted_in-returns-clause-asks : goal.noted_in-returns-clause-asks
 noted_in-returns-clause-asks g t c =
     let held = sym (ap (λ k. k.reference) c.var_type.ensures.asks.same_kept) in
     let over = asks-noted _ _ _ _ _ _ (var_of c.args.file.now c.args.id) _ _ c.var_type.ensures.asks in
-    search rules
+    let same : c.var_type.new.oracle.inner.now ≡ c.oracle-1.given.0 = search rules in
+    subst (λ v. Asks (var_of c.args.file.now c.args.id) (g.O.Oracle.tells c.args.oracle.now) (g.O.Oracle.tells v) (seen java_type c.var_type.result)) same over
 
 pub noted_in-returns-clause-notes : goal.noted_in-returns-clause-notes
 noted_in-returns-clause-notes g t c =
@@ -177,7 +156,7 @@ var_type-returns-in_err-nodes-clause-asks g t c = asks-stop (search rules)
 pub var_type-returns-in_err-operand_types-clause-asks : goal.var_type-returns-in_err-operand_types-clause-asks
 var_type-returns-in_err-operand_types-clause-asks g t c =
     let file = c.args.file.now in
-    let far : c.len.result + 1 ≡ deep file = search rules in
+    let far : c.len-left.result + 1 ≡ deep file = search rules in
     let nodes : c.as_slice.result.now ≡ var_operands file c.args.id = search rules in
     let asked = rw (nodes, far) at c.in_err-operand_types.ensures.asks in
     asks-as (earlier-var file c.args.id) (asks-refused _ asked (search rules))
@@ -185,7 +164,7 @@ var_type-returns-in_err-operand_types-clause-asks g t c =
 pub var_type-returns-clause-asks : goal.var_type-returns-clause-asks
 var_type-returns-clause-asks g t c =
     let file = c.args.file.now in
-    let far : c.len.result + 1 ≡ deep file = search rules in
+    let far : c.len-left.result + 1 ≡ deep file = search rules in
     let nodes : c.as_slice.result.now ≡ var_operands file c.args.id = search rules in
     let asked = rw (nodes, far) at c.in_ok-operand_types.ensures.asks in
     asks-as (earlier-var file c.args.id) (asks-then _ asked c.var_with.ensures)
