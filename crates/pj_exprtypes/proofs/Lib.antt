@@ -3,3 +3,4 @@ pub mod Steps
 pub mod Tables
 pub mod Inside
 pub mod Depth
+pub mod Due

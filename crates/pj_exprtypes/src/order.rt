@@ -1,18 +1,15 @@
 //! Which variables that are declared by `var` are typed before a node: those that its type is made of, the earliest first. So a chain of them, each of the one before,
 //! costs no stack.
 
-ghost use Rattle.std.specs.Prelude.{◌≡◌, ◌<◌, ◌≤◌, [], is_some, length, IfOk, IfSome, IsTrue};
-ghost use Rattle.std.specs.List.{All};
-ghost use Rattle.pj_names.specs.Asking.{Asking};
-ghost use Rattle.pj_names.specs.JavaType.{JavaType};
+ghost use Rattle.std.specs.Prelude.{◌≡◌, ◌<◌, ◌++◌, ◌+◌, ℕ, [], Bool, length, IfOk, IfSome, IsTrue, OnOk};
 ghost use Rattle.pj_names.specs.Told.{Worlds};
-ghost use Rattle.pj_tree.specs.Tree.{Tree};
-ghost use Rattle.pj_tree.specs.declared.node.Node.{Node};
 ghost use Rattle.pj_exprtypes.specs.Operands.{operands};
-ghost use Rattle.pj_exprtypes.specs.Order.{IsOf, IsPart, asked_by};
-ghost use Rattle.pj_exprtypes.specs.Parts.{AsksPart, IsPartOf};
+ghost use Rattle.pj_exprtypes.specs.Order.{AddsParts, asked_by, node_of, visits};
+ghost use Rattle.pj_exprtypes.specs.Parts.{AsksPart};
+ghost use Rattle.pj_exprtypes.specs.Seen.{IsVarInside, seen_typing};
 ghost use Rattle.pj_exprtypes.specs.Table.{Keeps};
 ghost use Rattle.pj_exprtypes.specs.TypeOf.{earlier, type_of, typed, var_of};
+ghost use Rattle.pj_exprtypes.specs.Typing.{OfVar};
 
 use crate::held::Typed;
 use crate::operands::{Nodes, operands, var_operands};
@@ -30,47 +27,23 @@ use std::alloc::Global;
 #[derive(Clone, Copy)]
 enum Pending {
     /// The variables that the type of a node is made of are to be found, of those before a number, where nodes are typed at most so deep within one another.
-    Visit(u32, u32, Node),
+    Visit { before: u32, left: u32, n: Node },
     /// A variable is to be found. Those that its type is made of are held.
-    Find(Node),
+    Find { id: Node },
 }
 
 /// What is still to do, the next one last.
 type AllPending = ListOf<Pending>;
 
-/// The most steps that are made: for each node there are fewer.
-const MOST_STEPS: u64 = 1_000_000_000_000;
-
 /// Puts visits of nodes, so that the first one comes next.
 fn put_visits(all: &mut AllPending, before: u32, left: u32, nodes: Nodes) -> Result<(), NoMemory>
-    ensures of { (t : Tree) → left ≤ 2000001 → All (λ (n : Node). n.0 < length t.nodes) nodes → All (IsOf t) all.old → All (IsOf t) all.new }
-    ensures parts { (worlds : Worlds) (t : Tree) (whole : Asking JavaType) → All (λ n. IsPartOf worlds (typed t (earlier t before) left n) whole) nodes
-        → All (IsPart worlds t whole) all.old → All (IsPart worlds t whole) all.new }
+    ensures { OnOk result (all.new ≡ all.old ++ visits before left nodes) }
 {
-    let mut nodes = nodes;
-    while let Some(n) = nodes.pop() {
-        all.push(Pending::Visit(before, left, n))?;
+    let mut rest = nodes;
+    while let Some(n) = rest.pop() {
+        all.push(Pending::Visit { before, left, n })?;
     }
     Ok(())
-}
-
-/// Puts visits of the operands of a node, where nodes are typed at most one deeper within one another than they are.
-fn put_operands(
-    alloc: Global,
-    tree: &SyntaxTree<'_>,
-    all: &mut AllPending,
-    before: u32,
-    left: u32,
-    n: Node,
-) -> Result<(), NoMemory>
-    requires inside { n.0 < length tree.now.nodes }
-    requires left { left ≤ 2000000 }
-    ensures of { All (IsOf tree.now) all.old → All (IsOf tree.now) all.new }
-    ensures parts { (worlds : Worlds) (whole : Asking JavaType) → IsPartOf worlds (typed tree.now (earlier tree.now before) (left + 1) n) whole
-        → All (IsPart worlds tree.now whole) all.old → All (IsPart worlds tree.now whole) all.new }
-{
-    let nodes = operands(alloc, tree, n)?;
-    put_visits(all, before, left, nodes)
 }
 
 /// A variable that is declared by `var` is to be found, and before it what its type is made of.
@@ -81,14 +54,13 @@ fn put_var(
     id: Node,
 ) -> Result<(), NoMemory>
     requires inside { id.0 < length tree.now.nodes }
-    ensures of { All (IsOf tree.now) all.old → All (IsOf tree.now) all.new }
-    ensures parts { (worlds : Worlds) (whole : Asking JavaType) → IsPartOf worlds (var_of tree.now id) whole
-        → All (IsPart worlds tree.now whole) all.old → All (IsPart worlds tree.now whole) all.new }
+    ensures { (is_told : Bool) (worlds : Worlds) → OnOk result (AddsParts tree.now is_told worlds (var_of tree.now id) all.old all.new) }
 {
     let left = tree.len() + 1;
     let nodes = var_operands(alloc, tree, id)?;
-    all.push(Pending::Find(id))?;
-    put_visits(all, id.0, left, nodes)
+    all.push(Pending::Find { id })?;
+    put_visits(all, id.0, left, nodes)?;
+    Ok(())
 }
 
 /// Whether a variable is one that is declared by `var` before a number, and is not held.
@@ -102,7 +74,6 @@ fn is_open(tree: &SyntaxTree<'_>, types: &Typed, before: u32, id: Node) -> bool
 /// The variable whose type that of a node may be, as far as the file alone tells.
 fn variable_at(file: &File<'_>, n: Node) -> Option<Node>
     requires inside { n.0 < length file.now.nodes }
-    ensures alone { IsTrue (is_some result) → operands file.now n ≡ [] }
 {
     let tree = file.tree();
     match tree.kind(n) {
@@ -120,47 +91,65 @@ fn variable_at(file: &File<'_>, n: Node) -> Option<Node>
 /// The same, where it is declared by `var` before a number, and is not held.
 fn may_be_open(file: &File<'_>, types: &Typed, before: u32, n: Node) -> bool
     requires inside { n.0 < length file.now.nodes }
-    ensures alone { IsTrue result → operands file.now n ≡ [] }
 {
+    let tree = file.tree();
     match variable_at(file, n) {
-        Some(id) => id.0 < file.tree().len() && is_open(file.tree(), types, before, id),
+        Some(id) => id.0 < tree.len() && is_open(tree, types, before, id),
         None => false,
     }
 }
 
-/// The variable whose type that of a node is, where it is declared by `var` before a number and is not held, is to be found. Where the file alone tells that there is none, nothing is asked.
-fn put_variable<O: Oracle>(
-    alloc: Global,
-    file: &File<'_>,
-    oracle: &mut O,
-    types: &Typed,
-    all: &mut AllPending,
-    before: u32,
-    left: u32,
-    n: Node,
-) -> Result<(), AskFault>
-    requires inside { n.0 < length file.now.nodes }
-    ensures of { All (IsOf file.now) all.old → All (IsOf file.now) all.new }
-    ensures parts { (whole : Asking JavaType) → IsTrue (O.tells oracle.old).is_told → IsPartOf (O.tells oracle.old).world (typed file.now (earlier file.now before) (left + 1) n) whole
-        → All (IsPart (O.tells oracle.old).world file.now whole) all.old → All (IsPart (O.tells oracle.old).world file.now whole) all.new }
-    ensures asks { AsksPart (typed file.now (earlier file.now before) (left + 1) n) (O.tells oracle.old) (O.tells oracle.new) result }
+/// The variable that is told, where it is declared by `var` before a number and is not held.
+fn open_among(tree: &SyntaxTree<'_>, types: &Typed, before: u32, found: TypeOrVar) -> Option<Node>
+    requires inside { IsVarInside (length tree.now.nodes) found }
+    ensures value { IfSome result (λ id. seen_typing found ≡ OfVar id) }
+    ensures inside { IfSome result (λ id. id.0 < length tree.now.nodes) }
+    ensures earlier { IfSome result (λ id. id.0 < before) }
 {
-    if !may_be_open(file, types, before, n) {
-        return Ok(());
-    }
-    match type_with(alloc, file, oracle, n, TyList::new(alloc))? {
+    match found {
         TypeOrVar::Var(id) => {
-            if is_open(file.tree(), types, before, id) {
-                put_var(alloc, file.tree(), all, id)?;
+            if is_open(tree, types, before, id) {
+                Some(id)
+            } else {
+                None
             }
-            Ok(())
         }
-        TypeOrVar::Type(_) => Ok(()),
+        TypeOrVar::Type(_) => None,
     }
 }
 
-/// Visits a node: what its type is made of is to be visited and found.
-fn visit_one<O: Oracle>(
+/// Visits a node without operands: where its type is that of a variable that is declared by `var` before a number and is not held, that one is to be found.
+fn visit_leaf<O: Oracle>(
+    alloc: Global,
+    file: &File<'_>,
+    oracle: &mut O,
+    types: &Typed,
+    all: &mut AllPending,
+    before: u32,
+    n: Node,
+) -> Result<(), AskFault>
+    requires inside { n.0 < length file.now.nodes }
+    requires alone { operands file.now n ≡ [] }
+    ensures due { (left : ℕ) → OnOk result (AddsParts file.now (O.tells oracle.old).is_told (O.tells oracle.old).world (typed file.now (earlier file.now before) (left + 1) n) all.old all.new) }
+    ensures asks { (left : ℕ) → AsksPart (typed file.now (earlier file.now before) (left + 1) n) (O.tells oracle.old) (O.tells oracle.new) result }
+{
+    // Most nodes are of no such variable, as far as the file alone tells: then nothing is asked.
+    if !may_be_open(file, types, before, n) {
+        return Ok(());
+    }
+    let tree = file.tree();
+    let found = type_with(alloc, file, oracle, n, TyList::new(alloc))?;
+    match open_among(tree, types, before, found) {
+        Some(id) => {
+            put_var(alloc, tree, all, id)?;
+            Ok(())
+        }
+        None => Ok(()),
+    }
+}
+
+/// Visits a node: its operands are to be visited, and where it has none, the variable is to be found whose type it has.
+fn visit<O: Oracle>(
     alloc: Global,
     file: &File<'_>,
     oracle: &mut O,
@@ -171,17 +160,35 @@ fn visit_one<O: Oracle>(
     n: Node,
 ) -> Result<(), AskFault>
     requires inside { n.0 < length file.now.nodes }
-    requires left { left ≤ 2000001 }
-    ensures of { All (IsOf file.now) all.old → All (IsOf file.now) all.new }
-    ensures parts { (whole : Asking JavaType) → IsTrue (O.tells oracle.old).is_told → IsPartOf (O.tells oracle.old).world (typed file.now (earlier file.now before) left n) whole
-        → All (IsPart (O.tells oracle.old).world file.now whole) all.old → All (IsPart (O.tells oracle.old).world file.now whole) all.new }
+    ensures due { OnOk result (AddsParts file.now (O.tells oracle.old).is_told (O.tells oracle.old).world (typed file.now (earlier file.now before) left n) all.old all.new) }
     ensures asks { AsksPart (typed file.now (earlier file.now before) left n) (O.tells oracle.old) (O.tells oracle.new) result }
 {
     if left == 0 {
         return Ok(());
     }
-    put_operands(alloc, file.tree(), all, before, left - 1, n)?;
-    put_variable(alloc, file, oracle, types, all, before, left - 1, n)
+    let nodes = operands(alloc, file.tree(), n)?;
+    if nodes.is_empty() {
+        return visit_leaf(alloc, file, oracle, types, all, before, n);
+    }
+    put_visits(all, before, left - 1, nodes)?;
+    Ok(())
+}
+
+/// Finds and holds a variable.
+fn find<'r, O: Oracle>(
+    alloc: Global,
+    file: &File<'_>,
+    oracle: &mut Recorder<'r, O>,
+    types: &mut Typed,
+    id: Node,
+) -> Result<(), AskFault>
+    requires inside { id.0 < length file.now.nodes }
+    requires keeps { Keeps file.now (⟦<Recorder<'r, O> as Oracle>⟧.tells oracle.old) types.old.variables }
+    ensures asks { AsksPart (var_of file.now id) (⟦<Recorder<'r, O> as Oracle>⟧.tells oracle.old) (⟦<Recorder<'r, O> as Oracle>⟧.tells oracle.new) result }
+    ensures keeps { Keeps file.now (⟦<Recorder<'r, O> as Oracle>⟧.tells oracle.new) types.new.variables }
+{
+    let _ty = var_once(alloc, file, oracle, types, id)?;
+    Ok(())
 }
 
 /// Does what is still to do of one entry, and puts what is to be done before the entries behind it.
@@ -193,23 +200,16 @@ fn do_one<'r, O: Oracle>(
     all: &mut AllPending,
     next: Pending,
 ) -> Result<(), AskFault>
-    requires next { IsOf file.now next }
+    requires inside { (node_of next).0 < length file.now.nodes }
     requires keeps { Keeps file.now (⟦<Recorder<'r, O> as Oracle>⟧.tells oracle.old) types.old.variables }
-    ensures of { All (IsOf file.now) all.old → All (IsOf file.now) all.new }
-    ensures parts { (whole : Asking JavaType) → IsTrue (⟦<Recorder<'r, O> as Oracle>⟧.tells oracle.old).is_told
-        → IsPartOf (⟦<Recorder<'r, O> as Oracle>⟧.tells oracle.old).world (asked_by file.now next) whole
-        → All (IsPart (⟦<Recorder<'r, O> as Oracle>⟧.tells oracle.old).world file.now whole) all.old
-        → All (IsPart (⟦<Recorder<'r, O> as Oracle>⟧.tells oracle.old).world file.now whole) all.new }
+    ensures due { OnOk result (AddsParts file.now (⟦<Recorder<'r, O> as Oracle>⟧.tells oracle.old).is_told (⟦<Recorder<'r, O> as Oracle>⟧.tells oracle.old).world (asked_by file.now next) all.old all.new) }
     ensures asks { AsksPart (asked_by file.now next) (⟦<Recorder<'r, O> as Oracle>⟧.tells oracle.old) (⟦<Recorder<'r, O> as Oracle>⟧.tells oracle.new) result }
     ensures keeps { Keeps file.now (⟦<Recorder<'r, O> as Oracle>⟧.tells oracle.new) types.new.variables }
 {
     match next {
-        Pending::Find(id) => {
-            let _ty = var_once(alloc, file, oracle, types, id)?;
-            Ok(())
-        }
-        Pending::Visit(before, left, n) => {
-            visit_one(alloc, file, oracle, types, all, before, left, n)
+        Pending::Find { id } => find(alloc, file, oracle, types, id),
+        Pending::Visit { before, left, n } => {
+            visit(alloc, file, oracle, types, all, before, left, n)
         }
     }
 }
@@ -229,12 +229,17 @@ pub(crate) fn type_variables<'r, O: Oracle>(
 {
     let count = file.tree().len();
     let mut all = AllPending::new(alloc);
-    all.push(Pending::Visit(count, count + 1, n))?;
-    for _step in 0..MOST_STEPS {
+    all.push(Pending::Visit {
+        before: count,
+        left: count + 1,
+        n,
+    })?;
+    for _ in 0..u64::MAX {
         let Some(next) = all.pop() else {
             return Ok(());
         };
         do_one(alloc, file, oracle, types, &mut all, next)?;
     }
+    // So many steps are never made.
     Err(AskFault::Memory)
 }
