@@ -1,4 +1,4 @@
-use Rattle.std.proofs.Common.{rules, ◌<◌, ◌++◌, [], ◌∷◌, ◌∙◌, ap, sym, subst, refl}
+use Rattle.std.proofs.Common.{rules, ◌+◌, ◌<◌, ◌++◌, [], ◌∷◌, ◌∙◌, ap, sym, subst, refl}
 use Rattle.pj_names.proofs.AskingLaws.{ComesTo, comes-begin, comes-then, comes-ends, asks-refused, asks-settled, asks-stop}
 use Rattle.pj_names.specs.Told.{longest, longest_is}
 use Rattle.pj_members.specs.Receivers.{supertype_test, first_from, hit_of}
@@ -66,7 +66,13 @@ loop-class-preserved g c =
     let turned = supertypes-turn (supertype_test c.args.wanted.now) hit_of c.loop-class._class c.loop-class.invariant.0 (standing c.loop-class.walk) (standing c.next_class.new.self) (supertype_view c.in-Some.next) below given c.loop-class.invariant.1 in
     let none = rw c.in_default-hit.is at c.in_ok-hit.ensures in
     let missed = supertypes-missed (supertype_test c.args.wanted.now) hit_of c.loop-class._class (c.loop-class.invariant.0 ++ supertype_view c.in-Some.next ∷ []) (standing c.next_class.new.self) (supertype_view c.in-Some.next) (comes-then _ turned none) in
-    (c.loop-class.invariant.0 ++ supertype_view c.in-Some.next ∷ [], rw c.in_ok-put.ensures (comes-then _ missed c.in_ok-more.ensures))
+    let further = comes-then _ missed c.in_ok-more.ensures in
+    let given_then = c.loop-class.invariant.0 ++ supertype_view c.in-Some.next ∷ [] in
+    (
+      given_then,
+      subst (λ (s : Standing). ComesTo (first_from (supertype_test c.args.wanted.now) (supertype_view c.args.head)) (g.O.Oracle.tells c.args.oracle.now) (to_come (supertype_test c.args.wanted.now) hit_of (c.loop-class._class + 1) given_then s) (g.O.Oracle.tells c.direct_supertypes.new.oracle))
+          (sym c.in_ok-put.ensures) further,
+    )
 
 pub returns : goal.returns
 returns g c = comes-ends c.loop-class.invariant.1 (asks-stop refl)
