@@ -9,7 +9,7 @@ use Rattle.std.specs.FinSet as set
 use Rattle.std.specs.Option.{option_map_or}
 use Rattle.pj_names.specs.declared.answer.Answer.{Answer}
 use Rattle.pj_names.specs.ClassName.{Name, NameSet}
-use Rattle.pj_names.specs.JavaType.{JavaType, Arguments, arguments_of}
+use Rattle.pj_names.specs.JavaType.{Arguments, arguments_of}
 use Rattle.pj_names.specs.Asking.{Asking, Return, Unbounded, bind, look_up}
 use Rattle.pj_types.specs.DepthFirst.{visit}
 use Rattle.pj_types.specs.Members.{FoundField, FoundMethod}

@@ -16,10 +16,10 @@ pub loop-class-init : goal.loop-class-init
 loop-class-init g c =
     let none : c.new-list.result ≡ [] = search rules in
     let begun = subst (λ m. ComesTo (list_from (supertype_view c.args.head)) (g.O.Oracle.tells c.args.oracle.now) m (g.O.Oracle.tells c.args.oracle.now))
-        (supertypes-begin no_hit second_of (supertype_view c.args.head)
-        ∙ ap (λ (s : Standing). to_come no_hit second_of 0 [] s) (sym c.in_ok-walk.ensures)) comes-begin in
+    (supertypes-begin no_hit second_of (supertype_view c.args.head)
+    ∙ ap (λ (s : Standing). to_come no_hit second_of 0 [] s) (sym c.in_ok-walk.ensures)) comes-begin in
     subst (λ (given : List Listed). ComesTo (list_from (supertype_view c.args.head)) (g.O.Oracle.tells c.args.oracle.now) (to_come no_hit second_of 0 given (standing c.in_ok-walk.walk)) (g.O.Oracle.tells c.args.oracle.now))
-        (sym (ap (λ (l : List Supertype). all_supertypes l) none)) begun
+    (sym (ap (λ (l : List Supertype). all_supertypes l) none)) begun
 
 pub returns-in_err-next : goal.returns-in_err-next
 returns-in_err-next g c = comes-ends c.loop-class.invariant (asks-stop (search rules))
@@ -64,9 +64,9 @@ loop-class-preserved g c =
     ap all_supertypes (search rules) ∙ map-append supertype_view c.loop-class.list (c.in-Some.next ∷ []) in
     let further = comes-then _ missed c.in_ok-more.ensures in
     let put = subst (λ (s : Standing). ComesTo (list_from (supertype_view c.args.head)) (g.O.Oracle.tells c.args.oracle.now) (to_come no_hit second_of (c.loop-class._class + 1) (all_supertypes c.loop-class.list ++ supertype_view c.in-Some.next ∷ []) s) (g.O.Oracle.tells c.direct_supertypes.new.oracle))
-        (sym c.in_ok-put.ensures) further in
+    (sym c.in_ok-put.ensures) further in
     subst (λ (given_then : List Listed). ComesTo (list_from (supertype_view c.args.head)) (g.O.Oracle.tells c.args.oracle.now) (to_come no_hit second_of (c.loop-class._class + 1) given_then (standing c.put.new.self)) (g.O.Oracle.tells c.direct_supertypes.new.oracle))
-        (sym grown) put
+    (sym grown) put
 
 pub returns : goal.returns
 returns g c = comes-ends c.loop-class.invariant (asks-stop refl)

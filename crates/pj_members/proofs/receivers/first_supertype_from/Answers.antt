@@ -67,8 +67,7 @@ loop-class-preserved g c =
     let none = rw c.in_default-hit.is at c.in_ok-hit.ensures in
     let missed = supertypes-missed (supertype_test c.args.wanted.now) hit_of c.loop-class._class (c.loop-class.invariant.0 ++ supertype_view c.in-Some.next ∷ []) (standing c.next_class.new.self) (supertype_view c.in-Some.next) (comes-then _ turned none) in
     let further = comes-then _ missed c.in_ok-more.ensures in
-    let given_then = c.loop-class.invariant.0 ++ supertype_view c.in-Some.next ∷ [] in
-    (
+    let given_then = c.loop-class.invariant.0 ++ supertype_view c.in-Some.next ∷ [] in (
       given_then,
       subst (λ (s : Standing). ComesTo (first_from (supertype_test c.args.wanted.now) (supertype_view c.args.head)) (g.O.Oracle.tells c.args.oracle.now) (to_come (supertype_test c.args.wanted.now) hit_of (c.loop-class._class + 1) given_then s) (g.O.Oracle.tells c.direct_supertypes.new.oracle))
           (sym c.in_ok-put.ensures) further,

@@ -1,6 +1,11 @@
-use Rattle.pj_names.proofs.AskingLaws.{asks-then}
+use Rattle.std.proofs.Common.{rules}
+use Rattle.pj_names.proofs.AskingLaws.{asks-refused, asks-then}
 use Rattle.pj_receivers.specs.Fields.{field_of_class, field_or_member}
 use Rattle.pj_receivers.proofs.fields.field_of_class.Goals as goal
+
+pub returns-in_err-found : goal.returns-in_err-found
+unfolding field_of_class
+returns-in_err-found g c = asks-refused _ c.in_err-found.ensures (search rules)
 
 pub returns : goal.returns
 unfolding field_of_class
