@@ -1,0 +1,7 @@
+pub mod Parts
+pub mod Steps
+pub mod Tables
+pub mod Inside
+pub mod Depth
+pub mod Others
+pub mod Due

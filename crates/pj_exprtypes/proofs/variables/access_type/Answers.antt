@@ -1,0 +1,7 @@
+use Rattle.pj_names.proofs.AskingLaws.{asks-then}
+use Rattle.pj_exprtypes.proofs.variables.access_type.Goals as goal
+
+pub returns-clause-asks : goal.returns-clause-asks
+returns-clause-asks g c =
+    let asked = rw (c.first_word.ensures, c.tree.ensures) at c.in_ok-meant.ensures.asks in
+    asks-then _ asked c.meant_type.ensures.asks
