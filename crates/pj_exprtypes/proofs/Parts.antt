@@ -1,14 +1,13 @@
 -- Parts of what a meaning asks.
-use Rattle.std.proofs.Common.{◌≡◌, append_assoc, ℕ, ◌+◌, ◌≤◌, Bool, true, false, List, [], ◌∷◌, ◌++◌, IsTrue, refl, sym, ap, subst, ◌∙◌, arith}
+use Rattle.std.proofs.Common.{◌≡◌, append_assoc, ℕ, ◌≤◌, Bool, true, false, List, [], ◌∷◌, ◌++◌, IsTrue, refl, sym, ap, subst, ◌∙◌, arith}
 use Rattle.std.specs.Prelude.{◌||◌, Result, Ok, Err, IfOk, OnOk}
-use Rattle.std.specs.Cmp.Lexicographic.{nat_list_cmp_total, slice_cmp}
-use Rattle.std.specs.Ordering.{nat_cmp}
+use Rattle.std.specs.Cmp.Lexicographic.{nat_list_cmp_total}
 use Rattle.std.specs.FinSet as set
 use Rattle.std.specs.FinSet.{contains-from_list}
 use Rattle.pj_names.specs.declared.oracle.AskFault.{AskFault}
 use Rattle.pj_names.specs.declared.oracle.AskFault.TheVariants.{Failed, Memory}
 use Rattle.pj_names.specs.ClassName.{Name, NameSet, name_set}
-use Rattle.pj_names.specs.Asking.{Asking, Return, bind, names_of, value_of}
+use Rattle.pj_names.specs.Asking.{Asking, bind, names_of, value_of}
 use Rattle.pj_names.specs.Told.{Asks, IsWithin, Told, UnlessFailed, World, Worlds, all_needs, asked_after, longest, with_names}
 use Rattle.pj_names.proofs.AskingLaws.{asked_after-names, within-after, within-self, within-trans}
 use Rattle.pj_names.proofs.MeaningLaws.{names_of-bind}
@@ -103,10 +102,6 @@ part-next {A = A} w m k v is = record {
       (of_among (needs_of d (w d) (k at)) (needs_of d (w d) m ++ needs_of d (w d) (k at)) (in_right (needs_of d (w d) m) (needs_of d (w d) (k at)))));
 }
 
--- nothing is asked
-pub part-nothing : {A B : Type 0} (w : Worlds) (v : B) (m : Asking A) → IsPartOf w (Return v) m
-part-nothing w v m = record { each = λ d far. of_among [] (needs_of d (w d) m) (λ q there. absurd (cc)) }
-
 -- ---- calls
 
 pub part-begin : {K A B : Type 0} {m : Asking A} {t : Told K} {v : B} → AsksPart m t t (Ok v)
@@ -194,19 +189,6 @@ part-then m part {t = t} {u = u} {c = c} {r = r} is_part so_far h = record {
 -- what asks a part of a part asks a part of the whole
 pub part-lift : {K A B D : Type 0} (m : Asking A) (part : Asking B) {t c : Told K} {r : Result D AskFault} → (IsTrue t.is_told → IsPartOf t.world part m) → AsksPart part t c r → AsksPart m t c r
 part-lift m part {t = t} is_part h = part-then m part {done = t.faults} is_part part-begin h
-
--- another result that says the same of faults
-pub part-as : {K A B C : Type 0} {m : Asking A} {t u : Told K} {v : B} (w : C) → AsksPart m t u (Ok v) → AsksPart m t u (Ok w)
-part-as w h = record {
-  same_told = h.same_told;
-  same_world = h.same_world;
-  same_kept = h.same_kept;
-  faults_grow = h.faults_grow;
-  faults_stay = h.faults_stay;
-  failed = λ e. absurd (cc);
-  asked_stays = h.asked_stays;
-  asked_within = h.asked_within;
-}
 
 pub part-same : {K A B C : Type 0} {m : Asking A} {t u : Told K} {e : AskFault} {r : Result C AskFault} → AsksPart {B = B} m t u (Err e) → r ≡ Err e → AsksPart m t u r
 part-same {e = e} h is = record {

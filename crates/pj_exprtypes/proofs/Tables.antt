@@ -1,7 +1,7 @@
 -- The table of held types, over an oracle and over one that notes its names.
 use Rattle.std.proofs.Common.{◌≡◌, List, [], ◌∷◌, ◌++◌, IsTrue, ap, sym, subst, ◌∙◌}
-use Rattle.std.proofs.lemmas.List.Elements.{All-cons, All-nil, All-push}
-use Rattle.std.specs.Prelude.{Result, Ok, Err, OnOk, OnErr}
+use Rattle.std.proofs.lemmas.List.Elements.{All-cons, All-nil}
+use Rattle.std.specs.Prelude.{Result}
 use Rattle.std.specs.List.{All}
 use Rattle.pj_tree.specs.Tree.{Tree}
 use Rattle.pj_tree.specs.declared.node.Node.{Node}
@@ -13,7 +13,6 @@ use Rattle.pj_names.specs.Held.{IsHeld}
 use Rattle.pj_names.specs.Noting.{noting_world}
 use Rattle.pj_names.specs.Told.{Asks, Told, Worlds}
 use Rattle.pj_exprtypes.specs.declared.held.HeldVariable.{HeldVariable}
-use Rattle.pj_exprtypes.specs.Parts.{AsksPart}
 use Rattle.pj_exprtypes.specs.Table.{Holds, Keeps}
 use Rattle.pj_exprtypes.specs.TypeOf.{var_of}
 
@@ -32,14 +31,6 @@ all-noted t w types all = λ k d below. held-noted (all k d below)
 -- what is held stays so in every call
 pub keeps-on : {K A : Type 0} {m : Asking A} {told after : Told K} {r : Result A AskFault} (t : Tree) (types : List HeldVariable) → Asks m told after r → Keeps t told types → Keeps t after types
 keeps-on {told = told} {after = after} t types h keeps = λ is. subst (λ w. All (Holds t w) types) (sym h.same_world) (keeps (sym h.same_told ∙ is))
-
-pub keeps-part : {K A B : Type 0} {m : Asking A} {told after : Told K} {r : Result B AskFault} (t : Tree) (types : List HeldVariable) → AsksPart m told after r → Keeps t told types → Keeps t after types
-keeps-part {told = told} {after = after} t types h keeps = λ is. subst (λ w. All (Holds t w) types) (sym h.same_world) (keeps (sym h.same_told ∙ is))
-
--- one entry more, also where there was no memory for it
-pub all-pushed : {X A E : Type 0} (P : X → Type 0) (old new : List X) (x : X) (r : Result A E) → OnOk r (new ≡ old ++ x ∷ []) → OnErr r (new ≡ old) → P x → All P old → All P new
-all-pushed {X = X} P old new x (Ok v) ok err one all = subst (λ (l : List X). All P l) (sym ok) (All-push P old x all one)
-all-pushed {X = X} P old new x (Err e) ok err one all = subst (λ (l : List X). All P l) (sym err) all
 
 -- what was found is held too
 pub keeps-more : {K A : Type 0} {m : Asking A} {told after : Told K} {r : Result A AskFault} (t : Tree) (types more : List HeldVariable) (id : Node) (ty : JavaType) (names : NameSet)

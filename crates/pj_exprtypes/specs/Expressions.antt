@@ -11,7 +11,6 @@ use Rattle.pj_names.specs.Asking.{Asking, Return}
 use Rattle.pj_operators.specs.declared.operators.Infix.{Infix}
 use Rattle.pj_operators.specs.declared.operators.Infix.TheVariants as i
 use Rattle.pj_operators.specs.declared.operators.Unary.{Unary}
-use Rattle.pj_operators.specs.declared.operators.Unary.TheVariants as u
 use Rattle.pj_operators.specs.Conditional.{conditional_type}
 use Rattle.pj_operators.specs.Operators.{infix_of, infix_type, unary_of, unary_type}
 use Rattle.pj_types.specs.Conversions.{promoted}

@@ -3,7 +3,7 @@ use Rattle.std.specs.Prelude.{Option, None, Some, if◌then◌else◌}
 use Rattle.pj_tree.specs.Tree.{Tree}
 use Rattle.pj_tree.specs.Words.{first_of, words_of}
 use Rattle.pj_tree.specs.declared.node.Node.{Node}
-use Rattle.pj_names.specs.JavaType.{JavaType, Unknown}
+use Rattle.pj_names.specs.JavaType.{Unknown}
 use Rattle.pj_names.specs.Asking.{Asking, Return, bind}
 use Rattle.pj_scopes.specs.VariableName.{DeclaredAt, Inherited, Meant, variable_name}
 use Rattle.pj_leaf_types.specs.Variables.{is_in_own_initializer}

@@ -1,4 +1,4 @@
-use Rattle.std.proofs.Common.{◌≡◌, ◌<◌, ◌≤◌, ◌+◌, ◌-◌, Bool, true, false, Option, None, Some, IsTrue, rules, arith, ap, refl, subst, sym, ◌∙◌, length}
+use Rattle.std.proofs.Common.{◌≡◌, ◌+◌, rules, ap, sym, ◌∙◌, length}
 use Rattle.pj_tree.specs.Tree.{Tree}
 use Rattle.pj_scopes.proofs.Turns.{asks-as}
 use Rattle.pj_exprtypes.specs.TypeOf.{earlier, type_of, typed}

@@ -1,4 +1,4 @@
-use Rattle.std.proofs.Common.{◌≡◌, ◌<◌, ◌≤◌, ◌+◌, ◌-◌, Bool, true, false, Option, None, Some, IsTrue, rules, arith, ap, refl, subst, sym, ◌∙◌, length}
+use Rattle.std.proofs.Common.{◌≡◌, rules, ap, subst, sym}
 use Rattle.pj_names.specs.JavaType.{java_type}
 use Rattle.pj_names.specs.Told.{Asks, seen}
 use Rattle.pj_names.proofs.NotingLaws.{asks-noted}

@@ -1,4 +1,4 @@
-use Rattle.std.proofs.Common.{◌≡◌, ◌<◌, ◌≤◌, ◌+◌, ◌-◌, Bool, true, false, Option, None, Some, IsTrue, rules, arith, ap, refl, subst, sym, ◌∙◌, length}
+use Rattle.std.proofs.Common.{ap, subst}
 use Rattle.std.specs.List.{All}
 use Rattle.pj_tree.specs.Tree.{Tree}
 use Rattle.pj_names.specs.Expand.{world_by}

@@ -1,6 +1,6 @@
-use Rattle.std.proofs.Common.{length, ap, ◌∙◌}
+use Rattle.std.proofs.Common.{length}
 use Rattle.pj_written.proofs.Inside.{inside_by}
-use Rattle.pj_exprtypes.specs.Operands.{if_some, source_of}
+use Rattle.pj_exprtypes.specs.Operands.{if_some}
 use Rattle.pj_exprtypes.proofs.Inside.{some_inside}
 use Rattle.pj_exprtypes.proofs.operands.var_operands.Goals as goal
 

@@ -1,7 +1,6 @@
-use Rattle.std.proofs.Common.{rules, arith, ◌≡◌, ◌<◌, ◌≤◌, ◌+◌, ◌-◌, List, IsTrue, length, refl, sym, ap, subst, ◌∙◌}
+use Rattle.std.proofs.Common.{rules, arith, ◌≡◌, ◌<◌, ◌+◌, List, refl, sym, ap, subst, ◌∙◌}
 use Rattle.std.specs.Prelude.{Ok}
 use Rattle.std.specs.FinSet as set
-use Rattle.pj_tree.specs.declared.node.Node.{Node}
 use Rattle.pj_names.specs.Asking.{each}
 use Rattle.pj_names.specs.ClassName.{NameSet, name_set}
 use Rattle.pj_names.specs.Held.{IsHeld}
@@ -9,7 +8,7 @@ use Rattle.pj_names.specs.JavaType.{java_type, type_list}
 use Rattle.pj_names.specs.Noting.{Notes, tells_noting}
 use Rattle.pj_names.specs.declared.ty.Ty.{Ty}
 use Rattle.pj_names.specs.Told.{Asks, seen}
-use Rattle.pj_names.proofs.AskingLaws.{ComesTo, asks-refused, asks-return, asks-stop, asks-then, comes-begin, comes-ends}
+use Rattle.pj_names.proofs.AskingLaws.{ComesTo, asks-refused, asks-return, asks-stop, asks-then, comes-begin}
 use Rattle.pj_names.proofs.Held.{asks-late, done-apart, late-apart, noted-held, refused-apart}
 use Rattle.pj_names.proofs.MeaningLaws.{each-gather, gather}
 use Rattle.pj_names.proofs.NotingLaws.{asks-noted, notes-noted}
@@ -18,7 +17,7 @@ use Rattle.pj_scopes.proofs.Turns.{asks-as}
 use Rattle.pj_exprtypes.specs.Operands.{operands, var_operands}
 use Rattle.pj_exprtypes.specs.TypeOf.{deep, earlier, typed, var_of}
 use Rattle.pj_exprtypes.proofs.Steps.{earlier-var, typed-none, typed-some}
-use Rattle.pj_exprtypes.proofs.Tables.{all-noted, all-noting, keeps-more, keeps-on}
+use Rattle.pj_exprtypes.proofs.Tables.{all-noting, keeps-more, keeps-on}
 use Rattle.pj_exprtypes.proofs.typing.+typing.Goals as goal
 
 -- ---- a node
