@@ -23,12 +23,13 @@ use Rattle.pj_cache_format.specs.Answers.{answer_list}
 use Rattle.pj_cache_format.specs.FormatTwo.{key_list, key_places, is_name_place, name_at, name_list, key_rows, result as result_format, head, is_result_count, result_list, entry, entry_list, keys_of, names_of, is_same_list, are_named, cache}
 use Rattle.pj_cache_format.specs.Texts.{number, string, counted, answer_text}
 use Rattle.pj_cache_format.specs.TextTwo.{entry_text, cache_text}
-use Rattle.pj_cache_format.specs.Whole.{HasRoom, IsAnswerBehind, AreAnswers}
-use Rattle.pj_cache_format.specs.WholeTwo.{IsKeyBehind, AreKeys, IsEntryBehind, IsWhole}
+use Rattle.pj_cache_format.proofs.Whole.{IsAnswerBehind, AreAnswers}
+use Rattle.pj_cache_format.proofs.WholeTwo.{IsKeyBehind, AreKeys, IsEntryBehind, IsWhole}
 use Rattle.pj_cache_format.proofs.Order.{AreBehind, behind_sorted}
 use Rattle.pj_cache_format.proofs.AnswerLaws.{number_text, string_text, u32_law, sized_law, both_true, answer_list_law}
 use Rattle.pj_cache_format.proofs.ResultLaws.{key_list_law, key_places_law, name_made, key_rows_law}
 use Rattle.pj_cache_format.proofs.EntryLaws.{ResultState, result_made, head_law, entry_made, entry_list_law}
+use Rattle.pj_cache_format.specs.Fitting.{HasRoom}
 
 -- ---- order
 

@@ -15,7 +15,7 @@ use Rattle.pj_cache_format.specs.Judges.{passing}
 use Rattle.pj_cache_format.specs.FormatTwo.{cache}
 use Rattle.pj_cache_format.specs.Texts.{number}
 use Rattle.pj_cache_format.specs.TextTwo.{cache_text}
-use Rattle.pj_cache_format.specs.WholeTwo.{IsWhole}
+use Rattle.pj_cache_format.proofs.WholeTwo.{IsWhole}
 use Rattle.pj_cache_format.specs.Decoded.{magic, sealed, text_two, content_of, seal_of, is_version, stored, IsSealed, IsStored}
 use Rattle.pj_cache_format.proofs.AnswerLaws.{number_text}
 use Rattle.pj_cache_format.proofs.CacheLaws.{cache_law}
