@@ -7,6 +7,7 @@ use Rattle.std.specs.BTreeSet.{insert_key}
 use Rattle.std.specs.Cmp.Lexicographic.{pointwise, bytes_decides, nat_list_cmp_total}
 use Rattle.std.specs.declared.cmp.Ordering.{Ordering}
 use Rattle.std.specs.declared.cmp.Ordering.TheVariants.{Less, Equal, Greater}
+use Rattle.std.specs.Str.{is_utf8}
 use Rattle.std.specs.Ordering.{is_lt, nat_cmp, match_ordering, ordering_reverse}
 use Rattle.std.proofs.lemmas.Bool.{ltb-true}
 use Rattle.std.proofs.lemmas.List.{length-map}
@@ -15,7 +16,7 @@ use Rattle.pj_format.specs.Fields.{Chain, Along}
 use Rattle.pj_names.specs.declared.answer.Answer.{Answer}
 use Rattle.pj_names.specs.declared.answer.Answer.TheVariants as answers
 use Rattle.pj_names.specs.declared.answer.ClassInfo.{ClassInfo}
-use Rattle.pj_names.specs.ClassName.{Name}
+use Rattle.pj_names.specs.ClassName.{Name, is_class_name}
 use Rattle.pj_reports.specs.declared.ruled.Head.{Head}
 use Rattle.pj_reports.specs.declared.ruled.Head.TheVariants as heads
 use Rattle.pj_reports.specs.declared.ruled.Ruled.{Ruled}
@@ -33,7 +34,7 @@ use Rattle.pj_cache_format.specs.Ordered.{HasItsName, IsAnswerInOrder, AreRowsIn
 use Rattle.pj_cache_format.proofs.Whole.{AreMembers, IsClass, IsAnswerFor, IsAnswerBehind, AreAnswers}
 use Rattle.pj_cache_format.proofs.WholeTwo.{IsSpotBehind, AreRows, IsKeyBehind, AreKeys, AreKeyPlaces, AreKeyRows, IsNameBehind, AreNames, IsResultBehind, AreResults, IsEntryBehind, IsWhole}
 use Rattle.pj_cache_format.proofs.AnswerLaws.{both_true}
-use Rattle.pj_cache_format.proofs.Order.{AreBehind}
+use Rattle.pj_cache_format.proofs.Order.{AreBehind, behind_sorted}
 
 -- ---- facts along a list, and facts of each member
 
@@ -83,6 +84,13 @@ answers_order list h = chain_as IsAnswerBehind IsAnswerInOrder name_step None li
 
 answers_fit : (list : List (Name × Answer)) → AreAnswers list → AllFit FitsNamed list
 answers_fit list h = (h.0, All-from_recursion FitsNamed list (chain_each IsAnswerBehind FitsNamed name_step None list (λ before a r. (r.0, answer_fits a.0 a.1 r.2)) h.1))
+
+answers_behind : (before : Option Name) (list : List (Name × Answer)) → Chain IsAnswerInOrder name_step before list → AreBehind before (map (λ (a : Name × Answer). a.0) list)
+answers_behind before [] h = tt
+answers_behind before (a ∷ rest) h =
+    let two = both_true (is_utf8 a.0) _ h.0.0 in
+    let three = both_true (is_class_name a.0) (is_behind byte_order before a.0) two.1 in
+    (three.1, answers_behind (Some a.0) rest h.1)
 
 -- ---- what rules come to
 
@@ -191,6 +199,12 @@ module _ (keys : List (List ℕ)) (names : List Name) where
   entries_fit : (es : List Entry) → Chain (IsEntryBehind keys names) path_step None es → AllByRecursion FitsEntry es
   entries_fit es h = chain_each (IsEntryBehind keys names) FitsEntry path_step None es (λ before e r. (r.0.0, r.1, r.2, results_fit e.head e.results r.3)) h
 
+  paths_behind : (before : Option (List ℕ)) (es : List Entry) → Chain (IsEntryInOrder keys names) path_step before es → AreBehind before (map (λ (e : Entry). e.path) es)
+  paths_behind before [] h = tt
+  paths_behind before (e ∷ es) h =
+      let two = both_true (is_utf8 e.path) (is_behind byte_order before e.path) h.0.0 in
+      (two.1, paths_behind (Some e.path) es h.1)
+
 -- ---- keys, which stand in order
 
 inserted_by : (before : Option (List ℕ)) (k x : List ℕ) (xs more : List (List ℕ)) (o : Ordering) → byte_order k x ≡ o → is_behind byte_order before k ≡ true → AreBehind before (x ∷ xs) → (is_behind byte_order (Some x) k ≡ true → AreBehind (Some x) more)
@@ -281,3 +295,11 @@ whole_fits c w =
       answers = answers_fit c.answers w.answers;
       entries = (w.room, All-from_recursion FitsEntry c.entries (entries_fit (keys_of c.entries) (named c) c.entries w.entries));
     }
+
+-- ---- strict order
+
+pub answers_sorted : (c : Cache) → IsInOrder c → IsStrictlySortedBy byte_order (map (λ (a : Name × Answer). a.0) c.answers)
+answers_sorted c o = behind_sorted None (named c) (answers_behind None c.answers o.answers)
+
+pub paths_sorted : (c : Cache) → IsInOrder c → IsStrictlySortedBy byte_order (map (λ (e : Entry). e.path) c.entries)
+paths_sorted c o = behind_sorted None (map (λ (e : Entry). e.path) c.entries) (paths_behind (keys_of c.entries) (named c) None c.entries o.entries)

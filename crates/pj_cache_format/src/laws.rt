@@ -1,5 +1,7 @@
 //! Laws of the texts of caches, each the contract of a call that does nothing.
-ghost use Rattle.std.specs.Prelude.{◌≡◌, ◌<◌, ℕ, List, slice_index};
+ghost use Rattle.std.specs.Prelude.{◌≡◌, ◌<◌, ℕ, List, slice_index, map};
+ghost use Rattle.std.specs.List.Sorted.{IsStrictlySortedBy};
+ghost use Rattle.pj_cache.specs.Places.{byte_order};
 ghost use Rattle.pj_cache.specs.declared.cache.Cache.{Cache};
 ghost use Rattle.pj_cache_format.specs.Decoded.{IsStored, text_two};
 ghost use Rattle.pj_cache_format.specs.Fitting.{FitsFields};
@@ -23,4 +25,10 @@ pub fn spells_one_cache()
 /// Different caches that are in order and fit their fields have different texts.
 pub fn different_caches_differ()
     ensures { (c d : Cache) → IsInOrder c → FitsFields c → IsInOrder d → FitsFields d → text_two c ≡ text_two d → c ≡ d }
+{}
+
+/// In a cache that is in order the answers and the entries stand in the order of their bytes, each once.
+pub fn order_is_strict()
+    ensures answers { (c : Cache) → IsInOrder c → IsStrictlySortedBy byte_order (map (λ a. a.0) c.answers) }
+    ensures entries { (c : Cache) → IsInOrder c → IsStrictlySortedBy byte_order (map (λ e. e.path) c.entries) }
 {}

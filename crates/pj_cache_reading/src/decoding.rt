@@ -1,18 +1,19 @@
 //! Reading a cache.
-ghost use Rattle.std.specs.Prelude.{◌≡◌, ◌≤◌, length, map, Some, None, IfOk};
+ghost use Rattle.std.specs.Prelude.{◌≡◌, ◌≤◌, ◌↔◌, length, map, take, Some, None, IfOk, IsTrue};
 ghost use Rattle.std.specs.Option.{option_copied};
 ghost use Rattle.pj_format.specs.Format.{first, whole};
 ghost use Rattle.pj_format.specs.Fields.{Gives, several_from};
 ghost use Rattle.pj_cache_format.specs.Judges.{is_language};
 ghost use Rattle.pj_cache_format.specs.FormatTwo.{key, key_list, is_same_list, are_named, cache};
-ghost use Rattle.pj_cache_format.specs.Decoded.{IsDecoded, stored};
+ghost use Rattle.pj_cache_format.specs.Decoded.{IsDecoded, magic, content_of, seal_of, stored};
+ghost use Rattle.pj_cache_reading.specs.Spelled.{IsSpelled};
 
 use crate::answers::answers_of;
 use crate::entries::entries_of;
 use crate::fields::{is_behind, is_same, or_memory, wrong};
 use pj_base::{Bytes, NoMemory};
 use pj_cache::{Cache, Entry, Key};
-use pj_cache_format::{CacheFault, CacheRefused, digest_of, keys_of, names_of};
+use pj_cache_format::{CacheFault, CacheRefused, Digest32, digest_of, keys_of, names_of};
 use pj_format::{Refused, run_of, sized_of, u32_of};
 use pj_names::{Answer, ClassName};
 use std::alloc::Global;
@@ -148,6 +149,44 @@ fn stored_of(alloc: Global, bytes: &[u8]) -> Result<(Cache, u32), Refused>
     Ok((cache, end))
 }
 
+/// The cache that bytes spell whose seal is right, without the seal; or the first byte of their first fault.
+fn cache_in(alloc: Global, content: &[u8]) -> Result<Cache, CacheRefused>
+    requires { length content.now ≤ 4294967294 }
+    ensures { IsSpelled content.now result }
+{
+    match stored_of(alloc, content) {
+        Ok((cache, _)) => Ok(cache),
+        Err(Refused::Memory) => Err(CacheRefused::Memory),
+        Err(Refused::Fault(fault)) => Err(CacheRefused::Fault(CacheFault::Form(fault.offset))),
+    }
+}
+
+/// Whether bytes begin as caches do.
+fn has_magic(bytes: &[u8]) -> bool
+    requires { 8 ≤ length bytes.now }
+    ensures { IsTrue result ↔ (take 8 bytes.now ≡ magic) }
+{
+    is_same(&bytes[..8], b"PMDJCACH")
+}
+
+/// All but the seal, borrowed.
+fn content_of(bytes: &[u8]) -> &[u8]
+    requires { 32 ≤ length bytes.now }
+    ensures { result.now ≡ content_of bytes.now }
+{
+    &bytes[..bytes.len() - 32]
+}
+
+/// The seal.
+fn seal_of(bytes: &[u8]) -> Digest32
+    requires { 32 ≤ length bytes.now }
+    ensures { result ≡ seal_of bytes.now }
+{
+    let mut seal = [0; 32];
+    seal.copy_from_slice(&bytes[bytes.len() - 32..]);
+    seal
+}
+
 /// The cache that bytes spell, or what is wrong with them, tested in this order: `Short` where they are fewer than 44,
 /// `Magic` where they do not begin as caches do, `Seal` with the last 32 bytes and the SHA-256 of those before where these
 /// differ, `Form` with the first byte of the first field that runs into the seal or breaks a rule of the format. A rule that an
@@ -161,19 +200,16 @@ pub fn decode(alloc: Global, bytes: &[u8]) -> Result<Cache, CacheRefused>
     if bytes.len() < 44 {
         return Err(CacheRefused::Fault(CacheFault::Short));
     }
-    if !is_same(&bytes[..8], b"PMDJCACH") {
+    let is_begun = has_magic(bytes);
+    if !is_begun {
         return Err(CacheRefused::Fault(CacheFault::Magic));
     }
-    let (content, seal) = bytes.split_at(bytes.len() - 32);
+    let content = content_of(bytes);
+    let kept = seal_of(bytes);
     let computed = digest_of(content);
-    let mut kept = [0; 32];
-    kept.copy_from_slice(seal);
-    if !is_same(&kept, &computed) {
+    let is_right = is_same(&kept, &computed);
+    if !is_right {
         return Err(CacheRefused::Fault(CacheFault::Seal(kept, computed)));
     }
-    match stored_of(alloc, content) {
-        Ok((cache, _)) => Ok(cache),
-        Err(Refused::Memory) => Err(CacheRefused::Memory),
-        Err(Refused::Fault(fault)) => Err(CacheRefused::Fault(CacheFault::Form(fault.offset))),
-    }
+    cache_in(alloc, content)
 }

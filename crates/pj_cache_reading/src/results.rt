@@ -241,7 +241,10 @@ fn result_of(
     let (group, end) = group_of(alloc, keys, &places, bytes, behind)?;
     or_memory(use_places(used, &places))?;
     let group = Group::from_vec(group);
-    Ok(((CachedResult { group, names }, places.first().copied()), end))
+    Ok((
+        (CachedResult { group, names }, places.first().copied()),
+        end,
+    ))
 }
 
 /// So many results of an entry.
@@ -261,7 +264,9 @@ pub(crate) fn several_results_of(
     let mut before = None;
     let mut place = at;
     for _ in 0..count {
-        let ((item, first), behind) = result_of(alloc, keys, answers, before, &mut used, bytes, place)?;
+        let ((item, first), behind) = result_of(
+            alloc, keys, answers, before, &mut used, bytes, place,
+        )?;
         list.push(item)?;
         before = first;
         place = behind;

@@ -1,10 +1,12 @@
 //! Bytes of caches, with the cache that they spell or what is wrong with them.
+ghost use Rattle.std.specs.Prelude.{◌≡◌, []};
+
 use crate::bytes::{bytes_of, range_of};
 use crate::row_fault::{RowFault, answer_text};
 use crate::shown::cache_text;
 use pj_base::NoMemory;
 use pj_cache::Cache;
-use pj_cache_format::{CacheFault, CacheRefused};
+use pj_cache_format::{CacheFault, CacheRefused, encode};
 use pj_cache_reading::decode;
 use pj_rows::{Row, Section, Table};
 use std::alloc::Global;
@@ -28,6 +30,7 @@ fn answer(alloc: Global, section: &Section, given: &str) -> Result<String, RowFa
         "cut" => faults_of_range(alloc, &cache, given, true),
         "flipped" => faults_of_range(alloc, &cache, given, false),
         "cache" => decoded_text(alloc, &bytes_of(alloc, given)?),
+        "written" => written_text(alloc, &bytes_of(alloc, given)?),
         _ => Err(RowFault::Unread("no such @shows")),
     }
 }
@@ -62,6 +65,31 @@ fn decoded_text(alloc: Global, bytes: &[u8]) -> Result<String, RowFault> {
         Ok(cache) => Ok(cache_text(alloc, &cache)?),
         Err(fault) => fault_text(alloc, fault),
     }
+}
+
+/// Whether the text of a cache without answers is these bytes.
+fn is_text(alloc: Global, cache: &Cache, bytes: &[u8]) -> Result<bool, NoMemory>
+    requires { cache.now.answers ≡ [] }
+{
+    let text = encode(alloc, cache)?;
+    Ok(text.as_slice() == bytes)
+}
+
+/// Whether the bytes of a cache without answers are written again as they are.
+fn written_text(alloc: Global, bytes: &[u8]) -> Result<String, RowFault> {
+    let cache = match read(alloc, bytes)? {
+        Ok(cache) => cache,
+        Err(fault) => return fault_text(alloc, fault),
+    };
+    if cache.answers.len() != 0 {
+        return Err(RowFault::Unread("a cache with answers"));
+    }
+    let word = if is_text(alloc, &cache, bytes)? {
+        "the same bytes"
+    } else {
+        "other bytes"
+    };
+    Ok(String::from_str(alloc, word)?)
 }
 
 /// The word of what is wrong.

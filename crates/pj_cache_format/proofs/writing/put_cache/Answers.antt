@@ -12,10 +12,10 @@ put_content-requires-clause-answers c =
     let names : map (λ a. a.0) c.args.cache.now.answers ≡ map (λ a. a.0) pairs = ap (λ (l : List (List ℕ × Answer)). map (λ a. a.0) l) (sym c.as_slice-answers.ensures) ∙ firsts (λ a. a.0) (λ a. a.1.value) pairs in
     subst (λ (l : List (List ℕ)). IsStrictlySortedBy byte_order l) names c.requires
 
-pub returns : goal.returns
-returns c =
+pub returns-clause-put : goal.returns-clause-put
+returns-clause-put c =
     let pairs = c.as_slice-answers.result.now in
     let entries = c.as_slice-entries.result.now in
     let is : entries ≡ c.args.cache.now.entries = c.as_slice-entries.ensures in
     let keys : c.deref.result.now ≡ keys_of entries = c.deref.ensures.value ∙ c.in_ok-keys.ensures.keys ∙ ap keys_of (c.as_slice.ensures ∙ sym is) in
-    c.in_ok-put_content.ensures ∙ ap (λ (l : List ℕ). c.args.out.now.items ++ l) (cache_written (λ a. a.0) (λ a. a.1.value) c.args.cache.now c.deref.result.now pairs entries keys c.as_slice-answers.ensures is)
+    c.in_ok-put_content.ensures.put ∙ ap (λ (l : List ℕ). c.args.out.now.items ++ l) (cache_written (λ a. a.0) (λ a. a.1.value) c.args.cache.now c.deref.result.now pairs entries keys c.as_slice-answers.ensures is)
