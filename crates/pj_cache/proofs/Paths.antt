@@ -23,7 +23,7 @@ other_by a b false e differ = e
 other : (a b : List ℕ) → ¬ (a ≡ b) → pointwise nat_eq a b ≡ false
 other a b differ = other_by a b (pointwise nat_eq a b) refl differ
 
-not_both : (b : Bool) → b ≡ true → b ≡ false → ⊥
+pub not_both : (b : Bool) → b ≡ true → b ≡ false → ⊥
 not_both true yes no = absurd cc
 not_both false yes no = absurd cc
 
@@ -67,3 +67,27 @@ module _ {A : Type 0} (f : A → List ℕ) where
   unfolding IsStrictlySortedBy
   nowhere [] name sorted differs = refl
   nowhere (x ∷ xs) name sorted differs = nowhere_by x xs name (is_lt (byte_order (f x) name)) refl sorted.0 differs (λ rest. nowhere xs name sorted.1 rest)
+
+  same_get : (xs : List A) (i : ℕ) (d e : A) → i < length xs → get_or xs i d ≡ get_or xs i e
+  same_get [] i d e lt = absurd (omega (arith, lt))
+  same_get (x ∷ xs) zero d e lt = refl
+  same_get (x ∷ xs) (suc i) d e lt = same_get xs i d e (omega (arith, lt))
+
+  -- The same by what code has found: a list, the place, and the member there.
+
+  pub none_at : (xs ys : List A) (name : List ℕ) (at : ℕ) → xs ≡ ys → IsStrictlySortedBy byte_order (map f ys) → at ≡ place xs name → length xs ≤ at → first_named f ys name ≡ None
+  none_at xs ys name at same sorted is past =
+      let there_is : IsStrictlySortedBy byte_order (map f xs) = subst (λ (l : List A). IsStrictlySortedBy byte_order (map f l)) (sym same) sorted in
+      ap (λ (l : List A). first_named f l name) (sym same) ∙ nowhere xs name there_is (λ lt y at_place. absurd (omega (arith, lt, is, past)))
+
+  pub none_here : (xs ys : List A) (name : List ℕ) (at : ℕ) (y : A) → xs ≡ ys → IsStrictlySortedBy byte_order (map f ys) → at ≡ place xs name → y ≡ get_or xs at y → ¬ (f y ≡ name) → first_named f ys name ≡ None
+  none_here xs ys name at y same sorted is here differs =
+      let there_is : IsStrictlySortedBy byte_order (map f xs) = subst (λ (l : List A). IsStrictlySortedBy byte_order (map f l)) (sym same) sorted in
+      let y_is : y ≡ get_or xs (place xs name) y = subst (λ (k : ℕ). y ≡ get_or xs k y) is here in
+      ap (λ (l : List A). first_named f l name) (sym same)
+      ∙ nowhere xs name there_is (λ lt z z_is equal. differs (ap f (y_is ∙ same_get xs (place xs name) y z lt ∙ sym z_is) ∙ equal))
+
+  pub some_here : (xs ys : List A) (name : List ℕ) (at : ℕ) (y : A) → xs ≡ ys → at ≡ place xs name → at < length xs → y ≡ get_or xs at y → f y ≡ name → first_named f ys name ≡ Some y
+  some_here xs ys name at y same is lt here equal =
+      let y_is : y ≡ get_or xs (place xs name) y = subst (λ (k : ℕ). y ≡ get_or xs k y) is here in
+      ap (λ (l : List A). first_named f l name) (sym same) ∙ there xs name y (omega (arith, lt, is)) y_is equal

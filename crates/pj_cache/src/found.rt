@@ -6,7 +6,7 @@ ghost use Rattle.pj_cache.specs.Places.{byte_order, place_in};
 ghost use Rattle.pj_cache.specs.Found.{entry_of};
 
 use crate::cache::{Cache, Entry};
-use pj_base::Text;
+use pj_base::{Exact, Text};
 
 /// The place of a path: the number of entries whose paths are below it.
 fn place_of_path(entries: &[Entry], path: &Text) -> usize
@@ -41,7 +41,7 @@ impl Cache {
             return None;
         }
         let entry = &entries[place];
-        let is_here = entry.path == *path;
+        let is_here = entry.path.is(path);
         if !is_here {
             return None;
         }

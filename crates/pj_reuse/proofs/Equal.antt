@@ -109,12 +109,16 @@ answer_equal (answers.Broken a) (answers.Found b) e = absurd cc
 pub same_equal : (a b : Answer) → (is_same_answer a b ≡ true) ↔ (a ≡ b)
 same_equal a b = (answer_equal a b, λ e. subst (λ (x : Answer). is_same_answer a x ≡ true) e (answer_itself a))
 
+not_both : (b : Bool) → b ≡ true → b ≡ false → ⊥
+not_both true yes no = absurd cc
+not_both false yes no = absurd cc
+
 -- a test that tells whether both are equal is that one
 told_by : (a b : Answer) (test same : Bool) → IsTrue test ↔ (a ≡ b) → is_same_answer a b ≡ same → test ≡ same
 told_by a b true true h e = refl
 told_by a b false false h e = refl
-told_by a b true false h e = absurd (search (h, e, same_equal a b))
-told_by a b false true h e = absurd (search (h, e, same_equal a b))
+told_by a b true false h e = absurd (not_both (is_same_answer a b) ((same_equal a b).1 (h.0 refl)) e)
+told_by a b false true h e = let never : false ≡ true = h.1 ((same_equal a b).0 e) in absurd cc
 
 pub told : (a b : Answer) (test : Bool) → IsTrue test ↔ (a ≡ b) → test ≡ is_same_answer a b
 told a b test h = told_by a b test (is_same_answer a b) h refl

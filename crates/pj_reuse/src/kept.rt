@@ -40,19 +40,19 @@ fn place_of(answers: &[(ClassName, Arc<Answer>)], name: &ClassName) -> usize
 pub(crate) fn is_kept(
     answers: &[(ClassName, Arc<Answer>)],
     name: &ClassName,
-    now: &Answer,
+    current: &Answer,
 ) -> bool
     requires { IsStrictlySortedBy byte_order (map (λ a. a.0) answers.now) }
-    ensures { result ≡ is_kept (map (λ a. (a.0, a.1.value)) answers.now) name.now now.now }
+    ensures { result ≡ is_kept (map (λ a. (a.0, a.1.value)) answers.now) name.now current.now }
 {
     let place = place_of(answers, name);
     if place >= answers.len() {
         return false;
     }
     let pair = &answers[place];
-    let is_here = pair.0 == *name;
+    let is_here = pair.0.is(name);
     if !is_here {
         return false;
     }
-    is_same_answer(&*pair.1, now)
+    is_same_answer(&*pair.1, current)
 }

@@ -4,7 +4,7 @@ ghost use Rattle.std.specs.List.{list_any};
 ghost use Rattle.std.specs.List.Sorted.{IsStrictlySortedBy};
 ghost use Rattle.pj_names.specs.Told.{Asks, seen};
 ghost use Rattle.pj_cache.specs.Places.{byte_order};
-ghost use Rattle.pj_reuse.specs.Serving.{has_key, has_one, are_kept, with_keys, keys_of, keys_of_result, keys_of_results, places_from, served};
+ghost use Rattle.pj_reuse.specs.Serving.{has_key, are_kept, with_keys, keys_of_result, keys_of_results, places_from, served};
 
 use crate::kept::is_kept;
 use pj_base::{Copied, NoMemory, Numbers};

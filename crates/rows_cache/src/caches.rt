@@ -1,5 +1,6 @@
 //! Bytes of caches, with the cache that they spell or what is wrong with them.
-ghost use Rattle.std.specs.Prelude.{◌≡◌, []};
+ghost use Rattle.std.specs.Prelude.{◌≡◌, [], IfOk};
+ghost use Rattle.pj_cache_format.specs.Ordered.{IsInOrder};
 
 use crate::bytes::{bytes_of, range_of};
 use crate::row_fault::{RowFault, answer_text};
@@ -35,8 +36,10 @@ fn answer(alloc: Global, section: &Section, given: &str) -> Result<String, RowFa
     }
 }
 
-/// The cache that bytes spell, or what is wrong with them.
-fn read(alloc: Global, bytes: &[u8]) -> Result<Result<Cache, CacheFault>, RowFault> {
+/// The cache that bytes spell, or what is wrong with them. It is in order.
+pub fn read(alloc: Global, bytes: &[u8]) -> Result<Result<Cache, CacheFault>, RowFault>
+    ensures { IfOk result (λ answer. IfOk answer (λ cache. IsInOrder cache)) }
+{
     if bytes.len() > 4_294_967_294 {
         return Err(RowFault::Unread("too many bytes"));
     }
