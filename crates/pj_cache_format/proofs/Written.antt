@@ -1,13 +1,15 @@
 -- Texts that are put at the end one after the other, and the text of a cache by its parts.
-use Rattle.std.proofs.Common.{◌≡◌, ℕ, List, [], ◌∷◌, ◌++◌, length, map, refl, sym, ap, ◌∙◌, append_assoc}
+use Rattle.std.proofs.Common.{◌≡◌, ℕ, List, [], ◌∷◌, ◌++◌, length, map, refl, sym, ap, subst, ◌∙◌, ◌<◌, ◌^◌, append_assoc, arith}
 use Rattle.std.specs.Prelude.{codes}
-use Rattle.std.specs.List.{flat_map}
+use Rattle.std.specs.List.{flat_map, All, AllByRecursion}
 use Rattle.std.proofs.lemmas.List.{length-map}
+use Rattle.std.proofs.lemmas.List.Elements.{All-from_recursion, recursion_from_All}
 use Rattle.std.proofs.lemmas.List.Concat.{flat_map-cons}
 use Rattle.pj_names.specs.declared.answer.Answer.{Answer}
 use Rattle.pj_cache.specs.declared.cache.Entry.{Entry}
 use Rattle.pj_cache.specs.declared.cache.Cache.{Cache}
 use Rattle.pj_cache_format.specs.FormatTwo.{keys_of}
+use Rattle.pj_cache_format.specs.Fitting.{AllFit, FitsNamed}
 use Rattle.pj_cache_format.specs.Texts.{number, string, counted, answer_text}
 use Rattle.pj_cache_format.specs.TextTwo.{entry_text, cache_text}
 
@@ -37,3 +39,15 @@ cache_written {A} f g c keys pairs es k a e =
     let texts : counted (λ (x : A). answer_text (f x, g x)) pairs ≡ counted answer_text c.answers = sym (counted_pairs answer_text pair pairs) ∙ ap (counted answer_text) a in
     let all_keys : keys ≡ keys_of c.entries = k ∙ ap keys_of e in
     λ i. string (codes "java-17") ++ (counted string (all_keys i) ++ (texts i ++ counted (entry_text (all_keys i) (names i)) (e i)))
+
+-- names with their answers fit, however these are kept
+named_each : {A : Type 0} (f : A → List ℕ) (g : A → Answer) (xs : List A) → AllByRecursion (λ (a : A). FitsNamed (f a, g a)) xs → AllByRecursion FitsNamed (map (λ (a : A). (f a, g a)) xs)
+named_each f g [] h = tt
+named_each f g (x ∷ xs) h = (h.0, named_each f g xs h.1)
+
+pub named_fit : {A : Type 0} (f : A → List ℕ) (g : A → Answer) (pairs : List A) (list : List (List ℕ × Answer)) → map (λ (a : A). (f a, g a)) pairs ≡ list → AllFit (λ (a : A). FitsNamed (f a, g a)) pairs → AllFit FitsNamed list
+named_fit {A} f g pairs list e h =
+    let seen : List (List ℕ × Answer) = map (λ (a : A). (f a, g a)) pairs in
+    let room : length seen < 2 ^ 32 = omega (arith, length-map pairs (λ (a : A). (f a, g a)), h.0) in
+    let fits : AllFit FitsNamed seen = (room, All-from_recursion FitsNamed seen (named_each f g pairs (recursion_from_All (λ (a : A). FitsNamed (f a, g a)) pairs h.1))) in
+    subst (λ (l : List (List ℕ × Answer)). AllFit FitsNamed l) e fits

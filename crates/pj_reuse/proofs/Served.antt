@@ -201,7 +201,7 @@ module _ (depth : ℕ) (world : Name → Answer) (answers : List (Name × Answer
       let held = value_of depth world (keys_of_results answers wanted [] results) in
       value_of-bind depth world (keys_of_results answers wanted [] results) (λ (l : List Key). Return (places_from (has_key l) 0 keys))
       ∙ places_same (has_key held) (is_served answers world results) keys keys 0
-        (λ q there. all_has wanted [] results q ∙ (λ i. list_any (λ (r : CachedResult). alone keys q there r i) results)) (has_itself keys)
+      (λ q there. all_has wanted [] results q ∙ (λ i. list_any (λ (r : CachedResult). alone keys q there r i) results)) (has_itself keys)
 
   pub names_looked : (results : List CachedResult) (keys : List Key) → names_of depth world (served answers results keys) ≡ looked_in answers world results keys
   names_looked results keys =

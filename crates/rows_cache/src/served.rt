@@ -47,12 +47,7 @@ fn keys_of(alloc: Global, words: &str) -> Result<Keys, RowFault> {
 }
 
 /// What the cache serves at a path, the first word, for the keys, the other words.
-fn served_text(
-    alloc: Global,
-    cache: &Cache,
-    now: Answers,
-    given: &str,
-) -> Result<String, RowFault>
+fn served_text(alloc: Global, cache: &Cache, now: Answers, given: &str) -> Result<String, RowFault>
     requires { IsInOrder cache.now }
 {
     let (path, words) = given.split_once(" ").unwrap_or((given, ""));

@@ -5,7 +5,6 @@ use Rattle.pj_cache.specs.Places.{byte_order}
 use Rattle.pj_cache.proofs.Paths.{not_both, none_at, none_here, some_here}
 use Rattle.pj_cache.proofs.found.find.Goals as goal
 
-
 pub place_of_path-requires : goal.place_of_path-requires
 place_of_path-requires c = subst (λ (l : List Entry). IsStrictlySortedBy byte_order (map (λ (e : Entry). e.path) l)) (sym c.as_slice-entries.ensures) c.requires
 

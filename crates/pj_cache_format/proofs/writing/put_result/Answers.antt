@@ -1,9 +1,10 @@
-use Rattle.std.proofs.Common.{◌≡◌, ℕ, List, ◌++◌, map, ap, ◌∙◌}
-use Rattle.std.specs.List.{flat_map}
+use Rattle.std.proofs.Common.{◌≡◌, ℕ, List, ◌++◌, map, ap, subst, ◌∙◌}
+use Rattle.std.specs.List.{flat_map, All}
 use Rattle.pj_cache.specs.Places.{place_in}
 use Rattle.pj_cache.specs.declared.cache.KeyRows.{KeyRows}
 use Rattle.pj_cache_format.specs.Texts.{number, counted}
 use Rattle.pj_cache_format.specs.TextTwo.{rows_text}
+use Rattle.pj_cache_format.specs.Fitting.{HasRoom, FitsKeyRows}
 use Rattle.pj_cache_format.proofs.Written.{three_put}
 use Rattle.pj_cache_format.proofs.writing.put_result.Goals as goal
 
@@ -22,3 +23,10 @@ returns-clause-put c =
     let two : second ≡ first ++ counted name c.args.item.now.names = c.in_ok-put_name_places.ensures.put ∙ ap (λ (g : List (List ℕ)). first ++ counted name g) c.as_slice-2.ensures in
     let three : third ≡ second ++ flat_map text c.args.item.now.group = c.in_ok-put_group.ensures.put ∙ ap (λ (g : List KeyRows). second ++ flat_map text g) c.as_slice-3.ensures in
     three_put out first second third (counted key c.args.item.now.group) (counted name c.args.item.now.names) (flat_map text c.args.item.now.group) one two three
+
+pub returns-clause-room : goal.returns-clause-room
+returns-clause-room c =
+    let group = subst (λ (l : List KeyRows). All FitsKeyRows l) c.as_slice-3.ensures c.in_ok-put_group.ensures.room in
+    let keys = subst (λ (l : List KeyRows). HasRoom l) c.as_slice.ensures c.in_ok-put_key_places.ensures.room in
+    let names = subst (λ (l : List (List ℕ)). HasRoom l) c.as_slice-2.ensures c.in_ok-put_name_places.ensures.room in
+    ((keys, group), names)
