@@ -1,10 +1,13 @@
 -- The steps of a run, for private clauses: what they give, and what their refusals say.
-use Rattle.std.specs.Prelude.{⊤, ◌≡◌, ℕ, List, Option, Result, Ok, Err, IfSome}
+use Rattle.std.specs.Prelude.{⊤, ◌≡◌, ◌⊎◌, ℕ, List, Option, Result, Ok, Err, IfSome}
 use Rattle.std.specs.List.{AllZip}
 use Rattle.pj_names.specs.declared.oracle.AskFault.{AskFault}
 use Rattle.pj_names.specs.declared.oracle.AskFault.TheVariants as unanswered
+use Rattle.pj_outside.specs.Doors.{ClassFolders}
 use Rattle.pj_outside.specs.Faults.{Rises}
 use Rattle.pj_outside.specs.Files.{Files, Bytes}
+use Rattle.pj_outside.specs.declared.refused.Refused.{Refused}
+use Rattle.pj_outside.specs.declared.refused.Refused.TheVariants as unopened
 use Rattle.pj_reports.specs.declared.report.Report.{Report}
 use Rattle.pj_reports.specs.declared.rows.FileRows.{FileRows}
 use Rattle.pj_rule_sets.specs.Rules.{EffectiveRules}
@@ -29,7 +32,7 @@ use Rattle.pj_check.specs.declared.verdict.Verdict.{Verdict}
 use Rattle.pj_check.specs.declared.verdict.Verdict.TheVariants as verdict
 use Rattle.pj_check.specs.declared.report_rendering.Written.{Written}
 use Rattle.pj_check.specs.Limits.{limit_of}
-use Rattle.pj_check.specs.Outcome.{SaysOfWords, Worked}
+use Rattle.pj_check.specs.Outcome.{DoorCounts, IsReady, OneDoor, SaysOfWords, Worked}
 use Rattle.pj_check.specs.Refused.{IsRefused}
 use Rattle.pj_check.specs.Run.{IsRun, Run, text_of}
 use Rattle.pj_check.specs.declared.outcome.Outcome.{Outcome}
@@ -59,6 +62,10 @@ after_reading unread.Failed = TreeFault
 after_reading (unread.Missing path) = Missing path
 after_reading (unread.Limit kind) = Limit (limit_of kind)
 after_reading unread.Memory = Memory
+
+abbrev pub after_opening : Refused → Refusal
+after_opening unopened.Failed = ClassFault
+after_opening unopened.Memory = Memory
 
 abbrev pub after_asking : AskFault → Refusal
 after_asking unanswered.Failed = ClassFault
@@ -90,7 +97,7 @@ abbrev pub SaysRefusal : List Bytes → Files → Refusal → Type 0
 SaysRefusal words held (Usage fault) = IsRefused words held (outcome.Usage fault)
 SaysRefusal words held (Rules fault) = IsRefused words held (outcome.Rules fault)
 SaysRefusal words held TreeFault = ⊤
-SaysRefusal words held ClassFault = ⊥
+SaysRefusal words held ClassFault = IsReady words held
 SaysRefusal words held SinkFault = ⊥
 SaysRefusal words held (Missing path) = IsRefused words held (outcome.Missing path)
 SaysRefusal words held (Limit kind) = IsRefused words held (outcome.Limit kind)
@@ -113,16 +120,29 @@ module _ {A : Type 0} where
   CountsFaults old new (Err TreeFault) = Rises old new
   CountsFaults old new (Err other) = new ≡ old
 
+  -- The class path's faults rise exactly with `ClassFault`.
+  abbrev pub CountsOfClasses : ℕ → ℕ → Result A Refusal → Type 0
+  CountsOfClasses old new (Ok a) = new ≡ old
+  CountsOfClasses old new (Err ClassFault) = Rises old new
+  CountsOfClasses old new (Err other) = new ≡ old
+
+  -- One door was opened and shut, and none where the refusal is of an earlier step, or of the door's opening.
+  abbrev pub CountsDoor : DoorCounts → DoorCounts → Result A Refusal → Type 0
+  CountsDoor old new (Ok a) = OneDoor old new
+  CountsDoor old new (Err ClassFault) = (new ≡ old) ⊎ OneDoor old new
+  CountsDoor old new (Err Memory) = (new ≡ old) ⊎ OneDoor old new
+  CountsDoor old new (Err other) = new ≡ old
+
 -- ---- what they give
 
--- the rows of files, of the rules of the set
-abbrev pub AreRows : EffectiveRules → Files → List (Bytes × FileRows) → Type 0
-AreRows set files rows = (world : World) (rules : List Rule) → AreRulesOf set rules → AllZip (AreRowsOf no_functions world rules) files rows
+-- the rows of files in a world, of the rules of the set
+abbrev pub AreRows : World → EffectiveRules → Files → List (Bytes × FileRows) → Type 0
+AreRows world set files rows = (rules : List Rule) → AreRulesOf set rules → AllZip (AreRowsOf no_functions world rules) files rows
 
 -- the report of a run as it is to be put, with the work so far
-pub record IsMade (words : List Bytes) (held : Files) (before after : Work) (written : Written) : Type 0 where
+pub record IsMade (words : List Bytes) (held : Files) (classes : ClassFolders) (before after : Work) (written : Written) : Type 0 where
   pub run : Run
-  pub is_run : IsRun words held run
+  pub is_run : IsRun words held classes run
   pub text : written.text ≡ text_of run
   pub comes_to : written.verdict ≡ verdict_of run.report
   pub worked : Worked run before after
