@@ -1,5 +1,5 @@
 -- The steps of a run, for private clauses: what they give, and what their refusals say.
-use Rattle.std.specs.Prelude.{⊤, ◌≡◌, ◌⊎◌, ℕ, List, Option, Result, Ok, Err, IfSome}
+use Rattle.std.specs.Prelude.{⊤, ◌≡◌, ℕ, List, Option, Result, Ok, Err, IfSome}
 use Rattle.std.specs.List.{AllZip}
 use Rattle.pj_names.specs.declared.oracle.AskFault.{AskFault}
 use Rattle.pj_names.specs.declared.oracle.AskFault.TheVariants as unanswered
@@ -32,7 +32,7 @@ use Rattle.pj_check.specs.declared.verdict.Verdict.{Verdict}
 use Rattle.pj_check.specs.declared.verdict.Verdict.TheVariants as verdict
 use Rattle.pj_check.specs.declared.report_rendering.Written.{Written}
 use Rattle.pj_check.specs.Limits.{limit_of}
-use Rattle.pj_check.specs.Outcome.{DoorCounts, IsReady, OneDoor, SaysOfWords, Worked}
+use Rattle.pj_check.specs.Outcome.{CountsClassFaults, CountsDoors, DoorCounts, IsReady, OneDoor, SaysOfWords, Worked}
 use Rattle.pj_check.specs.Refused.{IsRefused}
 use Rattle.pj_check.specs.Run.{IsRun, Run, text_of}
 use Rattle.pj_check.specs.declared.outcome.Outcome.{Outcome}
@@ -92,12 +92,12 @@ ended (Err refusal) = refused refusal
 
 -- ---- what they say
 
--- what a refusal before the report is put says of the words and the files
+-- what a refusal before the sources are analysed says of the words and the files
 abbrev pub SaysRefusal : List Bytes → Files → Refusal → Type 0
 SaysRefusal words held (Usage fault) = IsRefused words held (outcome.Usage fault)
 SaysRefusal words held (Rules fault) = IsRefused words held (outcome.Rules fault)
 SaysRefusal words held TreeFault = ⊤
-SaysRefusal words held ClassFault = IsReady words held
+SaysRefusal words held ClassFault = ⊥
 SaysRefusal words held SinkFault = ⊥
 SaysRefusal words held (Missing path) = IsRefused words held (outcome.Missing path)
 SaysRefusal words held (Limit kind) = IsRefused words held (outcome.Limit kind)
@@ -105,13 +105,29 @@ SaysRefusal words held Memory = ⊤
 
 -- what it says of the words where nothing is known of the files
 abbrev pub SaysBefore : Refusal → List Bytes → Type 0
+SaysBefore ClassFault words = ⊥
 SaysBefore SinkFault words = ⊥
 SaysBefore other words = SaysOfWords (refused other) words
 
--- a refusal before the report is put, where the files are told and where they are not
+-- a refusal before the sources are analysed, where the files are told and where they are not
 pub record Explains (words : List Bytes) (told : Option Files) (refusal : Refusal) : Type 0 where
   pub cause : IfSome told (λ held. SaysRefusal words held refusal)
   pub of_words : SaysBefore refusal words
+
+-- what a refusal before the report is put says of the words and the files: also that of the class path
+abbrev pub SaysNoReport : List Bytes → Files → Refusal → Type 0
+SaysNoReport words held ClassFault = IsReady words held
+SaysNoReport words held other = SaysRefusal words held other
+
+-- what it says of the words where nothing is known of the files
+abbrev pub SaysNotPut : Refusal → List Bytes → Type 0
+SaysNotPut ClassFault words = SaysOfWords outcome.ClassFault words
+SaysNotPut other words = SaysBefore other words
+
+-- a refusal before the report is put, where the files are told and where they are not
+pub record HasNoReport (words : List Bytes) (told : Option Files) (refusal : Refusal) : Type 0 where
+  pub cause : IfSome told (λ held. SaysNoReport words held refusal)
+  pub of_words : SaysNotPut refusal words
 
 module _ {A : Type 0} where
   -- The tree's faults rise exactly with `TreeFault`.
@@ -123,15 +139,12 @@ module _ {A : Type 0} where
   -- The class path's faults rise exactly with `ClassFault`.
   abbrev pub CountsOfClasses : ℕ → ℕ → Result A Refusal → Type 0
   CountsOfClasses old new (Ok a) = new ≡ old
-  CountsOfClasses old new (Err ClassFault) = Rises old new
-  CountsOfClasses old new (Err other) = new ≡ old
+  CountsOfClasses old new (Err refusal) = CountsClassFaults (refused refusal) old new
 
-  -- One door was opened and shut, and none where the refusal is of an earlier step, or of the door's opening.
+  -- Each door that was opened is shut, and there is one at most.
   abbrev pub CountsDoor : DoorCounts → DoorCounts → Result A Refusal → Type 0
   CountsDoor old new (Ok a) = OneDoor old new
-  CountsDoor old new (Err ClassFault) = (new ≡ old) ⊎ OneDoor old new
-  CountsDoor old new (Err Memory) = (new ≡ old) ⊎ OneDoor old new
-  CountsDoor old new (Err other) = new ≡ old
+  CountsDoor old new (Err refusal) = CountsDoors (refused refusal) old new
 
 -- ---- what they give
 

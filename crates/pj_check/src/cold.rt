@@ -1,15 +1,18 @@
 //! The cold report.
-ghost use Rattle.std.specs.Prelude.{◌≡◌, ◌≢◌, ◌++◌, List, Err, IfOk, OnOk, map};
+ghost use Rattle.std.specs.Prelude.{◌≡◌, ◌++◌, List, IfOk, IfSome, OnOk, map};
 ghost use Rattle.std.specs.List.{AllZip};
+ghost use Rattle.pj_table.specs.ClassWorld.{folders_world};
+ghost use Rattle.pj_table.specs.Worlds.{CountsFaults};
 ghost use Rattle.pj_workers.specs.Rules.{AreRulesOf, IsRuleOf, Rule as AnyRule};
 ghost use Rattle.pj_check.specs.Cold.{IsColdOf};
 ghost use Rattle.pj_check.specs.Steps.{AreRows};
 
 use pj_base::{Bytes, Copied, NoMemory, Text};
-use pj_names::{Answers, AskFault, MapOracle, RuleRowList};
-use pj_outside::Files;
+use pj_names::{AskFault, RuleRowList};
+use pj_outside::{ClassDoor, Files};
 use pj_reports::{PathRows, Report};
 use pj_rule_sets::{Rule, RuleSet};
+use pj_table::DoorOracle;
 use pj_workers::{PathResults, Work, analyse_files};
 use std::alloc::Global;
 
@@ -52,40 +55,42 @@ fn rows_of(alloc: Global, found: PathResults) -> Result<PathRows, NoMemory>
     Ok(rows)
 }
 
-/// The rows of the files, in their order. There are no class folders, so that no class is there.
-fn all_rows(
+/// The rows of the files, in their order, over the class folders of a door.
+fn all_rows<D: ClassDoor>(
     alloc: Global,
+    door: &mut D,
     files: &[(Text, Bytes)],
     rules: &RuleSet,
     work: &mut Work,
 ) -> Result<PathRows, AskFault>
-    ensures rows { IfOk result (AreRows rules.now files.now) }
-    ensures never_failed { result ≢ Err AskFault.Failed }
+    ensures rows { IfSome (D.holds door.old) (λ folders. IfOk result (AreRows (folders_world folders).answer rules.now files.now)) }
+    ensures faults { CountsFaults (D.faults door.old) (D.faults door.new) result }
     ensures analysed { OnOk result (work.new.analysed ≡ work.old.analysed ++ map (λ file. file.0) files.now) }
     ensures reused { work.new.reused ≡ work.old.reused }
     ensures skipped { work.new.skipped ≡ work.old.skipped }
 {
     rules_are_spelled(rules);
-    let mut oracle = MapOracle::new(alloc, Answers::new(alloc));
+    let mut oracle = DoorOracle::new(alloc, door);
     let found = analyse_files(alloc, &mut oracle, files, rules, work)?;
     Ok(rows_of(alloc, found)?)
 }
 
-/// The cold report of the rules over the sources.
-pub fn cold_report(
+/// The cold report of the rules over the sources and the class folders of a door.
+pub fn cold_report<D: ClassDoor>(
     alloc: Global,
+    door: &mut D,
     sources: &Files,
     rules: &RuleSet,
     work: &mut Work,
 ) -> Result<Report, AskFault>
-    ensures cold { IfOk result (IsColdOf sources.now rules.now) }
-    ensures never_failed { result ≢ Err AskFault.Failed }
+    ensures cold { IfSome (D.holds door.old) (λ folders. IfOk result (IsColdOf (folders_world folders).answer sources.now rules.now)) }
+    ensures faults { CountsFaults (D.faults door.old) (D.faults door.new) result }
     ensures analysed { OnOk result (work.new.analysed ≡ work.old.analysed ++ map (λ file. file.0) sources.now) }
     ensures reused { work.new.reused ≡ work.old.reused }
     ensures skipped { work.new.skipped ≡ work.old.skipped }
 {
     rules_are_spelled(rules);
-    let files = all_rows(alloc, sources.as_slice(), rules, work)?;
+    let files = all_rows(alloc, door, sources.as_slice(), rules, work)?;
     let errors = rules.unusable().copied()?;
     let rules = rule_rows(alloc, rules.rules().as_slice())?;
     Ok(Report {

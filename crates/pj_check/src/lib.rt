@@ -5,6 +5,7 @@
 #![tactic(auto)]
 
 mod check;
+mod classes;
 mod cold;
 mod laws;
 mod limit;
