@@ -14,7 +14,7 @@ use std::alloc::Global;
 
 /// The cold report of the rules over the sources and the class folders of these names. One door is opened for it, and shut in every
 /// case.
-pub fn reported<C: ClassPath>(
+pub fn analyse_sources<C: ClassPath>(
     alloc: Global,
     classes: &mut C,
     folders: &Names,

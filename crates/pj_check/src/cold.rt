@@ -1,9 +1,7 @@
 //! The cold report.
-ghost use Rattle.std.specs.Prelude.{◌≡◌, ◌++◌, List, IfOk, IfSome, OnOk, map};
-ghost use Rattle.std.specs.List.{AllZip};
+ghost use Rattle.std.specs.Prelude.{◌≡◌, ◌++◌, IfOk, IfSome, OnOk, map};
 ghost use Rattle.pj_table.specs.ClassWorld.{folders_world};
 ghost use Rattle.pj_table.specs.Worlds.{CountsFaults};
-ghost use Rattle.pj_workers.specs.Rules.{AreRulesOf, IsRuleOf, Rule as AnyRule};
 ghost use Rattle.pj_check.specs.Cold.{IsColdOf};
 ghost use Rattle.pj_check.specs.Steps.{AreRows};
 
@@ -13,24 +11,8 @@ use pj_outside::{ClassDoor, Files};
 use pj_reports::{PathRows, Report};
 use pj_rule_sets::{Rule, RuleSet};
 use pj_table::DoorOracle;
-use pj_workers::{PathResults, Work, analyse_files};
+use pj_workers::{PathResults, Work, analyse_files, sets_have_rules};
 use std::alloc::Global;
-
-/// The texts of these rules spell expressions, since the rules keep them.
-fn are_spelled(marker: &Text, rules: &[Rule])
-    ensures { (all : List AnyRule) × AllZip (IsRuleOf marker.now) rules.now all }
-{
-    for rule in rules {
-        let _ = rule.expressions();
-    }
-}
-
-/// The texts of each rule of the set spell expressions.
-fn rules_are_spelled(rules: &RuleSet)
-    ensures { (all : List AnyRule) × AreRulesOf rules.now all }
-{
-    are_spelled(rules.marker(), rules.rules().as_slice());
-}
 
 /// The rows of the rules, in the order of their numbers.
 fn rule_rows(alloc: Global, rules: &[Rule]) -> Result<RuleRowList, NoMemory>
@@ -69,7 +51,7 @@ fn all_rows<D: ClassDoor>(
     ensures reused { work.new.reused ≡ work.old.reused }
     ensures skipped { work.new.skipped ≡ work.old.skipped }
 {
-    rules_are_spelled(rules);
+    sets_have_rules(rules);
     let mut oracle = DoorOracle::new(alloc, door);
     let found = analyse_files(alloc, &mut oracle, files, rules, work)?;
     Ok(rows_of(alloc, found)?)
@@ -89,7 +71,7 @@ pub fn cold_report<D: ClassDoor>(
     ensures reused { work.new.reused ≡ work.old.reused }
     ensures skipped { work.new.skipped ≡ work.old.skipped }
 {
-    rules_are_spelled(rules);
+    sets_have_rules(rules);
     let files = all_rows(alloc, door, sources.as_slice(), rules, work)?;
     let errors = rules.unusable().copied()?;
     let rules = rule_rows(alloc, rules.rules().as_slice())?;

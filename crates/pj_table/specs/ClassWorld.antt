@@ -8,7 +8,7 @@ use Rattle.pj_table.specs.Worlds.{World}
 -- The world of class folders: each name has the answer of the first folder with the class's file, of at most 4,194,304
 -- bytes, and needs just itself.
 abbrev pub folders_world : List Files → told.World
-folders_world folders = record { answer = folder_world 4194304 folders; needs = λ name. name ∷ [] }
+folders_world folders = record { answer = λ name. folder_world 4194304 folders name; needs = λ name. name ∷ [] }
 
 -- The same world at each depth. Where the folders are not told it is that of no folders, of which nothing is said.
 abbrev pub worlds_of : World → told.Worlds

@@ -11,8 +11,8 @@ use Rattle.pj_check.proofs.cold.cold_report.Goals as goal
 pub returns-clause-cold : goal.returns-clause-cold
 returns-clause-cold g c =
     let set = c.args.rules.now in
-    let all = c.rules_are_spelled.ensures.0 in
-    let are = c.rules_are_spelled.ensures.1 in
+    let all = c.sets_have_rules.ensures.0 in
+    let are = c.sets_have_rules.ensures.1 in
     let files = c.in_ok-files.files in
     told_so (g.D.ClassDoor.holds c.args.door.now) (λ folders. AreRows (folders_world folders).answer set c.as_slice.result.now files)
     (λ folders. IsColdOf (folders_world folders).answer c.args.sources.now set (record { rules = c.in_ok-rules.rules; files = files; errors = c.in_ok-errors.errors }))

@@ -10,7 +10,7 @@ use Rattle.pj_check.specs.declared.refusal.Refusal.TheVariants.{Memory}
 use Rattle.pj_check.specs.declared.report_rendering.Written.{Written}
 use Rattle.pj_sources.specs.Reading.{AreRead}
 use Rattle.pj_check.proofs.Ending.{classes_idle, doors_idle, explains_later, is_made, no_cold, no_memory, no_report, refused_on, result_on, told_later}
-use Rattle.pj_check.proofs.check.made.Goals as goal
+use Rattle.pj_check.proofs.check.make_report.Goals as goal
 
 -- ---- the words ask for nothing
 
@@ -77,7 +77,7 @@ returns-in_err-rules-clause-refused g c =
     let listing = c.in_ok-listing.listing in
     let asked = c.in_ok-settings.ensures.asked in
     let told = g.T.Tree.holds c.args.tree.now in
-    let listed = g.T.Tree.holds c.listed.new.tree in
+    let listed = g.T.Tree.holds c.listing_within_limit.new.tree in
     let same = c.in_ok-listing.ensures.same_files in
     let explained = explains_later words told listed c.in_err-rules.field-0.0 same
     (c.in_err-rules.ensures.refused words listing asked (told_later told listed (λ held. HasSources words held settings listing) same (c.in_ok-listing.ensures.sources words asked))) in
@@ -91,7 +91,7 @@ returns-in_err-rules-clause-class_faults g c =
     let listing = c.in_ok-listing.listing in
     let asked = c.in_ok-settings.ensures.asked in
     let told = g.T.Tree.holds c.args.tree.now in
-    let listed = g.T.Tree.holds c.listed.new.tree in
+    let listed = g.T.Tree.holds c.listing_within_limit.new.tree in
     let same = c.in_ok-listing.ensures.same_files in
     let explained = explains_later words told listed c.in_err-rules.field-0.0 same
     (c.in_err-rules.ensures.refused words listing asked (told_later told listed (λ held. HasSources words held settings listing) same (c.in_ok-listing.ensures.sources words asked))) in
@@ -106,7 +106,7 @@ returns-in_err-rules-clause-doors g c =
     let listing = c.in_ok-listing.listing in
     let asked = c.in_ok-settings.ensures.asked in
     let told = g.T.Tree.holds c.args.tree.now in
-    let listed = g.T.Tree.holds c.listed.new.tree in
+    let listed = g.T.Tree.holds c.listing_within_limit.new.tree in
     let same = c.in_ok-listing.ensures.same_files in
     let explained = explains_later words told listed c.in_err-rules.field-0.0 same
     (c.in_err-rules.ensures.refused words listing asked (told_later told listed (λ held. HasSources words held settings listing) same (c.in_ok-listing.ensures.sources words asked))) in
@@ -124,8 +124,8 @@ returns-in_err-sources-clause-refused g c =
     let rules = c.in_ok-rules.rules in
     let asked = c.in_ok-settings.ensures.asked in
     let told = g.T.Tree.holds c.args.tree.now in
-    let listed = g.T.Tree.holds c.listed.new.tree in
-    let loaded = g.T.Tree.holds c.loaded.new.tree in
+    let listed = g.T.Tree.holds c.listing_within_limit.new.tree in
+    let loaded = g.T.Tree.holds c.load_rules.new.tree in
     let same = c.in_ok-listing.ensures.same_files in
     let has = c.in_ok-rules.ensures.rules words listing (told_later told listed (λ held. HasSources words held settings listing) same (c.in_ok-listing.ensures.sources words asked)) in
     let explained = explains_later words told loaded c.in_err-sources.field-0.0 (c.in_ok-rules.ensures.same_files ∙ same)
@@ -142,8 +142,8 @@ returns-in_err-sources-clause-class_faults g c =
     let rules = c.in_ok-rules.rules in
     let asked = c.in_ok-settings.ensures.asked in
     let told = g.T.Tree.holds c.args.tree.now in
-    let listed = g.T.Tree.holds c.listed.new.tree in
-    let loaded = g.T.Tree.holds c.loaded.new.tree in
+    let listed = g.T.Tree.holds c.listing_within_limit.new.tree in
+    let loaded = g.T.Tree.holds c.load_rules.new.tree in
     let same = c.in_ok-listing.ensures.same_files in
     let has = c.in_ok-rules.ensures.rules words listing (told_later told listed (λ held. HasSources words held settings listing) same (c.in_ok-listing.ensures.sources words asked)) in
     let explained = explains_later words told loaded c.in_err-sources.field-0.0 (c.in_ok-rules.ensures.same_files ∙ same)
@@ -161,8 +161,8 @@ returns-in_err-sources-clause-doors g c =
     let rules = c.in_ok-rules.rules in
     let asked = c.in_ok-settings.ensures.asked in
     let told = g.T.Tree.holds c.args.tree.now in
-    let listed = g.T.Tree.holds c.listed.new.tree in
-    let loaded = g.T.Tree.holds c.loaded.new.tree in
+    let listed = g.T.Tree.holds c.listing_within_limit.new.tree in
+    let loaded = g.T.Tree.holds c.load_rules.new.tree in
     let same = c.in_ok-listing.ensures.same_files in
     let has = c.in_ok-rules.ensures.rules words listing (told_later told listed (λ held. HasSources words held settings listing) same (c.in_ok-listing.ensures.sources words asked)) in
     let explained = explains_later words told loaded c.in_err-sources.field-0.0 (c.in_ok-rules.ensures.same_files ∙ same)
@@ -203,13 +203,13 @@ returns-in_err-written-clause-refused g c =
 pub returns-in_err-written-clause-class_faults : goal.returns-in_err-written-clause-class_faults
 returns-in_err-written-clause-class_faults g c =
     let exit = err_from_is_err_and c.from_residual-in_err-written.result c.from_residual-in_err-written.ensures.1 in
-    result_on (λ (w : Result Written Refusal). CountsOfClasses (g.C.ClassPath.faults c.args.classes.now) (g.C.ClassPath.faults c.reported.new.classes) w) c.from_residual-in_err-written.result exit.0 Memory exit.1 exit.2 c.in_ok-report.ensures.class_faults
+    result_on (λ (w : Result Written Refusal). CountsOfClasses (g.C.ClassPath.faults c.args.classes.now) (g.C.ClassPath.faults c.analyse_sources.new.classes) w) c.from_residual-in_err-written.result exit.0 Memory exit.1 exit.2 c.in_ok-report.ensures.class_faults
 
 pub returns-in_err-written-clause-doors : goal.returns-in_err-written-clause-doors
 returns-in_err-written-clause-doors g c =
     let exit = err_from_is_err_and c.from_residual-in_err-written.result c.from_residual-in_err-written.ensures.1 in
     let old : DoorCounts = record { given = g.C.ClassPath.given c.args.classes.now; taken = g.C.ClassPath.taken c.args.classes.now; finds = g.C.ClassPath.finds c.args.classes.now } in
-    let new : DoorCounts = record { given = g.C.ClassPath.given c.reported.new.classes; taken = g.C.ClassPath.taken c.reported.new.classes; finds = g.C.ClassPath.finds c.reported.new.classes } in
+    let new : DoorCounts = record { given = g.C.ClassPath.given c.analyse_sources.new.classes; taken = g.C.ClassPath.taken c.analyse_sources.new.classes; finds = g.C.ClassPath.finds c.analyse_sources.new.classes } in
     result_on (λ (w : Result Written Refusal). CountsDoor old new w) c.from_residual-in_err-written.result exit.0 Memory exit.1 exit.2 (inr c.in_ok-report.ensures.doors)
 
 pub returns-in_err-written-clause-counts_faults : goal.returns-in_err-written-clause-counts_faults
@@ -229,8 +229,8 @@ returns-in_err-report-clause-refused g c =
     let sources = c.in_ok-sources.sources in
     let asked = c.in_ok-settings.ensures.asked in
     let told = g.T.Tree.holds c.args.tree.now in
-    let listed = g.T.Tree.holds c.listed.new.tree in
-    let loaded = g.T.Tree.holds c.loaded.new.tree in
+    let listed = g.T.Tree.holds c.listing_within_limit.new.tree in
+    let loaded = g.T.Tree.holds c.load_rules.new.tree in
     let same = c.in_ok-listing.ensures.same_files in
     let has = c.in_ok-rules.ensures.rules words listing (told_later told listed (λ held. HasSources words held settings listing) same (c.in_ok-listing.ensures.sources words asked)) in
     let has_now = told_later listed told (λ held. HasRules words held settings listing rules) (sym same) has in
@@ -241,13 +241,13 @@ returns-in_err-report-clause-refused g c =
 pub returns-in_err-report-clause-class_faults : goal.returns-in_err-report-clause-class_faults
 returns-in_err-report-clause-class_faults g c =
     let exit = err_from_is_err_and c.from_residual-in_err-report.result c.from_residual-in_err-report.ensures.1 in
-    result_on (λ (w : Result Written Refusal). CountsOfClasses (g.C.ClassPath.faults c.args.classes.now) (g.C.ClassPath.faults c.reported.new.classes) w) c.from_residual-in_err-report.result exit.0 c.in_err-report.field-0.0 exit.1 exit.2 c.in_err-report.ensures.class_faults
+    result_on (λ (w : Result Written Refusal). CountsOfClasses (g.C.ClassPath.faults c.args.classes.now) (g.C.ClassPath.faults c.analyse_sources.new.classes) w) c.from_residual-in_err-report.result exit.0 c.in_err-report.field-0.0 exit.1 exit.2 c.in_err-report.ensures.class_faults
 
 pub returns-in_err-report-clause-doors : goal.returns-in_err-report-clause-doors
 returns-in_err-report-clause-doors g c =
     let exit = err_from_is_err_and c.from_residual-in_err-report.result c.from_residual-in_err-report.ensures.1 in
     let old : DoorCounts = record { given = g.C.ClassPath.given c.args.classes.now; taken = g.C.ClassPath.taken c.args.classes.now; finds = g.C.ClassPath.finds c.args.classes.now } in
-    let new : DoorCounts = record { given = g.C.ClassPath.given c.reported.new.classes; taken = g.C.ClassPath.taken c.reported.new.classes; finds = g.C.ClassPath.finds c.reported.new.classes } in
+    let new : DoorCounts = record { given = g.C.ClassPath.given c.analyse_sources.new.classes; taken = g.C.ClassPath.taken c.analyse_sources.new.classes; finds = g.C.ClassPath.finds c.analyse_sources.new.classes } in
     result_on (λ (w : Result Written Refusal). CountsDoor old new w) c.from_residual-in_err-report.result exit.0 c.in_err-report.field-0.0 exit.1 exit.2 c.in_err-report.ensures.doors
 
 -- ---- the report is made
@@ -270,13 +270,13 @@ returns-clause-made g c =
     let sources = c.in_ok-sources.sources in
     let asked = c.in_ok-settings.ensures.asked in
     let told = g.T.Tree.holds c.args.tree.now in
-    let listed = g.T.Tree.holds c.listed.new.tree in
-    let loaded = g.T.Tree.holds c.loaded.new.tree in
+    let listed = g.T.Tree.holds c.listing_within_limit.new.tree in
+    let loaded = g.T.Tree.holds c.load_rules.new.tree in
     let same = c.in_ok-listing.ensures.same_files in
     let has = c.in_ok-rules.ensures.rules words listing (told_later told listed (λ held. HasSources words held settings listing) same (c.in_ok-listing.ensures.sources words asked)) in
     let has_now = told_later listed told (λ held. HasRules words held settings listing rules) (sym same) has in
     let read_now = told_later loaded told (λ held. AreRead held listing.paths sources) (sym (c.in_ok-rules.ensures.same_files ∙ same)) c.in_ok-sources.ensures.read in
-    is_made words told (g.C.ClassPath.holds c.args.classes.now) settings listing rules sources c.in_ok-report.report c.in_ok-written.written c.args.work.now c.reported.new.work
+    is_made words told (g.C.ClassPath.holds c.args.classes.now) settings listing rules sources c.in_ok-report.report c.in_ok-written.written c.args.work.now c.analyse_sources.new.work
     has_now read_now
     c.in_ok-sources.ensures.within
     c.in_ok-report.ensures.cold c.in_ok-written.ensures.text c.in_ok-written.ensures.verdict
