@@ -1,5 +1,6 @@
 -- From the steps of a run to what its outcome says.
-use Rattle.std.proofs.Common.{◌≡◌, ◌≢◌, ◌∙◌, ◌++◌, ℕ, List, map, Option, IfSome, Result, Ok, Err, OnOk, OnErr, IfOk, IfErr, inl, inr, ◌⊎◌, ap, sym, subst, refl}
+use Rattle.std.specs.Prelude.{⊤}
+use Rattle.std.proofs.Common.{◌≡◌, ◌≢◌, ◌∙◌, ◌++◌, ℕ, List, map, Option, IfSome, Result, Ok, Err, OnOk, OnErr, IfOk, IfErr, inl, inr, ap, sym, subst, refl}
 use Rattle.pj_outside.specs.Doors.{ClassFolders}
 use Rattle.pj_outside.specs.Faults.{Rises}
 use Rattle.pj_outside.specs.Files.{Bytes, Files}
@@ -19,7 +20,7 @@ use Rattle.pj_check.specs.declared.report_rendering.Written.{Written}
 use Rattle.pj_check.specs.Cold.{IsColdOf, world_of}
 use Rattle.pj_check.specs.Outcome.{CountsClassFaults, CountsDoors, CountsSinkFaults, CountsTreeFaults, DoorCounts, GetsSome, IsCut, IsReported, KeepsWork, OneDoor, Says, SaysOfSink, SaysOfWords, Worked}
 use Rattle.pj_check.specs.Run.{HasRules, Run}
-use Rattle.pj_check.specs.Steps.{CountsFaults, Explains, HasNoReport, IsMade, IsOfSome, SaysNoReport, SaysNotPut, SaysRefusal, outcome_of, refused}
+use Rattle.pj_check.specs.Steps.{CountsFaults, Explains, HasNoReport, IsMade, IsOfClasses, IsOfSome, SaysNoReport, SaysNotPut, SaysRefusal, outcome_of, refused}
 use Rattle.pj_check.specs.declared.outcome.Outcome.{Outcome}
 use Rattle.pj_check.specs.declared.outcome.Outcome.TheVariants as outcome
 use Rattle.pj_check.specs.declared.refusal.Refusal.{Refusal}
@@ -83,7 +84,7 @@ no_report words told Memory h = record { cause = told_so told (λ held. SaysRefu
 
 -- nor does the class path's fault, which comes once the sources are read, or want of memory then
 pub no_cold : (words : List Bytes) (told : Option Files) (settings : Settings) (listing : Listing) (rules : EffectiveRules) (sources : Files) (r : Refusal) → job words ≡ Ok settings →
-    IfSome told (λ held. HasRules words held settings listing rules) → IfSome told (λ held. AreRead held listing.paths sources) → (r ≡ ClassFault) ⊎ (r ≡ Memory) → HasNoReport words told r
+    IfSome told (λ held. HasRules words held settings listing rules) → IfSome told (λ held. AreRead held listing.paths sources) → IsOfClasses r → HasNoReport words told r
 no_cold words told settings listing rules sources r asked has read (inl is) = subst (λ (x : Refusal). HasNoReport words told x) (sym is) (record {
   cause = told_both told told (λ held. HasRules words held settings listing rules) (λ held. AreRead held listing.paths sources) (λ held. SaysNoReport words held ClassFault) refl
       (λ held h k. record { settings = settings; listing = listing; rules = rules; sources = sources; has_rules = h; read = k }) has read;
@@ -285,9 +286,25 @@ module _ {A : Type 0} where
   pub refused_on : (P : Refusal → Type 0) (r : Result A Refusal) (e x : Refusal) → r ≡ Err e → e ≡ x → P x → IfErr r P
   refused_on P r e x is same h = subst (λ (w : Result A Refusal). IfErr w P) (sym is) (subst P (sym same) h)
 
-  -- what holds of the end with this refusal
-  pub result_on : (P : Result A Refusal → Type 0) (r : Result A Refusal) (e x : Refusal) → r ≡ Err e → e ≡ x → P (Err x) → P r
-  result_on P r e x is same h = subst P (sym is) (subst (λ (y : Refusal). P (Err y)) (sym same) h)
+  pub nothing_made : (words : List Bytes) (told : Option Files) (classes : Option ClassFolders) (old new : Work) (r : Result Written Refusal) (e : Refusal) → r ≡ Err e →
+      IfSome told (λ held. IfSome classes (λ folders. IfOk r (IsMade words held folders old new)))
+  nothing_made words told classes old new r e is =
+      subst (λ (w : Result Written Refusal). IfSome told (λ held. IfSome classes (λ folders. IfOk w (IsMade words held folders old new)))) (sym is)
+      (all_told told (λ held. IfSome classes (λ folders. ⊤)) (λ held. all_told classes (λ folders. ⊤) (λ folders. tt)))
+
+  -- the tree's count is the same where the class path refuses
+  pub tree_idle : (r : Refusal) (old new : ℕ) → IsOfClasses r → new ≡ old → CountsFaults {A = A} old new (Err r)
+  tree_idle r old new (inl is) same = subst (λ (x : Refusal). CountsFaults {A = A} old new (Err x)) (sym is) same
+  tree_idle r old new (inr is) same = subst (λ (x : Refusal). CountsFaults {A = A} old new (Err x)) (sym is) same
+
+  pub no_tree_fault : (r : Refusal) → IsOfClasses r → (let w : Result A Refusal = Err r in w) ≢ Err TreeFault
+  no_tree_fault r (inl is) e = let f : (let w : Result A Refusal = Err ClassFault in w) ≡ Err TreeFault = ap (λ (x : Refusal). Err x) (sym is) ∙ e in absurd (cc)
+  no_tree_fault r (inr is) e = let f : (let w : Result A Refusal = Err Memory in w) ≡ Err TreeFault = ap (λ (x : Refusal). Err x) (sym is) ∙ e in absurd (cc)
+
+module _ {A E : Type 0} where
+  -- what holds of the end with this error
+  pub result_on : (P : Result A E → Type 0) (r : Result A E) (e x : E) → r ≡ Err e → e ≡ x → P (Err x) → P r
+  result_on P r e x is same h = subst P (sym is) (subst (λ (y : E). P (Err y)) (sym same) h)
 
 pub explains_later : (words : List Bytes) (o p : Option Files) (r : Refusal) → p ≡ o → Explains words p r → Explains words o r
 explains_later words o p r e h = subst (λ (w : Option Files). Explains words w r) e h

@@ -1,5 +1,5 @@
 -- The steps of a run, for private clauses: what they give, and what their refusals say.
-use Rattle.std.specs.Prelude.{⊤, ◌≡◌, ℕ, List, Option, Result, Ok, Err, IfSome}
+use Rattle.std.specs.Prelude.{⊤, ◌≡◌, ◌⊎◌, ℕ, List, Option, Result, Ok, Err, IfSome}
 use Rattle.std.specs.List.{AllZip}
 use Rattle.pj_names.specs.declared.oracle.AskFault.{AskFault}
 use Rattle.pj_names.specs.declared.oracle.AskFault.TheVariants as unanswered
@@ -129,7 +129,21 @@ pub record HasNoReport (words : List Bytes) (told : Option Files) (refusal : Ref
   pub cause : IfSome told (λ held. SaysNoReport words held refusal)
   pub of_words : SaysNotPut refusal words
 
+-- what is counted of a door with a fault of asking
+abbrev pub CountsAskFault : ℕ → ℕ → AskFault → Type 0
+CountsAskFault old new unanswered.Failed = Rises old new
+CountsAskFault old new unanswered.Memory = new ≡ old
+
+-- the refusal is one of class folders
+abbrev pub IsOfClasses : Refusal → Type 0
+IsOfClasses refusal = (refusal ≡ ClassFault) ⊎ (refusal ≡ Memory)
+
 module _ {A : Type 0} where
+  -- The door's faults rise exactly with `Failed`.
+  abbrev pub CountsDoorFaults : ℕ → ℕ → Result A AskFault → Type 0
+  CountsDoorFaults old new (Ok a) = new ≡ old
+  CountsDoorFaults old new (Err fault) = CountsAskFault old new fault
+
   -- The tree's faults rise exactly with `TreeFault`.
   abbrev pub CountsFaults : ℕ → ℕ → Result A Refusal → Type 0
   CountsFaults old new (Ok a) = new ≡ old

@@ -1,16 +1,59 @@
 //! The step of a run over its class folders.
-ghost use Rattle.std.specs.Prelude.{◌≡◌, ◌⊎◌, ◌++◌, IfErr, IfOk, IfSome, OnOk, map};
+ghost use Rattle.std.specs.Prelude.{◌≡◌, ◌++◌, IfErr, IfOk, IfSome, OnErr, OnOk, map};
+ghost use Rattle.std.specs.Option.{option_map};
+ghost use Rattle.pj_outside.specs.Doors.{opened};
+ghost use Rattle.pj_outside.specs.Faults.{next_count};
+ghost use Rattle.pj_table.specs.ClassWorld.{folders_world};
 ghost use Rattle.pj_check.specs.Cold.{IsColdOf, world_of};
-ghost use Rattle.pj_check.specs.Steps.{CountsDoor, CountsOfClasses};
+ghost use Rattle.pj_check.specs.Steps.{CountsDoor, CountsOfClasses, IsOfClasses};
 
 use crate::cold::cold_report;
 use crate::refusal::{Refusal, after_asking, after_opening};
 use pj_base::Names;
-use pj_outside::{ClassPath, Files};
+use pj_outside::{ClassDoor, ClassPath, Files};
 use pj_reports::Report;
 use pj_rules::RuleSet;
 use pj_workers::Work;
 use std::alloc::Global;
+
+/// A door to the class folders of these names.
+fn open_door<C: ClassPath>(classes: &mut C, folders: &Names) -> Result<C::Door, Refusal>
+    ensures refused { IfErr result IsOfClasses }
+    ensures same_folders { C.holds classes.new ≡ C.holds classes.old }
+    ensures class_faults { CountsOfClasses (C.faults classes.old) (C.faults classes.new) result }
+    ensures counts_given { OnOk result (C.given classes.new ≡ next_count (C.given classes.old)) }
+    ensures same_given { OnErr result (C.given classes.new ≡ C.given classes.old) }
+    ensures same_taken { C.taken classes.new ≡ C.taken classes.old }
+    ensures same_finds { C.finds classes.new ≡ C.finds classes.old }
+    ensures no_faults { IfOk result (λ door. C.Door.faults door ≡ 0) }
+    ensures door { IfOk result (λ door. C.Door.holds door ≡ option_map (λ held. opened held folders.now) (C.holds classes.old)) }
+{
+    match classes.open(folders) {
+        Ok(door) => Ok(door),
+        Err(refused) => Err(after_opening(refused)),
+    }
+}
+
+/// The cold report of the rules over the sources and the class folders of a door.
+fn report_over<D: ClassDoor>(
+    alloc: Global,
+    door: &mut D,
+    sources: &Files,
+    rules: &RuleSet,
+    work: &mut Work,
+) -> Result<Report, Refusal>
+    ensures cold { IfSome (D.holds door.old) (λ folders. IfOk result (IsColdOf (folders_world folders).answer sources.now rules.now)) }
+    ensures refused { IfErr result IsOfClasses }
+    ensures faults { CountsOfClasses (D.faults door.old) (D.faults door.new) result }
+    ensures analysed { OnOk result (work.new.analysed ≡ work.old.analysed ++ map (λ file. file.0) sources.now) }
+    ensures reused { work.new.reused ≡ work.old.reused }
+    ensures skipped { work.new.skipped ≡ work.old.skipped }
+{
+    match cold_report(alloc, door, sources, rules, work) {
+        Ok(report) => Ok(report),
+        Err(fault) => Err(after_asking(fault)),
+    }
+}
 
 /// The cold report of the rules over the sources and the class folders of these names. One door is opened for it, and shut in every
 /// case.
@@ -23,7 +66,7 @@ pub fn analyse_sources<C: ClassPath>(
     work: &mut Work,
 ) -> Result<Report, Refusal>
     ensures cold { IfSome (C.holds classes.old) (λ held. IfOk result (IsColdOf (world_of held folders.now) sources.now rules.now)) }
-    ensures refused { IfErr result (λ refusal. (refusal ≡ Refusal.ClassFault) ⊎ (refusal ≡ Refusal.Memory)) }
+    ensures refused { IfErr result IsOfClasses }
     ensures same_folders { C.holds classes.new ≡ C.holds classes.old }
     ensures class_faults { CountsOfClasses (C.faults classes.old) (C.faults classes.new) result }
     ensures doors { CountsDoor (record { given = C.given classes.old; taken = C.taken classes.old; finds = C.finds classes.old }) (record { given = C.given classes.new; taken = C.taken classes.new; finds = C.finds classes.new }) result }
@@ -31,14 +74,8 @@ pub fn analyse_sources<C: ClassPath>(
     ensures reused { work.new.reused ≡ work.old.reused }
     ensures skipped { work.new.skipped ≡ work.old.skipped }
 {
-    let mut door = match classes.open(folders) {
-        Ok(door) => door,
-        Err(refused) => return Err(after_opening(refused)),
-    };
-    let report = cold_report(alloc, &mut door, sources, rules, work);
+    let mut door = open_door(classes, folders)?;
+    let report = report_over(alloc, &mut door, sources, rules, work);
     classes.shut(door);
-    match report {
-        Ok(report) => Ok(report),
-        Err(fault) => Err(after_asking(fault)),
-    }
+    report
 }

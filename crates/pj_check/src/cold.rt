@@ -1,9 +1,8 @@
 //! The cold report.
 ghost use Rattle.std.specs.Prelude.{◌≡◌, ◌++◌, IfOk, IfSome, OnOk, map};
 ghost use Rattle.pj_table.specs.ClassWorld.{folders_world};
-ghost use Rattle.pj_table.specs.Worlds.{CountsFaults};
 ghost use Rattle.pj_check.specs.Cold.{IsColdOf};
-ghost use Rattle.pj_check.specs.Steps.{AreRows};
+ghost use Rattle.pj_check.specs.Steps.{AreRows, CountsDoorFaults};
 
 use pj_base::{Bytes, Copied, NoMemory, Text};
 use pj_names::{AskFault, RuleRowList};
@@ -37,6 +36,25 @@ fn rows_of(alloc: Global, found: PathResults) -> Result<PathRows, NoMemory>
     Ok(rows)
 }
 
+/// What the rules find in the files, in their order, over the class folders of a door.
+fn file_results<D: ClassDoor>(
+    alloc: Global,
+    door: &mut D,
+    files: &[(Text, Bytes)],
+    rules: &RuleSet,
+    work: &mut Work,
+) -> Result<PathResults, AskFault>
+    ensures found { IfSome (D.holds door.old) (λ folders. IfOk result (λ found. AreRows (folders_world folders).answer rules.now files.now (map (λ of_file. (of_file.0, of_file.1.rows)) found))) }
+    ensures faults { CountsDoorFaults (D.faults door.old) (D.faults door.new) result }
+    ensures analysed { OnOk result (work.new.analysed ≡ work.old.analysed ++ map (λ file. file.0) files.now) }
+    ensures reused { work.new.reused ≡ work.old.reused }
+    ensures skipped { work.new.skipped ≡ work.old.skipped }
+{
+    sets_have_rules(rules);
+    let mut oracle = DoorOracle::new(alloc, &mut *door);
+    analyse_files(alloc, &mut oracle, files, rules, work)
+}
+
 /// The rows of the files, in their order, over the class folders of a door.
 fn all_rows<D: ClassDoor>(
     alloc: Global,
@@ -46,15 +64,31 @@ fn all_rows<D: ClassDoor>(
     work: &mut Work,
 ) -> Result<PathRows, AskFault>
     ensures rows { IfSome (D.holds door.old) (λ folders. IfOk result (AreRows (folders_world folders).answer rules.now files.now)) }
-    ensures faults { CountsFaults (D.faults door.old) (D.faults door.new) result }
+    ensures faults { CountsDoorFaults (D.faults door.old) (D.faults door.new) result }
     ensures analysed { OnOk result (work.new.analysed ≡ work.old.analysed ++ map (λ file. file.0) files.now) }
     ensures reused { work.new.reused ≡ work.old.reused }
     ensures skipped { work.new.skipped ≡ work.old.skipped }
 {
-    sets_have_rules(rules);
-    let mut oracle = DoorOracle::new(alloc, door);
-    let found = analyse_files(alloc, &mut oracle, files, rules, work)?;
-    Ok(rows_of(alloc, found)?)
+    let found = file_results(alloc, door, files, rules, work)?;
+    match rows_of(alloc, found) {
+        Ok(rows) => Ok(rows),
+        Err(NoMemory) => Err(AskFault::Memory),
+    }
+}
+
+/// The report of the rules, with these rows of the files.
+fn report_of(alloc: Global, files: PathRows, rules: &RuleSet) -> Result<Report, NoMemory>
+    ensures rules { IfOk result (λ report. report.rules ≡ map (λ rule. rule.row) rules.now.rules) }
+    ensures files { IfOk result (λ report. report.files ≡ files) }
+    ensures errors { IfOk result (λ report. report.errors ≡ rules.now.unusable) }
+{
+    let errors = rules.unusable().copied()?;
+    let rules = rule_rows(alloc, rules.rules().as_slice())?;
+    Ok(Report {
+        rules,
+        files,
+        errors,
+    })
 }
 
 /// The cold report of the rules over the sources and the class folders of a door.
@@ -66,18 +100,15 @@ pub fn cold_report<D: ClassDoor>(
     work: &mut Work,
 ) -> Result<Report, AskFault>
     ensures cold { IfSome (D.holds door.old) (λ folders. IfOk result (IsColdOf (folders_world folders).answer sources.now rules.now)) }
-    ensures faults { CountsFaults (D.faults door.old) (D.faults door.new) result }
+    ensures faults { CountsDoorFaults (D.faults door.old) (D.faults door.new) result }
     ensures analysed { OnOk result (work.new.analysed ≡ work.old.analysed ++ map (λ file. file.0) sources.now) }
     ensures reused { work.new.reused ≡ work.old.reused }
     ensures skipped { work.new.skipped ≡ work.old.skipped }
 {
     sets_have_rules(rules);
     let files = all_rows(alloc, door, sources.as_slice(), rules, work)?;
-    let errors = rules.unusable().copied()?;
-    let rules = rule_rows(alloc, rules.rules().as_slice())?;
-    Ok(Report {
-        rules,
-        files,
-        errors,
-    })
+    match report_of(alloc, files, rules) {
+        Ok(report) => Ok(report),
+        Err(NoMemory) => Err(AskFault::Memory),
+    }
 }

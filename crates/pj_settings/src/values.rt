@@ -140,7 +140,7 @@ pub fn items_value(alloc: Global, option: &str, word: &str) -> Result<Names, Usa
 
 /// The class folders, split at `:`. Without a word there are none.
 pub fn classes_value(alloc: Global, word: Option<&str>) -> Result<Names, UsageRefused>
-    ensures { Gives result (classes_value (option_map (λ text. text.now) word)) }
+    ensures { Gives result (classes_value (option_map (λ text. text.now) word.entry)) }
 {
     match word {
         Some(word) => list_value(alloc, ':', "--aux-classpath", word),

@@ -1,4 +1,4 @@
-use Rattle.std.proofs.Common.{◌∙◌, ◌++◌, Result, ap, inl, inr, map, refl, subst, sym}
+use Rattle.std.proofs.Common.{◌≢◌, ◌∙◌, ◌++◌, Err, Result, ap, inl, inr, map, refl, sym}
 use Rattle.std.proofs.lemmas.Result.{err_from_is_err_and}
 use Rattle.pj_outside.specs.Files.{Bytes}
 use Rattle.pj_workers.specs.declared.work.Work.{Work}
@@ -6,10 +6,10 @@ use Rattle.pj_check.specs.Outcome.{DoorCounts}
 use Rattle.pj_check.specs.Run.{HasRules, HasSources}
 use Rattle.pj_check.specs.Steps.{CountsDoor, CountsFaults, CountsOfClasses, HasNoReport}
 use Rattle.pj_check.specs.declared.refusal.Refusal.{Refusal}
-use Rattle.pj_check.specs.declared.refusal.Refusal.TheVariants.{Memory}
+use Rattle.pj_check.specs.declared.refusal.Refusal.TheVariants.{Memory, TreeFault}
 use Rattle.pj_check.specs.declared.report_rendering.Written.{Written}
 use Rattle.pj_sources.specs.Reading.{AreRead}
-use Rattle.pj_check.proofs.Ending.{classes_idle, doors_idle, explains_later, is_made, no_cold, no_memory, no_report, refused_on, result_on, told_later}
+use Rattle.pj_check.proofs.Ending.{classes_idle, doors_idle, explains_later, is_made, no_cold, no_memory, no_report, no_tree_fault, nothing_made, refused_on, result_on, told_later, tree_idle}
 use Rattle.pj_check.proofs.check.make_report.Goals as goal
 
 -- ---- the words ask for nothing
@@ -249,6 +249,61 @@ returns-in_err-report-clause-doors g c =
     let old : DoorCounts = record { given = g.C.ClassPath.given c.args.classes.now; taken = g.C.ClassPath.taken c.args.classes.now; finds = g.C.ClassPath.finds c.args.classes.now } in
     let new : DoorCounts = record { given = g.C.ClassPath.given c.analyse_sources.new.classes; taken = g.C.ClassPath.taken c.analyse_sources.new.classes; finds = g.C.ClassPath.finds c.analyse_sources.new.classes } in
     result_on (λ (w : Result Written Refusal). CountsDoor old new w) c.from_residual-in_err-report.result exit.0 c.in_err-report.field-0.0 exit.1 exit.2 c.in_err-report.ensures.doors
+
+pub returns-in_err-report-clause-counts_faults : goal.returns-in_err-report-clause-counts_faults
+returns-in_err-report-clause-counts_faults g c =
+    let old = g.T.Tree.faults c.args.tree.now in
+    let new = g.T.Tree.faults c.sources_of.new.tree in
+    let exit = err_from_is_err_and c.from_residual-in_err-report.result c.from_residual-in_err-report.ensures.1 in
+    result_on (λ (w : Result Written Refusal). CountsFaults old new w) c.from_residual-in_err-report.result exit.0 c.in_err-report.field-0.0 exit.1 exit.2
+    (tree_idle c.in_err-report.field-0.0 old new c.in_err-report.ensures.refused (c.in_ok-sources.ensures.counts_faults ∙ c.in_ok-rules.ensures.counts_faults ∙ c.in_ok-listing.ensures.counts_faults))
+
+pub returns-in_err-report-clause-steady : goal.returns-in_err-report-clause-steady
+returns-in_err-report-clause-steady g c = λ never.
+    let listing = c.in_ok-listing.ensures.steady never in
+    let rules = c.in_ok-rules.ensures.steady listing.0 in
+    let sources = c.in_ok-sources.ensures.steady rules.0 in
+    let exit = err_from_is_err_and c.from_residual-in_err-report.result c.from_residual-in_err-report.ensures.1 in (
+      sources.0,
+      result_on (λ (w : Result Written Refusal). w ≢ Err TreeFault) c.from_residual-in_err-report.result exit.0 c.in_err-report.field-0.0 exit.1 exit.2 (no_tree_fault c.in_err-report.field-0.0 c.in_err-report.ensures.refused),
+    )
+
+-- ---- where there is no report nothing is made
+
+pub returns-in_err-settings-clause-made : goal.returns-in_err-settings-clause-made
+returns-in_err-settings-clause-made g c =
+    let exit = err_from_is_err_and c.from_residual-in_err-settings.result c.from_residual-in_err-settings.ensures.1 in
+    nothing_made c.args.words.now (g.T.Tree.holds c.args.tree.now) (g.C.ClassPath.holds c.args.classes.now) c.args.work.now c.args.work.now c.from_residual-in_err-settings.result exit.0 exit.1
+
+pub returns-in_err-listing-clause-made : goal.returns-in_err-listing-clause-made
+returns-in_err-listing-clause-made g c =
+    let exit = err_from_is_err_and c.from_residual-in_err-listing.result c.from_residual-in_err-listing.ensures.1 in
+    nothing_made c.args.words.now (g.T.Tree.holds c.args.tree.now) (g.C.ClassPath.holds c.args.classes.now) c.args.work.now c.args.work.now c.from_residual-in_err-listing.result exit.0 exit.1
+
+pub returns-in_err-rules-clause-made : goal.returns-in_err-rules-clause-made
+returns-in_err-rules-clause-made g c =
+    let exit = err_from_is_err_and c.from_residual-in_err-rules.result c.from_residual-in_err-rules.ensures.1 in
+    nothing_made c.args.words.now (g.T.Tree.holds c.args.tree.now) (g.C.ClassPath.holds c.args.classes.now) c.args.work.now c.args.work.now c.from_residual-in_err-rules.result exit.0 exit.1
+
+pub returns-in_err-sources-clause-made : goal.returns-in_err-sources-clause-made
+returns-in_err-sources-clause-made g c =
+    let exit = err_from_is_err_and c.from_residual-in_err-sources.result c.from_residual-in_err-sources.ensures.1 in
+    nothing_made c.args.words.now (g.T.Tree.holds c.args.tree.now) (g.C.ClassPath.holds c.args.classes.now) c.args.work.now c.args.work.now c.from_residual-in_err-sources.result exit.0 exit.1
+
+pub returns-in_err-done-clause-made : goal.returns-in_err-done-clause-made
+returns-in_err-done-clause-made g c =
+    let exit = err_from_is_err_and c.from_residual-in_err-done.result c.from_residual-in_err-done.ensures.1 in
+    nothing_made c.args.words.now (g.T.Tree.holds c.args.tree.now) (g.C.ClassPath.holds c.args.classes.now) c.args.work.now c.args.work.now c.from_residual-in_err-done.result exit.0 exit.1
+
+pub returns-in_err-report-clause-made : goal.returns-in_err-report-clause-made
+returns-in_err-report-clause-made g c =
+    let exit = err_from_is_err_and c.from_residual-in_err-report.result c.from_residual-in_err-report.ensures.1 in
+    nothing_made c.args.words.now (g.T.Tree.holds c.args.tree.now) (g.C.ClassPath.holds c.args.classes.now) c.args.work.now c.args.work.now c.from_residual-in_err-report.result exit.0 exit.1
+
+pub returns-in_err-written-clause-made : goal.returns-in_err-written-clause-made
+returns-in_err-written-clause-made g c =
+    let exit = err_from_is_err_and c.from_residual-in_err-written.result c.from_residual-in_err-written.ensures.1 in
+    nothing_made c.args.words.now (g.T.Tree.holds c.args.tree.now) (g.C.ClassPath.holds c.args.classes.now) c.args.work.now c.args.work.now c.from_residual-in_err-written.result exit.0 exit.1
 
 -- ---- the report is made
 
