@@ -286,20 +286,21 @@ module _ {A : Type 0} where
   pub refused_on : (P : Refusal → Type 0) (r : Result A Refusal) (e x : Refusal) → r ≡ Err e → e ≡ x → P x → IfErr r P
   refused_on P r e x is same h = subst (λ (w : Result A Refusal). IfErr w P) (sym is) (subst P (sym same) h)
 
-  pub nothing_made : (words : List Bytes) (told : Option Files) (classes : Option ClassFolders) (old new : Work) (r : Result Written Refusal) (e : Refusal) → r ≡ Err e →
-      IfSome told (λ held. IfSome classes (λ folders. IfOk r (IsMade words held folders old new)))
-  nothing_made words told classes old new r e is =
-      subst (λ (w : Result Written Refusal). IfSome told (λ held. IfSome classes (λ folders. IfOk w (IsMade words held folders old new)))) (sym is)
-      (all_told told (λ held. IfSome classes (λ folders. ⊤)) (λ held. all_told classes (λ folders. ⊤) (λ folders. tt)))
+-- no report is made where there is a refusal
+pub nothing_made : (words : List Bytes) (told : Option Files) (classes : Option ClassFolders) (old new : Work) (r : Result Written Refusal) (e : Refusal) → r ≡ Err e →
+    IfSome told (λ held. IfSome classes (λ folders. IfOk r (IsMade words held folders old new)))
+nothing_made words told classes old new r e is =
+    subst (λ (w : Result Written Refusal). IfSome told (λ held. IfSome classes (λ folders. IfOk w (IsMade words held folders old new)))) (sym is)
+    (all_told told (λ held. IfSome classes (λ folders. ⊤)) (λ held. all_told classes (λ folders. ⊤) (λ folders. tt)))
 
-  -- the tree's count is the same where the class path refuses
-  pub tree_idle : (r : Refusal) (old new : ℕ) → IsOfClasses r → new ≡ old → CountsFaults {A = A} old new (Err r)
-  tree_idle r old new (inl is) same = subst (λ (x : Refusal). CountsFaults {A = A} old new (Err x)) (sym is) same
-  tree_idle r old new (inr is) same = subst (λ (x : Refusal). CountsFaults {A = A} old new (Err x)) (sym is) same
+-- the tree's count is the same where the class path refuses
+pub tree_idle : (A : Type 0) (r : Refusal) (old new : ℕ) → IsOfClasses r → new ≡ old → CountsFaults {A = A} old new (Err r)
+tree_idle A r old new (inl is) same = subst (λ (x : Refusal). CountsFaults {A = A} old new (Err x)) (sym is) same
+tree_idle A r old new (inr is) same = subst (λ (x : Refusal). CountsFaults {A = A} old new (Err x)) (sym is) same
 
-  pub no_tree_fault : (r : Refusal) → IsOfClasses r → (let w : Result A Refusal = Err r in w) ≢ Err TreeFault
-  no_tree_fault r (inl is) e = let f : (let w : Result A Refusal = Err ClassFault in w) ≡ Err TreeFault = ap (λ (x : Refusal). Err x) (sym is) ∙ e in absurd (cc)
-  no_tree_fault r (inr is) e = let f : (let w : Result A Refusal = Err Memory in w) ≡ Err TreeFault = ap (λ (x : Refusal). Err x) (sym is) ∙ e in absurd (cc)
+pub no_tree_fault : (A : Type 0) (r : Refusal) → IsOfClasses r → (let w : Result A Refusal = Err r in w) ≢ Err TreeFault
+no_tree_fault A r (inl is) e = let f : (let w : Result A Refusal = Err ClassFault in w) ≡ Err TreeFault = ap (λ (x : Refusal). Err x) (sym is) ∙ e in absurd (cc)
+no_tree_fault A r (inr is) e = let f : (let w : Result A Refusal = Err Memory in w) ≡ Err TreeFault = ap (λ (x : Refusal). Err x) (sym is) ∙ e in absurd (cc)
 
 module _ {A E : Type 0} where
   -- what holds of the end with this error

@@ -256,7 +256,7 @@ returns-in_err-report-clause-counts_faults g c =
     let new = g.T.Tree.faults c.sources_of.new.tree in
     let exit = err_from_is_err_and c.from_residual-in_err-report.result c.from_residual-in_err-report.ensures.1 in
     result_on (λ (w : Result Written Refusal). CountsFaults old new w) c.from_residual-in_err-report.result exit.0 c.in_err-report.field-0.0 exit.1 exit.2
-    (tree_idle c.in_err-report.field-0.0 old new c.in_err-report.ensures.refused (c.in_ok-sources.ensures.counts_faults ∙ c.in_ok-rules.ensures.counts_faults ∙ c.in_ok-listing.ensures.counts_faults))
+    (tree_idle Written c.in_err-report.field-0.0 old new c.in_err-report.ensures.refused (c.in_ok-sources.ensures.counts_faults ∙ c.in_ok-rules.ensures.counts_faults ∙ c.in_ok-listing.ensures.counts_faults))
 
 pub returns-in_err-report-clause-steady : goal.returns-in_err-report-clause-steady
 returns-in_err-report-clause-steady g c = λ never.
@@ -265,7 +265,7 @@ returns-in_err-report-clause-steady g c = λ never.
     let sources = c.in_ok-sources.ensures.steady rules.0 in
     let exit = err_from_is_err_and c.from_residual-in_err-report.result c.from_residual-in_err-report.ensures.1 in (
       sources.0,
-      result_on (λ (w : Result Written Refusal). w ≢ Err TreeFault) c.from_residual-in_err-report.result exit.0 c.in_err-report.field-0.0 exit.1 exit.2 (no_tree_fault c.in_err-report.field-0.0 c.in_err-report.ensures.refused),
+      result_on (λ (w : Result Written Refusal). w ≢ Err TreeFault) c.from_residual-in_err-report.result exit.0 c.in_err-report.field-0.0 exit.1 exit.2 (no_tree_fault Written c.in_err-report.field-0.0 c.in_err-report.ensures.refused),
     )
 
 -- ---- where there is no report nothing is made

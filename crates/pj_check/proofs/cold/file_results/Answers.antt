@@ -1,4 +1,4 @@
-use Rattle.std.proofs.Common.{◌≡◌, ap, rules, subst, sym}
+use Rattle.std.proofs.Common.{◌≡◌, ◌∙◌, ap, rules, subst, sym}
 use Rattle.pj_check.specs.Steps.{CountsDoorFaults}
 use Rattle.pj_check.proofs.Gathering.{asked_faults, rows_over_door}
 use Rattle.pj_check.proofs.cold.file_results.Goals as goal
@@ -11,7 +11,7 @@ returns-clause-found g c =
 pub returns-clause-faults : goal.returns-clause-faults
 returns-clause-faults g c =
     let asks = c.analyse_files.ensures.asks c.sets_have_rules.ensures.0 c.sets_have_rules.ensures.1 in
-    let held = sym (ap (λ k. k.reference) asks.same_kept) in
+    let held = sym (ap (λ t. t.kept.reference) c.new.ensures.tells) ∙ sym (ap (λ k. k.reference) asks.same_kept) in
     let begun = ap (λ t. t.faults) c.new.ensures.tells in
     let over = asked_faults _ _ _ _ c.analyse_files.result asks in
     let same : c.analyse_files.new.oracle.door.now ≡ c.door-1.given.0 = search rules in
