@@ -1,5 +1,5 @@
 -- From the calls of a class path to what is counted of a run.
-use Rattle.std.proofs.Common.{◌≡◌, ◌∙◌, ◌≤◌, ◌+◌, ◌-◌, ◌^◌, min, ℕ, zero, suc, List, Option, None, Some, IfErr, IfSome, Result, Ok, Err, inl, inr, ap, sym, subst, refl, arith}
+use Rattle.std.proofs.Common.{◌≡◌, ◌≢◌, ◌∙◌, ◌≤◌, ◌+◌, ◌-◌, ◌^◌, min, ℕ, zero, suc, List, Option, None, Some, IfErr, IfSome, Result, Ok, Err, inl, inr, ap, sym, subst, refl, arith}
 use Rattle.std.specs.Option.{option_map}
 use Rattle.pj_names.specs.declared.oracle.AskFault.{AskFault}
 use Rattle.pj_names.specs.declared.oracle.AskFault.TheVariants as unanswered
@@ -27,6 +27,11 @@ pub unopened_faults : {D : Type 0} (why : Refused) (r : Refusal) (old new : ℕ)
 unopened_faults unopened.Failed r old new is counts = subst (λ (x : Refusal). CountsClassFaults (refused x) old new) (sym is) counts
 unopened_faults unopened.Memory r old new is counts = subst (λ (x : Refusal). CountsClassFaults (refused x) old new) (sym is) counts
 
+pub unopened_steady : {A : Type 0} (why : Refused) (r : Refusal) → r ≡ after_opening why → why ≢ unopened.Failed → (let w : Result A Refusal = Err r in w) ≢ Err ClassFault
+unopened_steady unopened.Failed r is never e = absurd (never refl)
+unopened_steady {A} unopened.Memory r is never e =
+    let f : (let w : Result A Refusal = Err Memory in w) ≡ Err ClassFault = ap (λ (x : Refusal). Err x) (sym is) ∙ e in absurd (cc)
+
 -- no door was opened where no count rose
 pub no_door : (r : Refusal) (old new : DoorCounts) → IsOfClasses r → new.given ≡ old.given → new.taken ≡ old.taken → new.finds ≡ old.finds → CountsDoors (refused r) old new
 no_door r old new (inl is) given taken finds =
@@ -44,6 +49,12 @@ pub unasked_faults : (why : AskFault) (r : Refusal) (old new : ℕ) → r ≡ af
 unasked_faults unanswered.Failed r old new is counts = subst (λ (x : Refusal). CountsClassFaults (refused x) old new) (sym is) counts
 unasked_faults unanswered.Memory r old new is counts = subst (λ (x : Refusal). CountsClassFaults (refused x) old new) (sym is) counts
 
+-- a call that did not fail leaves the count
+pub unfailed_faults : {A : Type 0} (r : Result A Refused) (old new : ℕ) → r ≢ Err unopened.Failed → outside.CountsFaults old new r → new ≡ old
+unfailed_faults (Ok a) old new never counts = counts
+unfailed_faults (Err unopened.Failed) old new never counts = absurd (never refl)
+unfailed_faults (Err unopened.Memory) old new never counts = counts
+
 -- ---- the door was opened, and is shut
 
 -- a door without a fault leaves the count
@@ -60,15 +71,23 @@ rose_from_none : (old new : ℕ) → old ≡ 0 → Rises old new → 1 ≤ new
 rose_from_none old new none rises = omega (arith, none, rises.rose)
 
 module _ {A : Type 0} where
-  pub shut_faults : (r : Result A Refusal) (begun ended before opened after : ℕ) → IfErr r IsOfClasses → begun ≡ 0 → CountsOfClasses begun ended r → opened ≡ before → TakesFaults opened after ended
+  pub shut_faults : (r : Result A Refusal) (begun ended of_door before opened after : ℕ) → IfErr r IsOfClasses → begun ≡ 0 → CountsOfClasses begun ended r → opened ≡ before → of_door ≡ ended → TakesFaults opened after of_door
       → CountsOfClasses before after r
-  shut_faults (Ok a) begun ended before opened after of none counts same takes = no_fault_taken ended before opened after (counts ∙ none) same takes
-  shut_faults (Err r) begun ended before opened after (inl is) none counts same takes =
+  shut_faults (Ok a) begun ended of_door before opened after of none counts same is_door takes = no_fault_taken of_door before opened after (is_door ∙ counts ∙ none) same takes
+  shut_faults (Err r) begun ended of_door before opened after (inl is) none counts same is_door takes =
       let rises : Rises begun ended = subst (λ (x : Refusal). CountsClassFaults (refused x) begun ended) is counts in
-      subst (λ (x : Refusal). CountsClassFaults (refused x) before after) (sym is) (fault_taken ended before opened after (rose_from_none begun ended none rises) same takes)
-  shut_faults (Err r) begun ended before opened after (inr is) none counts same takes =
+      subst (λ (x : Refusal). CountsClassFaults (refused x) before after) (sym is) (fault_taken of_door before opened after (subst (λ (n : ℕ). 1 ≤ n) (sym is_door) (rose_from_none begun ended none rises)) same takes)
+  shut_faults (Err r) begun ended of_door before opened after (inr is) none counts same is_door takes =
       let stays : ended ≡ begun = subst (λ (x : Refusal). CountsClassFaults (refused x) begun ended) is counts in
-      subst (λ (x : Refusal). CountsClassFaults (refused x) before after) (sym is) (no_fault_taken ended before opened after (stays ∙ none) same takes)
+      subst (λ (x : Refusal). CountsClassFaults (refused x) before after) (sym is) (no_fault_taken of_door before opened after (is_door ∙ stays ∙ none) same takes)
+
+  -- a door without a fault makes no fault of the class path
+  pub no_class_fault : (r : Result A Refusal) (begun ended : ℕ) → ended ≡ 0 → CountsOfClasses begun ended r → r ≢ Err ClassFault
+  no_class_fault (Ok a) begun ended none counts e = absurd (cc)
+  no_class_fault (Err r) begun ended none counts e =
+      let same : r ≡ ClassFault = cc in
+      let rises : Rises begun ended = subst (λ (x : Refusal). CountsClassFaults (refused x) begun ended) same counts in
+      absurd (omega (arith, none, rises.rose))
 
   pub shut_door : (r : Result A Refusal) (old new : DoorCounts) → IfErr r IsOfClasses → OneDoor old new → CountsDoor old new r
   shut_door (Ok a) old new of one = one

@@ -189,6 +189,16 @@ no_fault_before (Missing path) n e = absurd (cc)
 no_fault_before (Limit kind) n e = absurd (cc)
 no_fault_before Memory n e = absurd (cc)
 
+pub no_class_before : (r : Refusal) → r ≢ ClassFault → refused r ≢ outcome.ClassFault
+no_class_before (Usage fault) n e = absurd (cc)
+no_class_before (Rules fault) n e = absurd (cc)
+no_class_before TreeFault n e = absurd (cc)
+no_class_before ClassFault n e = n refl
+no_class_before SinkFault n e = absurd (cc)
+no_class_before (Missing path) n e = absurd (cc)
+no_class_before (Limit kind) n e = absurd (cc)
+no_class_before Memory n e = absurd (cc)
+
 -- ---- the report is put
 
 -- what the end of a run says whose report was put, or was cut
@@ -264,6 +274,12 @@ put_doors (Ok verdict.Violations) old new fault one = one
 put_doors (Ok verdict.Errors) old new fault one = one
 put_doors (Err r) old new fault one = subst (λ (e : Refusal). CountsDoors (refused e) old new) (sym fault) one
 
+pub put_classes_steady : (r : Result Verdict Refusal) → IfErr r (λ e. e ≡ SinkFault) → outcome_of r ≢ outcome.ClassFault
+put_classes_steady (Ok verdict.Clean) fault e = absurd (cc)
+put_classes_steady (Ok verdict.Violations) fault e = absurd (cc)
+put_classes_steady (Ok verdict.Errors) fault e = absurd (cc)
+put_classes_steady (Err r) fault e = let f : outcome.SinkFault ≡ outcome.ClassFault = subst (λ (x : Refusal). refused x ≡ outcome.ClassFault) fault e in absurd (cc)
+
 pub put_counts : (r : Result Verdict Refusal) (old new : ℕ) → IfErr r (λ e. e ≡ SinkFault) → OnOk r (new ≡ old) → OnErr r (Rises old new) → CountsSinkFaults (outcome_of r) old new
 put_counts (Ok verdict.Clean) old new fault same rises = same
 put_counts (Ok verdict.Violations) old new fault same rises = same
@@ -301,6 +317,17 @@ tree_idle A r old new (inr is) same = subst (λ (x : Refusal). CountsFaults {A =
 pub no_tree_fault : (A : Type 0) (r : Refusal) → IsOfClasses r → (let w : Result A Refusal = Err r in w) ≢ Err TreeFault
 no_tree_fault A r (inl is) e = let f : (let w : Result A Refusal = Err ClassFault in w) ≡ Err TreeFault = ap (λ (x : Refusal). Err x) (sym is) ∙ e in absurd (cc)
 no_tree_fault A r (inr is) e = let f : (let w : Result A Refusal = Err Memory in w) ≡ Err TreeFault = ap (λ (x : Refusal). Err x) (sym is) ∙ e in absurd (cc)
+
+-- before the sources are analysed the class path does not fail
+pub classes_steady : (A : Type 0) (words : List Bytes) (told : Option Files) (r : Refusal) → Explains words told r → (let w : Result A Refusal = Err r in w) ≢ Err ClassFault
+classes_steady A words told r h e = let same : r ≡ ClassFault = cc in absurd ((subst (λ (x : Refusal). Explains words told x) same h).of_words)
+
+pub memory_end : (A : Type 0) → (let w : Result A Refusal = Err Memory in w) ≢ Err ClassFault
+memory_end A e = absurd (cc)
+
+-- the same refusal of another result
+pub other_end : (A B : Type 0) (r : Refusal) → (let w : Result A Refusal = Err r in w) ≢ Err ClassFault → (let w : Result B Refusal = Err r in w) ≢ Err ClassFault
+other_end A B r never e = let same : r ≡ ClassFault = cc in never (ap (λ (x : Refusal). Err x) same)
 
 module _ {A E : Type 0} where
   -- what holds of the end with this error

@@ -32,6 +32,7 @@ fn make_report<T: Tree, C: ClassPath>(
     ensures counts_faults { CountsFaults (T.faults tree.old) (T.faults tree.new) result }
     ensures steady { T.never_fails tree.old → T.never_fails tree.new × (result ≢ Err Refusal.TreeFault) }
     ensures same_folders { C.holds classes.new ≡ C.holds classes.old }
+    ensures steady_classes { C.never_fails classes.old → C.never_fails classes.new × (result ≢ Err Refusal.ClassFault) }
     ensures class_faults { CountsOfClasses (C.faults classes.old) (C.faults classes.new) result }
     ensures doors { CountsDoor (record { given = C.given classes.old; taken = C.taken classes.old; finds = C.finds classes.old }) (record { given = C.given classes.new; taken = C.taken classes.new; finds = C.finds classes.new }) result }
     ensures reused { work.new.reused ≡ work.old.reused }
@@ -87,6 +88,7 @@ fn run<T: Tree, C: ClassPath, S: Sink>(
     ensures tree_faults { CountsTreeFaults (outcome_of result) (T.faults tree.old) (T.faults tree.new) }
     ensures steady { T.never_fails tree.old → T.never_fails tree.new × (outcome_of result ≢ Outcome.TreeFault) }
     ensures same_folders { C.holds classes.new ≡ C.holds classes.old }
+    ensures steady_classes { C.never_fails classes.old → C.never_fails classes.new × (outcome_of result ≢ Outcome.ClassFault) }
     ensures class_faults { CountsClassFaults (outcome_of result) (C.faults classes.old) (C.faults classes.new) }
     ensures doors { CountsDoors (outcome_of result) (record { given = C.given classes.old; taken = C.taken classes.old; finds = C.finds classes.old }) (record { given = C.given classes.new; taken = C.taken classes.new; finds = C.finds classes.new }) }
     ensures sink_faults { CountsSinkFaults (outcome_of result) (S.faults out.old) (S.faults out.new) }
@@ -123,6 +125,7 @@ pub fn check_alone<T: Tree, C: ClassPath, K: Keeper, S: Sink, N: Sink>(
     ensures steady { T.never_fails tree.old → T.never_fails tree.new × (result ≢ Outcome.TreeFault) }
     ensures sink_faults { CountsSinkFaults result (S.faults out.old) (S.faults out.new) }
     ensures same_folders { C.holds classes.new ≡ C.holds classes.old }
+    ensures steady_classes { C.never_fails classes.old → C.never_fails classes.new × (result ≢ Outcome.ClassFault) }
     ensures class_faults { CountsClassFaults result (C.faults classes.old) (C.faults classes.new) }
     ensures doors { CountsDoors result (record { given = C.given classes.old; taken = C.taken classes.old; finds = C.finds classes.old }) (record { given = C.given classes.new; taken = C.taken classes.new; finds = C.finds classes.new }) }
     ensures same_keeper { keeper.new ≡ keeper.old }

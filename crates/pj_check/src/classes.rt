@@ -1,5 +1,5 @@
 //! The step of a run over its class folders.
-ghost use Rattle.std.specs.Prelude.{◌≡◌, ◌++◌, IfErr, IfOk, IfSome, OnErr, OnOk, map};
+ghost use Rattle.std.specs.Prelude.{◌≡◌, ◌≢◌, ◌++◌, Err, IfErr, IfOk, IfSome, OnErr, OnOk, map};
 ghost use Rattle.std.specs.Option.{option_map};
 ghost use Rattle.pj_outside.specs.Doors.{opened};
 ghost use Rattle.pj_outside.specs.Faults.{next_count};
@@ -9,12 +9,14 @@ ghost use Rattle.pj_check.specs.Steps.{CountsDoor, CountsOfClasses, IsOfClasses}
 
 use crate::cold::cold_report;
 use crate::refusal::{Refusal, after_asking, after_opening};
+use crate::steady_door::{Knowing, SteadyDoor};
 use pj_base::Names;
 use pj_outside::{ClassDoor, ClassPath, Files};
 use pj_reports::Report;
 use pj_rules::RuleSet;
 use pj_workers::Work;
 use std::alloc::Global;
+use std::marker::Brand;
 
 /// A door to the class folders of these names.
 fn open_door<C: ClassPath>(classes: &mut C, folders: &Names) -> Result<C::Door, Refusal>
@@ -25,6 +27,8 @@ fn open_door<C: ClassPath>(classes: &mut C, folders: &Names) -> Result<C::Door, 
     ensures same_given { OnErr result (C.given classes.new ≡ C.given classes.old) }
     ensures same_taken { C.taken classes.new ≡ C.taken classes.old }
     ensures same_finds { C.finds classes.new ≡ C.finds classes.old }
+    ensures steady { C.never_fails classes.old → C.never_fails classes.new × (result ≢ Err Refusal.ClassFault) }
+    ensures steady_door { C.never_fails classes.old → IfOk result (λ door. C.Door.never_fails door) }
     ensures no_faults { IfOk result (λ door. C.Door.faults door ≡ 0) }
     ensures door { IfOk result (λ door. C.Door.holds door ≡ option_map (λ held. opened held folders.now) (C.holds classes.old)) }
 {
@@ -55,6 +59,34 @@ fn report_over<D: ClassDoor>(
     }
 }
 
+/// The same over the class folders of these names, where it is known whether the class path never fails: one door is opened, and shut in
+/// every case.
+fn report_over_classes<C: ClassPath, V: Knowing + Send>(
+    alloc: Global,
+    classes: &mut C,
+    folders: &Names,
+    sources: &Files,
+    rules: &RuleSet,
+    work: &mut Work,
+) -> Result<Report, Refusal>
+    requires { V.never_fails → C.never_fails classes.old }
+    ensures cold { IfSome (C.holds classes.old) (λ held. IfOk result (IsColdOf (world_of held folders.now) sources.now rules.now)) }
+    ensures refused { IfErr result IsOfClasses }
+    ensures same_folders { C.holds classes.new ≡ C.holds classes.old }
+    ensures class_faults { CountsOfClasses (C.faults classes.old) (C.faults classes.new) result }
+    ensures steady { V.never_fails → C.never_fails classes.new × (result ≢ Err Refusal.ClassFault) }
+    ensures doors { CountsDoor (record { given = C.given classes.old; taken = C.taken classes.old; finds = C.finds classes.old }) (record { given = C.given classes.new; taken = C.taken classes.new; finds = C.finds classes.new }) result }
+    ensures analysed { OnOk result (work.new.analysed ≡ work.old.analysed ++ map (λ file. file.0) sources.now) }
+    ensures reused { work.new.reused ≡ work.old.reused }
+    ensures skipped { work.new.skipped ≡ work.old.skipped }
+{
+    let opened = open_door(classes, folders)?;
+    let mut door = SteadyDoor::<C::Door, V>::new(opened);
+    let report = report_over(alloc, &mut door, sources, rules, work);
+    classes.shut(door.into_door());
+    report
+}
+
 /// The cold report of the rules over the sources and the class folders of these names. One door is opened for it, and shut in every
 /// case.
 pub fn analyse_sources<C: ClassPath>(
@@ -69,13 +101,11 @@ pub fn analyse_sources<C: ClassPath>(
     ensures refused { IfErr result IsOfClasses }
     ensures same_folders { C.holds classes.new ≡ C.holds classes.old }
     ensures class_faults { CountsOfClasses (C.faults classes.old) (C.faults classes.new) result }
+    ensures steady { C.never_fails classes.old → C.never_fails classes.new × (result ≢ Err Refusal.ClassFault) }
     ensures doors { CountsDoor (record { given = C.given classes.old; taken = C.taken classes.old; finds = C.finds classes.old }) (record { given = C.given classes.new; taken = C.taken classes.new; finds = C.finds classes.new }) result }
     ensures analysed { OnOk result (work.new.analysed ≡ work.old.analysed ++ map (λ file. file.0) sources.now) }
     ensures reused { work.new.reused ≡ work.old.reused }
     ensures skipped { work.new.skipped ≡ work.old.skipped }
 {
-    let mut door = open_door(classes, folders)?;
-    let report = report_over(alloc, &mut door, sources, rules, work);
-    classes.shut(door);
-    report
+    report_over_classes::<C, Brand>(alloc, classes, folders, sources, rules, work)
 }

@@ -17,6 +17,7 @@ mod refusal;
 mod report_laws;
 mod report_putting;
 mod report_rendering;
+mod steady_door;
 mod steps;
 mod verdict;
 

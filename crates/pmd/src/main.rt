@@ -39,6 +39,7 @@ fn run<T: Tree, C: ClassPath, K: Keeper, S: Sink, N: Sink>(
     ensures steady { T.never_fails tree.old → T.never_fails tree.new × (result ≢ Outcome.TreeFault) }
     ensures sink_faults { CountsSinkFaults result (S.faults out.old) (S.faults out.new) }
     ensures same_folders { C.holds classes.new ≡ C.holds classes.old }
+    ensures steady_classes { C.never_fails classes.old → C.never_fails classes.new × (result ≢ Outcome.ClassFault) }
     ensures class_faults { CountsClassFaults result (C.faults classes.old) (C.faults classes.new) }
     ensures doors { CountsDoors result (record { given = C.given classes.old; taken = C.taken classes.old; finds = C.finds classes.old }) (record { given = C.given classes.new; taken = C.taken classes.new; finds = C.finds classes.new }) }
     ensures same_keeper { keeper.new ≡ keeper.old }

@@ -1,15 +1,16 @@
 use Rattle.std.proofs.Common.{◌≢◌, ◌∙◌, ◌++◌, Err, Result, ap, inl, inr, map, refl, sym}
 use Rattle.std.proofs.lemmas.Result.{err_from_is_err_and}
 use Rattle.pj_outside.specs.Files.{Bytes}
+use Rattle.pj_reports.specs.declared.report.Report.{Report}
 use Rattle.pj_workers.specs.declared.work.Work.{Work}
 use Rattle.pj_check.specs.Outcome.{DoorCounts}
 use Rattle.pj_check.specs.Run.{HasRules, HasSources}
 use Rattle.pj_check.specs.Steps.{CountsDoor, CountsFaults, CountsOfClasses, HasNoReport}
 use Rattle.pj_check.specs.declared.refusal.Refusal.{Refusal}
-use Rattle.pj_check.specs.declared.refusal.Refusal.TheVariants.{Memory, TreeFault}
+use Rattle.pj_check.specs.declared.refusal.Refusal.TheVariants.{ClassFault, Memory, TreeFault}
 use Rattle.pj_check.specs.declared.report_rendering.Written.{Written}
 use Rattle.pj_sources.specs.Reading.{AreRead}
-use Rattle.pj_check.proofs.Ending.{classes_idle, doors_idle, explains_later, is_made, no_cold, no_memory, no_report, no_tree_fault, nothing_made, refused_on, result_on, told_later, tree_idle}
+use Rattle.pj_check.proofs.Ending.{classes_idle, classes_steady, doors_idle, explains_later, is_made, memory_end, no_cold, no_memory, no_report, no_tree_fault, nothing_made, other_end, refused_on, result_on, told_later, tree_idle}
 use Rattle.pj_check.proofs.check.make_report.Goals as goal
 
 -- ---- the words ask for nothing
@@ -267,6 +268,72 @@ returns-in_err-report-clause-steady g c = λ never.
       sources.0,
       result_on (λ (w : Result Written Refusal). w ≢ Err TreeFault) c.from_residual-in_err-report.result exit.0 c.in_err-report.field-0.0 exit.1 exit.2 (no_tree_fault Written c.in_err-report.field-0.0 c.in_err-report.ensures.refused),
     )
+
+-- ---- a class path that never fails
+
+pub returns-in_err-settings-clause-steady_classes : goal.returns-in_err-settings-clause-steady_classes
+returns-in_err-settings-clause-steady_classes g c = λ never.
+    let words = c.args.words.now in
+    let told = g.T.Tree.holds c.args.tree.now in
+    let explained = c.in_err-settings.ensures.refused told in
+    let exit = err_from_is_err_and c.from_residual-in_err-settings.result c.from_residual-in_err-settings.ensures.1 in
+    (never, result_on (λ (w : Result Written Refusal). w ≢ Err ClassFault) c.from_residual-in_err-settings.result exit.0 c.in_err-settings.field-0.0 exit.1 exit.2 (classes_steady Written words told c.in_err-settings.field-0.0 explained))
+
+pub returns-in_err-listing-clause-steady_classes : goal.returns-in_err-listing-clause-steady_classes
+returns-in_err-listing-clause-steady_classes g c = λ never.
+    let words = c.args.words.now in
+    let told = g.T.Tree.holds c.args.tree.now in
+    let explained = c.in_err-listing.ensures.refused words c.in_ok-settings.ensures.asked in
+    let exit = err_from_is_err_and c.from_residual-in_err-listing.result c.from_residual-in_err-listing.ensures.1 in
+    (never, result_on (λ (w : Result Written Refusal). w ≢ Err ClassFault) c.from_residual-in_err-listing.result exit.0 c.in_err-listing.field-0.0 exit.1 exit.2 (classes_steady Written words told c.in_err-listing.field-0.0 explained))
+
+pub returns-in_err-rules-clause-steady_classes : goal.returns-in_err-rules-clause-steady_classes
+returns-in_err-rules-clause-steady_classes g c = λ never.
+    let words = c.args.words.now in
+    let settings = c.in_ok-settings.settings in
+    let listing = c.in_ok-listing.listing in
+    let asked = c.in_ok-settings.ensures.asked in
+    let told = g.T.Tree.holds c.args.tree.now in
+    let listed = g.T.Tree.holds c.listing_within_limit.new.tree in
+    let same = c.in_ok-listing.ensures.same_files in
+    let explained = explains_later words told listed c.in_err-rules.field-0.0 same
+    (c.in_err-rules.ensures.refused words listing asked (told_later told listed (λ held. HasSources words held settings listing) same (c.in_ok-listing.ensures.sources words asked))) in
+    let exit = err_from_is_err_and c.from_residual-in_err-rules.result c.from_residual-in_err-rules.ensures.1 in
+    (never, result_on (λ (w : Result Written Refusal). w ≢ Err ClassFault) c.from_residual-in_err-rules.result exit.0 c.in_err-rules.field-0.0 exit.1 exit.2 (classes_steady Written words told c.in_err-rules.field-0.0 explained))
+
+pub returns-in_err-sources-clause-steady_classes : goal.returns-in_err-sources-clause-steady_classes
+returns-in_err-sources-clause-steady_classes g c = λ never.
+    let words = c.args.words.now in
+    let settings = c.in_ok-settings.settings in
+    let listing = c.in_ok-listing.listing in
+    let rules = c.in_ok-rules.rules in
+    let asked = c.in_ok-settings.ensures.asked in
+    let told = g.T.Tree.holds c.args.tree.now in
+    let listed = g.T.Tree.holds c.listing_within_limit.new.tree in
+    let loaded = g.T.Tree.holds c.load_rules.new.tree in
+    let same = c.in_ok-listing.ensures.same_files in
+    let has = c.in_ok-rules.ensures.rules words listing (told_later told listed (λ held. HasSources words held settings listing) same (c.in_ok-listing.ensures.sources words asked)) in
+    let explained = explains_later words told loaded c.in_err-sources.field-0.0 (c.in_ok-rules.ensures.same_files ∙ same)
+    (c.in_err-sources.ensures.refused words settings rules c.in_ok-listing.ensures.of_sources asked
+    (told_later listed loaded (λ held. HasRules words held settings listing rules) c.in_ok-rules.ensures.same_files has)) in
+    let exit = err_from_is_err_and c.from_residual-in_err-sources.result c.from_residual-in_err-sources.ensures.1 in
+    (never, result_on (λ (w : Result Written Refusal). w ≢ Err ClassFault) c.from_residual-in_err-sources.result exit.0 c.in_err-sources.field-0.0 exit.1 exit.2 (classes_steady Written words told c.in_err-sources.field-0.0 explained))
+
+pub returns-in_err-done-clause-steady_classes : goal.returns-in_err-done-clause-steady_classes
+returns-in_err-done-clause-steady_classes g c = λ never.
+    let exit = err_from_is_err_and c.from_residual-in_err-done.result c.from_residual-in_err-done.ensures.1 in
+    (never, result_on (λ (w : Result Written Refusal). w ≢ Err ClassFault) c.from_residual-in_err-done.result exit.0 Memory exit.1 exit.2 (memory_end Written))
+
+pub returns-in_err-written-clause-steady_classes : goal.returns-in_err-written-clause-steady_classes
+returns-in_err-written-clause-steady_classes g c = λ never.
+    let exit = err_from_is_err_and c.from_residual-in_err-written.result c.from_residual-in_err-written.ensures.1 in
+    ((c.in_ok-report.ensures.steady never).0, result_on (λ (w : Result Written Refusal). w ≢ Err ClassFault) c.from_residual-in_err-written.result exit.0 Memory exit.1 exit.2 (memory_end Written))
+
+pub returns-in_err-report-clause-steady_classes : goal.returns-in_err-report-clause-steady_classes
+returns-in_err-report-clause-steady_classes g c = λ never.
+    let steady = c.in_err-report.ensures.steady never in
+    let exit = err_from_is_err_and c.from_residual-in_err-report.result c.from_residual-in_err-report.ensures.1 in
+    (steady.0, result_on (λ (w : Result Written Refusal). w ≢ Err ClassFault) c.from_residual-in_err-report.result exit.0 c.in_err-report.field-0.0 exit.1 exit.2 (other_end Report Written c.in_err-report.field-0.0 steady.1))
 
 -- ---- where there is no report nothing is made
 

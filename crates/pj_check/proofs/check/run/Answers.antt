@@ -2,10 +2,10 @@ use Rattle.std.proofs.Common.{◌≢◌, Err, IfSome, ap}
 use Rattle.std.proofs.lemmas.Result.{err_from_is_err_and}
 use Rattle.pj_check.specs.Outcome.{CountsClassFaults, CountsDoors, CountsSinkFaults, CountsTreeFaults, DoorCounts, KeepsWork, Says, SaysOfSink, SaysOfWords}
 use Rattle.pj_check.specs.declared.outcome.Outcome.{Outcome}
-use Rattle.pj_check.specs.declared.outcome.Outcome.TheVariants.{TreeFault}
+use Rattle.pj_check.specs.declared.outcome.Outcome.TheVariants.{ClassFault, TreeFault}
 use Rattle.pj_check.specs.declared.refusal.Refusal.{Refusal}
 use Rattle.pj_check.specs.declared.report_rendering.Written.{Written}
-use Rattle.pj_check.proofs.Ending.{all_say_before, counts_before, ends_before, no_fault_before, put_classes, put_counts, put_doors, put_says, put_sink, put_steady, put_tree, put_words, put_work, sink_before, tree_counts_before, words_before, work_before}
+use Rattle.pj_check.proofs.Ending.{all_say_before, counts_before, ends_before, no_class_before, no_fault_before, put_classes, put_classes_steady, put_counts, put_doors, put_says, put_sink, put_steady, put_tree, put_words, put_work, sink_before, tree_counts_before, words_before, work_before}
 use Rattle.pj_check.proofs.check.run.Goals as goal
 
 -- ---- the report is not made
@@ -73,6 +73,15 @@ returns-in_err-written-clause-class_faults g c =
     let exit = err_from_is_err_and c.from_residual.result c.from_residual.ensures.1 in
     ends_before (λ (o : Outcome). CountsClassFaults o old new) c.from_residual.result exit.0 c.in_err-written.field-0.0 exit.1 exit.2 c.in_err-written.ensures.class_faults
 
+pub returns-in_err-written-clause-steady_classes : goal.returns-in_err-written-clause-steady_classes
+returns-in_err-written-clause-steady_classes g c = λ never.
+    let refusal = c.in_err-written.field-0.0 in
+    let exit = err_from_is_err_and c.from_residual.result c.from_residual.ensures.1 in
+    let steady = c.in_err-written.ensures.steady_classes never in (
+      steady.0,
+      ends_before (λ (o : Outcome). o ≢ ClassFault) c.from_residual.result exit.0 refusal exit.1 exit.2 (no_class_before refusal (λ is. steady.1 (ap (λ (r : Refusal). Err r) is))),
+    )
+
 pub returns-in_err-written-clause-doors : goal.returns-in_err-written-clause-doors
 returns-in_err-written-clause-doors g c =
     let old : DoorCounts = record { given = g.C.ClassPath.given c.args.classes.now; taken = g.C.ClassPath.taken c.args.classes.now; finds = g.C.ClassPath.finds c.args.classes.now } in
@@ -117,3 +126,6 @@ returns-clause-doors g c =
     let old : DoorCounts = record { given = g.C.ClassPath.given c.args.classes.now; taken = g.C.ClassPath.taken c.args.classes.now; finds = g.C.ClassPath.finds c.args.classes.now } in
     let new : DoorCounts = record { given = g.C.ClassPath.given c.make_report.new.classes; taken = g.C.ClassPath.taken c.make_report.new.classes; finds = g.C.ClassPath.finds c.make_report.new.classes } in
     put_doors c.put.result old new c.put.ensures.refused c.in_ok-written.ensures.doors
+
+pub returns-clause-steady_classes : goal.returns-clause-steady_classes
+returns-clause-steady_classes g c = λ never. ((c.in_ok-written.ensures.steady_classes never).0, put_classes_steady c.put.result c.put.ensures.refused)
