@@ -1,5 +1,5 @@
 -- What stands behind a construct of markup is no longer than the text that begins with it.
-use Rattle.std.proofs.Common.{◌≡◌, ◌+◌, ◌*◌, ◌≤◌, ◌<◌, ℕ, suc, Bool, List, [], ◌∷◌, ◌++◌, length, ap, arith, length-append}
+use Rattle.std.proofs.Common.{◌≡◌, ◌+◌, ◌*◌, ◌≤◌, ◌<◌, ℕ, Bool, List, ◌++◌, length, ap, arith, length-append}
 use Rattle.std.specs.Prelude.{encode_utf8}
 use Rattle.pj_markup.specs.Markup.{Spaces, NameTail, Name, UpTo, Comment, Instruction, Section, Miscs, Digits, Number, Ref, Value, Attr, EndTag, Mark}
 use Rattle.pj_rule_laws.proofs.Lengths.{four_bytes}

@@ -1,5 +1,5 @@
 -- How long texts are in bytes and in characters.
-use Rattle.std.proofs.Common.{◌≡◌, ◌+◌, ◌*◌, ◌-◌, ◌/◌, ◌≤◌, ℕ, zero, suc, Bool, true, false, cond, ltb, List, [], ◌∷◌, length, arith}
+use Rattle.std.proofs.Common.{◌+◌, ◌*◌, ◌-◌, ◌/◌, ◌≤◌, ℕ, zero, suc, Bool, true, false, cond, ltb, List, [], ◌∷◌, length, arith}
 use Rattle.std.specs.Str.{chars, chars_after, continuation_len, lead_bits}
 use lib.Utf8.{encode, next}
 

@@ -1,7 +1,7 @@
 -- The texts and the values of attributes in markup take four bytes for each of its characters at most.
-use Rattle.std.proofs.Common.{◌≡◌, ◌+◌, ◌*◌, ◌≤◌, ℕ, suc, List, [], ◌∷◌, ◌++◌, length, refl, sym, ap, subst, arith}
+use Rattle.std.proofs.Common.{◌≡◌, ◌+◌, ◌*◌, ◌≤◌, ℕ, List, [], ◌∷◌, ◌++◌, length, refl, sym, ap, subst, arith}
 use Rattle.std.specs.Prelude.{⊤}
-use Rattle.pj_markup.specs.Elements.{Attribute, Row, Open, row_of, with_attribute, with_character, with_characters, with_child}
+use Rattle.pj_markup.specs.Elements.{Attribute, Row, Open, row_of, with_character, with_characters}
 use Rattle.pj_markup.specs.Markup.{Attributes, StartTag, Elem, Content, Doc}
 use Rattle.pj_rule_laws.proofs.Fronts.{behind_spaces, behind_name, behind_comment, behind_instruction, around_section, behind_miscs, behind_reference, one_more, around_attribute, behind_end, behind_mark}
 

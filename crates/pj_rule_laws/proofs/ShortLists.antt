@@ -1,5 +1,5 @@
 -- The rules of a list have short texts.
-use Rattle.std.proofs.Common.{◌≡◌, Bool, true, false, cond, not, List, [], ◌∷◌, Option, Some, None, subst}
+use Rattle.std.proofs.Common.{◌≡◌, Bool, true, false, cond, not, List, [], ◌∷◌, Some, subst}
 use Rattle.std.specs.Prelude.{⊤}
 use Rattle.pj_rule_sets.specs.Lists.{Taken, is_called, is_excluded, name_of, named, put, put_all, same_origin, without}
 use Rattle.pj_rule_sets.specs.declared.entry.Entry.{Entry}

@@ -1,21 +1,20 @@
 -- A file that is there comes to rules, or it has a first fault.
-use Rattle.std.proofs.Common.{◌≡◌, ◌≢◌, ◌∙◌, ◌⊎◌, inl, inr, ◌<◌, ◌≤◌, ℕ, zero, suc, Bool, true, false, cond, List, [], ◌∷◌, ◌++◌, length, Option, Some, None, Result, Ok, Err, refl, sym, ap, subst, arith, append_assoc, append-nil}
+use Rattle.std.proofs.Common.{◌≡◌, ◌≢◌, ◌∙◌, ◌⊎◌, inl, inr, ◌≤◌, ℕ, zero, suc, Bool, true, false, cond, List, [], ◌∷◌, ◌++◌, Option, Some, None, Result, Ok, Err, refl, sym, subst, arith, append_assoc, append-nil}
 use Rattle.std.specs.Prelude.{⊤}
 use Rattle.std.specs.List.{AllByRecursion, flat_map}
 use Rattle.std.proofs.lemmas.Grind.{flat_map-append}
 use Rattle.pj_outside.specs.Files.{Files}
 use Rattle.pj_rule_sets.specs.Expressions.{IsSound}
 use Rattle.pj_rule_sets.specs.Faults as expressions
-use Rattle.pj_rule_sets.specs.Lists.{Taken, defined_in, is_among, named, not_an_xpath_rule, not_available, put, put_all, referred_in, without}
+use Rattle.pj_rule_sets.specs.Lists.{Taken, defined_in, is_among, named, not_an_xpath_rule, not_available, referred_in, without}
 use Rattle.pj_rule_sets.specs.Patterns.{whole}
-use Rattle.pj_rule_sets.specs.declared.entry.Entry.{Entry}
 use Rattle.pj_rule_sets.specs.declared.entry.Entry.TheVariants as entry
 use Rattle.pj_rule_sets.specs.declared.entry.Origin.{Origin}
 use Rattle.pj_rule_sets.specs.declared.fault.ExpressionFault.{ExpressionFault}
 use Rattle.pj_rule_sets.specs.declared.fault.ExpressionFault.TheVariants as unsound
 use Rattle.pj_rule_texts.specs.Files.{IsRead, IsUnreadable, is_there}
 use Rattle.pj_rule_texts.specs.References.{Meant, WholeFile, OneRule, beside, is_from_elsewhere, reference_of}
-use Rattle.pj_rule_texts.specs.Rules.{defined, is_xpath_rule, new_name, overridden}
+use Rattle.pj_rule_texts.specs.Rules.{defined, is_xpath_rule, overridden}
 use Rattle.pj_rule_texts.specs.Values.{Text, is_empty}
 use Rattle.pj_rule_texts.specs.declared.fault.TextFault.{TextFault}
 use Rattle.pj_rule_texts.specs.declared.fault.TextFault.TheVariants as texts
@@ -25,7 +24,7 @@ use Rattle.pj_rule_texts.specs.declared.written.Part.{Part}
 use Rattle.pj_rule_texts.specs.declared.written.Part.TheVariants as part
 use Rattle.pj_rule_texts.specs.declared.written.WrittenRule.{WrittenRule}
 use Rattle.pj_rule_texts.specs.declared.written.WrittenRuleset.{WrittenRuleset}
-use Rattle.pj_rules.specs.Effective.{AddAll, Adds, AreJudged, CannotChange, CannotDefine, Changes, Defines, FileFaults, HasRules, PartFault, RefersTo, nothing, or_name, path_pattern, what_of_expressions, what_of_texts, with_list, with_rule, with_taken}
+use Rattle.pj_rules.specs.Effective.{AddAll, Adds, AreJudged, CannotChange, CannotDefine, Changes, Defines, FileFaults, HasRules, PartFault, RefersTo, nothing, or_name, path_pattern, what_of_expressions, with_list, with_rule, with_taken}
 use Rattle.pj_rules.specs.Laws.{ReadOrFault}
 use Rattle.pj_rules.specs.LookUp.{look_up}
 use Rattle.pj_rules.specs.declared.fault.RuleFault.{RuleFault}
@@ -34,7 +33,7 @@ use Rattle.pj_rules.specs.declared.progress.Progress.{Progress}
 use Rattle.pj_xpatterns.specs.Meaning.{IsNoPattern}
 use Rattle.pj_rule_laws.specs.Laws.{ReadIsShort, SoundOrSomeFault}
 use Rattle.pj_rule_laws.specs.Sizes.{HasShortTexts, IsShortPart, AreShortParts, AreShortPieces}
-use Rattle.pj_rule_laws.proofs.ShortLists.{AreShort, IsShortEntry, named_short, put_all_short, put_short, without_short}
+use Rattle.pj_rule_laws.proofs.ShortLists.{AreShort, named_short, put_all_short, put_short, without_short}
 use Rattle.pj_rule_laws.proofs.SomeSound.{pattern_judged}
 use Rattle.pj_rule_laws.proofs.TextSizes.{Gives, defined_short, overridden_short}
 use Rattle.pj_rule_laws.proofs.Unopened.{one_fewer, unopened}

@@ -1,15 +1,14 @@
 -- The files that are named come to rules, or they have a first fault.
-use Rattle.std.proofs.Common.{◌≡◌, ◌∙◌, ◌⊎◌, inl, inr, ℕ, Bool, true, false, List, [], ◌∷◌, ◌++◌, refl, sym, ap}
+use Rattle.std.proofs.Common.{◌≡◌, ◌⊎◌, inl, inr, Bool, true, false, List, [], ◌∷◌, refl, ap}
 use Rattle.pj_outside.specs.Files.{Files}
-use Rattle.pj_rule_sets.specs.Rules.{EffectiveRules}
 use Rattle.pj_rule_texts.specs.Files.{is_there}
 use Rattle.pj_rule_texts.specs.References.{is_from_elsewhere}
 use Rattle.pj_rule_texts.specs.Values.{Text}
 use Rattle.pj_rules.specs.Laws.{ReadOrFault}
-use Rattle.pj_rules.specs.Load.{AreTops, IsEffective, IsFirstFault, IsTop, IsTopFault, TopRules, effective}
+use Rattle.pj_rules.specs.Load.{AreTops, IsFirstFault, IsTop, IsTopFault, TopRules, effective}
 use Rattle.pj_rules.specs.declared.fault.RuleFault.{RuleFault}
 use Rattle.pj_rule_laws.specs.Laws.{ReadIsShort, RulesOrFirstFault, SoundOrSomeFault}
-use Rattle.pj_rule_laws.proofs.SomeFile.{Outcome, Whole, some_outcome}
+use Rattle.pj_rule_laws.proofs.SomeFile.{Outcome, some_outcome}
 
 module _ (read_or_fault : ReadOrFault) (read_short : ReadIsShort) (settled : SoundOrSomeFault) (files : Files) where
   abbrev Top : Text → Type 0

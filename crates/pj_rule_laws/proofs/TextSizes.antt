@@ -1,5 +1,5 @@
 -- The texts of rules that are defined or changed are short, and want of memory is no fault of them.
-use Rattle.std.proofs.Common.{◌≡◌, ◌≢◌, ◌≤◌, ℕ, Bool, true, false, cond, List, [], ◌∷◌, Option, Some, None, Result, Ok, Err, refl, sym, subst}
+use Rattle.std.proofs.Common.{ℕ, Bool, true, false, cond, List, [], ◌∷◌, Option, Some, None, Result, Ok, Err}
 use Rattle.std.specs.Prelude.{⊤, is_some, unwrap_or}
 use Rattle.pj_names.specs.declared.rule_row.RuleRow.{RuleRow}
 use Rattle.pj_rule_texts.specs.Rules.{and_then, any_property, changed_row, defined, draft_of, first_priority, kind_for, message_or, named_property, nothing_read, overridden, put_properties, put_property, typed_property, with_piece, with_pieces, with_priority, with_property, with_written, with_xpath}

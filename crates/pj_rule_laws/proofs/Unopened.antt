@@ -1,8 +1,8 @@
 -- How many files of a tree are not open.
-use Rattle.std.proofs.Common.{◌≡◌, ◌∙◌, ◌||◌, ◌<◌, ◌≤◌, ℕ, suc, Bool, true, false, cond, List, [], ◌∷◌, ◌++◌, length, Option, Some, None, is_some, refl, sym, ap, ap₂, subst, arith}
+use Rattle.std.proofs.Common.{◌≡◌, ◌∙◌, ◌||◌, ◌<◌, ◌≤◌, ℕ, suc, Bool, true, false, cond, List, [], ◌∷◌, ◌++◌, Some, is_some, refl, sym, ap, subst, arith}
 use Rattle.std.proofs.lemmas.List.Folds.{list_any-append}
 use Rattle.std.proofs.lemmas.Slice.Eq.{bytes_eq-Decides}
-use Rattle.pj_outside.specs.Files.{Bytes, Files, bytes_at}
+use Rattle.pj_outside.specs.Files.{Files, bytes_at}
 use Rattle.pj_rule_sets.specs.Lists.{is_among}
 use Rattle.pj_rule_texts.specs.Files.{is_there}
 use Rattle.pj_rule_texts.specs.Values.{Text, is_same}

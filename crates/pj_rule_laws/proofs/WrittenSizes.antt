@@ -1,12 +1,11 @@
 -- What is written in a ruleset is short.
-use Rattle.std.proofs.Common.{◌≡◌, ◌*◌, ◌≤◌, ℕ, zero, suc, Bool, true, false, cond, List, [], ◌∷◌, ◌++◌, length, map, Option, Some, None, subst, arith}
+use Rattle.std.proofs.Common.{◌≡◌, ℕ, zero, suc, Bool, true, false, cond, List, [], ◌∷◌, ◌++◌, map, Option, Some, None, subst, arith}
 use Rattle.std.specs.Prelude.{⊤, codes, nat_eq}
 use Rattle.std.specs.List.{cons_option, filter_map, flat_map}
 use Rattle.std.specs.Cmp.Lexicographic.{pointwise}
-use Rattle.std.specs.Str.{chars}
 use Rattle.pj_markup.specs.Elements.{Attribute, Element, Row, row_at, value_of}
 use Rattle.pj_outside.specs.Files.{Files}
-use Rattle.pj_rule_texts.specs.Files.{IsRead, greatest_size}
+use Rattle.pj_rule_texts.specs.Files.{IsRead}
 use Rattle.pj_rule_texts.specs.Values.{Text}
 use Rattle.pj_rule_texts.specs.Written.{attribute, children, first_text, is_named, or_else, part_of, pieces_of_child, property_of, property_pieces, root, rule_of, ruleset_of, written_ruleset}
 use Rattle.pj_rule_texts.specs.declared.written.Part.{Part}
@@ -14,7 +13,7 @@ use Rattle.pj_rule_texts.specs.declared.written.Part.TheVariants as part
 use Rattle.pj_rule_texts.specs.declared.written.Piece.{Piece}
 use Rattle.pj_rule_texts.specs.declared.written.Piece.TheVariants as piece
 use Rattle.pj_rule_texts.specs.declared.written.WrittenRuleset.{WrittenRuleset}
-use Rattle.pj_rule_laws.specs.Sizes.{greatest, IsShort, IsShortOr, IsShortPiece, AreShortPieces, IsShortPart, AreShortParts}
+use Rattle.pj_rule_laws.specs.Sizes.{greatest, IsShortOr, AreShortPieces, IsShortPart, AreShortParts}
 use Rattle.pj_rule_laws.proofs.Lengths.{few_characters}
 use Rattle.pj_rule_laws.proofs.MarkupSizes.{ShortAttributes, ShortRow, ShortRows, of_document}
 

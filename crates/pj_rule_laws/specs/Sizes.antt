@@ -8,8 +8,6 @@ use Rattle.pj_rule_texts.specs.declared.written.Part.{Part}
 use Rattle.pj_rule_texts.specs.declared.written.Part.TheVariants as part
 use Rattle.pj_rule_texts.specs.declared.written.Piece.{Piece}
 use Rattle.pj_rule_texts.specs.declared.written.Piece.TheVariants as piece
-use Rattle.pj_rule_texts.specs.declared.written.WrittenRule.{WrittenRule}
-use Rattle.pj_rule_texts.specs.declared.written.WrittenRuleset.{WrittenRuleset}
 
 -- The greatest size of a text in a ruleset. A ruleset has no more characters than it may have bytes, and each stands for four bytes of a text at most.
 abbrev pub greatest : ℕ

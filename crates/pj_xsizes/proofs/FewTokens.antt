@@ -1,5 +1,5 @@
 -- A text has no more tokens than characters.
-use Rattle.std.proofs.Common.{◌≡◌, ◌+◌, ◌<◌, ◌≤◌, ℕ, List, [], ◌∷◌, ◌++◌, length, ap, arith, length-append}
+use Rattle.std.proofs.Common.{◌≡◌, ◌<◌, ◌≤◌, ℕ, List, ◌++◌, length, ap, arith, length-append}
 use Rattle.pj_xtokens.specs.Gaps.{Past}
 use Rattle.pj_xtokens.specs.Rules.{Spells}
 use Rattle.pj_xtokens.specs.Scanning.{IsBehind}

@@ -1,12 +1,12 @@
 -- Expressions that are made of those of their parts.
-use Rattle.std.proofs.Common.{◌≡◌, ◌∙◌, ◌<◌, ◌≤◌, ◌^◌, ℕ, ℤ, List, [], ◌∷◌, ◌++◌, length, map, Option, Vec, Box, Global, refl, sym, ap, subst, arith}
+use Rattle.std.proofs.Common.{◌≡◌, ◌∙◌, ◌<◌, ◌^◌, ℕ, List, [], ◌∷◌, length, map, Vec, Box, Global, refl, sym, ap, subst, arith}
 use Rattle.std.specs.Prelude.{⊤}
-use Rattle.std.proofs.lemmas.List.{length-map, length-append}
+use Rattle.std.proofs.lemmas.List.{length-map}
 use denote.RawPtr.{null_ptr}
 use Rattle.pj_xexpressions.specs.declared.expr.Expr.{Expr}
 use Rattle.pj_xexpressions.specs.declared.expr.Expr.TheVariants as expr
 use Rattle.pj_xexpressions.specs.Trees as tree
-use Rattle.pj_xexpressions.specs.Trees.{Tree, Construct, node, alone, binder, operated, tree_of}
+use Rattle.pj_xexpressions.specs.Trees.{Tree, Construct, node, binder, operated, tree_of}
 use Rattle.pj_xreadings.specs.Seen.{behind_of}
 use Rattle.pj_xreadings.proofs.TreeForms.{tree_of_filter}
 

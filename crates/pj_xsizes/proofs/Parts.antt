@@ -1,5 +1,5 @@
 -- What the parts of an expression make, where each of them is the tree of an expression and lists of them are no longer than their tokens allow.
-use Rattle.std.proofs.Common.{◌≡◌, ◌+◌, ◌*◌, ◌<◌, ◌≤◌, ◌^◌, ℕ, ℤ, suc, List, [], ◌∷◌, ◌++◌, length, map, Option, Some, None, subst, sym, arith, le_trans}
+use Rattle.std.proofs.Common.{◌+◌, ◌*◌, ◌<◌, ◌≤◌, ◌^◌, ℕ, ℤ, List, [], ◌∷◌, length, map, Option, Some, None, arith, le_trans}
 use Rattle.std.specs.Prelude.{⊤}
 use Rattle.std.proofs.lemmas.List.{length-map}
 use Rattle.pj_xexpressions.specs.declared.axis.Axis.{Axis}

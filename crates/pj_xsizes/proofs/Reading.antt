@@ -1,6 +1,5 @@
 -- What the tokens of an expression read is the tree of an expression, where they are not too many.
-use Rattle.std.proofs.Common.{◌≡◌, ◌<◌, ◌≤◌, ◌^◌, ℕ, List, [], ◌∷◌, length, arith}
-use Rattle.std.specs.Prelude.{⊤}
+use Rattle.std.proofs.Common.{◌≤◌, ◌^◌, ℕ, List, [], length, arith}
 use Rattle.pj_ll.specs.declared.grammar.Symbol.{Symbol}
 use Rattle.pj_xexpressions.specs.declared.axis.Axis.TheVariants as axes
 use Rattle.pj_xexpressions.specs.declared.expr.NodeTest.TheVariants.{AnyName, AnyNode, AnyElement}
@@ -12,7 +11,6 @@ use Rattle.pj_xtokens.specs.Tokens.{Lexed}
 use Rattle.pj_xtokens.specs.First.{first_text}
 use Rattle.pj_xtokens.specs.Literals.{integer_of, string_of}
 use Rattle.pj_xgrammar.specs.declared.rule.Rule.{Rule}
-use Rattle.pj_xgrammar.specs.declared.rule.Rule.TheVariants as r
 use Rattle.pj_xreadings.specs.Operands.{Operand, other, kind_test}
 use Rattle.pj_xmeaning.specs.RuleMeanings.{Value}
 use Rattle.pj_xmeaning.specs.Reach.{All}

@@ -1,4 +1,4 @@
-use Rattle.std.proofs.Common.{◌≡◌, ◌∙◌, sym, le_trans}
+use Rattle.std.proofs.Common.{◌∙◌, sym, le_trans}
 use Rattle.pj_xsizes.proofs.FewTokens.{few_tokens}
 use Rattle.pj_xsizes.proofs.Reading.{read_expression}
 use Rattle.pj_xsizes.proofs.laws.some_expression.Goals as goal
