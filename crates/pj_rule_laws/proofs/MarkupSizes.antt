@@ -1,7 +1,10 @@
 -- The texts and the values of attributes in markup take four bytes for each of its characters at most.
 use Rattle.std.proofs.Common.{◌≡◌, ◌+◌, ◌*◌, ◌≤◌, ℕ, List, [], ◌∷◌, ◌++◌, length, refl, sym, ap, subst, arith}
 use Rattle.std.specs.Prelude.{⊤}
-use Rattle.pj_markup.specs.Elements.{Attribute, Row, Open, row_of, with_character, with_characters}
+use Rattle.pj_markup.specs.declared.element.Attribute.{Attribute}
+use Rattle.pj_markup.specs.declared.element.Open.{Open}
+use Rattle.pj_markup.specs.declared.element.Row.{Row}
+use Rattle.pj_markup.specs.Elements.{row_of, with_character, with_characters}
 use Rattle.pj_markup.specs.Markup.{Attributes, StartTag, Elem, Content, Doc}
 use Rattle.pj_rule_laws.proofs.Fronts.{behind_spaces, behind_name, behind_comment, behind_instruction, around_section, behind_miscs, behind_reference, one_more, around_attribute, behind_end, behind_mark}
 

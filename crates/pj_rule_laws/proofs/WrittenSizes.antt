@@ -3,7 +3,10 @@ use Rattle.std.proofs.Common.{◌≡◌, ℕ, zero, suc, Bool, true, false, cond
 use Rattle.std.specs.Prelude.{⊤, codes, nat_eq}
 use Rattle.std.specs.List.{cons_option, filter_map, flat_map}
 use Rattle.std.specs.Cmp.Lexicographic.{pointwise}
-use Rattle.pj_markup.specs.Elements.{Attribute, Element, Row, row_at, value_of}
+use Rattle.pj_markup.specs.Elements.{row_at, value_of}
+use Rattle.pj_markup.specs.declared.element.Attribute.{Attribute}
+use Rattle.pj_markup.specs.declared.element.Element.{Element}
+use Rattle.pj_markup.specs.declared.element.Row.{Row}
 use Rattle.pj_outside.specs.Files.{Files}
 use Rattle.pj_rule_texts.specs.Files.{IsRead}
 use Rattle.pj_rule_texts.specs.Values.{Text}
