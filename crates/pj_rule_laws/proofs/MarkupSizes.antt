@@ -141,5 +141,5 @@ module _ (most : ℕ) where
         let left = filled.left in record { rows_short = filled.rows_short; attributes = filled.attributes; text_short = filled.text_short; left = omega (arith, some, left) }
 
   pub of_document : {deepest : ℕ} {text : List ℕ} {rows : List Row} → Doc deepest text rows → 4 * length text ≤ most → ShortRows rows
-  of_document (Doc.document mark front element behind) few =
-      let a = behind_mark mark in let b = behind_miscs front in (of_element element tt (omega (arith, a, b, few))).rows_short
+  of_document (Doc.document at_front front element behind) few =
+      let a = behind_mark at_front in let b = behind_miscs front in (of_element element tt (omega (arith, a, b, few))).rows_short
