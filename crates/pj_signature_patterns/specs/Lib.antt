@@ -1,0 +1,6 @@
+-- definitions
+pub mod Identifiers
+pub mod TypeNames
+pub mod Patterns
+-- for private clauses
+pub mod Reading
