@@ -1,4 +1,5 @@
 -- definitions
+pub mod Cuts
 pub mod Identifiers
 pub mod TypeNames
 pub mod Patterns

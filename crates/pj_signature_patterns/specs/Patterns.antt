@@ -1,5 +1,6 @@
 -- The language of signature patterns, `T#m(P)`: which texts spell which pattern.
 use Rattle.std.specs.Prelude.{◌≡◌, ℕ, IsTrue, List, [], ◌∷◌, ◌++◌, codes, ◌⊎◌, Option, Some, None}
+use Rattle.std.specs.List.{join_with_byte}
 use Rattle.pj_signature_patterns.specs.declared.pattern.TypePattern.{TypePattern}
 use Rattle.pj_signature_patterns.specs.declared.pattern.TypePattern.TheVariants as t
 use Rattle.pj_signature_patterns.specs.declared.pattern.MethodPattern.{MethodPattern}
@@ -21,12 +22,6 @@ SpellsMethod text m.Any = text ≡ codes "_"
 SpellsMethod text m.Constructor = (text ≡ codes "new") ⊎ (text ≡ codes "<init>")
 SpellsMethod text (m.Named name) = (text ≡ name) × IsTrue (is_identifier name)
 
--- texts with a comma, 44, between them
-abbrev pub with_commas : List (List ℕ) → List ℕ
-with_commas [] = []
-with_commas (text ∷ []) = text
-with_commas (text ∷ (next ∷ more)) = text ++ 44 ∷ with_commas (next ∷ more)
-
 -- each text spells the pattern at its place, and there are as many of both
 abbrev pub SpellEach : List (List ℕ) → List TypePattern → Type 0
 SpellEach [] [] = Unit {0}
@@ -34,10 +29,10 @@ SpellEach [] (pattern ∷ patterns) = ⊥
 SpellEach (text ∷ texts) [] = ⊥
 SpellEach (text ∷ texts) (pattern ∷ patterns) = SpellsType text pattern × SpellEach texts patterns
 
--- `P`: `_*` is any parameters, and else each is a type or any one, with commas between; there may be none
+-- `P`: `_*` is any parameters, and else each is a type or any one, with commas, 44, between; there may be none
 abbrev pub SpellsParameters : List ℕ → ParametersPattern → Type 0
 SpellsParameters text p.Any = text ≡ codes "_*"
-SpellsParameters text (p.Listed patterns) = (texts : List (List ℕ)) × (text ≡ with_commas texts) × SpellEach texts patterns
+SpellsParameters text (p.Listed patterns) = (texts : List (List ℕ)) × (text ≡ join_with_byte 44 texts) × SpellEach texts patterns
 
 -- The text spells the pattern: `T`, the sign `#`, 35, `m`, and `P` in parentheses, 40 and 41, without white space.
 pub record Spells (text : List ℕ) (pattern : SigPattern) : Type 0 where

@@ -2,7 +2,6 @@
 use Rattle.std.specs.Prelude.{ℕ, Bool, true, false, ◌==◌, List, [], ◌∷◌, codes, nat_eq, Option, Some, None, if◌then◌else◌}
 use Rattle.std.specs.List.{slice_split}
 use Rattle.std.specs.Cmp.Lexicographic.{pointwise}
-use denote.Bor.{Bor}
 use Rattle.pj_signature_patterns.specs.declared.pattern.TypePattern.{TypePattern}
 use Rattle.pj_signature_patterns.specs.declared.pattern.TypePattern.TheVariants as t
 use Rattle.pj_signature_patterns.specs.declared.pattern.MethodPattern.{MethodPattern}
@@ -10,30 +9,12 @@ use Rattle.pj_signature_patterns.specs.declared.pattern.MethodPattern.TheVariant
 use Rattle.pj_signature_patterns.specs.declared.pattern.ParametersPattern.{ParametersPattern}
 use Rattle.pj_signature_patterns.specs.declared.pattern.ParametersPattern.TheVariants as p
 use Rattle.pj_signature_patterns.specs.declared.pattern.SigPattern.{SigPattern}
+use Rattle.pj_signature_patterns.specs.Cuts.{cut, before_last}
 use Rattle.pj_signature_patterns.specs.Identifiers.{is_identifier}
 use Rattle.pj_signature_patterns.specs.TypeNames.{is_type_name}
 
 abbrev pub is_text : List ℕ → List ℕ → Bool
 is_text text word = pointwise nat_eq text word
-
-abbrev pub onto_front : ℕ → Option (List ℕ × List ℕ) → Option (List ℕ × List ℕ)
-onto_front b None = None
-onto_front b (Some pair) = Some (b ∷ pair.0, pair.1)
-
--- what stands before the first of a sign, and behind it
-abbrev pub cut : ℕ → List ℕ → Option (List ℕ × List ℕ)
-cut sign [] = None
-cut sign (b ∷ bs) = if b == sign then Some ([], bs) else onto_front b (cut sign bs)
-
-abbrev pub in_front : ℕ → Option (List ℕ) → Option (List ℕ)
-in_front b None = None
-in_front b (Some bs) = Some (b ∷ bs)
-
--- what stands before a sign at the end
-abbrev pub before_last : ℕ → List ℕ → Option (List ℕ)
-before_last sign [] = None
-before_last sign (b ∷ []) = if b == sign then Some [] else None
-before_last sign (b ∷ (c ∷ cs)) = in_front b (before_last sign (c ∷ cs))
 
 abbrev pub read_type : List ℕ → Option TypePattern
 read_type text = if is_text text (codes "_") then Some t.Any else if is_type_name text then Some (t.Named text) else None
@@ -90,12 +71,3 @@ read_parts (Some pair) = read_behind pair.0 (cut 40 pair.1)
 -- the pattern that a text spells
 unfoldable pub pattern_in : List ℕ → Option SigPattern
 pattern_in text = read_parts (cut 35 text)
-
--- borrowed texts as they are seen
-abbrev pub seen_pair : Option (Bor (List ℕ) × Bor (List ℕ)) → Option (List ℕ × List ℕ)
-seen_pair None = None
-seen_pair (Some pair) = Some (pair.0.now, pair.1.now)
-
-abbrev pub seen_text : Option (Bor (List ℕ)) → Option (List ℕ)
-seen_text None = None
-seen_text (Some text) = Some text.now

@@ -1,6 +1,7 @@
 -- Names of types, as rules write them.
 use Rattle.std.specs.Prelude.{ℕ, Bool, ◌==◌, ◌&&◌, ◌||◌, List, [], ◌∷◌, codes, reverse, Option, Some, None, if◌then◌else◌}
 use Rattle.std.specs.List.{list_all, slice_split}
+use Rattle.pj_signature_patterns.specs.Cuts.{before_last}
 use Rattle.pj_signature_patterns.specs.Identifiers.{is_identifier, is_word_of}
 
 -- the words of the primitive types, JLS 4.2
@@ -22,14 +23,13 @@ past_brackets (b ∷ (c ∷ rest)) = if (b == 93) && (c == 91) then past_bracket
 abbrev pub element_of : List ℕ → List ℕ
 element_of text = reverse (past_brackets (reverse text))
 
-abbrev pub before_brackets : List ℕ → Option (List ℕ)
-before_brackets [] = None
-before_brackets (b ∷ []) = None
-before_brackets (b ∷ (c ∷ rest)) = if (b == 93) && (c == 91) then Some (reverse rest) else None
+abbrev pub before_bracket : Option (List ℕ) → Option (List ℕ)
+before_bracket None = None
+before_bracket (Some inside) = before_last 91 inside
 
--- what stands before one pair of brackets at the end of a text
+-- what stands before a pair of brackets at the end of a text
 abbrev pub component_of : List ℕ → Option (List ℕ)
-component_of text = before_brackets (reverse text)
+component_of text = before_bracket (before_last 93 text)
 
 -- A name of a type in a pattern: identifiers joined by dots, or the word of a primitive type, with any number of pairs of brackets behind.
 abbrev pub is_type_name : List ℕ → Bool

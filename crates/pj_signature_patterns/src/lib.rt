@@ -1,6 +1,7 @@
 //! Signature patterns of rules, such as `java.util.List#add(_,int)`: the language, its reading, and names of types as rules write them.
 #![tactic(auto)]
 
+mod cuts;
 mod identifiers;
 mod laws;
 mod pattern;

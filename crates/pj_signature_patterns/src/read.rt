@@ -1,30 +1,15 @@
 //! The reading of signature patterns.
-ghost use Rattle.std.specs.Prelude.{◌≡◌, ◌==◌, ◌<◌, IfOk};
+ghost use Rattle.std.specs.Prelude.{◌≡◌, ◌==◌, IfOk};
 ghost use Rattle.std.specs.List.{slice_split};
 ghost use Rattle.pj_signature_patterns.specs.Patterns.{IsRead};
-ghost use Rattle.pj_signature_patterns.specs.Reading.{before_last, between_commas, cut, is_constructor, pattern_in, pattern_of, read_method, read_name, read_parameters, read_type, read_types, seen_pair, seen_text};
+ghost use Rattle.pj_signature_patterns.specs.Reading.{between_commas, is_constructor, pattern_in, pattern_of, read_method, read_name, read_parameters, read_type, read_types};
 
+use crate::cuts::{before_last, cut};
 use crate::identifiers::is_identifier;
 use crate::pattern::{MethodPattern, ParametersPattern, SigPattern, TypePattern, TypePatterns};
 use crate::type_names::is_type_name;
 use pj_base::{NoMemory, Text};
 use std::alloc::Global;
-
-/// What stands before the first of an ASCII sign, and behind it; `None` where none stands there.
-fn cut<'s>(text: &'s str, sign: char) -> Option<(&'s str, &'s str)>
-    requires { sign < 128 }
-    ensures { seen_pair result ≡ cut sign text.now }
-{
-    text.split_once(sign)
-}
-
-/// What stands before an ASCII sign at the end; `None` where the text does not end with it.
-fn before_last(text: &str, sign: char) -> Option<&str>
-    requires { sign < 128 }
-    ensures { seen_text result ≡ before_last sign text.now }
-{
-    text.strip_suffix(sign)
-}
 
 /// What a pattern asks of a type.
 fn read_type(alloc: Global, text: &str) -> Result<Option<TypePattern>, NoMemory>
@@ -70,16 +55,23 @@ fn read_method(alloc: Global, text: &str) -> Result<Option<MethodPattern>, NoMem
 }
 
 /// What a pattern asks of each of the parameters, of which there is one at least.
+#[tactic(auto, using(crate::proofs::Listed::begins, crate::proofs::Listed::turns, crate::proofs::Listed::fails, crate::proofs::Listed::ends, crate::proofs::Listed::ends_none))]
 fn read_some_types(alloc: Global, text: &str) -> Result<Option<TypePatterns>, NoMemory>
     ensures { IfOk result (λ found. found ≡ read_types (slice_split (λ c. c == 44) text.now)) }
 {
     let mut types = TypePatterns::new(alloc);
-    for piece in text.split(',') {
-        match read_type(alloc, piece)? {
-            Some(ty) => types.push(ty)?,
-            None => return Ok(None),
-        }
+    let mut left = text;
+    while let Some((piece, rest)) = cut(left, ',') {
+        let Some(ty) = read_type(alloc, piece)? else {
+            return Ok(None);
+        };
+        types.push(ty)?;
+        left = rest;
     }
+    let Some(last) = read_type(alloc, left)? else {
+        return Ok(None);
+    };
+    types.push(last)?;
     Ok(Some(types))
 }
 
@@ -132,6 +124,7 @@ fn pattern_of(
 }
 
 /// The pattern that a text spells.
+#[tactic(auto, unfolding(crate::specs::Reading::pattern_in))]
 fn pattern_in(alloc: Global, text: &str) -> Result<Option<SigPattern>, NoMemory>
     ensures { IfOk result (λ found. found ≡ pattern_in text.now) }
 {
@@ -153,6 +146,7 @@ impl SigPattern {
     /// `T` is `_` or a name of a type; `m` is an identifier, `_`, `new` or `<init>`; `P` is `_*`, or names of types and `_` with commas
     /// between, of which there may be none. A name of a type is identifiers (JLS 3.8) joined by dots, or the word of a primitive type, with any
     /// number of `[]` behind.
+    #[tactic(auto, using(crate::proofs::Exact::is_read))]
     pub fn parse(alloc: Global, text: &str) -> Result<Option<SigPattern>, NoMemory>
         ensures { IfOk result (λ found. IsRead text.now found) }
     {

@@ -1,10 +1,11 @@
 //! Names of types, as rules write them.
-ghost use Rattle.std.specs.Prelude.{◌≡◌};
+ghost use Rattle.std.specs.Prelude.{◌≡◌, ◌<◌, IfSome, length};
 ghost use Rattle.std.specs.List.{list_all, slice_split};
+ghost use Rattle.pj_signature_patterns.specs.Cuts.{seen_text};
 ghost use Rattle.pj_signature_patterns.specs.Identifiers.{is_identifier, is_word_of};
-ghost use Rattle.pj_signature_patterns.specs.Reading.{seen_text};
 ghost use Rattle.pj_signature_patterns.specs.TypeNames.{component_of, element_of, is_qualified, is_type_name, primitive_words};
 
+use crate::cuts::{before_last, cut};
 use crate::identifiers::{is_identifier, is_word_of};
 
 /// The words of the primitive types (JLS 4.2).
@@ -21,22 +22,34 @@ fn is_primitive_word(text: &str) -> bool
 }
 
 /// Whether a text is identifiers with dots between them (JLS 6.7).
+#[tactic(auto, using(crate::proofs::Cutting::split_cut, crate::proofs::Cutting::split_whole))]
 fn is_qualified(text: &str) -> bool
     ensures { result ≡ is_qualified text.now }
 {
-    text.split('.').all(|part| is_identifier(part))
+    let mut left = text;
+    while let Some((part, rest)) = cut(left, '.') {
+        if !is_identifier(part) {
+            return false;
+        }
+        left = rest;
+    }
+    is_identifier(left)
 }
 
 /// What stands before a pair of brackets at the end of a name: the name of the component type of an array (JLS 10.1). `None` where none
 /// stands there.
 pub fn component_of(text: &str) -> Option<&str>
-    ensures { seen_text result ≡ component_of text.now }
+    ensures value { seen_text result ≡ component_of text.now }
+    ensures shorter { IfSome result (λ component. length component.now < length text.now) }
 {
-    let inside = text.strip_suffix(']')?;
-    inside.strip_suffix('[')
+    match before_last(text, ']') {
+        Some(inside) => before_last(inside, '['),
+        None => None,
+    }
 }
 
 /// A name without the pairs of brackets at its end.
+#[tactic(auto, using(crate::proofs::Brackets::element_within, crate::proofs::Brackets::element_whole))]
 fn element_of(text: &str) -> &str
     ensures { result.now ≡ element_of text.now }
 {

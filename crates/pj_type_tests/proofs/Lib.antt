@@ -1,1 +1,3 @@
-pub mod ClassNames
+pub mod NameLaws
+pub mod AlongNames
+pub mod Parameters

@@ -14,12 +14,12 @@ const MOST_CLASSES: u64 = 4294967294;
 pub(crate) fn class_is<O: Oracle>(
     alloc: Global,
     oracle: &mut O,
-    class: &ClassName,
+    lower: &ClassName,
     text: &str,
 ) -> Result<bool, AskFault>
-    ensures { Asks (class_is text.now class.now) (O.tells oracle.old) (O.tells oracle.new) result }
+    ensures { Asks (class_is text.now lower.now) (O.tells oracle.old) (O.tells oracle.new) result }
 {
-    let mut walk = NameWalk::of(alloc, class)?;
+    let mut walk = NameWalk::of(alloc, lower)?;
     for _class in 0..MOST_CLASSES {
         let Some(class) = walk.next_class()? else {
             return Ok(false);

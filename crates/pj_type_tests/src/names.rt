@@ -1,7 +1,7 @@
 //! Names of types.
-ghost use Rattle.std.specs.Prelude.{◌≡◌, ◌||◌, map, nat_eq};
+ghost use Rattle.std.specs.Prelude.{◌≡◌, nat_eq};
 ghost use Rattle.std.specs.Cmp.Lexicographic.{pointwise};
-ghost use Rattle.pj_names.specs.JavaType.{java_type};
+ghost use Rattle.pj_names.specs.JavaType.{Class, NoMore, java_type};
 ghost use Rattle.pj_type_tests.specs.Names.{canonical, has_name, is_class_called, with_dot, word_of};
 
 use pj_names::{ClassName, Prim, Ty};
@@ -36,7 +36,7 @@ fn is_canonical(name: &[u8], text: &[u8]) -> bool
 {
     let mut ours = name;
     let mut theirs = text;
-    loop {
+    'bytes: loop {
         match (ours, theirs) {
             ([our, our_rest @ ..], [their, their_rest @ ..]) => {
                 if with_dot(*our) != *their {
@@ -52,8 +52,9 @@ fn is_canonical(name: &[u8], text: &[u8]) -> bool
 }
 
 /// Whether a text is the binary or the canonical name of a class.
+#[tactic(auto, using(crate::proofs::NameLaws::two))]
 pub(crate) fn is_name_of(name: &ClassName, text: &str) -> bool
-    ensures { result ≡ (pointwise nat_eq name.now text.now || pointwise nat_eq (canonical name.now) text.now) }
+    ensures { result ≡ has_name text.now (Class name.now NoMore) }
 {
     let name = name.as_str();
     name == text || is_canonical(name.as_bytes(), text.as_bytes())
@@ -63,6 +64,7 @@ pub(crate) fn is_name_of(name: &ClassName, text: &str) -> bool
 ///
 /// A class has its binary name (JLS 13.1), and that with a dot in place of each `$`, which is its canonical name (JLS 6.7). A primitive type has its word, and an array the
 /// names of its component type with `[]` behind. A type variable has the names of its erasure (JLS 4.6). `void`, the type of `null` and a type that is not known have none.
+#[tactic(auto, using(crate::proofs::NameLaws::alone, crate::proofs::NameLaws::array_some, crate::proofs::NameLaws::array_none))]
 pub fn has_name(ty: &Ty, text: &str) -> bool
     ensures { result ≡ has_name text.now (java_type ty.now) }
 {

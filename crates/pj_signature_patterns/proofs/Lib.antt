@@ -1,0 +1,5 @@
+pub mod Cutting
+pub mod Brackets
+pub mod Listed
+pub mod Free
+pub mod Exact

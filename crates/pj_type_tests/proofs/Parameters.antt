@@ -1,0 +1,8 @@
+-- Parameters, looked at one after another.
+use Rattle.std.proofs.Common.{◌≡◌, Bool, true, false, List, [], ◌∷◌, refl, ◌∙◌, ap}
+use Rattle.pj_names.specs.JavaType.{JavaType}
+use Rattle.pj_signature_patterns.specs.declared.pattern.TypePattern.{TypePattern}
+use Rattle.pj_type_tests.specs.Methods.{each_parameter_is, parameter_is}
+
+pub few : (pattern : TypePattern) (patterns : List TypePattern) → each_parameter_is (pattern ∷ patterns) [] ≡ false
+few pattern patterns = refl
