@@ -9,7 +9,7 @@ use crate::scope::{Scope, Scopes, scope_from};
 use pj_tree::{Kind, Node, SyntaxTree, child_of};
 
 /// What the body of a class is, by what declares the class (JLS 8.1.7, 8.9.1, 8.10.2, 9.1.5, 9.6.1, 15.9.5).
-fn body_kind(declaration: Kind) -> Option<Kind>
+pub fn body_kind(declaration: Kind) -> Option<Kind>
     ensures { result ≡ body_kind declaration }
 {
     match declaration {

@@ -21,7 +21,7 @@ pub enum ImportSort {
 }
 
 /// The simple name that the import imports: the last word before its `;`.
-fn imported_name<'t>(tree: &'t SyntaxTree<'_>, n: Node) -> Option<&'t str>
+pub fn imported_name<'t>(tree: &'t SyntaxTree<'_>, n: Node) -> Option<&'t str>
     requires inside { n.0 < length tree.now.nodes }
     ensures { option_copied result ≡ imported_name tree.now n }
 {
@@ -35,7 +35,7 @@ fn imported_name<'t>(tree: &'t SyntaxTree<'_>, n: Node) -> Option<&'t str>
 }
 
 /// Whether the import is one of a single name, of the sort.
-fn is_single(tree: &SyntaxTree<'_>, sort: ImportSort, n: Node) -> bool
+pub fn is_single(tree: &SyntaxTree<'_>, sort: ImportSort, n: Node) -> bool
     requires inside { n.0 < length tree.now.nodes }
     ensures { result ≡ is_single tree.now sort n }
 {

@@ -17,7 +17,7 @@ mod search;
 mod type_scopes;
 mod variable_scopes;
 
-pub use bodies::class_at;
+pub use bodies::{body_kind, class_at};
 pub use declarations::Declarations;
-pub use imports::ImportSort;
+pub use imports::{ImportSort, imported_name, is_single};
 pub use nearest::Declared;

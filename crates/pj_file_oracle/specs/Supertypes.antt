@@ -18,7 +18,7 @@ use Rattle.pj_signatures.specs.Reading.{class_signature_of}
 use Rattle.pj_symbols.specs.Classes.{class_around}
 use Rattle.pj_written.specs.Headers.{class_text, created, extended, implemented, is_constant_body}
 use Rattle.pj_written.specs.Types.{class_of_text, object_type}
-use Rattle.pj_written.specs.Words.{is_interface, is_plain_interface}
+use Rattle.pj_written.specs.Words.{is_interface, is_regular_interface}
 use Rattle.pj_outer_names.specs.Candidates.{file_classes, node_named}
 use Rattle.pj_type_names.specs.TypeName.{written_type}
 
@@ -84,7 +84,7 @@ interface_supertypes t busy class = bind (extended_types t busy class) (λ above
 
 -- of a class or an interface
 abbrev pub named_supertypes : Tree → List ℕ → Node → Asking Supertypes
-named_supertypes t busy class = if is_plain_interface t class then interface_supertypes t busy class else class_supertypes t busy class
+named_supertypes t busy class = if is_regular_interface t class then interface_supertypes t busy class else class_supertypes t busy class
 
 -- ---- of an anonymous class
 

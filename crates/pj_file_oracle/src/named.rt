@@ -13,7 +13,7 @@ use pj_base::{NoMemory, Numbers};
 use pj_names::{AskFault, ClassName, Oracle, Ty, TyList, Types};
 use pj_outer_names::File;
 use pj_tree::{Kind, Node};
-use pj_written::{below_child, class_of_text, is_plain_interface, object_type};
+use pj_written::{below_child, class_of_text, is_regular_interface, object_type};
 use std::alloc::Global;
 
 /// The types behind `extends`.
@@ -167,7 +167,7 @@ pub fn named_supertypes<O: Oracle>(
     requires inside { class.0 < length file.now.nodes }
     ensures { Asks (named_supertypes file.now busy.now class) (O.tells oracle.old) (O.tells oracle.new) (seen supertypes_view result) }
 {
-    if is_plain_interface(file.tree(), class) {
+    if is_regular_interface(file.tree(), class) {
         interface_supertypes(alloc, file, oracle, busy, class)
     } else {
         class_supertypes(alloc, file, oracle, busy, class)

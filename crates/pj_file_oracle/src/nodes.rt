@@ -2,7 +2,6 @@
 
 ghost use Rattle.std.specs.Prelude.{◌≡◌, ◌<◌, ◌≤◌, length, filter, IfOk};
 ghost use Rattle.std.specs.List.{All};
-ghost use Rattle.pj_declared.specs.Bodies.{body_kind};
 ghost use Rattle.pj_tree.specs.Kinds.{is_kind};
 ghost use Rattle.pj_tree.specs.Tree.{children_of};
 ghost use Rattle.pj_tree.specs.declared.node.Node.{Node};
@@ -10,6 +9,7 @@ ghost use Rattle.pj_written.specs.Flags.{formal_parameters};
 ghost use Rattle.pj_file_oracle.specs.Members.{body_nodes, variable_brackets, variable_text};
 
 use pj_base::NoMemory;
+use pj_declared::body_kind;
 use pj_tree::{Kind, Node, SyntaxTree, child_of, first_word, is_kind};
 use pj_written::{Nodes, below_child, bracket_count};
 use std::alloc::Global;
@@ -57,19 +57,6 @@ pub fn formal_parameters(alloc: Global, tree: &SyntaxTree<'_>, n: Node) -> Resul
     match child_of(tree, n, Kind::FormalParameters) {
         Some(list) => children_of_kind(alloc, tree, list, Kind::FormalParameter),
         None => Ok(Nodes::new(alloc)),
-    }
-}
-
-/// What the body of a class is, by what declares the class.
-fn body_kind(declaration: Kind) -> Option<Kind>
-    ensures { result ≡ body_kind declaration }
-{
-    match declaration {
-        Kind::ClassDeclaration | Kind::AnonymousClassDeclaration => Some(Kind::ClassBody),
-        Kind::EnumDeclaration => Some(Kind::EnumBody),
-        Kind::RecordDeclaration => Some(Kind::RecordBody),
-        Kind::AnnotationTypeDeclaration => Some(Kind::AnnotationTypeBody),
-        _ => None,
     }
 }
 

@@ -5,5 +5,4 @@ pub mod Enclosing
 pub mod Listed
 pub mod Looked
 pub mod NameTurns
-pub mod Taken
 pub mod Ends

@@ -4,6 +4,7 @@ use Rattle.pj_names.specs.ClassName.{Name, is_object}
 use Rattle.pj_names.specs.JavaType.{JavaType, Class}
 use Rattle.pj_names.specs.Asking.{Asking, Return, Unbounded, ask, bind}
 use Rattle.pj_types.specs.DepthFirst.{visit}
+use Rattle.pj_types.specs.NameSearch.{itself}
 use Rattle.pj_types.specs.Supertypes.{Listed, of_answer}
 use Rattle.pj_symbols.specs.declared.class.Class.{Class as DeclaredClass}
 use Rattle.pj_written.specs.Words.{same_text}
@@ -30,9 +31,6 @@ outside_supertypes name = bind (ask name) (λ answer. Return (listed_names (of_a
 
 -- ---- along the list of supertypes
 
-abbrev pub own_name : Name → Name
-own_name name = name
-
 -- the class `T$S`, where it is there; of `java.lang.Object`, and of a class that is left out, nothing is looked for
 abbrev pub member_in : List DeclaredClass → (Name → Bool) → List ℕ → Name → Asking (Option Name)
 member_in classes is_left_out simple class = if is_object class || is_left_out class then Return None else found_class classes (class ++ 36 ∷ simple)
@@ -41,7 +39,7 @@ module _ (classes : List DeclaredClass) (supers : Name → Asking (List Name)) w
   -- The first member class of a name along the list of supertypes of a class, depth first, each class once: a class is asked for its supertypes only once its own member was not there.
   abbrev pub first_member : (Name → Bool) → Name → List ℕ → Asking (Option Name)
   first_member is_left_out class simple =
-      Unbounded (λ most. bind (visit own_name (member_in classes is_left_out simple) supers most most [] class) (λ outcome. Return outcome.0))
+      Unbounded (λ most. bind (visit itself (member_in classes is_left_out simple) supers most most [] class) (λ outcome. Return outcome.0))
 
   -- of the class and what it inherits
   abbrev pub member_along : Name → List ℕ → Asking (Option Name)

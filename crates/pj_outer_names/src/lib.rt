@@ -8,7 +8,6 @@ mod file;
 mod imports;
 mod laws;
 mod member;
-mod name_walk;
 mod on_demand;
 mod supertypes;
 
@@ -18,6 +17,5 @@ pub use file::File;
 pub use imports::{imported_text, outside};
 pub use laws::candidates_end;
 pub use member::member_in;
-pub use name_walk::NameWalk;
 pub use on_demand::is_on_demand;
 pub use supertypes::{outside_supertypes, with_classes};

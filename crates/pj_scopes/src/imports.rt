@@ -3,11 +3,11 @@
 ghost use Rattle.std.specs.Prelude.{◌≡◌, ◌++◌, ◌<◌, length, IfOk, OnOk, filter};
 ghost use Rattle.std.specs.List.{All};
 ghost use Rattle.std.specs.Option.{option_copied};
-ghost use Rattle.pj_declared.specs.Imports.{imported_name};
 ghost use Rattle.pj_tree.specs.Tree.{children_of};
 ghost use Rattle.pj_scopes.specs.StaticImports.{imported_class, imports_all, imports_name, is_named, static_imports};
 
 use pj_base::{NoMemory, Text};
+use pj_declared::{ImportSort, imported_name, is_single};
 use pj_outer_names::{imported_text, is_on_demand};
 use pj_tree::{Children, Kind, Node, SyntaxTree, has_word, is_kind};
 use pj_written::{Nodes, around_last_dot};
@@ -25,20 +25,6 @@ pub fn imported_class(alloc: Global, tree: &SyntaxTree<'_>, import: Node) -> Res
     }
 }
 
-/// The simple name that an import imports: the last word before its `;`.
-fn imported_name<'t>(tree: &'t SyntaxTree<'_>, n: Node) -> Option<&'t str>
-    requires inside { n.0 < length tree.now.nodes }
-    ensures { option_copied result ≡ imported_name tree.now n }
-{
-    let mut last = None;
-    for word in tree.own(n) {
-        if word != ";" {
-            last = Some(word);
-        }
-    }
-    last
-}
-
 /// Whether the name that an import imports is this one.
 fn is_named(name: &str, last: Option<&str>) -> bool
     ensures { result ≡ is_named name.now (option_copied last.entry) }
@@ -54,10 +40,7 @@ fn imports_name(tree: &SyntaxTree<'_>, name: &str, n: Node) -> bool
     requires inside { n.0 < length tree.now.nodes }
     ensures { result ≡ imports_name tree.now name.now n }
 {
-    if !is_kind(tree, Kind::ImportDeclaration, n)
-        || has_word(tree, n, "*")
-        || !has_word(tree, n, "static")
-    {
+    if !is_kind(tree, Kind::ImportDeclaration, n) || !is_single(tree, ImportSort::Static, n) {
         return false;
     }
     is_named(name, imported_name(tree, n))

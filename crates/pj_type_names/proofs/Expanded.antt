@@ -19,6 +19,7 @@ use Rattle.pj_names.proofs.MeaningLaws.{bind-Return}
 use Rattle.pj_signatures.specs.Types.{arguments_of}
 use Rattle.pj_symbols.specs.declared.class.Class.{Class as DeclaredClass}
 use Rattle.pj_types.specs.DepthFirst.{in_turn, is_left_out, visit}
+use Rattle.pj_types.specs.NameSearch.{itself}
 use Rattle.pj_types.specs.Supertypes.{of_answer}
 use Rattle.pj_declared.specs.declared.imports.ImportSort.TheVariants.{OfType, Static}
 use Rattle.pj_declared.specs.declared.nearest.Declared.{Declared}
@@ -34,7 +35,7 @@ use Rattle.pj_written.specs.Written.{name_of_text, written_name}
 use Rattle.pj_outer_names.specs.Around.{searched}
 use Rattle.pj_outer_names.specs.Candidates.{as_type, asked_class, candidates, class_named, dotted_class, file_classes, first_candidate, found_class, is_known, node_named, there}
 use Rattle.pj_outer_names.specs.Imports.{by_import, imported, imported_or, imported_text, imports_on_demand, in_package, in_package_or, name_in_package, on_demand, one_among, outside}
-use Rattle.pj_outer_names.specs.Inherited.{class_names, first_member, inherited_member, listed_names, member_along, member_in, outside_supertypes, own_name}
+use Rattle.pj_outer_names.specs.Inherited.{class_names, first_member, inherited_member, listed_names, member_along, member_in, outside_supertypes}
 use Rattle.pj_type_names.specs.Resolved as writing
 use Rattle.pj_type_names.specs.TypeName as names
 use Rattle.pj_type_names.specs.TypeName.{direct}
@@ -80,35 +81,35 @@ module _ (F : Name → Asking Answer) where
   -- a recursion with visited names
   module _ {B : Type 0} (test : Name → Asking (Option B)) (next other : Name → Asking (List Name)) (most : ℕ)
       (same_test : (name : Name) → expand F (test name) ≡ test name) (same_next : (name : Name) → expand F (next name) ≡ other name) where
-    on_visit : (hit : Option B) (found : List Name) (m n : Asking (Option B × List Name)) → expand F m ≡ n → expand F (visit_hit own_name test next hit found m) ≡ visit_hit own_name test other hit found n
+    on_visit : (hit : Option B) (found : List Name) (m n : Asking (Option B × List Name)) → expand F m ≡ n → expand F (visit_hit itself test next hit found m) ≡ visit_hit itself test other hit found n
     on_visit None found m n same = same
     on_visit (Some hit) found m n same = returned (Some hit, found)
 
     turns : (f g : List Name → Name → Asking (Option B × List Name)) → ((visited : List Name) (x : Name) → expand F (f visited x) ≡ g visited x)
-        → (visited xs : List Name) → expand F (in_turn own_name test next most f visited xs) ≡ in_turn own_name test other most g visited xs
+        → (visited xs : List Name) → expand F (in_turn itself test next most f visited xs) ≡ in_turn itself test other most g visited xs
     turns f g same visited [] = returned (None, visited)
     turns f g same visited (x ∷ xs) =
-        sequenced (f visited x) (g visited x) (λ outcome. visit_hit own_name test next outcome.0 outcome.1 (in_turn own_name test next most f outcome.1 xs))
-        (λ outcome. visit_hit own_name test other outcome.0 outcome.1 (in_turn own_name test other most g outcome.1 xs)) (same visited x)
-        (λ outcome. on_visit outcome.0 outcome.1 (in_turn own_name test next most f outcome.1 xs) (in_turn own_name test other most g outcome.1 xs) (turns f g same outcome.1 xs))
+        sequenced (f visited x) (g visited x) (λ outcome. visit_hit itself test next outcome.0 outcome.1 (in_turn itself test next most f outcome.1 xs))
+        (λ outcome. visit_hit itself test other outcome.0 outcome.1 (in_turn itself test other most g outcome.1 xs)) (same visited x)
+        (λ outcome. on_visit outcome.0 outcome.1 (in_turn itself test next most f outcome.1 xs) (in_turn itself test other most g outcome.1 xs) (turns f g same outcome.1 xs))
 
-    visits : (depth : ℕ) (visited : List Name) (x : Name) → expand F (visit own_name test next most depth visited x) ≡ visit own_name test other most depth visited x
+    visits : (depth : ℕ) (visited : List Name) (x : Name) → expand F (visit itself test next most depth visited x) ≡ visit itself test other most depth visited x
     visits zero visited x = returned (None, visited)
     visits (suc depth) visited x =
-        either (is_left_out own_name test next most visited x) (Return (None, visited))
-        (bind (test x) (λ hit. visit_hit own_name test next hit (visited ++ x ∷ []) (bind (next x) (λ more. in_turn own_name test next most (visit own_name test next most depth) (visited ++ x ∷ []) more))))
+        either (is_left_out itself test next most visited x) (Return (None, visited))
+        (bind (test x) (λ hit. visit_hit itself test next hit (visited ++ x ∷ []) (bind (next x) (λ more. in_turn itself test next most (visit itself test next most depth) (visited ++ x ∷ []) more))))
         (Return (None, visited))
-        (bind (test x) (λ hit. visit_hit own_name test other hit (visited ++ x ∷ []) (bind (other x) (λ more. in_turn own_name test other most (visit own_name test other most depth) (visited ++ x ∷ []) more))))
+        (bind (test x) (λ hit. visit_hit itself test other hit (visited ++ x ∷ []) (bind (other x) (λ more. in_turn itself test other most (visit itself test other most depth) (visited ++ x ∷ []) more))))
         (λ out. returned (None, visited))
         (λ new. sequenced (test x) (test x)
-        (λ hit. visit_hit own_name test next hit (visited ++ x ∷ []) (bind (next x) (λ more. in_turn own_name test next most (visit own_name test next most depth) (visited ++ x ∷ []) more)))
-        (λ hit. visit_hit own_name test other hit (visited ++ x ∷ []) (bind (other x) (λ more. in_turn own_name test other most (visit own_name test other most depth) (visited ++ x ∷ []) more)))
+        (λ hit. visit_hit itself test next hit (visited ++ x ∷ []) (bind (next x) (λ more. in_turn itself test next most (visit itself test next most depth) (visited ++ x ∷ []) more)))
+        (λ hit. visit_hit itself test other hit (visited ++ x ∷ []) (bind (other x) (λ more. in_turn itself test other most (visit itself test other most depth) (visited ++ x ∷ []) more)))
         (same_test x)
-        (λ hit. on_visit hit (visited ++ x ∷ []) (bind (next x) (λ more. in_turn own_name test next most (visit own_name test next most depth) (visited ++ x ∷ []) more))
-        (bind (other x) (λ more. in_turn own_name test other most (visit own_name test other most depth) (visited ++ x ∷ []) more))
-        (sequenced (next x) (other x) (λ more. in_turn own_name test next most (visit own_name test next most depth) (visited ++ x ∷ []) more)
-        (λ more. in_turn own_name test other most (visit own_name test other most depth) (visited ++ x ∷ []) more) (same_next x)
-        (λ more. turns (visit own_name test next most depth) (visit own_name test other most depth) (visits depth) (visited ++ x ∷ []) more))))
+        (λ hit. on_visit hit (visited ++ x ∷ []) (bind (next x) (λ more. in_turn itself test next most (visit itself test next most depth) (visited ++ x ∷ []) more))
+        (bind (other x) (λ more. in_turn itself test other most (visit itself test other most depth) (visited ++ x ∷ []) more))
+        (sequenced (next x) (other x) (λ more. in_turn itself test next most (visit itself test next most depth) (visited ++ x ∷ []) more)
+        (λ more. in_turn itself test other most (visit itself test other most depth) (visited ++ x ∷ []) more) (same_next x)
+        (λ more. turns (visit itself test next most depth) (visit itself test other most depth) (visits depth) (visited ++ x ∷ []) more))))
 
 -- ---- behind the scopes of a file
 
@@ -178,9 +179,9 @@ module _ (t : Tree) (classes : List DeclaredClass) (F : Name → Asking Answer) 
 
     first_member_same : (passed_over : Name → Bool) (class : Name) (simple : List ℕ) → expand F (first_member classes supers passed_over class simple) ≡ first_member classes other passed_over class simple
     first_member_same passed_over class simple =
-        deeper F (λ most. bind (visit own_name (member_in classes passed_over simple) supers most most [] class) (λ outcome. Return outcome.0))
-        (λ most. bind (visit own_name (member_in classes passed_over simple) other most most [] class) (λ outcome. Return outcome.0))
-        (λ most. sequenced F (visit own_name (member_in classes passed_over simple) supers most most [] class) (visit own_name (member_in classes passed_over simple) other most most [] class)
+        deeper F (λ most. bind (visit itself (member_in classes passed_over simple) supers most most [] class) (λ outcome. Return outcome.0))
+        (λ most. bind (visit itself (member_in classes passed_over simple) other most most [] class) (λ outcome. Return outcome.0))
+        (λ most. sequenced F (visit itself (member_in classes passed_over simple) supers most most [] class) (visit itself (member_in classes passed_over simple) other most most [] class)
         (λ outcome. Return outcome.0) (λ outcome. Return outcome.0)
         (visits F (member_in classes passed_over simple) supers other most (member_in_same passed_over simple) same_supers most [] class) (λ outcome. returned F outcome.0))
 

@@ -26,10 +26,9 @@ use crate::stage::{Entered, MOST_ENTERED, MOST_NESTED, Stage, is_busy};
 use pj_base::{Copied, Names, Numbers, Text};
 use pj_declared::Declared;
 use pj_names::{AskFault, ClassName, ClassNames, Oracle, Ty, TyList, Types};
-use pj_outer_names::{
-    File, NameWalk, dotted_class, member_in, next_searched, outside, outside_supertypes,
-};
+use pj_outer_names::{File, dotted_class, member_in, next_searched, outside, outside_supertypes};
 use pj_tree::{Kind, Node, has_word, is_kind};
+use pj_types::NameWalk;
 use pj_written::{
     MOST_SIGNS, Written, all_bounds, arguments_of, arrays, bare, below_child, bounds_of, brackets,
     class_of_text, last_child, name_of_text, object_type, primitive_of, with_dots,

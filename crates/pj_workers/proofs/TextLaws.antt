@@ -86,8 +86,8 @@ one_source : OneExpression → DenotesByTree → PatternsByTree → (reply : Rep
     → IsSpelled (rule_of s p c) → IsSpelled (rule_of s q d) → rule_in_file reply file (rule_of s p c) ≡ rule_in_file reply file (rule_of s q d)
 one_source one denotes_alike patterns_alike reply file s p q c d h k =
     rules_in_file denotes_alike patterns_alike reply file s p q c d
-    (one (names_of s.texts) (chars s.texts.xpath) (tree_of p) (tree_of q) h.query.spells k.query.spells)
-    (same_trees one (names_of s.texts) (suppression_of s.texts) c d h.suppression k.suppression)
+    (one (names_of s.texts) (chars s.texts.xpath) (tree_of p) (tree_of q) h.query_spelled.spells k.query_spelled.spells)
+    (same_trees one (names_of s.texts) (suppression_of s.texts) c d h.suppression_spelled k.suppression_spelled)
 
 pub same_in_file : OneExpression → DenotesByTree → PatternsByTree → (reply : Reply) (file : JavaFile) (a b : Rule)
     → a.source ≡ b.source → IsSpelled a → IsSpelled b → rule_in_file reply file a ≡ rule_in_file reply file b

@@ -44,16 +44,16 @@ last_child t n = last_in None (children_of t n)
 
 -- ---- types among the children
 
--- whether a node of the kind writes the type of a field, a method, a parameter (JLS 4.1, 8.4.5)
-abbrev pub is_type : Kind → Bool
-is_type k.PrimitiveType = true
-is_type k.VoidType = true
-is_type k.ClassType = true
-is_type k.ArrayType = true
-is_type other = false
+-- whether a node of the kind writes the type of a field, a method, a parameter (JLS 4.1), or that a method has no result (JLS 8.4.5)
+abbrev pub is_type_or_void : Kind → Bool
+is_type_or_void k.PrimitiveType = true
+is_type_or_void k.VoidType = true
+is_type_or_void k.ClassType = true
+is_type_or_void k.ArrayType = true
+is_type_or_void other = false
 
 abbrev pub writes_type : Tree → Node → Bool
-writes_type t n = option_map_or is_type (kind_of t n) false
+writes_type t n = option_map_or is_type_or_void (kind_of t n) false
 
 -- the type that a declaration writes: the first child that is one
 abbrev pub type_child : Tree → Node → Option Node
@@ -71,10 +71,10 @@ without_brackets t n = if is_kind t k.ArrayType n then option_map_or (λ member.
 
 -- ---- what a node is
 
--- an interface by its word (JLS 9.1)
-abbrev pub is_plain_interface : Tree → Node → Bool
-is_plain_interface t class = has (codes "interface") (words_of t class)
+-- JLS 9.1: interfaces but annotation interfaces
+abbrev pub is_regular_interface : Tree → Node → Bool
+is_regular_interface t class = is_kind t k.ClassDeclaration class && has (codes "interface") (words_of t class)
 
--- and annotation interfaces (JLS 9.6)
+-- JLS 9.1 and 9.6: interfaces, annotation interfaces included
 abbrev pub is_interface : Tree → Node → Bool
-is_interface t class = is_kind t k.AnnotationTypeDeclaration class || is_plain_interface t class
+is_interface t class = is_kind t k.AnnotationTypeDeclaration class || is_regular_interface t class

@@ -23,7 +23,7 @@ pub use laws::{fits_end, written_names_end};
 pub use limits::{MOST_SIGNS, bare, brackets, fits};
 pub use names::{around_last_dot, last_part, member_name, next_candidate, with_dots};
 pub use nodes::{
-    Nodes, below_child, bracket_count, is_interface, is_plain_interface, last_child, type_child,
+    Nodes, below_child, bracket_count, is_interface, is_regular_interface, last_child, type_child,
 };
 pub use spelling::{Parameter, Parameters, class_signature, method_signature, type_signature};
 pub use types::{arguments_of, arrays, class_of_text, object_type, primitive_of};

@@ -2,7 +2,7 @@
 
 ghost use Rattle.std.specs.Prelude.{◌≡◌, ◌<◌, ◌≤◌, ◌++◌, None, length, IfOk, IfSome, OnOk};
 ghost use Rattle.std.specs.List.{All};
-ghost use Rattle.pj_written.specs.Words.{below_child, is_interface, is_plain_interface, is_type, last_child, last_in, own_brackets, type_child, without_brackets, writes_type};
+ghost use Rattle.pj_written.specs.Words.{below_child, is_interface, is_regular_interface, is_type_or_void, last_child, last_in, own_brackets, type_child, without_brackets, writes_type};
 
 use pj_base::{ListOf, NoMemory};
 use pj_tree::{Children, Kind, Node, SyntaxTree, child_of, has_word, is_kind};
@@ -73,9 +73,9 @@ pub fn last_child(tree: &SyntaxTree<'_>, n: Node) -> Option<Node>
     last_in(tree.children(n))
 }
 
-/// Whether a node of the kind writes a type.
-fn is_type(kind: Kind) -> bool
-    ensures { result ≡ is_type kind }
+/// Whether a node of the kind writes a type, or that a method has no result (JLS 4.1, 8.4.5).
+fn is_type_or_void(kind: Kind) -> bool
+    ensures { result ≡ is_type_or_void kind }
 {
     match kind {
         Kind::PrimitiveType | Kind::VoidType | Kind::ClassType | Kind::ArrayType => true,
@@ -88,7 +88,7 @@ fn writes_type(tree: &SyntaxTree<'_>, n: Node) -> bool
     requires inside { n.0 < length tree.now.nodes }
     ensures { result ≡ writes_type tree.now n }
 {
-    is_type(tree.kind(n))
+    is_type_or_void(tree.kind(n))
 }
 
 /// The type that a declaration writes: the first child that is one.
@@ -145,18 +145,18 @@ pub fn without_brackets(tree: &SyntaxTree<'_>, n: Node) -> Node
     }
 }
 
-/// Whether the class is an interface by its word (JLS 9.1).
-pub fn is_plain_interface(tree: &SyntaxTree<'_>, class: Node) -> bool
+/// Whether the node declares an interface that is no annotation interface (JLS 9.1).
+pub fn is_regular_interface(tree: &SyntaxTree<'_>, class: Node) -> bool
     requires inside { class.0 < length tree.now.nodes }
-    ensures { result ≡ is_plain_interface tree.now class }
+    ensures { result ≡ is_regular_interface tree.now class }
 {
-    has_word(tree, class, "interface")
+    is_kind(tree, Kind::ClassDeclaration, class) && has_word(tree, class, "interface")
 }
 
-/// Whether the class is an interface, annotation interfaces included (JLS 9.1, 9.6).
+/// Whether the node declares an interface, an annotation interface included (JLS 9.1, 9.6).
 pub fn is_interface(tree: &SyntaxTree<'_>, class: Node) -> bool
     requires inside { class.0 < length tree.now.nodes }
     ensures { result ≡ is_interface tree.now class }
 {
-    is_kind(tree, Kind::AnnotationTypeDeclaration, class) || is_plain_interface(tree, class)
+    is_kind(tree, Kind::AnnotationTypeDeclaration, class) || is_regular_interface(tree, class)
 }

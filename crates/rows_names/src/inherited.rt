@@ -7,9 +7,10 @@ use pj_base::{NoMemory, Text};
 use pj_declared::Declared;
 use pj_marked::{place_of, unquoted};
 use pj_names::{Answer, AskFault, ClassName, ClassNames, Oracle, TyList};
-use pj_outer_names::{File, NameWalk, member_in, next_searched, outside_supertypes, with_classes};
+use pj_outer_names::{File, member_in, next_searched, outside_supertypes, with_classes};
 use pj_signatures::{ClassSig, class_signature};
 use pj_tree::Node;
+use pj_types::NameWalk;
 use std::alloc::Global;
 
 /// Puts `nothing` where nothing was put.

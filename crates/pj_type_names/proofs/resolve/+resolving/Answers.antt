@@ -9,7 +9,8 @@ use Rattle.pj_names.specs.Told.{longest, longest_is}
 use Rattle.pj_names.specs.declared.ty.Ty.{Ty}
 use Rattle.pj_outer_names.specs.Candidates.{file_classes}
 use Rattle.pj_outer_names.specs.Inherited.{member_in}
-use Rattle.pj_outer_names.specs.NameWalks.{Standing, left_out}
+use Rattle.pj_types.specs.NameWalks.{NameStanding}
+use Rattle.pj_outer_names.specs.NameWalks.{left_out}
 use Rattle.pj_outer_names.proofs.NameTurns.{names-begin, names-end, names-missed, names-turn, to_come}
 use Rattle.pj_written.specs.Fits.{fits, most_signs_is}
 use Rattle.pj_written.specs.Headers.{all_bounds, written_supertypes}
@@ -340,7 +341,7 @@ first_member-loop-class-init g t c =
     let supers = resolution.supers stage.file.now stage.left stage.busy.now in
     let told = g.O.Oracle.tells c.args.oracle.now in
     subst (λ m. ComesTo (resolution.first_member stage.file.now stage.left stage.busy.now c.args.own_counts c.args.class.now c.args.simple.now) told m told)
-    (names-begin test supers c.args.class.now ∙ ap (λ (walk : Standing). to_come test supers 0 walk) (sym c.in_ok-walk.ensures)) comes-begin
+    (names-begin test supers c.args.class.now ∙ ap (λ (walk : NameStanding). to_come test supers 0 walk) (sym c.in_ok-walk.ensures)) comes-begin
 
 pub first_member-returns-in_err-next : goal.first_member-returns-in_err-next
 first_member-returns-in_err-next g t c = comes-ends c.loop-class.invariant (asks-stop (search rules))

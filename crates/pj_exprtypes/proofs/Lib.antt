@@ -1,0 +1,5 @@
+pub mod Parts
+pub mod Steps
+pub mod Tables
+pub mod Inside
+pub mod Depth

@@ -1,0 +1,194 @@
+use Rattle.std.proofs.Common.{rules, arith, ◌≡◌, ◌<◌, ◌≤◌, ◌+◌, ◌-◌, List, IsTrue, length, refl, sym, ap, subst, ◌∙◌}
+use Rattle.std.specs.Prelude.{Ok}
+use Rattle.std.specs.FinSet as set
+use Rattle.pj_tree.specs.declared.node.Node.{Node}
+use Rattle.pj_names.specs.Asking.{each}
+use Rattle.pj_names.specs.ClassName.{NameSet, name_set}
+use Rattle.pj_names.specs.Held.{IsHeld}
+use Rattle.pj_names.specs.JavaType.{java_type, type_list}
+use Rattle.pj_names.specs.Noting.{Notes, tells_noting}
+use Rattle.pj_names.specs.declared.ty.Ty.{Ty}
+use Rattle.pj_names.proofs.AskingLaws.{ComesTo, asks-refused, asks-return, asks-stop, asks-then, comes-begin, comes-ends}
+use Rattle.pj_names.proofs.Held.{asks-late, done-apart, late-apart, noted-held, refused-apart}
+use Rattle.pj_names.proofs.MeaningLaws.{each-gather, gather}
+use Rattle.pj_names.proofs.NotingLaws.{asks-noted, notes-noted}
+use Rattle.pj_file_oracle.proofs.Lists.{gather-turn}
+use Rattle.pj_scopes.proofs.Turns.{asks-as}
+use Rattle.pj_exprtypes.specs.Operands.{operands, var_operands}
+use Rattle.pj_exprtypes.specs.TypeOf.{deep, earlier, typed, var_of}
+use Rattle.pj_exprtypes.proofs.Steps.{earlier-none, earlier-some, earlier-var, typed-none, typed-some}
+use Rattle.pj_exprtypes.proofs.Tables.{all-noted, all-noting, keeps-more, keeps-on}
+use Rattle.pj_exprtypes.proofs.typing.+typing.Goals as goal
+
+-- ---- a node
+
+pub typed-returns-then-left-eq0-clause-asks : goal.typed-returns-then-left-eq0-clause-asks
+typed-returns-then-left-eq0-clause-asks g t c =
+    let none : c.args.left ≡ 0 = omega arith in
+    asks-as (typed-none c.args.file.now (earlier c.args.file.now c.args.before) c.args.left c.args.n none) (asks-return refl)
+
+pub typed-returns-in_err-nodes-clause-asks : goal.typed-returns-in_err-nodes-clause-asks
+typed-returns-in_err-nodes-clause-asks g t c = asks-stop (search rules)
+
+pub typed-returns-in_err-operand_types-clause-asks : goal.typed-returns-in_err-operand_types-clause-asks
+typed-returns-in_err-operand_types-clause-asks g t c =
+    let file = c.args.file.now in
+    let some : 0 < c.args.left = omega arith in
+    let nodes : c.as_slice.result.now ≡ operands file c.args.n = search rules in
+    let asked = rw nodes at c.in_err-operand_types.ensures.asks in
+    asks-as (typed-some file (earlier file c.args.before) c.args.left c.args.n some) (asks-refused _ asked (search rules))
+
+pub typed-returns-in_err-found-clause-asks : goal.typed-returns-in_err-found-clause-asks
+typed-returns-in_err-found-clause-asks g t c =
+    let file = c.args.file.now in
+    let some : 0 < c.args.left = omega arith in
+    let nodes : c.as_slice.result.now ≡ operands file c.args.n = search rules in
+    let asked = rw nodes at c.in_ok-operand_types.ensures.asks in
+    asks-as (typed-some file (earlier file c.args.before) c.args.left c.args.n some) (asks-then _ asked (asks-refused _ c.in_err-found.ensures.asks (search rules)))
+
+pub typed-returns-in_err-found-clause-keeps : goal.typed-returns-in_err-found-clause-keeps
+typed-returns-in_err-found-clause-keeps g t c = keeps-on c.args.file.now _ c.in_err-found.ensures.asks c.in_ok-operand_types.ensures.keeps
+
+pub typed-final_type-requires-clause-keeps : goal.typed-final_type-requires-clause-keeps
+typed-final_type-requires-clause-keeps g t c = keeps-on c.args.file.now _ c.in_ok-found.ensures.asks c.in_ok-operand_types.ensures.keeps
+
+pub typed-returns-clause-asks : goal.typed-returns-clause-asks
+typed-returns-clause-asks g t c =
+    let file = c.args.file.now in
+    let some : 0 < c.args.left = omega arith in
+    let nodes : c.as_slice.result.now ≡ operands file c.args.n = search rules in
+    let asked = rw nodes at c.in_ok-operand_types.ensures.asks in
+    asks-as (typed-some file (earlier file c.args.before) c.args.left c.args.n some) (asks-then _ asked (asks-then _ c.in_ok-found.ensures.asks c.final_type.ensures.asks))
+
+-- ---- nodes, one after the other
+
+pub types_of-loop-n-init : goal.types_of-loop-n-init
+types_of-loop-n-init g t c =
+    let f = typed c.args.file.now (earlier c.args.file.now c.args.before) c.args.left in
+    let nodes = c.args.nodes.now in
+    let told = tells_noting c.args.oracle.now.inner.ghost_name c.args.oracle.now.noted.ghost_name c.args.oracle.now.noted.now (g.O.Oracle.tells c.args.oracle.now.inner.now) in
+    record {
+      comes = subst (λ m. ComesTo (each f nodes) told m told) (each-gather f nodes ∙ ap (λ (types : List Ty). gather f (type_list types) nodes) (sym c.new-found.ensures)) comes-begin;
+      keeps = c.requires.keeps;
+    }
+
+pub types_of-loop-n-preserved : goal.types_of-loop-n-preserved
+types_of-loop-n-preserved g t c =
+    let f = typed c.args.file.now (earlier c.args.file.now c.args.before) c.args.left in
+    record {
+      comes = gather-turn f java_type c.loop-n.found c.push.new.self c.args.nodes.now c.loop-n.n-index _ c.in_ok-ty.ty c.loop-n-test.true c.in_ok-push.ensures.ok c.loop-n.invariant.comes c.in_ok-ty.ensures.asks;
+      keeps = c.in_ok-ty.ensures.keeps;
+    }
+
+-- ---- what tells a type
+
+pub final_type-returns-in-Var-then-id-ge-before-clause-asks : goal.final_type-returns-in-Var-then-id-ge-before-clause-asks
+final_type-returns-in-Var-then-id-ge-before-clause-asks g t c =
+    let below : c.args.before ≤ c.in-Var.id.0 = omega arith in
+    asks-as (earlier-none c.args.file.now c.args.before c.in-Var.id below) (asks-return refl)
+
+pub final_type-returns-in-Var-clause-asks : goal.final_type-returns-in-Var-clause-asks
+final_type-returns-in-Var-clause-asks g t c =
+    let above : c.in-Var.id.0 < c.args.before = omega arith in
+    asks-as (earlier-some c.args.file.now c.args.before c.in-Var.id above) c.var_once.ensures.asks
+
+-- ---- a variable that is held, or found
+
+pub var_once-returns-in-Some-clause-asks : goal.var_once-returns-in-Some-clause-asks
+var_once-returns-in-Some-clause-asks g t c =
+    c.held.ensures (var_of c.args.file.now c.args.id) (λ told. c.in-Some.ensures c.args.file.now _ (c.requires.keeps told))
+
+pub var_once-returns-in-Some-clause-keeps : goal.var_once-returns-in-Some-clause-keeps
+var_once-returns-in-Some-clause-keeps g t c =
+    keeps-on c.args.file.now c.args.types.now.variables
+    (c.held.ensures (var_of c.args.file.now c.args.id) (λ told. c.in-Some.ensures c.args.file.now _ (c.requires.keeps told))) c.requires.keeps
+
+pub var_found-noted_apart-requires-clause-keeps : goal.var_found-noted_apart-requires-clause-keeps
+var_found-noted_apart-requires-clause-keeps g t c =
+    λ is. all-noted c.args.file.now (g.O.Oracle.tells c.args.oracle.now.inner.now).world c.args.types.now.variables (c.requires.keeps is)
+
+pub var_found-returns-in_err-found-clause-asks : goal.var_found-returns-in_err-found-clause-asks
+var_found-returns-in_err-found-clause-asks g t c =
+    refused-apart _ _ _ (var_of c.args.file.now c.args.id) c.in_err-found.ensures.asks (search rules)
+
+pub var_found-returns-in_err-found-clause-keeps : goal.var_found-returns-in_err-found-clause-keeps
+var_found-returns-in_err-found-clause-keeps g t c =
+    λ is. all-noting c.args.file.now _ _ (c.in_err-found.ensures.keeps is)
+
+pub var_found-returns-in_err-remember-clause-asks : goal.var_found-returns-in_err-remember-clause-asks
+var_found-returns-in_err-remember-clause-asks g t c =
+    late-apart _ _ (var_of c.args.file.now c.args.id) c.in_ok-found.found.1 c.in_ok-found.ensures.asks (λ told. (c.in_ok-found.ensures.names told).names_are)
+    c.in_err-remember.ensures.stays c.in_err-remember.ensures.within (search rules)
+
+pub var_found-returns-in_err-remember-clause-keeps : goal.var_found-returns-in_err-remember-clause-keeps
+var_found-returns-in_err-remember-clause-keeps g t c =
+    let found = c.in_ok-found.found in
+    λ is. all-noting c.args.file.now _ _
+    (keeps-more c.args.file.now _ _ c.args.id (java_type found.0) (name_set found.1) (c.in_err-remember.ensures.held c.args.file.now) c.in_ok-found.ensures.asks c.in_ok-found.ensures.names c.in_ok-found.ensures.keeps is)
+
+pub var_found-returns-clause-asks : goal.var_found-returns-clause-asks
+var_found-returns-clause-asks g t c =
+    done-apart _ _ (var_of c.args.file.now c.args.id) c.in_ok-found.found.1 c.in_ok-found.ensures.asks (λ told. (c.in_ok-found.ensures.names told).names_are)
+    c.in_ok-remember.ensures.ok c.in_ok-remember.ensures.stays c.in_ok-remember.ensures.within (ap (λ ty. Ok ty) c.in_ok-remember.ensures.ty)
+
+pub var_found-returns-clause-keeps : goal.var_found-returns-clause-keeps
+var_found-returns-clause-keeps g t c =
+    let found = c.in_ok-found.found in
+    λ is. all-noting c.args.file.now _ _
+    (keeps-more c.args.file.now _ _ c.args.id (java_type found.0) (name_set found.1) (c.in_ok-remember.ensures.held c.args.file.now) c.in_ok-found.ensures.asks c.in_ok-found.ensures.names c.in_ok-found.ensures.keeps is)
+
+-- ---- its names, noted apart
+
+pub noted_apart-returns-in_err-names-clause-asks : goal.noted_apart-returns-in_err-names-clause-asks
+noted_apart-returns-in_err-names-clause-asks g t c = asks-late c.in_ok-ty.ensures.asks (search rules)
+
+pub noted_apart-returns-clause-names : goal.noted_apart-returns-clause-names
+noted_apart-returns-clause-names g t c =
+    let meaning = var_of c.args.file.now c.args.id in
+    let told = g.O.Oracle.tells c.args.oracle.now in
+    let after = g.O.Oracle.tells c.noted_in.new.oracle in
+    let ty = java_type c.in_ok-ty.ty in
+    λ is.
+    let notes : Notes meaning told.is_told told.world set.empty c.noted_in.new.noted (Ok ty) =
+    subst (λ (s : NameSet). Notes meaning told.is_told told.world s c.noted_in.new.noted (Ok ty)) c.new-noted.ensures c.in_ok-ty.ensures.notes in
+    subst (λ (s : NameSet). IsHeld told.world meaning ty s) (sym c.in_ok-names.ensures.members) (noted-held meaning told after ty c.noted_in.new.noted is c.in_ok-ty.ensures.asks notes)
+
+pub noted_in-var_type-requires-clause-keeps : goal.noted_in-var_type-requires-clause-keeps
+noted_in-var_type-requires-clause-keeps g t c =
+    λ is. all-noting c.args.file.now (g.O.Oracle.tells c.args.oracle.now).world c.args.types.now.variables (c.requires.keeps is)
+
+pub noted_in-returns-clause-asks : goal.noted_in-returns-clause-asks
+noted_in-returns-clause-asks g t c =
+    let held = sym (ap (λ k. k.reference) c.var_type.ensures.asks.same_kept) in
+    let over = asks-noted _ _ _ _ _ _ (var_of c.args.file.now c.args.id) _ _ c.var_type.ensures.asks in
+    search rules
+
+pub noted_in-returns-clause-notes : goal.noted_in-returns-clause-notes
+noted_in-returns-clause-notes g t c =
+    let held = sym (ap (λ k. k.own) c.var_type.ensures.asks.same_kept) in
+    let over = notes-noted _ _ _ _ _ _ (var_of c.args.file.now c.args.id) _ _ c.var_type.ensures.asks in
+    search rules
+
+-- ---- a variable that is declared by `var`
+
+pub var_type-returns-in_err-nodes-clause-asks : goal.var_type-returns-in_err-nodes-clause-asks
+var_type-returns-in_err-nodes-clause-asks g t c = asks-stop (search rules)
+
+pub var_type-returns-in_err-operand_types-clause-asks : goal.var_type-returns-in_err-operand_types-clause-asks
+var_type-returns-in_err-operand_types-clause-asks g t c =
+    let file = c.args.file.now in
+    let far : c.len.result + 1 ≡ deep file = search rules in
+    let nodes : c.as_slice.result.now ≡ var_operands file c.args.id = search rules in
+    let asked = rw (nodes, far) at c.in_err-operand_types.ensures.asks in
+    asks-as (earlier-var file c.args.id) (asks-refused _ asked (search rules))
+
+pub var_type-returns-clause-asks : goal.var_type-returns-clause-asks
+var_type-returns-clause-asks g t c =
+    let file = c.args.file.now in
+    let far : c.len.result + 1 ≡ deep file = search rules in
+    let nodes : c.as_slice.result.now ≡ var_operands file c.args.id = search rules in
+    let asked = rw (nodes, far) at c.in_ok-operand_types.ensures.asks in
+    asks-as (earlier-var file c.args.id) (asks-then _ asked c.var_with.ensures)
+
+pub var_type-returns-clause-keeps : goal.var_type-returns-clause-keeps
+var_type-returns-clause-keeps g t c = keeps-on c.args.file.now _ c.var_with.ensures c.in_ok-operand_types.ensures.keeps

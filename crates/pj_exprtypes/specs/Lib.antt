@@ -1,0 +1,12 @@
+-- definitions
+pub mod Typing
+pub mod Operands
+pub mod Expressions
+pub mod Declarations
+pub mod Names
+pub mod TypeOf
+pub mod Table
+-- for private clauses
+pub mod Seen
+pub mod Parts
+pub mod Order

@@ -1,0 +1,21 @@
+-- What the code answers, as the definitions have it.
+use Rattle.std.specs.Prelude.{ℕ, ◌<◌, Option, None, Some}
+use Rattle.pj_names.specs.declared.ty.Ty.{Ty}
+use Rattle.pj_names.specs.JavaType.{JavaType, java_type}
+use Rattle.pj_exprtypes.specs.declared.type_or_var.TypeOrVar.{TypeOrVar}
+use Rattle.pj_exprtypes.specs.declared.type_or_var.TypeOrVar.TheVariants as code
+use Rattle.pj_exprtypes.specs.Typing.{Typing, Known, OfVar}
+
+abbrev pub seen_typing : TypeOrVar → Typing
+seen_typing (code.Type ty) = Known (java_type ty)
+seen_typing (code.Var id) = OfVar id
+
+-- two types, where there are two
+abbrev pub seen_pair : Option (Ty × Ty) → Option (JavaType × JavaType)
+seen_pair None = None
+seen_pair (Some pair) = Some (java_type pair.0, java_type pair.1)
+
+-- a variable is one of the nodes of the file
+abbrev pub IsVarInside : ℕ → TypeOrVar → Type 0
+IsVarInside count (code.Type ty) = Unit {0}
+IsVarInside count (code.Var id) = id.0 < count

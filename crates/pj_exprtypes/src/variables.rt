@@ -1,0 +1,210 @@
+//! Variables by their declarations, and the names that mean them.
+
+ghost use Rattle.std.specs.Prelude.{◌<◌, Some, length, IfOk, IfSome};
+ghost use Rattle.pj_names.specs.JavaType.{java_type, type_list};
+ghost use Rattle.pj_names.specs.Told.{Asks, seen};
+ghost use Rattle.pj_scopes.specs.Seen.{IsInside, seen_variable};
+ghost use Rattle.pj_tree.specs.Tree.{kind_of};
+ghost use Rattle.pj_exprtypes.specs.Declarations as declarations;
+ghost use Rattle.pj_exprtypes.specs.Names as names;
+ghost use Rattle.pj_exprtypes.specs.Seen.{IsVarInside, seen_typing};
+ghost use Rattle.pj_exprtypes.specs.TypeOf as types;
+
+use crate::expressions::{expression_with, only};
+use crate::type_or_var::TypeOrVar;
+use pj_leaf_types::{
+    declared_by, declared_type, first_name, is_in_own_initializer, is_var, statement_of,
+};
+use pj_names::{AskFault, Oracle, Ty, TyList};
+use pj_outer_names::File;
+use pj_receivers::iterated;
+use pj_scopes::{Variable, variable_name};
+use pj_symbols::declaration_of;
+use pj_tree::{Kind, Node, child_of, first_word};
+use std::alloc::Global;
+
+/// A variable by its declaration.
+#[tactic(auto, using(pj_names::proofs::AskingLaws::asking_steps))]
+fn variable_by<O: Oracle>(
+    alloc: Global,
+    file: &File<'_>,
+    oracle: &mut O,
+    id: Node,
+    declaration: Node,
+) -> Result<TypeOrVar, AskFault>
+    requires inside { id.0 < length file.now.nodes }
+    requires declaration { declaration.0 < length file.now.nodes }
+    ensures inside { IfOk result (IsVarInside (length file.now.nodes)) }
+    ensures asks { Asks (declarations.variable_by file.now id (Some declaration)) (O.tells oracle.old) (O.tells oracle.new) (seen seen_typing result) }
+{
+    if is_var(file.tree(), declaration) {
+        return Ok(TypeOrVar::Var(id));
+    }
+    let ty = declared_by(alloc, file, oracle, id, declaration)?;
+    Ok(TypeOrVar::Type(ty))
+}
+
+/// The variable of a name: one that is declared by `var`, or with the type that its declaration writes (JLS 8.3, 8.4.1, 14.4).
+#[tactic(auto, using(pj_names::proofs::AskingLaws::asking_steps))]
+fn variable_type<O: Oracle>(
+    alloc: Global,
+    file: &File<'_>,
+    oracle: &mut O,
+    id: Node,
+) -> Result<TypeOrVar, AskFault>
+    requires inside { id.0 < length file.now.nodes }
+    ensures inside { IfOk result (IsVarInside (length file.now.nodes)) }
+    ensures asks { Asks (declarations.variable_type file.now id) (O.tells oracle.old) (O.tells oracle.new) (seen seen_typing result) }
+{
+    match declaration_of(file.tree(), id) {
+        Some(declaration) => variable_by(alloc, file, oracle, id, declaration),
+        None => Ok(TypeOrVar::Type(Ty::Unknown)),
+    }
+}
+
+/// The same, where there is a name.
+#[tactic(auto, using(pj_names::proofs::AskingLaws::asking_steps))]
+fn variable_or_unknown<O: Oracle>(
+    alloc: Global,
+    file: &File<'_>,
+    oracle: &mut O,
+    id: Option<Node>,
+) -> Result<TypeOrVar, AskFault>
+    requires inside { IfSome id (λ m. m.0 < length file.now.nodes) }
+    ensures inside { IfOk result (IsVarInside (length file.now.nodes)) }
+    ensures asks { Asks (declarations.variable_or_unknown file.now id) (O.tells oracle.old) (O.tells oracle.new) (seen seen_typing result) }
+{
+    match id {
+        Some(id) => variable_type(alloc, file, oracle, id),
+        None => Ok(TypeOrVar::Type(Ty::Unknown)),
+    }
+}
+
+/// A node that declares one variable: a declarator, a parameter, a component of a record, a constant of an enum.
+#[tactic(auto, using(pj_names::proofs::AskingLaws::asking_steps))]
+fn named_type<O: Oracle>(
+    alloc: Global,
+    file: &File<'_>,
+    oracle: &mut O,
+    n: Node,
+) -> Result<TypeOrVar, AskFault>
+    requires inside { n.0 < length file.now.nodes }
+    ensures inside { IfOk result (IsVarInside (length file.now.nodes)) }
+    ensures asks { Asks (declarations.named_type file.now n) (O.tells oracle.old) (O.tells oracle.new) (seen seen_typing result) }
+{
+    let id = child_of(file.tree(), n, Kind::VariableId);
+    variable_or_unknown(alloc, file, oracle, id)
+}
+
+/// A declaration of several variables: the type that it writes, and by `var` that of its first variable.
+#[tactic(auto, using(pj_names::proofs::AskingLaws::asking_steps))]
+fn declaration_type<O: Oracle>(
+    alloc: Global,
+    file: &File<'_>,
+    oracle: &mut O,
+    n: Node,
+) -> Result<TypeOrVar, AskFault>
+    requires inside { n.0 < length file.now.nodes }
+    ensures inside { IfOk result (IsVarInside (length file.now.nodes)) }
+    ensures asks { Asks (declarations.declaration_type file.now n) (O.tells oracle.old) (O.tells oracle.new) (seen seen_typing result) }
+{
+    if is_var(file.tree(), n) {
+        let id = first_name(file.tree(), n);
+        return variable_or_unknown(alloc, file, oracle, id);
+    }
+    let ty = declared_type(alloc, file, oracle, 0, n)?;
+    Ok(TypeOrVar::Type(ty))
+}
+
+/// What a name means at a place: in its own initializer a variable that is declared by `var` has no type (JLS 14.4.1).
+#[tactic(auto, using(pj_names::proofs::AskingLaws::asking_steps))]
+fn meant_type<O: Oracle>(
+    alloc: Global,
+    file: &File<'_>,
+    oracle: &mut O,
+    place: Node,
+    meant: Option<Variable>,
+) -> Result<TypeOrVar, AskFault>
+    requires inside { place.0 < length file.now.nodes }
+    requires meant { IfSome meant (IsInside (length file.now.nodes)) }
+    ensures inside { IfOk result (IsVarInside (length file.now.nodes)) }
+    ensures asks { Asks (names.meant_type file.now place (seen_variable meant)) (O.tells oracle.old) (O.tells oracle.new) (seen seen_typing result) }
+{
+    match meant {
+        None => Ok(TypeOrVar::Type(Ty::Unknown)),
+        Some(Variable::Inherited(field)) => Ok(TypeOrVar::Type(field.ty)),
+        Some(Variable::Declared(id)) => {
+            if is_in_own_initializer(file.tree(), place, id) {
+                return Ok(TypeOrVar::Type(Ty::Unknown));
+            }
+            variable_type(alloc, file, oracle, id)
+        }
+    }
+}
+
+/// The variable that a name means (JLS 6.5.6.1).
+#[tactic(auto, using(pj_names::proofs::AskingLaws::asking_steps))]
+fn access_type<O: Oracle>(
+    alloc: Global,
+    file: &File<'_>,
+    oracle: &mut O,
+    n: Node,
+) -> Result<TypeOrVar, AskFault>
+    requires inside { n.0 < length file.now.nodes }
+    ensures inside { IfOk result (IsVarInside (length file.now.nodes)) }
+    ensures asks { Asks (names.access_type file.now n) (O.tells oracle.old) (O.tells oracle.new) (seen seen_typing result) }
+{
+    let meant = variable_name(alloc, file, oracle, n, first_word(file.tree(), n))?;
+    meant_type(alloc, file, oracle, n, meant)
+}
+
+/// What tells the type of a node, by its kind and the types of its operands.
+#[tactic(auto, using(pj_names::proofs::AskingLaws::asking_steps))]
+pub fn type_with<O: Oracle>(
+    alloc: Global,
+    file: &File<'_>,
+    oracle: &mut O,
+    n: Node,
+    operand_types: TyList,
+) -> Result<TypeOrVar, AskFault>
+    requires inside { n.0 < length file.now.nodes }
+    ensures inside { IfOk result (IsVarInside (length file.now.nodes)) }
+    ensures asks { Asks (types.type_with file.now n (kind_of file.now n) (type_list operand_types)) (O.tells oracle.old) (O.tells oracle.new) (seen seen_typing result) }
+{
+    match file.tree().kind(n) {
+        Kind::VariableAccess => access_type(alloc, file, oracle, n),
+        Kind::VariableId => variable_type(alloc, file, oracle, n),
+        Kind::VariableDeclarator
+        | Kind::FormalParameter
+        | Kind::LambdaParameter
+        | Kind::CatchParameter
+        | Kind::RecordComponent
+        | Kind::EnumConstant => named_type(alloc, file, oracle, n),
+        Kind::FieldDeclaration | Kind::LocalVariableDeclaration => {
+            declaration_type(alloc, file, oracle, n)
+        }
+        _ => {
+            let ty = expression_with(alloc, file, oracle, n, operand_types)?;
+            Ok(TypeOrVar::Type(ty))
+        }
+    }
+}
+
+/// The type of a variable that is declared by `var`, by that of its initializer, or of what its enhanced `for` goes through (JLS 14.4.1, 14.14.2).
+#[tactic(auto, using(pj_names::proofs::AskingLaws::asking_steps))]
+pub fn var_with<O: Oracle>(
+    alloc: Global,
+    file: &File<'_>,
+    oracle: &mut O,
+    id: Node,
+    operand_types: TyList,
+) -> Result<Ty, AskFault>
+    requires inside { id.0 < length file.now.nodes }
+    ensures { Asks (declarations.var_with file.now id (type_list operand_types)) (O.tells oracle.old) (O.tells oracle.new) (seen java_type result) }
+{
+    let ty = only(operand_types);
+    match statement_of(file.tree(), id) {
+        Some(_) => iterated(alloc, oracle, &ty),
+        None => Ok(ty),
+    }
+}

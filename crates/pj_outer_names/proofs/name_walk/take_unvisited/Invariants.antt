@@ -1,9 +1,0 @@
-use Rattle.std.proofs.Common.{◌≡◌, length, reverse}
-use Rattle.pj_outer_names.specs.NameWalks.{left}
-use Rattle.pj_outer_names.proofs.name_walk.take_unvisited.Given as goal
-
-abbrev pub invariant-loop-class : goal.invariant-loop-class
-invariant-loop-class l = left l.visited (reverse l.to_visit.items) ≡ left l.visited (reverse l.fn.to_visit.items)
-
-abbrev pub decreases-loop-class : goal.decreases-loop-class
-decreases-loop-class l = length l.to_visit.items
