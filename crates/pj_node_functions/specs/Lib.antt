@@ -4,3 +4,4 @@ pub mod Files
 pub mod Places
 pub mod Kinds
 pub mod ModifierWords
+pub mod Replies

@@ -1,5 +1,5 @@
 //! What the functions take of an argument.
-ghost use Rattle.std.specs.Prelude.{◌≡◌, ◌<◌, ◌++◌, IfOk, OnOk};
+ghost use Rattle.std.specs.Prelude.{◌≡◌, ◌<◌, ◌++◌, ℕ, IfOk, OnOk};
 ghost use Rattle.std.specs.List.{slice_get};
 ghost use Rattle.std.specs.Option.{option_map};
 ghost use Rattle.pj_node_functions.specs.Arguments.{named_value, one_node, text_argument, typed_value, typed_values};
@@ -15,8 +15,9 @@ use pj_xvalue::{Attributes, Item, Sequence, Value, XCode, XFault, optional_strin
 use std::alloc::Global;
 
 /// The node that is the only item; XPTY0004 for every other sequence.
-pub fn one_node(items: &Sequence<'_>) -> Result<Node, XCode>
-    ensures { result ≡ one_node (values_of items.now) }
+pub(crate) fn one_node(items: &Sequence<'_>) -> Result<Node, XCode>
+    ensures value { result ≡ one_node (values_of items.now) }
+    ensures inside { (nodes : ℕ) → OfTree nodes (values_of items.now) → IfOk result (λ n. n.0 < nodes) }
 {
     match items.as_slice() {
         [Item::Node(n)] => Ok(*n),

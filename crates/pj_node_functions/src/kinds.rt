@@ -132,7 +132,7 @@ fn is_kind_named(text: &str, kind: &str) -> bool
 
 /// Whether the context node is of the kind of a name, or of one in the group of that name: `Expression`, `Statement`, `TypeDeclaration`, `Type` or `Literal`.
 /// Without a context node it is not.
-pub fn node_is(tree: &SyntaxTree<'_>, at: Option<Node>, text: &str) -> bool
+pub(crate) fn node_is(tree: &SyntaxTree<'_>, at: Option<Node>, text: &str) -> bool
     requires inside { ForSome at (λ n. n.0 < length tree.now.nodes) }
     ensures { result ≡ node_is tree.now at text.now }
 {

@@ -6,9 +6,8 @@ mod files;
 mod kinds;
 mod modifiers;
 mod places;
+mod replies;
 
-pub use arguments::{one_node, text_argument};
-pub use files::file_name;
-pub use kinds::node_is;
+pub use arguments::text_argument;
 pub use modifiers::modifiers_at;
-pub use places::{begin_of, end_of};
+pub use replies::{end_column, end_line, file_reply, kind_reply, start_column, start_line};

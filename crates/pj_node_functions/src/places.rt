@@ -17,7 +17,7 @@ fn last_of(span: Span) -> u32
 }
 
 /// The place of a node's first character: its line and column, from 1.
-pub fn begin_of<A: Attributes>(tree: &SyntaxTree<'_>, facts: &A, n: Node) -> Place
+pub(crate) fn begin_of<A: Attributes>(tree: &SyntaxTree<'_>, facts: &A, n: Node) -> Place
     requires inside { n.0 < length tree.now.nodes }
     requires text { length tree.now.text ≤ A.text_length facts.now }
     ensures { result ≡ begin_of (A.place_of facts.now) tree.now n }
@@ -27,7 +27,7 @@ pub fn begin_of<A: Attributes>(tree: &SyntaxTree<'_>, facts: &A, n: Node) -> Pla
 }
 
 /// The place of a node's last character: its line and column, from 1. Of an empty node it is the place where it begins.
-pub fn end_of<A: Attributes>(tree: &SyntaxTree<'_>, facts: &A, n: Node) -> Place
+pub(crate) fn end_of<A: Attributes>(tree: &SyntaxTree<'_>, facts: &A, n: Node) -> Place
     requires inside { n.0 < length tree.now.nodes }
     requires text { length tree.now.text ≤ A.text_length facts.now }
     ensures { result ≡ end_of (A.place_of facts.now) tree.now n }

@@ -148,7 +148,8 @@ impl SigPattern {
     /// number of `[]` behind.
     #[tactic(auto, using(crate::proofs::Exact::is_read))]
     pub fn parse(alloc: Global, text: &str) -> Result<Option<SigPattern>, NoMemory>
-        ensures { IfOk result (λ found. IsRead text.now found) }
+        ensures spelled { IfOk result (λ found. IsRead text.now found) }
+        ensures value { IfOk result (λ found. found ≡ pattern_in text.now) }
     {
         pattern_in(alloc, text)
     }
