@@ -15,4 +15,4 @@ mod variables;
 
 pub use held::Typed;
 pub use laws::{sources_agree, types_go_on};
-pub use node_types::type_of;
+pub use node_types::{node_type, type_of};

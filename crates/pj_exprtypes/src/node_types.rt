@@ -57,7 +57,7 @@ fn type_noted<O: Oracle>(
 }
 
 /// The type of a node, over any oracle that answers the classes of the file too.
-pub(crate) fn node_type<O: Oracle>(
+pub fn node_type<O: Oracle>(
     alloc: Global,
     file: &File<'_>,
     oracle: &mut O,

@@ -1,0 +1,5 @@
+-- definitions
+pub mod Facts
+pub mod Replies
+-- what an implementation tells
+pub mod Telling
