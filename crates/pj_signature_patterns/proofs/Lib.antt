@@ -1,5 +1,5 @@
 pub mod Cutting
-pub mod Brackets
+pub mod ArrayNames
 pub mod Listed
 pub mod Free
 pub mod Exact

@@ -3,7 +3,7 @@
 use pj_base::{ListOf, Text};
 
 /// What a pattern asks of a type.
-#[derive(Debug, Drop)]
+#[derive(Drop)]
 pub enum TypePattern {
     /// `_`: any type, also one that is not known.
     Any,
@@ -15,7 +15,7 @@ pub enum TypePattern {
 pub type TypePatterns = ListOf<TypePattern>;
 
 /// What a pattern asks of a method's name.
-#[derive(Debug, Drop)]
+#[derive(Drop)]
 pub enum MethodPattern {
     /// `_`: any method or constructor.
     Any,
@@ -26,7 +26,7 @@ pub enum MethodPattern {
 }
 
 /// What a pattern asks of the parameters.
-#[derive(Debug, Drop)]
+#[derive(Drop)]
 pub enum ParametersPattern {
     /// `_*`: any parameters.
     Any,
@@ -35,7 +35,7 @@ pub enum ParametersPattern {
 }
 
 /// A signature pattern `T#m(P)`.
-#[derive(Debug, Drop)]
+#[derive(Drop)]
 pub struct SigPattern {
     /// `T`: the type on which the method is called.
     pub receiver: TypePattern,

@@ -49,7 +49,7 @@ pub fn component_of(text: &str) -> Option<&str>
 }
 
 /// A name without the pairs of brackets at its end.
-#[tactic(auto, using(crate::proofs::Brackets::element_within, crate::proofs::Brackets::element_whole))]
+#[tactic(auto, using(crate::proofs::ArrayNames::element_within, crate::proofs::ArrayNames::element_whole))]
 fn element_of(text: &str) -> &str
     ensures { result.now ≡ element_of text.now }
 {

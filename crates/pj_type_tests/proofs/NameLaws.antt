@@ -5,7 +5,7 @@ use Rattle.std.specs.List.{list_any}
 use Rattle.std.specs.Cmp.Lexicographic.{pointwise}
 use Rattle.std.proofs.lemmas.Bool.{eqb-true, eq-eqb}
 use Rattle.pj_signature_patterns.specs.TypeNames.{component_of}
-use Rattle.pj_signature_patterns.proofs.Brackets.{component_again, component_from}
+use Rattle.pj_signature_patterns.proofs.ArrayNames.{component_again, component_from}
 use Rattle.pj_signature_patterns.proofs.Free.{same_text}
 
 pub alone : (b : Bool) → b ≡ (b || false)
