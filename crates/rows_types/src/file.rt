@@ -131,7 +131,11 @@ fn answer_at(alloc: Global, file: &File<'_>, asked: &Asked<'_>, n: Node) -> Resu
 {
     let mut beneath = Beneath::of(alloc, asked.classes)?;
     let mut out = Text::new(alloc);
-    let found = put_found(alloc, file, &mut beneath, asked.is_again, n, &mut out);
+    let found = if asked.is_again {
+        put_found_again(alloc, file, &mut beneath, n, &mut out)
+    } else {
+        put_found(alloc, file, &mut beneath, n, &mut out)
+    };
     told(out, found, beneath.noted.as_str())
 }
 
@@ -140,21 +144,33 @@ fn put_found(
     alloc: Global,
     file: &File<'_>,
     beneath: &mut Beneath,
-    is_again: bool,
     n: Node,
     out: &mut Text,
 ) -> Result<(), AskFault>
     requires inside { n.0 < length file.now.nodes }
 {
     let mut types = Typed::new(alloc);
-    if is_again {
-        let mut held = Held::new(alloc);
-        let mut oracle = FileOracle::new(alloc, file, &mut *beneath, &mut held);
-        let _ = type_of(&mut oracle, &mut types, n)?;
-        beneath.forget();
-    }
     let mut held = Held::new(alloc);
     let mut oracle = FileOracle::new(alloc, file, beneath, &mut held);
+    let ty = type_of(&mut oracle, &mut types, n)?;
+    Ok(put_type(out, &ty)?)
+}
+
+/// Puts the type of a node that is given when it is asked once more. Just what is asked then is noted.
+fn put_found_again(
+    alloc: Global,
+    file: &File<'_>,
+    beneath: &mut Beneath,
+    n: Node,
+    out: &mut Text,
+) -> Result<(), AskFault>
+    requires inside { n.0 < length file.now.nodes }
+{
+    let mut types = Typed::new(alloc);
+    let mut held = Held::new(alloc);
+    let mut oracle = FileOracle::new(alloc, file, beneath, &mut held);
+    let _ = type_of(&mut oracle, &mut types, n)?;
+    oracle.inner.forget();
     let ty = type_of(&mut oracle, &mut types, n)?;
     Ok(put_type(out, &ty)?)
 }
