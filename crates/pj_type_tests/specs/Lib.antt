@@ -1,0 +1,4 @@
+-- definitions
+pub mod Names
+pub mod Types
+pub mod Methods
