@@ -17,8 +17,8 @@ pub fn sources_agree()
     ensures { (first second : Source) (t : Tree) (n : Node) → Agrees first second (expand (file_answer t) (type_of t n)) }
 {}
 
-/// The numbers by which the definition of types counts are never reached in a syntax tree: the type of a node is made of the whole types of the nodes below it, and that of a
-/// variable that is declared by `var` of the types of nodes, where the variables before it have their whole types.
+/// In a syntax tree the type of a node is made of the whole types of its operands, however deep they lie. A variable that is declared by `var` has the type that its source has
+/// where the variables before it have their whole types; the variable itself and later ones have none there.
 pub fn types_go_on()
     ensures nodes { (t : Tree) → IsSyntaxTree t → (n : Node) → type_of t n ≡ whole_type t (earlier t (length t.nodes)) (type_of t) n }
     ensures deeper { (t : Tree) → IsSyntaxTree t → (var : Node → Asking JavaType) (more : ℕ) (n : Node) → typed t var (deep t + more) n ≡ typed t var (deep t) n }
