@@ -1,0 +1,9 @@
+//! PMD's functions in rules over a Java file: places, kinds, modifiers, types and annotations of nodes, and the name of the file.
+#![tactic(auto)]
+
+mod calls;
+mod replies;
+mod setting;
+mod tests;
+
+pub use calls::JavaCalls;

@@ -1,0 +1,6 @@
+-- definitions
+pub mod Arguments
+pub mod Files
+pub mod Kinds
+pub mod ModifierWords
+pub mod Replies
