@@ -8,8 +8,8 @@ use Rattle.pj_xvalue.specs.declared.fault.XCode.{XCode}
 use Rattle.pj_xvalue.specs.Arguments.{IsGiven, Text}
 use Rattle.pj_xvalue.specs.Items.{ItemValue}
 use Rattle.pj_xvalue.specs.Replies.{is_one_boolean}
-use Rattle.pj_javafuncs.specs.declared.tests.Test.{Test}
-use Rattle.pj_javafuncs.specs.declared.tests.Test.TheVariants as by
+use Rattle.pj_javafuncs.specs.declared.node_tests.Test.{Test}
+use Rattle.pj_javafuncs.specs.declared.node_tests.Test.TheVariants as by
 use Rattle.pj_javafuncs.specs.Replies.{annotation_test, exact_test, type_test}
 
 abbrev pub test_by : Test → Tree → Option Node → Text → Asking Bool

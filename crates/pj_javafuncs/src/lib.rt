@@ -2,8 +2,8 @@
 #![tactic(auto)]
 
 mod calls;
+mod node_tests;
 mod replies;
 mod setting;
-mod tests;
 
 pub use calls::JavaCalls;

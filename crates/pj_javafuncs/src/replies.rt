@@ -14,8 +14,8 @@ ghost use Rattle.pj_xvalue.specs.Items.{ItemValue, values_of};
 ghost use Rattle.pj_xvalue.specs.OfTree.{ArgumentsOfTree, OfTree};
 ghost use Rattle.pj_xvalue.specs.Replies.{may_return, outcome};
 
+use crate::node_tests::{Test, test_by};
 use crate::setting::Setting;
-use crate::tests::{Test, test_by};
 use pj_base::Text;
 use pj_exprtypes::Typed;
 use pj_file_oracle::FileOracle;
@@ -31,6 +31,7 @@ use pj_xvalue::{Arguments, Attributes, Sequence, XCode, XFault, boolean_singleto
 use std::alloc::Global;
 
 /// Whether a test holds of the context node, as one boolean.
+#[tactic(auto, using(pj_names::proofs::AskingLaws::asking_steps))]
 fn tested<'a, 'f, O: Oracle>(
     alloc: Global,
     oracle: &mut FileOracle<'a, 'f, O>,

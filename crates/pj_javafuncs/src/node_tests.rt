@@ -27,6 +27,7 @@ pub enum Test {
 }
 
 /// The type of the context node; without one it is not known.
+#[tactic(auto, using(pj_names::proofs::AskingLaws::asking_steps))]
 fn type_at<'a, 'f, O: Oracle>(
     oracle: &mut FileOracle<'a, 'f, O>,
     types: &mut Typed,
@@ -44,6 +45,7 @@ fn type_at<'a, 'f, O: Oracle>(
 }
 
 /// Whether the context node's type has a name, or is under a class that has it.
+#[tactic(auto, using(pj_names::proofs::AskingLaws::asking_steps))]
 fn type_test<'a, 'f, O: Oracle>(
     alloc: Global,
     oracle: &mut FileOracle<'a, 'f, O>,
@@ -61,6 +63,7 @@ fn type_test<'a, 'f, O: Oracle>(
 }
 
 /// Whether the context node's type has a name.
+#[tactic(auto, using(pj_names::proofs::AskingLaws::asking_steps))]
 fn exact_test<'a, 'f, O: Oracle>(
     oracle: &mut FileOracle<'a, 'f, O>,
     types: &mut Typed,
@@ -77,6 +80,7 @@ fn exact_test<'a, 'f, O: Oracle>(
 }
 
 /// Whether the context node has an annotation of the class of a name.
+#[tactic(auto, using(pj_names::proofs::AskingLaws::asking_steps))]
 fn annotation_test<'a, 'f, O: Oracle>(
     alloc: Global,
     oracle: &mut FileOracle<'a, 'f, O>,
@@ -94,6 +98,7 @@ fn annotation_test<'a, 'f, O: Oracle>(
 }
 
 /// Whether a test holds of the context node, with a name.
+#[tactic(auto, using(pj_names::proofs::AskingLaws::asking_steps))]
 pub fn test_by<'a, 'f, O: Oracle>(
     alloc: Global,
     oracle: &mut FileOracle<'a, 'f, O>,

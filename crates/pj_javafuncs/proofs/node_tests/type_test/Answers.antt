@@ -1,5 +1,5 @@
 use Rattle.pj_javafuncs.proofs.Beneath.{keeps-beneath}
-use Rattle.pj_javafuncs.proofs.tests.type_test.Goals as goal
+use Rattle.pj_javafuncs.proofs.node_tests.type_test.Goals as goal
 
 pub returns-clause-keeps : goal.returns-clause-keeps
 returns-clause-keeps g c = keeps-beneath c.args.oracle.now.file.now _ c.type_is.ensures c.in_ok-ty.ensures.keeps

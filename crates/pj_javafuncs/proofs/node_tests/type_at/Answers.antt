@@ -4,7 +4,7 @@ use Rattle.pj_file_oracle.specs.Held.{FileOwn}
 use Rattle.pj_exprtypes.specs.TypeOf.{type_of}
 use Rattle.pj_javafuncs.specs.Replies.{type_at}
 use Rattle.pj_javafuncs.proofs.Beneath.{asks-over}
-use Rattle.pj_javafuncs.proofs.tests.type_at.Goals as goal
+use Rattle.pj_javafuncs.proofs.node_tests.type_at.Goals as goal
 
 pub returns-in-Some-clause-asks : goal.returns-in-Some-clause-asks
 returns-in-Some-clause-asks g c =
