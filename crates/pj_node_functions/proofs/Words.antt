@@ -1,9 +1,9 @@
 -- Words of modifiers, one modifier after the other.
-use Rattle.std.proofs.Common.{◌≡◌, ℕ, ◌+◌, ◌<◌, List, [], ◌∷◌, ◌++◌, length, get_or, take, true, false, cond, refl, sym, ap, ◌∙◌, append-nil}
+use Rattle.std.proofs.Common.{◌≡◌, ℕ, ◌+◌, ◌<◌, List, [], ◌∷◌, ◌++◌, length, get_or, take, true, false, cond, sym, ap, ◌∙◌, append-nil}
 use Rattle.std.specs.Prelude.{filter, map}
 use Rattle.std.proofs.lemmas.List.{take_more, map-append}
 use Rattle.std.proofs.lemmas.List.Elements.{filter-append}
-use Rattle.pj_xvalue.specs.Items.{ItemValue, String, value_of_item, values_of}
+use Rattle.pj_xvalue.specs.Items.{String, value_of_item, values_of}
 use Rattle.pj_xvalue.specs.Modifiers.{has}
 use Rattle.pj_xvalue.specs.declared.item.Item.{Item}
 use Rattle.pj_xvalue.specs.declared.modifiers.Modifier.{Modifier}

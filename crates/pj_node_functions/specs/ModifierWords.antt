@@ -1,5 +1,5 @@
 -- The modifiers of a node, as words.
-use Rattle.std.specs.Prelude.{ℕ, Bool, List, [], ◌∷◌, map, filter, codes, Option, Some, None, if◌then◌else◌}
+use Rattle.std.specs.Prelude.{ℕ, List, [], ◌∷◌, map, filter, codes, Option, Some, None, if◌then◌else◌}
 use Rattle.pj_tree.specs.Tree.{Tree}
 use Rattle.pj_tree.specs.Children.{has_child}
 use Rattle.pj_tree.specs.declared.kind.Kind.TheVariants as k

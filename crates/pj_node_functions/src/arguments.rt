@@ -20,7 +20,10 @@ pub(crate) fn one_node(items: &Sequence<'_>) -> Result<Node, XCode>
     ensures inside { (nodes : ℕ) → OfTree nodes (values_of items.now) → IfOk result (λ n. n.0 < nodes) }
 {
     match items.as_slice() {
-        [Item::Node(n)] => Ok(*n),
+        [item] => match item {
+            Item::Node(n) => Ok(*n),
+            _ => Err(XCode::XPTY0004),
+        },
         _ => Err(XCode::XPTY0004),
     }
 }
