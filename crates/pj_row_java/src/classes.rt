@@ -1,7 +1,4 @@
 //! Classes that a row writes out.
-//!
-//! A line begins with `with`, and has classes with `and` between. A class is `q.C`, or `interface q.C`; behind it may stand `broken` or `absent`, or `extends` and its
-//! superclass, `implements` and its interfaces, or `signature` and its signature as it is; and then in braces its fields, as `{ int x; }`.
 
 use crate::noted::without_number;
 use pj_base::{Copied, NoMemory, Text};
