@@ -1,19 +1,18 @@
 -- The annotations of a declaration (JLS 9.7), and the classes that they name.
 use Rattle.std.specs.Prelude.{ℕ, Bool, List, Option, Some, None, is_some, if◌then◌else◌}
 use Rattle.pj_tree.specs.Tree.{Tree}
-use Rattle.pj_tree.specs.Children.{child_of}
 use Rattle.pj_tree.specs.Kinds.{is_kind}
 use Rattle.pj_tree.specs.declared.kind.Kind.TheVariants as k
 use Rattle.pj_tree.specs.declared.node.Node.{Node}
 use Rattle.pj_names.specs.JavaType.{JavaType}
 use Rattle.pj_names.specs.Asking.{Asking, Return, bind, first_hit}
 use Rattle.pj_written.specs.Words.{below_child}
-use Rattle.pj_file_oracle.specs.Types.{type_or_unknown}
+use Rattle.pj_file_oracle.specs.Types.{declared_type}
 use Rattle.pj_type_tests.specs.Names.{is_class_called}
 
--- the type that an annotation names (JLS 9.7.1), resolved at its own place (JLS 6.5.5)
+-- The type that an annotation names (JLS 9.7.1), resolved at its own place (JLS 6.5.5). It writes just one, as the declaration of a variable does.
 abbrev pub annotation_type : Tree → Node → Asking JavaType
-annotation_type t n = type_or_unknown t 0 (child_of t n k.ClassType)
+annotation_type t n = declared_type t 0 n
 
 -- the annotation itself, where the text is a name of its class
 abbrev pub called : List ℕ → Node → JavaType → Option Node

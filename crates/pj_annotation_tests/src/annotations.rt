@@ -1,41 +1,21 @@
 //! Annotations by the names of their classes.
-ghost use Rattle.std.specs.Prelude.{◌≡◌, ◌<◌, IfSome, length};
+ghost use Rattle.std.specs.Prelude.{◌≡◌, ◌<◌, length};
 ghost use Rattle.std.specs.List.{All};
 ghost use Rattle.pj_names.specs.Asking.{first_hit};
 ghost use Rattle.pj_names.specs.JavaType.{java_type};
 ghost use Rattle.pj_names.specs.Told.{Asks, seen};
 ghost use Rattle.pj_tree.specs.declared.node.Node.{Node};
-ghost use Rattle.pj_file_oracle.specs.Types.{type_or_unknown};
 ghost use Rattle.pj_annotation_tests.specs.Annotations.{annotation_called, annotation_type, called, first_annotation, has_annotation};
 
-use pj_base::Numbers;
+use pj_leaf_types::declared_type;
 use pj_names::{AskFault, Oracle, Ty};
 use pj_outer_names::File;
-use pj_tree::{Kind, Node, child_of, is_kind};
-use pj_type_names::written_type;
+use pj_tree::{Kind, Node, is_kind};
 use pj_type_tests::is_class_called;
 use pj_written::below_child;
 use std::alloc::Global;
 
-/// The type that is written in a node, if there is one; without one it is not known.
-#[tactic(auto, using(pj_names::proofs::AskingLaws::asking_steps))]
-fn type_or_unknown<O: Oracle>(
-    alloc: Global,
-    file: &File<'_>,
-    oracle: &mut O,
-    n: Option<Node>,
-) -> Result<Ty, AskFault>
-    requires inside { IfSome n (λ m. m.0 < length file.now.nodes) }
-    ensures { Asks (type_or_unknown file.now 0 n) (O.tells oracle.old) (O.tells oracle.new) (seen java_type result) }
-{
-    let none = Numbers::new(alloc);
-    match n {
-        Some(n) => written_type(alloc, file, oracle, &none, 0, n),
-        None => Ok(Ty::Unknown),
-    }
-}
-
-/// The type that an annotation names (JLS 9.7.1).
+/// The type that an annotation names (JLS 9.7.1), at its own place.
 #[tactic(auto, using(pj_names::proofs::AskingLaws::asking_steps))]
 fn annotation_type<O: Oracle>(
     alloc: Global,
@@ -46,8 +26,7 @@ fn annotation_type<O: Oracle>(
     requires inside { n.0 < length file.now.nodes }
     ensures { Asks (annotation_type file.now n) (O.tells oracle.old) (O.tells oracle.new) (seen java_type result) }
 {
-    let class = child_of(file.tree(), n, Kind::ClassType);
-    type_or_unknown(alloc, file, oracle, class)
+    declared_type(alloc, file, oracle, 0, n)
 }
 
 /// The annotation itself, where the text is a name of its class.

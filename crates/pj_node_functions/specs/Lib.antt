@@ -4,3 +4,5 @@ pub mod Files
 pub mod Kinds
 pub mod ModifierWords
 pub mod Replies
+-- laws
+pub mod Laws

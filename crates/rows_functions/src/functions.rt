@@ -6,7 +6,6 @@ ghost use Rattle.pj_parse.specs.PoolText.{IsPoolOf};
 ghost use Rattle.pj_properties.specs.OneFile.{IsOneFile};
 ghost use Rattle.pj_xvalue.specs.Items.{IsOfTree, value_of_item};
 
-use crate::noted::Beneath;
 use crate::shown::{fault_text, put_items, text_of};
 use pj_attrs::{Facts, tokens_are_in_order};
 use pj_base::{Names, NoMemory, Text};
@@ -14,9 +13,9 @@ use pj_declared::Declarations;
 use pj_exprtypes::Typed;
 use pj_file_oracle::{FileOracle, Held};
 use pj_javafuncs::JavaCalls;
-use pj_marked::place_of;
 use pj_outer_names::File;
 use pj_parse::{Parsed, parse};
+use pj_row_java::{Beneath, place_of};
 use pj_rows::{Row, Section, Table, put};
 use pj_source::Source;
 use pj_symbols::Symbols;

@@ -1,9 +1,7 @@
 //! The rows of PMD's functions in rules.
 #![tactic(auto)]
 
-mod classes;
 mod functions;
-mod noted;
 mod shown;
 mod signature_patterns;
 
