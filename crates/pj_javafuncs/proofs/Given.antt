@@ -1,5 +1,5 @@
 -- Replies that ask for no class, and those of tests, as computations that ask.
-use Rattle.std.proofs.Common.{◌≡◌, Bool, List, [], ◌∷◌, refl, ap, subst, sym}
+use Rattle.std.proofs.Common.{◌≡◌, ◌∙◌, Bool, List, [], ◌∷◌, refl, ap, subst, sym}
 use Rattle.std.specs.Prelude.{Result, Ok, Err}
 use Rattle.pj_names.specs.declared.oracle.AskFault.{AskFault}
 use Rattle.pj_names.specs.declared.oracle.AskFault.TheVariants.{Failed, Memory}
@@ -21,20 +21,21 @@ given-asks {t = t} (Err Memory) plain is = subst (λ x. Asks x t t (Err Memory))
 given-asks (Err Failed) plain is = absurd is
 
 -- an argument that is no text
-pub text-refused : {K B : Type 0} {text : Result Text XCode} {next : Text → Reply} {t : Told K} (view : B → List ItemValue) (fault : XFault)
+pub text-refused : {K B : Type 0} (text : Result Text XCode) (next : Text → Reply) {t : Told K} (view : B → List ItemValue) (fault : XFault)
     → IsGiven text (outcome {A = Text} (λ x. x) (Err fault)) → Asks (with_text text next) t t (outcome view (Err fault))
-text-refused {next = next} {t = t} view (Code code) is = subst (λ x. Asks (with_text x next) t t (Ok (Err code))) is (asks-return refl)
-text-refused view (Ask Memory) is = asks-stop refl
-text-refused view (Ask Failed) is = absurd is
+text-refused text next {t = t} view (Code code) is = subst (λ x. Asks (with_text x next) t t (Ok (Err code))) is (asks-return refl)
+text-refused text next view (Ask Memory) is = asks-stop refl
+text-refused text next view (Ask Failed) is = absurd is
 
 -- one that is a text
-pub text-then : {K : Type 0} {text : Result Text XCode} {next : Text → Reply} {t u : Told K} {r : Result (Result (List ItemValue) XCode) AskFault} (x : Text)
+pub text-then : {K : Type 0} (text : Result Text XCode) (next : Text → Reply) {t u : Told K} {r : Result (Result (List ItemValue) XCode) AskFault} (x : Text)
     → IsGiven text (Ok (Ok x)) → Asks (next x) t u r → Asks (with_text text next) t u r
-text-then {next = next} {t = t} {u = u} {r = r} x is h = subst (λ y. Asks (with_text y next) t u r) is h
+text-then text next {t = t} {u = u} {r = r} x is h = subst (λ y. Asks (with_text y next) t u r) is h
 
 -- a test that refuses, one after which memory is wanting, and one that is done
-pub test-refused : {K : Type 0} {test : Asking Bool} {t u : Told K} {e : AskFault} → Asks test t u (Err e) → Asks (tested test) t u (Err e)
-test-refused h = asks-refused _ h refl
+pub test-refused : {K B : Type 0} {test : Asking Bool} {t u : Told K} {e : AskFault} (view : B → List ItemValue) (r : Result B XFault) (fault : XFault) → r ≡ Err fault → fault ≡ Ask e → Asks test t u (Err e) → Asks (tested test) t u (outcome view r)
+test-refused {test = test} {t = t} {u = u} {e = e} view r fault is by h =
+    subst (λ x. Asks (tested test) t u (outcome view x)) (sym (is ∙ ap (λ x. Err x) by)) (asks-refused _ h refl)
 
 pub test-late : {K : Type 0} {test : Asking Bool} {t u : Told K} {is : Bool} → Asks test t u (Ok is) → Asks (tested test) t u (Err Memory)
 test-late h = asks-then _ h (asks-stop refl)

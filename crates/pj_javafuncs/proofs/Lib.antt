@@ -1,3 +1,4 @@
 pub mod Beneath
+pub mod First
 pub mod Given
-pub mod Kinds
+pub mod OfKind

@@ -26,7 +26,7 @@ use Rattle.pj_signature_patterns.specs.Reading.{pattern_in}
 use Rattle.pj_signature_patterns.specs.declared.pattern.SigPattern.{SigPattern}
 use Rattle.pj_node_functions.specs.Arguments.{one_node}
 use Rattle.pj_node_functions.specs.Kinds.{node_is}
-use Rattle.pj_node_functions.specs.ModifierWords.{modifiers_at, word_of, words_among, words_of}
+use Rattle.pj_node_functions.specs.ModifierWords.{all_modifiers, modifiers_at, word_of, words_among, words_of}
 use Rattle.pj_node_functions.specs.Replies.{number_of_node}
 use Rattle.pj_javafuncs.specs.Facts.{Facts}
 use Rattle.pj_javafuncs.specs.Replies.{annotation_test, call_reply, exact_test, first_of, reply, tested, text_of, type_test, with_text}
@@ -66,7 +66,7 @@ all_words : (modifiers_of : Node → Modifiers) (t : Tree) (at : Option Node) �
 all_words modifiers_of t None = refl
 all_words modifiers_of t (Some n) =
     elim (has_child t n k.ModifierList) as (λ b. IsTrue (are_atomic (cond b (words_of (modifiers_of n)) []))) [
-      | true ↦ words (modifiers_of n) _
+      | true ↦ words (modifiers_of n) all_modifiers
       | false ↦ refl
     ]
 
@@ -95,7 +95,9 @@ module _ (depth : ℕ) (world : Name → Answer) where
   module _ (known : Facts) (t : Tree) (at : Option Node) where
     type_may_be : (arguments : List (List ItemValue)) → IsTrue (may_be pmd.TypeIs arguments (value_of depth world (reply known t pmd.TypeIs at arguments)))
     type_may_be ((String text ∷ []) ∷ []) = test_may_be pmd.TypeIs ((String text ∷ []) ∷ []) text (λ x. type_test t at x)
-    type_may_be arguments = by_text pmd.TypeIs arguments (text_of known t (first_of arguments)) (λ x. type_test t at x) refl
+    type_may_be (argument ∷ []) = by_text pmd.TypeIs (argument ∷ []) (text_of known t argument) (λ x. type_test t at x) refl
+    type_may_be (argument ∷ (other ∷ arguments)) = by_text pmd.TypeIs (argument ∷ (other ∷ arguments)) (text_of known t argument) (λ x. type_test t at x) refl
+    type_may_be [] = by_text pmd.TypeIs [] (text_of known t []) (λ x. type_test t at x) refl
 
     pub value_may_be : (function : PmdFunction) (arguments : List (List ItemValue)) → IsTrue (may_be function arguments (value_of depth world (reply known t function at arguments)))
     value_may_be pmd.FileName arguments = refl

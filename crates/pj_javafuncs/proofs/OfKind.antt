@@ -56,4 +56,6 @@ test-kind known t function argument arguments r first none is =
 -- `typeIs` with one string has no code
 pub no-code : (known : Facts) (t : Tree) (arguments : List (List ItemValue)) (code : XCode) → text_of known t (first_of arguments) ≡ Err code → is_type_test pmd.TypeIs arguments ≡ false
 no-code known t ((String text ∷ []) ∷ []) code is = absurd (cc)
-no-code known t arguments code is = refl
+no-code known t (argument ∷ []) code is = refl
+no-code known t (argument ∷ (other ∷ arguments)) code is = refl
+no-code known t [] code is = refl
