@@ -1,6 +1,6 @@
 -- Over the oracle of a file, and over the one beneath it.
 use Rattle.std.specs.Borrow.{GName}
-use Rattle.std.proofs.Common.{◌≡◌, List, IsTrue, ap, subst, sym, ◌∙◌}
+use Rattle.std.proofs.Common.{◌≡◌, List, ap, subst, sym, ◌∙◌}
 use Rattle.std.specs.Prelude.{Result}
 use Rattle.std.specs.List.{All}
 use Rattle.pj_tree.specs.Tree.{Tree}
@@ -13,7 +13,7 @@ use Rattle.pj_file_oracle.specs.FileAnswer.{file_answer}
 use Rattle.pj_file_oracle.specs.Held.{FileOwn, own_answer}
 use Rattle.pj_exprtypes.specs.declared.held.HeldVariable.{HeldVariable}
 use Rattle.pj_exprtypes.specs.Table.{Holds, KeepsOver}
-use Rattle.pj_javafuncs.specs.Telling.{CallsOwn, tells_calls}
+use Rattle.pj_javafuncs.specs.Telling.{tells_calls}
 
 -- what asks beneath as the expanded meaning says asks the oracle of the file as the meaning says, where that one is the one that it was
 pub asks-over : {K A : Type 0} (by on : GName) (own after : FileOwn) (m : Asking A) {t u : Told K} {r : Result A AskFault}

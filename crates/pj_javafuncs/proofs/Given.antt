@@ -9,7 +9,7 @@ use Rattle.pj_names.proofs.AskingLaws.{asks-refused, asks-return, asks-stop, ask
 use Rattle.pj_xvalue.specs.declared.fault.XCode.{XCode}
 use Rattle.pj_xvalue.specs.declared.fault.XFault.{XFault}
 use Rattle.pj_xvalue.specs.declared.fault.XFault.TheVariants.{Code, Ask}
-use Rattle.pj_xvalue.specs.Arguments.{IsGiven, Text, truth}
+use Rattle.pj_xvalue.specs.Arguments.{IsGiven, Text}
 use Rattle.pj_xvalue.specs.Items.{Boolean, ItemValue}
 use Rattle.pj_xvalue.specs.Replies.{outcome}
 use Rattle.pj_javafuncs.specs.Replies.{Reply, tested, with_text}

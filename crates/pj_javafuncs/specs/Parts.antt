@@ -1,5 +1,5 @@
 -- Tests by what they are called in the code, and of which kind their replies are, whether the world is told or not.
-use Rattle.std.specs.Prelude.{ℕ, Bool, IsTrue, List, Option, Result, Ok, Err}
+use Rattle.std.specs.Prelude.{Bool, IsTrue, List, Option, Result, Ok, Err}
 use Rattle.pj_names.specs.Asking.{Asking}
 use Rattle.pj_names.specs.declared.oracle.AskFault.{AskFault}
 use Rattle.pj_tree.specs.Tree.{Tree}

@@ -1,6 +1,6 @@
 -- What PMD's functions reply: each with its argument, at a context node or at none. A reply is a sequence or a code, with the classes that it asks for. Where a class
 -- is asked, it is asked of an oracle that answers the classes of the file too; what is asked beneath is that meaning expanded (`file_answer` of `pj_file_oracle`).
-use Rattle.std.specs.Prelude.{ℕ, Bool, true, false, List, [], ◌∷◌, Option, Some, None, Result, Ok, Err}
+use Rattle.std.specs.Prelude.{Bool, true, false, List, [], ◌∷◌, Option, Some, None, Result, Ok, Err}
 use Rattle.pj_names.specs.Asking.{Asking, Return, bind}
 use Rattle.pj_names.specs.JavaType.{JavaType, Unknown}
 use Rattle.pj_tree.specs.Tree.{Tree}

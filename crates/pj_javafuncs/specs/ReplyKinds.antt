@@ -27,7 +27,6 @@ use Rattle.pj_signature_patterns.specs.declared.pattern.SigPattern.{SigPattern}
 use Rattle.pj_node_functions.specs.Arguments.{one_node}
 use Rattle.pj_node_functions.specs.Kinds.{node_is}
 use Rattle.pj_node_functions.specs.ModifierWords.{all_modifiers, modifiers_at, word_of, words_among, words_of}
-use Rattle.pj_node_functions.specs.Replies.{number_of_node}
 use Rattle.pj_javafuncs.specs.Facts.{Facts}
 use Rattle.pj_javafuncs.specs.Replies.{annotation_test, call_reply, exact_test, first_of, reply, tested, text_of, type_test, with_text}
 

@@ -1,4 +1,4 @@
-use Rattle.std.proofs.Common.{◌≡◌, IsTrue, true, false, ap, refl, subst, sym}
+use Rattle.std.proofs.Common.{IsTrue, true, false, ap, refl, subst, sym}
 use Rattle.std.specs.Prelude.{Ok}
 use Rattle.pj_xexpressions.specs.declared.pmd_function.PmdFunction.{PmdFunction}
 use Rattle.pj_xexpressions.specs.declared.pmd_function.PmdFunction.TheVariants as pmd
