@@ -1,6 +1,6 @@
 //! Expressions that call PMD's functions, in a file of Java.
 
-ghost use Rattle.std.specs.Prelude.{◌≡◌, length, Ok};
+ghost use Rattle.std.specs.Prelude.{◌≡◌, ◌<◌, ℕ, [], IfSome, length, Ok};
 ghost use Rattle.pj_parse.specs.Parses.{Parses, file_parsed};
 ghost use Rattle.pj_parse.specs.PoolText.{IsPoolOf};
 ghost use Rattle.pj_properties.specs.OneFile.{IsOneFile};
@@ -19,11 +19,12 @@ use pj_row_java::{Beneath, place_of};
 use pj_rows::{Row, Section, Table, put};
 use pj_source::Source;
 use pj_symbols::Symbols;
+use pj_tree::{Node, SyntaxTree};
 use pj_xeval::{Focus, evaluate};
 use pj_xexpressions::Expr;
 use pj_xfuncs::Patterns;
 use pj_xparse::{Parser, parse_with};
-use pj_xvalue::{Attributes, BoundVars, Item, XFault};
+use pj_xvalue::{Attributes, BoundVars, Calls, Item, XFault};
 use std::alloc::Global;
 
 /// The tables of functions. The settings of a section: `@file` is a text of Java, in which `/*^*/` stands before the context node, which is the outermost one that begins there,
@@ -171,13 +172,14 @@ fn answer_of_file<A: Attributes>(
     let path = Text::from_str(alloc, asked.path)?;
     let mut beneath = Beneath::of(alloc, asked.classes)?;
     let mut out = String::new(alloc);
-    if let Err(fault) = put_at_mark(
+    let at = marked_node(file.tree(), asked.marked);
+    if let Err(fault) = put_value(
         alloc,
         file,
         facts,
         expression,
         &path,
-        asked.marked,
+        at,
         &mut beneath,
         &mut out,
     ) {
@@ -189,44 +191,25 @@ fn answer_of_file<A: Attributes>(
     Ok(out)
 }
 
-/// Puts the value of an expression at the node that is marked, and without a mark at the document.
-fn put_at_mark<A: Attributes>(
-    alloc: Global,
-    file: &File<'_>,
-    facts: &A,
-    expression: &Expr,
-    path: &Text,
-    marked: &str,
-    beneath: &mut Beneath,
-    out: &mut String,
-) -> Result<(), XFault>
-    requires nodes { A.nodes facts.now ≡ length file.now.nodes }
-    requires text { A.text_length facts.now ≡ length file.now.text }
+/// The node that is marked, if one is.
+fn marked_node(tree: &SyntaxTree<'_>, marked: &str) -> Option<Node>
+    ensures { IfSome result (λ n. n.0 < length tree.now.nodes) }
 {
     if marked.contains("/*^*/") {
-        if let Some(n) = place_of(file.tree(), marked) {
-            return put_value(
-                alloc,
-                file,
-                facts,
-                expression,
-                path,
-                Item::Node(n),
-                beneath,
-                out,
-            );
-        }
+        place_of(tree, marked)
+    } else {
+        None
     }
-    put_value(
-        alloc,
-        file,
-        facts,
-        expression,
-        path,
-        Item::Document,
-        beneath,
-        out,
-    )
+}
+
+/// The node, or the document.
+fn item_at(at: Option<Node>) -> Item<'static>
+    ensures { (nodes : ℕ) → IfSome at (λ n. n.0 < nodes) → IsOfTree nodes (value_of_item result) }
+{
+    match at {
+        Some(n) => Item::Node(n),
+        None => Item::Document,
+    }
 }
 
 /// Puts the value of an expression.
@@ -236,29 +219,70 @@ fn put_value<A: Attributes>(
     facts: &A,
     expression: &Expr,
     path: &Text,
-    item: Item<'_>,
+    at: Option<Node>,
     beneath: &mut Beneath,
     out: &mut String,
 ) -> Result<(), XFault>
     requires nodes { A.nodes facts.now ≡ length file.now.nodes }
     requires text { A.text_length facts.now ≡ length file.now.text }
-    requires item { IsOfTree (length file.now.nodes) (value_of_item item.entry) }
+    requires inside { IfSome at (λ n. n.0 < length file.now.nodes) }
 {
     let variables = BoundVars::new(alloc);
-    let Ok(patterns) = Patterns::of(alloc, expression, &variables) else {
-        return Ok(put(out, &["! no patterns"])?);
-    };
+    match Patterns::of(alloc, expression, &variables) {
+        Ok(patterns) => put_with(
+            alloc, file, facts, expression, path, at, &variables, &patterns, beneath, out,
+        ),
+        Err(_) => Ok(put(out, &["! no patterns"])?),
+    }
+}
+
+/// Puts the value of an expression with its patterns, where no variable is given.
+fn put_with<'t, A: Attributes>(
+    alloc: Global,
+    file: &'t File<'_>,
+    facts: &'t A,
+    expression: &Expr,
+    path: &'t Text,
+    at: Option<Node>,
+    variables: &'t BoundVars<'static>,
+    patterns: &'t Patterns,
+    beneath: &mut Beneath,
+    out: &mut String,
+) -> Result<(), XFault>
+    requires nodes { A.nodes facts.now ≡ length file.now.nodes }
+    requires text { A.text_length facts.now ≡ length file.now.text }
+    requires inside { IfSome at (λ n. n.0 < length file.now.nodes) }
+    requires variables { variables.now ≡ [] }
+{
     let mut held = Held::new(alloc);
     let mut types = Typed::new(alloc);
     let oracle = FileOracle::new(alloc, file, beneath, &mut held);
-    let mut calls = JavaCalls::new(oracle, &mut types, facts, path);
+    let calls = JavaCalls::new(oracle, &mut types, facts, path);
     let focus = Focus {
-        item,
+        item: item_at(at),
         position: 1,
         size: 1,
-        variables: &variables,
-        patterns: &patterns,
+        variables,
+        patterns,
     };
-    let items = evaluate(alloc, expression, focus, file.tree(), facts, &mut calls)?;
+    put_by(alloc, file.tree(), facts, expression, focus, calls, out)
+}
+
+/// Puts the value of an expression by these functions of PMD.
+fn put_by<'t, A: Attributes, C: Calls + Drop>(
+    alloc: Global,
+    tree: &'t SyntaxTree<'t>,
+    facts: &'t A,
+    expression: &Expr,
+    focus: Focus<'t>,
+    mut calls: C,
+    out: &mut String,
+) -> Result<(), XFault>
+    requires facts { A.nodes facts.now ≡ length tree.now.nodes }
+    requires nodes { C.nodes calls ≡ length tree.now.nodes }
+    requires item { IsOfTree (length tree.now.nodes) (value_of_item focus.item) }
+    requires variables { focus.variables.now ≡ [] }
+{
+    let items = evaluate(alloc, expression, focus, tree, facts, &mut calls)?;
     Ok(put_items(out, &items)?)
 }
