@@ -61,7 +61,8 @@ abbrev pub annotation_test : Tree → Option Node → Text → Asking Bool
 annotation_test t None text = Return false
 annotation_test t (Some n) text = has_annotation t n text
 
--- `matchesSig(s)`: whether the method that the context node calls is as the pattern says. As long as no method is chosen for a call, it is not.
+-- `matchesSig(s)`: whether the method that the context node calls is as the pattern says. As long as no method is chosen for a call, it is not. `pattern_in` is the one pattern
+-- that a text spells, by the law of `pj_signature_patterns` on them.
 abbrev pub call_reply : Option SigPattern → Result (List ItemValue) XCode
 call_reply None = Err XPTY0004
 call_reply (Some pattern) = truth false

@@ -2,8 +2,10 @@
 #![tactic(auto)]
 
 mod calls;
+mod laws;
 mod node_tests;
 mod replies;
 mod setting;
 
 pub use calls::JavaCalls;
+pub use laws::sources_agree;
