@@ -17,7 +17,7 @@ use Rattle.pj_check.specs.declared.report_rendering.Written.{Written}
 use Rattle.pj_check.specs.Cold.{IsColdOf}
 use Rattle.pj_check.specs.Outcome.{CountsSinkFaults, CountsTreeFaults, GetsSome, KeepsWork, Says, SaysOfSink, SaysOfWords, Worked}
 use Rattle.pj_check.specs.Run.{HasRules, Run}
-use Rattle.pj_check.specs.Steps.{CountsFaults, Explains, IsMade, IsOfSome, SaysBefore, SaysRefusal, ended, refused}
+use Rattle.pj_check.specs.Steps.{CountsFaults, Explains, IsMade, IsOfSome, SaysBefore, SaysRefusal, outcome_of, refused}
 use Rattle.pj_check.specs.declared.outcome.Outcome.{Outcome}
 use Rattle.pj_check.specs.declared.outcome.Outcome.TheVariants as outcome
 use Rattle.pj_check.specs.declared.refusal.Refusal.{Refusal}
@@ -134,7 +134,7 @@ no_fault_before Memory n e = absurd (cc)
 
 -- what the end of a run says whose report was put, or was cut
 pub ends_so : (v : Verdict) (words : List Bytes) (held : Files) (written : Written) (old new : Option Bytes) (before after : Work) → v ≡ written.verdict → Gets old new written.text → IsMade words held before after written →
-    Says (ended (Ok v)) words held old new before after
+    Says (outcome_of (Ok v)) words held old new before after
 ends_so verdict.Clean words held written old new before after is got made =
     record { run = made.run; is_run = made.is_run; comes_to = sym (is ∙ made.comes_to); got = subst (λ (t : Bytes). Gets old new t) made.text got; worked = made.worked }
 ends_so verdict.Violations words held written old new before after is got made =
@@ -144,15 +144,15 @@ ends_so verdict.Errors words held written old new before after is got made =
 
 pub put_says : (r : Result Verdict Refusal) (words : List Bytes) (told : Option Files) (written : Written) (old new : Option Bytes) (before after : Work) →
     IfOk r (λ v. v ≡ written.verdict) → OnOk r (Gets old new written.text) → OnErr r (GetsPrefix old new written.text) → IfErr r (λ e. e ≡ SinkFault) →
-    IfSome told (λ held. IsMade words held before after written) → IfSome told (λ held. Says (ended r) words held old new before after)
+    IfSome told (λ held. IsMade words held before after written) → IfSome told (λ held. Says (outcome_of r) words held old new before after)
 put_says (Ok v) words told written old new before after is got cut fault made =
-    told_so told (λ held. IsMade words held before after written) (λ held. Says (ended (Ok v)) words held old new before after) (λ held m. ends_so v words held written old new before after is got m) made
+    told_so told (λ held. IsMade words held before after written) (λ held. Says (outcome_of (Ok v)) words held old new before after) (λ held m. ends_so v words held written old new before after is got m) made
 put_says (Err r) words told written old new before after is got cut fault made =
     told_so told (λ held. IsMade words held before after written) (λ held. Says (refused r) words held old new before after)
     (λ held m. subst (λ (e : Refusal). Says (refused e) words held old new before after) (sym fault)
     (record { run = m.run; is_run = m.is_run; got = subst (λ (t : Bytes). GetsPrefix old new t) m.text cut; worked = m.worked })) made
 
-pub put_words : (r : Result Verdict Refusal) (words : List Bytes) (written : Written) → IfErr r (λ e. e ≡ SinkFault) → IsOfSome words written → SaysOfWords (ended r) words
+pub put_words : (r : Result Verdict Refusal) (words : List Bytes) (written : Written) → IfErr r (λ e. e ≡ SinkFault) → IsOfSome words written → SaysOfWords (outcome_of r) words
 put_words (Ok verdict.Clean) words written fault some = (some.settings, some.asked, tt)
 put_words (Ok verdict.Violations) words written fault some = (some.settings, some.asked, tt)
 put_words (Ok verdict.Errors) words written fault some = (some.settings, some.asked, tt)
@@ -168,7 +168,7 @@ gets_some v words written old new is got some = record {
 }
 
 pub put_sink : (r : Result Verdict Refusal) (words : List Bytes) (written : Written) (old new : Option Bytes) →
-    IfOk r (λ v. v ≡ written.verdict) → OnOk r (Gets old new written.text) → OnErr r (GetsPrefix old new written.text) → IfErr r (λ e. e ≡ SinkFault) → IsOfSome words written → SaysOfSink (ended r) words old new
+    IfOk r (λ v. v ≡ written.verdict) → OnOk r (Gets old new written.text) → OnErr r (GetsPrefix old new written.text) → IfErr r (λ e. e ≡ SinkFault) → IsOfSome words written → SaysOfSink (outcome_of r) words old new
 put_sink (Ok verdict.Clean) words written old new is got cut fault some = gets_some verdict.Clean words written old new is got some
 put_sink (Ok verdict.Violations) words written old new is got cut fault some = gets_some verdict.Violations words written old new is got some
 put_sink (Ok verdict.Errors) words written old new is got cut fault some = gets_some verdict.Errors words written old new is got some
@@ -176,25 +176,25 @@ put_sink (Err r) words written old new is got cut fault some =
     subst (λ (e : Refusal). SaysOfSink (refused e) words old new) (sym fault)
     (record { settings = some.settings; asked = some.asked; report = some.report; got = subst (λ (t : Bytes). GetsPrefix old new t) some.text cut })
 
-pub put_work : (r : Result Verdict Refusal) (old new : Work) → IfErr r (λ e. e ≡ SinkFault) → KeepsWork (ended r) old new
+pub put_work : (r : Result Verdict Refusal) (old new : Work) → IfErr r (λ e. e ≡ SinkFault) → KeepsWork (outcome_of r) old new
 put_work (Ok verdict.Clean) old new fault = tt
 put_work (Ok verdict.Violations) old new fault = tt
 put_work (Ok verdict.Errors) old new fault = tt
 put_work (Err r) old new fault = subst (λ (e : Refusal). KeepsWork (refused e) old new) (sym fault) tt
 
-pub put_tree : (r : Result Verdict Refusal) (old new : ℕ) → IfErr r (λ e. e ≡ SinkFault) → new ≡ old → CountsTreeFaults (ended r) old new
+pub put_tree : (r : Result Verdict Refusal) (old new : ℕ) → IfErr r (λ e. e ≡ SinkFault) → new ≡ old → CountsTreeFaults (outcome_of r) old new
 put_tree (Ok verdict.Clean) old new fault same = same
 put_tree (Ok verdict.Violations) old new fault same = same
 put_tree (Ok verdict.Errors) old new fault same = same
 put_tree (Err r) old new fault same = subst (λ (e : Refusal). CountsTreeFaults (refused e) old new) (sym fault) same
 
-pub put_counts : (r : Result Verdict Refusal) (old new : ℕ) → IfErr r (λ e. e ≡ SinkFault) → OnOk r (new ≡ old) → OnErr r (Rises old new) → CountsSinkFaults (ended r) old new
+pub put_counts : (r : Result Verdict Refusal) (old new : ℕ) → IfErr r (λ e. e ≡ SinkFault) → OnOk r (new ≡ old) → OnErr r (Rises old new) → CountsSinkFaults (outcome_of r) old new
 put_counts (Ok verdict.Clean) old new fault same rises = same
 put_counts (Ok verdict.Violations) old new fault same rises = same
 put_counts (Ok verdict.Errors) old new fault same rises = same
 put_counts (Err r) old new fault same rises = subst (λ (e : Refusal). CountsSinkFaults (refused e) old new) (sym fault) rises
 
-pub put_steady : (r : Result Verdict Refusal) → IfErr r (λ e. e ≡ SinkFault) → ended r ≢ outcome.TreeFault
+pub put_steady : (r : Result Verdict Refusal) → IfErr r (λ e. e ≡ SinkFault) → outcome_of r ≢ outcome.TreeFault
 put_steady (Ok verdict.Clean) fault e = absurd (cc)
 put_steady (Ok verdict.Violations) fault e = absurd (cc)
 put_steady (Ok verdict.Errors) fault e = absurd (cc)
@@ -203,8 +203,8 @@ put_steady (Err r) fault e = let f : outcome.SinkFault ≡ outcome.TreeFault = s
 -- ---- an early end, as a function gives it on
 
 -- the end is this refusal
-pub ends_before : (P : Outcome → Type 0) (r : Result Verdict Refusal) (e x : Refusal) → r ≡ Err e → e ≡ x → P (refused x) → P (ended r)
-ends_before P r e x is same h = subst (λ (w : Result Verdict Refusal). P (ended w)) (sym is) (subst (λ (y : Refusal). P (refused y)) (sym same) h)
+pub ends_before : (P : Outcome → Type 0) (r : Result Verdict Refusal) (e x : Refusal) → r ≡ Err e → e ≡ x → P (refused x) → P (outcome_of r)
+ends_before P r e x is same h = subst (λ (w : Result Verdict Refusal). P (outcome_of w)) (sym is) (subst (λ (y : Refusal). P (refused y)) (sym same) h)
 
 module _ {A : Type 0} where
   pub explains_on : (words : List Bytes) (told : Option Files) (r : Result A Refusal) (e x : Refusal) → r ≡ Err e → e ≡ x → Explains words told x → IfErr r (Explains words told)

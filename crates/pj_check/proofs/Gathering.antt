@@ -1,71 +1,22 @@
 -- What is gathered of rules and files, one after the other.
-use Rattle.std.proofs.Common.{◌≡◌, ◌∙◌, ◌+◌, ◌<◌, ℕ, List, [], ◌∷◌, ◌++◌, length, map, take, get_or, Option, None, Some, ap, sym, subst, refl}
-use Rattle.std.proofs.lemmas.List.{take_more}
+use Rattle.std.proofs.Common.{◌≡◌, List, [], ◌∷◌, map, ap, sym, subst, refl}
 use Rattle.std.specs.Prelude.{IsTrue}
 use Rattle.std.specs.List.{AllByRecursion, AllZip}
 use Rattle.pj_names.specs.ClassName.{Name, name_set}
 use Rattle.pj_names.specs.Held.{IsHeld}
 use Rattle.pj_names.specs.Told.{Told}
 use Rattle.pj_outside.specs.Files.{Bytes, Files}
-use Rattle.pj_rule_sets.specs.Expressions.{AreOf, Both, IsKept, IsSpelledBy, names_of}
-use Rattle.pj_rule_sets.specs.Patterns.{suppression_of}
-use Rattle.pj_rule_sets.specs.declared.expressions.RuleExpressions.{RuleExpressions}
-use Rattle.pj_rule_sets.specs.declared.spelled.Spelled.{Spelled}
-use Rattle.pj_rule_sets.specs.Rules.{EffectiveRule, texts_of}
+use Rattle.pj_rule_sets.specs.Rules.{EffectiveRule}
 use Rattle.pj_rule_texts.specs.Values.{Text}
-use Rattle.pj_rule_texts.specs.declared.rule.RuleTexts.{RuleTexts}
 use Rattle.pj_workers.specs.Cold.{AreRowsOf, World}
 use Rattle.pj_workers.specs.FileMeaning.{file_meaning}
 use Rattle.pj_workers.specs.NoFunctions.{no_functions}
 use Rattle.pj_workers.specs.Results.{IsResultAt}
-use Rattle.pj_workers.specs.Rules.{IsRuleOf, Rule, source_of}
+use Rattle.pj_workers.specs.Rules.{IsRuleOf, Rule}
 use Rattle.pj_workers.specs.declared.result.FileResult.{FileResult}
 use Rattle.pj_workers.proofs.Unasked.{means_everywhere}
-use Rattle.pj_xexpressions.specs.declared.expr.Expr.{Expr}
-
-module _ {X : Type 0} where
-  pub take_next : (xs : List X) (i : ℕ) (x : X) → i < length xs → x ≡ get_or xs i x → take (i + 1) xs ≡ take i xs ++ x ∷ []
-  take_next xs i x h e = take_more xs i x h ∙ ap (λ y. take i xs ++ y ∷ []) (sym e)
-
-module _ {A B : Type 0} where
-  -- one more of both
-  pub AllZip-last : (R : A → B → Type 0) (xs : List A) (ys : List B) (x : A) (y : B) → AllZip R xs ys → R x y → AllZip R (xs ++ x ∷ []) (ys ++ y ∷ [])
-  AllZip-last R [] [] x y h r = (r, tt)
-  AllZip-last R [] (b ∷ ys) x y h r = absurd h
-  AllZip-last R (a ∷ xs) [] x y h r = absurd h
-  AllZip-last R (a ∷ xs) (b ∷ ys) x y h r = (h.0, AllZip-last R xs ys x y h.1 r)
 
 -- ---- rules
-
--- the expression that is kept, where one is
-abbrev expr_of : Option Spelled → Option Expr
-expr_of None = None
-expr_of (Some spelled) = Some spelled.expr
-
-kept_spelled : (texts : RuleTexts) (written : Option Text) (kept : Option Spelled) → Both written kept (IsKept texts) → Both written (expr_of kept) (IsSpelledBy (names_of texts))
-kept_spelled texts None None h = tt
-kept_spelled texts None (Some spelled) h = absurd h
-kept_spelled texts (Some text) None h = absurd h
-kept_spelled texts (Some text) (Some spelled) h = h.parsed.spells
-
--- the rule of a set with the expressions that are kept of it
-abbrev kept_rule : Text → EffectiveRule → RuleExpressions → Rule
-kept_rule marker rule kept = record { source = source_of marker rule; query = kept.query.expr; suppression = expr_of kept.suppression }
-
-kept_is_rule : (marker : Text) (rule : EffectiveRule) (kept : RuleExpressions) → AreOf (texts_of rule) kept → IsRuleOf marker rule (kept_rule marker rule kept)
-kept_is_rule marker rule kept are = record {
-  source = refl;
-  spelled = record { query = are.query.parsed.spells; suppression = kept_spelled (texts_of rule) (suppression_of (texts_of rule)) kept.suppression are.suppression };
-}
-
--- one rule more, whose expressions are kept
-pub next_spelled : (marker : Text) (rules : List EffectiveRule) (i : ℕ) (rule : EffectiveRule) (kept : RuleExpressions) → i < length rules → rule ≡ get_or rules i rule → AreOf (texts_of rule) kept →
-    ((all : List Rule) × AllZip (IsRuleOf marker) (take i rules) all) → (all : List Rule) × AllZip (IsRuleOf marker) (take (i + 1) rules) all
-next_spelled marker rules i rule kept within here are so_far = (
-  so_far.0 ++ kept_rule marker rule kept ∷ [],
-  subst (λ (xs : List EffectiveRule). AllZip (IsRuleOf marker) xs (so_far.0 ++ kept_rule marker rule kept ∷ [])) (sym (take_next rules i rule within here))
-      (AllZip-last (IsRuleOf marker) (take i rules) so_far.0 rule (kept_rule marker rule kept) so_far.1 (kept_is_rule marker rule kept are)),
-)
 
 -- rules of a set have its rows
 pub rows_are : (marker : Text) (kept : List EffectiveRule) (all : List Rule) → AllZip (IsRuleOf marker) kept all → map (λ (rule : EffectiveRule). rule.row) kept ≡ map (λ (rule : Rule). rule.source.texts.row) all

@@ -79,9 +79,9 @@ judged verdict.Clean = outcome.Clean
 judged verdict.Violations = outcome.Violations
 judged verdict.Errors = outcome.Errors
 
-abbrev pub ended : Result Verdict Refusal → Outcome
-ended (Ok verdict) = judged verdict
-ended (Err refusal) = refused refusal
+abbrev pub outcome_of : Result Verdict Refusal → Outcome
+outcome_of (Ok verdict) = judged verdict
+outcome_of (Err refusal) = refused refusal
 
 -- ---- what they say
 

@@ -4,12 +4,12 @@ ghost use Rattle.pj_outside.specs.Faults.{Rises};
 ghost use Rattle.pj_outside.specs.Putting.{Gets, GetsPrefix};
 ghost use Rattle.pj_check.specs.Notes.{GetNotes, notes_of};
 ghost use Rattle.pj_check.specs.Outcome.{CountsSinkFaults, CountsTreeFaults, KeepsWork, Says, SaysOfSink, SaysOfWords};
-ghost use Rattle.pj_check.specs.Steps.{CountsFaults, Explains, IsMade, IsOfSome, ended};
+ghost use Rattle.pj_check.specs.Steps.{CountsFaults, Explains, IsMade, IsOfSome, outcome_of};
 
 use crate::note::put_outcome;
 use crate::outcome::Outcome;
-use crate::refusal::{Refusal, ended};
-use crate::steps::{asked, listed, loaded, reported, sources_of};
+use crate::refusal::{Refusal, outcome_of};
+use crate::steps::{analyse_sources, listing_within_limit, load_rules, read_settings, sources_of};
 use crate::{Verdict, Written, put_report, written_report};
 use pj_base::{Copied, Words};
 use pj_outside::{ClassPath, Keeper, Sink, Tree};
@@ -17,7 +17,7 @@ use pj_workers::Work;
 use std::alloc::Global;
 
 /// The report that the words ask for, made whole in memory.
-fn made<T: Tree>(
+fn make_report<T: Tree>(
     alloc: Global,
     words: &Words,
     tree: &mut T,
@@ -32,13 +32,13 @@ fn made<T: Tree>(
     ensures reused { work.new.reused ≡ work.old.reused }
     ensures keeps_work { OnErr result (work.new ≡ work.old) }
 {
-    let settings = asked(alloc, words)?;
-    let listing = listed(alloc, tree, &settings)?;
-    let rules = loaded(alloc, tree, &settings)?;
+    let settings = read_settings(alloc, words)?;
+    let listing = listing_within_limit(alloc, tree, &settings)?;
+    let rules = load_rules(alloc, tree, &settings)?;
     let sources = sources_of(alloc, tree, &listing)?;
     let mut done = work.copied()?;
     done.skipped = listing.skipped;
-    let report = reported(alloc, &sources, &rules, &mut done)?;
+    let report = analyse_sources(alloc, &sources, &rules, &mut done)?;
     let written = written_report(alloc, settings.format, &report)?;
     *work = done;
     Ok(written)
@@ -67,17 +67,17 @@ fn run<T: Tree, S: Sink>(
     out: &mut S,
     work: &mut Work,
 ) -> Result<Verdict, Refusal>
-    ensures says { IfSome (T.holds tree.old) (λ held. Says (ended result) words.now held (S.held out.old) (S.held out.new) work.old work.new) }
-    ensures of_words { SaysOfWords (ended result) words.now }
-    ensures of_sink { SaysOfSink (ended result) words.now (S.held out.old) (S.held out.new) }
+    ensures says { IfSome (T.holds tree.old) (λ held. Says (outcome_of result) words.now held (S.held out.old) (S.held out.new) work.old work.new) }
+    ensures of_words { SaysOfWords (outcome_of result) words.now }
+    ensures of_sink { SaysOfSink (outcome_of result) words.now (S.held out.old) (S.held out.new) }
     ensures same_files { T.holds tree.new ≡ T.holds tree.old }
-    ensures tree_faults { CountsTreeFaults (ended result) (T.faults tree.old) (T.faults tree.new) }
-    ensures steady { T.never_fails tree.old → T.never_fails tree.new × (ended result ≢ Outcome.TreeFault) }
-    ensures sink_faults { CountsSinkFaults (ended result) (S.faults out.old) (S.faults out.new) }
+    ensures tree_faults { CountsTreeFaults (outcome_of result) (T.faults tree.old) (T.faults tree.new) }
+    ensures steady { T.never_fails tree.old → T.never_fails tree.new × (outcome_of result ≢ Outcome.TreeFault) }
+    ensures sink_faults { CountsSinkFaults (outcome_of result) (S.faults out.old) (S.faults out.new) }
     ensures reused { work.new.reused ≡ work.old.reused }
-    ensures keeps_work { KeepsWork (ended result) work.old work.new }
+    ensures keeps_work { KeepsWork (outcome_of result) work.old work.new }
 {
-    let written = made(alloc, words, tree, work)?;
+    let written = make_report(alloc, words, tree, work)?;
     put(out, &written)
 }
 
@@ -111,7 +111,7 @@ pub fn check_alone<T: Tree, C: ClassPath, K: Keeper, S: Sink, N: Sink>(
     ensures reused { work.new.reused ≡ work.old.reused }
     ensures keeps_work { KeepsWork result work.old work.new }
 {
-    let outcome = ended(run(alloc, words, tree, out, work));
+    let outcome = outcome_of(run(alloc, words, tree, out, work));
     put_outcome(notes, &outcome);
     outcome
 }

@@ -1,7 +1,5 @@
 //! The cold report.
-ghost use Rattle.std.specs.Prelude.{◌≡◌, ◌≢◌, ◌++◌, List, Err, IfOk, OnOk, map};
-ghost use Rattle.std.specs.List.{AllZip};
-ghost use Rattle.pj_workers.specs.Rules.{AreRulesOf, IsRuleOf, Rule as AnyRule};
+ghost use Rattle.std.specs.Prelude.{◌≡◌, ◌≢◌, ◌++◌, Err, IfOk, OnOk, map};
 ghost use Rattle.pj_check.specs.Cold.{IsColdOf};
 ghost use Rattle.pj_check.specs.Steps.{AreRows};
 
@@ -10,24 +8,8 @@ use pj_names::{Answers, AskFault, MapOracle, RuleRowList};
 use pj_outside::Files;
 use pj_reports::{PathRows, Report};
 use pj_rule_sets::{Rule, RuleSet};
-use pj_workers::{PathResults, Work, analyse_files};
+use pj_workers::{PathResults, Work, analyse_files, sets_have_rules};
 use std::alloc::Global;
-
-/// The texts of these rules spell expressions, since the rules keep them.
-fn are_spelled(marker: &Text, rules: &[Rule])
-    ensures { (all : List AnyRule) × AllZip (IsRuleOf marker.now) rules.now all }
-{
-    for rule in rules {
-        let _ = rule.expressions();
-    }
-}
-
-/// The texts of each rule of the set spell expressions.
-fn rules_are_spelled(rules: &RuleSet)
-    ensures { (all : List AnyRule) × AreRulesOf rules.now all }
-{
-    are_spelled(rules.marker(), rules.rules().as_slice());
-}
 
 /// The rows of the rules, in the order of their numbers.
 fn rule_rows(alloc: Global, rules: &[Rule]) -> Result<RuleRowList, NoMemory>
@@ -65,7 +47,7 @@ fn all_rows(
     ensures reused { work.new.reused ≡ work.old.reused }
     ensures skipped { work.new.skipped ≡ work.old.skipped }
 {
-    rules_are_spelled(rules);
+    sets_have_rules(rules);
     let mut oracle = MapOracle::new(alloc, Answers::new(alloc));
     let found = analyse_files(alloc, &mut oracle, files, rules, work)?;
     Ok(rows_of(alloc, found)?)
@@ -84,7 +66,7 @@ pub fn cold_report(
     ensures reused { work.new.reused ≡ work.old.reused }
     ensures skipped { work.new.skipped ≡ work.old.skipped }
 {
-    rules_are_spelled(rules);
+    sets_have_rules(rules);
     let files = all_rows(alloc, sources.as_slice(), rules, work)?;
     let errors = rules.unusable().copied()?;
     let rules = rule_rows(alloc, rules.rules().as_slice())?;

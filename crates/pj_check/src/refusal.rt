@@ -1,6 +1,6 @@
 //! Why a run does not come to its report.
 ghost use Rattle.std.specs.Prelude.{◌≡◌};
-ghost use Rattle.pj_check.specs.Steps.{after_asking, after_listing, after_loading, after_reading, after_words, ended};
+ghost use Rattle.pj_check.specs.Steps.{after_asking, after_listing, after_loading, after_reading, after_words, outcome_of};
 
 use crate::Verdict;
 use crate::limit::{LimitKind, limit_of};
@@ -91,8 +91,8 @@ pub fn after_asking(fault: AskFault) -> Refusal
 }
 
 /// What a run comes to that ended so.
-pub fn ended(end: Result<Verdict, Refusal>) -> Outcome
-    ensures { result ≡ ended end }
+pub fn outcome_of(end: Result<Verdict, Refusal>) -> Outcome
+    ensures { result ≡ outcome_of end }
 {
     match end {
         Ok(Verdict::Clean) => Outcome::Clean,

@@ -26,7 +26,7 @@ use pj_workers::Work;
 use std::alloc::Global;
 
 /// What the words ask for.
-pub fn asked(alloc: Global, words: &Words) -> Result<Settings, Refusal>
+pub fn read_settings(alloc: Global, words: &Words) -> Result<Settings, Refusal>
     ensures asked { IfOk result (λ settings. job words.now ≡ Ok settings) }
     ensures refused { (told : Option AnyFiles) → IfErr result (Explains words.now told) }
     ensures no_fault { result ≢ Err Refusal.TreeFault }
@@ -38,7 +38,7 @@ pub fn asked(alloc: Global, words: &Words) -> Result<Settings, Refusal>
 }
 
 /// The list of the sources that are asked for.
-fn list<T: Tree>(alloc: Global, tree: &mut T, settings: &Settings) -> Result<Listing, Refusal>
+fn listing_of<T: Tree>(alloc: Global, tree: &mut T, settings: &Settings) -> Result<Listing, Refusal>
     ensures listed { IfSome (T.holds tree.old) (λ held. IfOk result (IsListing held settings.now.dirs)) }
     ensures sources { IfOk result (λ listing. AreSourcesOf settings.now.dirs listing.paths) }
     ensures refused { (words : List Bytes) → job words ≡ Ok settings.now → IfErr result (Explains words (T.holds tree.old)) }
@@ -53,7 +53,11 @@ fn list<T: Tree>(alloc: Global, tree: &mut T, settings: &Settings) -> Result<Lis
 }
 
 /// The sources that are asked for, where they are not too many.
-pub fn listed<T: Tree>(alloc: Global, tree: &mut T, settings: &Settings) -> Result<Listing, Refusal>
+pub fn listing_within_limit<T: Tree>(
+    alloc: Global,
+    tree: &mut T,
+    settings: &Settings,
+) -> Result<Listing, Refusal>
     ensures sources { (words : List Bytes) → job words ≡ Ok settings.now → IfSome (T.holds tree.old) (λ held. IfOk result (HasSources words held settings.now)) }
     ensures of_sources { IfOk result (λ listing. AreSourcesOf settings.now.dirs listing.paths) }
     ensures refused { (words : List Bytes) → job words ≡ Ok settings.now → IfErr result (Explains words (T.holds tree.old)) }
@@ -61,7 +65,7 @@ pub fn listed<T: Tree>(alloc: Global, tree: &mut T, settings: &Settings) -> Resu
     ensures counts_faults { CountsFaults (T.faults tree.old) (T.faults tree.new) result }
     ensures steady { T.never_fails tree.old → T.never_fails tree.new × (result ≢ Err Refusal.TreeFault) }
 {
-    let listing = list(alloc, tree, settings)?;
+    let listing = listing_of(alloc, tree, settings)?;
     match test_files(&listing.paths) {
         Ok(()) => Ok(listing),
         Err(kind) => Err(Refusal::Limit(limit_of(kind))),
@@ -69,7 +73,11 @@ pub fn listed<T: Tree>(alloc: Global, tree: &mut T, settings: &Settings) -> Resu
 }
 
 /// The rules of the rulesets that are asked for.
-pub fn loaded<T: Tree>(alloc: Global, tree: &mut T, settings: &Settings) -> Result<RuleSet, Refusal>
+pub fn load_rules<T: Tree>(
+    alloc: Global,
+    tree: &mut T,
+    settings: &Settings,
+) -> Result<RuleSet, Refusal>
     ensures rules { (words : List Bytes) (listing : AnyListing) → IfSome (T.holds tree.old) (λ held. HasSources words held settings.now listing) → IfSome (T.holds tree.old) (λ held. IfOk result (HasRules words held settings.now listing)) }
     ensures refused { (words : List Bytes) (listing : AnyListing) → job words ≡ Ok settings.now → IfSome (T.holds tree.old) (λ held. HasSources words held settings.now listing) → IfErr result (Explains words (T.holds tree.old)) }
     ensures same_files { T.holds tree.new ≡ T.holds tree.old }
@@ -104,7 +112,7 @@ pub fn sources_of<T: Tree>(alloc: Global, tree: &mut T, listing: &Listing) -> Re
 }
 
 /// The cold report of the rules over the sources. No class is looked for, so that none can fail.
-pub fn reported(
+pub fn analyse_sources(
     alloc: Global,
     sources: &Files,
     rules: &RuleSet,

@@ -16,8 +16,8 @@ returns-in_err-written-clause-says g c =
     let out = g.S.Sink.held c.args.out.now in
     let refusal = c.in_err-written.field-0.0 in
     let exit = err_from_is_err_and c.from_residual.result c.from_residual.ensures.1 in
-    ends_before (λ (o : Outcome). IfSome told (λ held. Says o c.args.words.now held out out c.args.work.now c.made.new.work)) c.from_residual.result exit.0 refusal exit.1 exit.2
-    (all_say_before refusal c.args.words.now told out out c.args.work.now c.made.new.work c.in_err-written.ensures.refused)
+    ends_before (λ (o : Outcome). IfSome told (λ held. Says o c.args.words.now held out out c.args.work.now c.make_report.new.work)) c.from_residual.result exit.0 refusal exit.1 exit.2
+    (all_say_before refusal c.args.words.now told out out c.args.work.now c.make_report.new.work c.in_err-written.ensures.refused)
 
 pub returns-in_err-written-clause-of_words : goal.returns-in_err-written-clause-of_words
 returns-in_err-written-clause-of_words g c =
@@ -37,12 +37,12 @@ pub returns-in_err-written-clause-keeps_work : goal.returns-in_err-written-claus
 returns-in_err-written-clause-keeps_work g c =
     let refusal = c.in_err-written.field-0.0 in
     let exit = err_from_is_err_and c.from_residual.result c.from_residual.ensures.1 in
-    ends_before (λ (o : Outcome). KeepsWork o c.args.work.now c.made.new.work) c.from_residual.result exit.0 refusal exit.1 exit.2 (work_before refusal c.args.work.now c.made.new.work c.in_err-written.ensures.keeps_work)
+    ends_before (λ (o : Outcome). KeepsWork o c.args.work.now c.make_report.new.work) c.from_residual.result exit.0 refusal exit.1 exit.2 (work_before refusal c.args.work.now c.make_report.new.work c.in_err-written.ensures.keeps_work)
 
 pub returns-in_err-written-clause-tree_faults : goal.returns-in_err-written-clause-tree_faults
 returns-in_err-written-clause-tree_faults g c =
     let old = g.T.Tree.faults c.args.tree.now in
-    let new = g.T.Tree.faults c.made.new.tree in
+    let new = g.T.Tree.faults c.make_report.new.tree in
     let refusal = c.in_err-written.field-0.0 in
     let exit = err_from_is_err_and c.from_residual.result c.from_residual.ensures.1 in
     ends_before (λ (o : Outcome). CountsTreeFaults o old new) c.from_residual.result exit.0 refusal exit.1 exit.2
@@ -69,7 +69,7 @@ returns-in_err-written-clause-sink_faults g c =
 
 pub returns-clause-says : goal.returns-clause-says
 returns-clause-says g c =
-    put_says c.put.result c.args.words.now (g.T.Tree.holds c.args.tree.now) c.in_ok-written.written (g.S.Sink.held c.args.out.now) (g.S.Sink.held c.put.new.out) c.args.work.now c.made.new.work
+    put_says c.put.result c.args.words.now (g.T.Tree.holds c.args.tree.now) c.in_ok-written.written (g.S.Sink.held c.args.out.now) (g.S.Sink.held c.put.new.out) c.args.work.now c.make_report.new.work
     c.put.ensures.verdict c.put.ensures.got c.put.ensures.cut c.put.ensures.refused c.in_ok-written.ensures.made
 
 pub returns-clause-of_words : goal.returns-clause-of_words
@@ -80,11 +80,11 @@ returns-clause-of_sink g c =
     put_sink c.put.result c.args.words.now c.in_ok-written.written (g.S.Sink.held c.args.out.now) (g.S.Sink.held c.put.new.out) c.put.ensures.verdict c.put.ensures.got c.put.ensures.cut c.put.ensures.refused c.in_ok-written.ensures.of_some
 
 pub returns-clause-keeps_work : goal.returns-clause-keeps_work
-returns-clause-keeps_work g c = put_work c.put.result c.args.work.now c.made.new.work c.put.ensures.refused
+returns-clause-keeps_work g c = put_work c.put.result c.args.work.now c.make_report.new.work c.put.ensures.refused
 
 pub returns-clause-tree_faults : goal.returns-clause-tree_faults
 returns-clause-tree_faults g c =
-    put_tree c.put.result (g.T.Tree.faults c.args.tree.now) (g.T.Tree.faults c.made.new.tree) c.put.ensures.refused c.in_ok-written.ensures.counts_faults
+    put_tree c.put.result (g.T.Tree.faults c.args.tree.now) (g.T.Tree.faults c.make_report.new.tree) c.put.ensures.refused c.in_ok-written.ensures.counts_faults
 
 pub returns-clause-steady : goal.returns-clause-steady
 returns-clause-steady g c = λ never. ((c.in_ok-written.ensures.steady never).0, put_steady c.put.result c.put.ensures.refused)

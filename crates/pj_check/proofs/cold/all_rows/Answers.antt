@@ -15,4 +15,4 @@ returns-clause-rows c = λ world all are.
 
 pub returns-in_err-found-clause-never_failed : goal.returns-in_err-found-clause-never_failed
 returns-in_err-found-clause-never_failed c = λ is.
-    asks-never-failed (c.in_err-found.ensures.asks c.rules_are_spelled.ensures.0 c.rules_are_spelled.ensures.1) refl (search rules)
+    asks-never-failed (c.in_err-found.ensures.asks c.sets_have_rules.ensures.0 c.sets_have_rules.ensures.1) refl (search rules)

@@ -8,8 +8,8 @@ use Rattle.pj_check.proofs.cold.cold_report.Goals as goal
 pub returns-clause-cold : goal.returns-clause-cold
 returns-clause-cold c =
     let set = c.args.rules.now in
-    let all = c.rules_are_spelled.ensures.0 in
-    let are = c.rules_are_spelled.ensures.1 in
+    let all = c.sets_have_rules.ensures.0 in
+    let are = c.sets_have_rules.ensures.1 in
     record {
       rules = all;
       are_rules = are;

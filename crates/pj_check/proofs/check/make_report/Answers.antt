@@ -8,7 +8,7 @@ use Rattle.pj_check.specs.declared.refusal.Refusal.{Refusal}
 use Rattle.pj_check.specs.declared.refusal.Refusal.TheVariants.{Memory}
 use Rattle.pj_sources.specs.Reading.{AreRead}
 use Rattle.pj_check.proofs.Ending.{counts_on, explains_later, explains_on, is_made, no_memory, told_later}
-use Rattle.pj_check.proofs.check.made.Goals as goal
+use Rattle.pj_check.proofs.check.make_report.Goals as goal
 
 pub returns-in_err-rules-clause-refused : goal.returns-in_err-rules-clause-refused
 returns-in_err-rules-clause-refused g c =
@@ -17,7 +17,7 @@ returns-in_err-rules-clause-refused g c =
     let listing = c.in_ok-listing.listing in
     let asked = c.in_ok-settings.ensures.asked in
     let told = g.T.Tree.holds c.args.tree.now in
-    let listed = g.T.Tree.holds c.listed.new.tree in
+    let listed = g.T.Tree.holds c.listing_within_limit.new.tree in
     let same = c.in_ok-listing.ensures.same_files in
     let exit = err_from_is_err_and c.from_residual-in_err-rules.result c.from_residual-in_err-rules.ensures.1 in
     explains_on words told c.from_residual-in_err-rules.result exit.0 c.in_err-rules.field-0.0 exit.1 exit.2
@@ -32,8 +32,8 @@ returns-in_err-sources-clause-refused g c =
     let rules = c.in_ok-rules.rules in
     let asked = c.in_ok-settings.ensures.asked in
     let told = g.T.Tree.holds c.args.tree.now in
-    let listed = g.T.Tree.holds c.listed.new.tree in
-    let loaded = g.T.Tree.holds c.loaded.new.tree in
+    let listed = g.T.Tree.holds c.listing_within_limit.new.tree in
+    let loaded = g.T.Tree.holds c.load_rules.new.tree in
     let same = c.in_ok-listing.ensures.same_files in
     let has = c.in_ok-rules.ensures.rules words listing (told_later told listed (λ held. HasSources words held settings listing) same (c.in_ok-listing.ensures.sources words asked)) in
     let exit = err_from_is_err_and c.from_residual-in_err-sources.result c.from_residual-in_err-sources.ensures.1 in
@@ -79,11 +79,11 @@ returns-clause-made g c =
     let sources = c.in_ok-sources.sources in
     let asked = c.in_ok-settings.ensures.asked in
     let told = g.T.Tree.holds c.args.tree.now in
-    let listed = g.T.Tree.holds c.listed.new.tree in
-    let loaded = g.T.Tree.holds c.loaded.new.tree in
+    let listed = g.T.Tree.holds c.listing_within_limit.new.tree in
+    let loaded = g.T.Tree.holds c.load_rules.new.tree in
     let same = c.in_ok-listing.ensures.same_files in
     let has = c.in_ok-rules.ensures.rules words listing (told_later told listed (λ held. HasSources words held settings listing) same (c.in_ok-listing.ensures.sources words asked)) in
-    is_made words told settings listing rules sources c.in_ok-report.report c.in_ok-written.written c.args.work.now c.reported.new.work
+    is_made words told settings listing rules sources c.in_ok-report.report c.in_ok-written.written c.args.work.now c.analyse_sources.new.work
     (told_later listed told (λ held. HasRules words held settings listing rules) (sym same) has)
     (told_later loaded told (λ held. AreRead held listing.paths sources) (sym (c.in_ok-rules.ensures.same_files ∙ same)) c.in_ok-sources.ensures.read)
     c.in_ok-sources.ensures.within
