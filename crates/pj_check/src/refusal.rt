@@ -1,12 +1,13 @@
 //! Why a run does not come to its report.
 ghost use Rattle.std.specs.Prelude.{◌≡◌};
-ghost use Rattle.pj_check.specs.Steps.{after_asking, after_listing, after_loading, after_reading, after_words, outcome_of};
+ghost use Rattle.pj_check.specs.Steps.{after_asking, after_listing, after_loading, after_opening, after_reading, after_words, outcome_of};
 
 use crate::Verdict;
 use crate::limit::{LimitKind, limit_of};
 use crate::outcome::Outcome;
 use pj_base::{NoMemory, Text};
 use pj_names::AskFault;
+use pj_outside::Refused;
 use pj_rules::{RuleFault, RuleRefused};
 use pj_settings::{UsageFault, UsageRefused};
 use pj_sources::{ListRefused, ReadRefused};
@@ -77,6 +78,16 @@ impl From<NoMemory> for Refusal {
 
     fn from(_: NoMemory) -> Refusal {
         Refusal::Memory
+    }
+}
+
+/// Why no door is open.
+pub fn after_opening(refused: Refused) -> Refusal
+    ensures { result ≡ after_opening refused }
+{
+    match refused {
+        Refused::Failed => Refusal::ClassFault,
+        Refused::Memory => Refusal::Memory,
     }
 }
 

@@ -1,5 +1,5 @@
 //! The steps of a run up to its rules and sources.
-ghost use Rattle.std.specs.Prelude.{◌≡◌, ◌≢◌, ◌++◌, List, Ok, Err, Option, IfOk, IfErr, IfSome, OnOk, map};
+ghost use Rattle.std.specs.Prelude.{◌≡◌, ◌≢◌, List, Ok, Err, Option, IfOk, IfErr, IfSome};
 ghost use Rattle.pj_outside.specs.Files.{Bytes, Files as AnyFiles};
 ghost use Rattle.pj_rule_sets.specs.Rules.{EffectiveRules};
 ghost use Rattle.pj_settings.specs.Job.{job};
@@ -7,22 +7,16 @@ ghost use Rattle.pj_settings.specs.declared.settings.Settings.{Settings as AnySe
 ghost use Rattle.pj_sources.specs.Listing.{AreSourcesOf, IsListing};
 ghost use Rattle.pj_sources.specs.Reading.{AreRead, AreWithin};
 ghost use Rattle.pj_sources.specs.declared.listing.Listing.{Listing as AnyListing};
-ghost use Rattle.pj_check.specs.Cold.{IsColdOf};
 ghost use Rattle.pj_check.specs.Run.{HasRules, HasSources};
 ghost use Rattle.pj_check.specs.Steps.{CountsFaults, Explains};
 
-use crate::cold::cold_report;
 use crate::limit::limit_of;
-use crate::refusal::{
-    Refusal, after_asking, after_listing, after_loading, after_reading, after_words,
-};
+use crate::refusal::{Refusal, after_listing, after_loading, after_reading, after_words};
 use pj_base::Words;
 use pj_outside::{Files, Tree};
-use pj_reports::Report;
 use pj_rules::{RuleSet, load};
 use pj_settings::{Settings, read};
 use pj_sources::{Listing, list_sources, read_sources, test_files};
-use pj_workers::Work;
 use std::alloc::Global;
 
 /// What the words ask for.
@@ -108,24 +102,5 @@ pub fn sources_of<T: Tree>(alloc: Global, tree: &mut T, listing: &Listing) -> Re
     match read_sources(alloc, tree, &listing.paths) {
         Ok(sources) => Ok(sources),
         Err(refused) => Err(after_reading(refused)),
-    }
-}
-
-/// The cold report of the rules over the sources. No class is looked for, so that none can fail.
-pub fn analyse_sources(
-    alloc: Global,
-    sources: &Files,
-    rules: &RuleSet,
-    work: &mut Work,
-) -> Result<Report, Refusal>
-    ensures cold { IfOk result (IsColdOf sources.now rules.now) }
-    ensures refused { IfErr result (λ refusal. refusal ≡ Refusal.Memory) }
-    ensures analysed { OnOk result (work.new.analysed ≡ work.old.analysed ++ map (λ file. file.0) sources.now) }
-    ensures reused { work.new.reused ≡ work.old.reused }
-    ensures skipped { work.new.skipped ≡ work.old.skipped }
-{
-    match cold_report(alloc, sources, rules, work) {
-        Ok(report) => Ok(report),
-        Err(fault) => Err(after_asking(fault)),
     }
 }

@@ -1,6 +1,7 @@
 use Rattle.std.proofs.Common.{codes}
+use Rattle.std.specs.Option.{option_map}
 use Rattle.std.proofs.lemmas.Result.{err_from_is_err_and}
-use Rattle.pj_settings.specs.Values.{format_value, list_value, number_value}
+use Rattle.pj_settings.specs.Values.{classes_value, format_value, list_value, number_value}
 use Rattle.pj_settings.proofs.JobFacts.{Gives-stop, gave}
 use Rattle.pj_settings.proofs.reading.settings_of.Goals as goal
 
@@ -11,5 +12,6 @@ returns-in_err-minimum c =
     let dirs = gave c.in_ok-dirs.dirs (list_value 44 (codes "--dir") g.dir.now) c.in_ok-dirs.ensures in
     let rulesets = gave c.in_ok-rulesets.rulesets (list_value 44 (codes "--rulesets") g.rulesets.now) c.in_ok-rulesets.ensures in
     let form = gave c.in_ok-format.format (format_value g.format.now) c.in_ok-format.ensures in
+    let classes = gave c.in_ok-classes.classes (classes_value (option_map (λ word. word.now) g.classes)) c.in_ok-classes.ensures in
     let threads = gave c.in_ok-threads.threads (number_value (codes "--threads") 0 64 g.threads.now) c.in_ok-threads.ensures in
-    rw (p.1, p.2, dirs, rulesets, form, threads) (Gives-stop _ (number_value (codes "--minimum-priority") 1 5 g.minimum.now) _ c.in_err-minimum.ensures)
+    rw (p.1, p.2, dirs, rulesets, form, classes, threads) (Gives-stop _ (number_value (codes "--minimum-priority") 1 5 g.minimum.now) _ c.in_err-minimum.ensures)
