@@ -17,8 +17,10 @@ impl CountedClasses {
     fn new(alloc: Global, folders: Folders, failing: Failing) -> Result<CountedClasses, NoMemory> {
         let mut fail = Numbers::new(alloc);
         fail.push(failing.classes)?;
+        let mut finds = Pairs::new(alloc);
+        finds.push((0, failing.find))?;
         Ok(CountedClasses {
-            classes: MemClassPath::new(alloc, folders, fail, Pairs::new(alloc)),
+            classes: MemClassPath::new(alloc, folders, fail, finds),
             given: 0,
             taken: 0,
         })
