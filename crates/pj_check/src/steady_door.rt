@@ -1,4 +1,6 @@
 //! A door that never fails where its class path never fails.
+ghost use Rattle.std.specs.Prelude.{◌≡◌};
+
 use pj_names::ClassName;
 use pj_outside::{ClassDoor, Reading, Refused};
 use std::marker::{Brand, PhantomData};
@@ -21,8 +23,6 @@ pub struct SteadyDoor<D: ClassDoor, V: Knowing + Send> {
 }
 
 impl<D: ClassDoor, V: Knowing + Send> SteadyDoor<D, V> {
-    ghost use Rattle.std.specs.Prelude.{◌≡◌};
-
     /// The door, which never fails where that is known.
     pub fn new(door: D) -> SteadyDoor<D, V>
         requires steady { V.never_fails → D.never_fails door }
