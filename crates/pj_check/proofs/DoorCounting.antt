@@ -1,5 +1,6 @@
 -- From the calls of a class path to what is counted of a run.
-use Rattle.std.proofs.Common.{◌≡◌, ◌≢◌, ◌∙◌, ◌≤◌, ◌+◌, ◌-◌, ◌^◌, min, ℕ, zero, suc, List, Option, None, Some, IfErr, IfSome, Result, Ok, Err, inl, inr, ap, sym, subst, refl, arith}
+use Rattle.std.proofs.Common.{◌≡◌, ◌≢◌, ◌∙◌, ◌≤◌, ◌+◌, ◌-◌, ◌^◌, min, ne_eqb, ◌==◌, Bool, false, ℕ, List, Option, None, Some, IfErr, IfSome, Result, Ok, Err, inl, inr, ap, sym, subst, refl, arith}
+use Rattle.std.specs.Bool.{MatchBool}
 use Rattle.std.specs.Option.{option_map}
 use Rattle.pj_names.specs.declared.oracle.AskFault.{AskFault}
 use Rattle.pj_names.specs.declared.oracle.AskFault.TheVariants as unanswered
@@ -23,9 +24,9 @@ pub unopened_is : (why : Refused) (r : Refusal) → r ≡ after_opening why → 
 unopened_is unopened.Failed r is = inl is
 unopened_is unopened.Memory r is = inr is
 
-pub unopened_faults : {D : Type 0} (why : Refused) (r : Refusal) (old new : ℕ) → r ≡ after_opening why → outside.CountsFaults {A = D} old new (Err why) → CountsClassFaults (refused r) old new
-unopened_faults unopened.Failed r old new is counts = subst (λ (x : Refusal). CountsClassFaults (refused x) old new) (sym is) counts
-unopened_faults unopened.Memory r old new is counts = subst (λ (x : Refusal). CountsClassFaults (refused x) old new) (sym is) counts
+pub unopened_faults : (D : Type 0) (why : Refused) (r : Refusal) (old new : ℕ) → r ≡ after_opening why → outside.CountsFaults {A = D} old new (Err why) → CountsClassFaults (refused r) old new
+unopened_faults D unopened.Failed r old new is counts = subst (λ (x : Refusal). CountsClassFaults (refused x) old new) (sym is) counts
+unopened_faults D unopened.Memory r old new is counts = subst (λ (x : Refusal). CountsClassFaults (refused x) old new) (sym is) counts
 
 pub unopened_steady : {A : Type 0} (why : Refused) (r : Refusal) → r ≡ after_opening why → why ≢ unopened.Failed → (let w : Result A Refusal = Err r in w) ≢ Err ClassFault
 unopened_steady unopened.Failed r is never e = absurd (never refl)
@@ -58,14 +59,15 @@ unfailed_faults (Err unopened.Memory) old new never counts = counts
 -- ---- the door was opened, and is shut
 
 -- a door without a fault leaves the count
-no_fault_taken : (of_door before opened after : ℕ) → of_door ≡ 0 → opened ≡ before → TakesFaults opened after of_door → after ≡ before
-no_fault_taken of_door before opened after none same takes =
-    let left : TakesFaults opened after 0 = subst (λ (n : ℕ). TakesFaults opened after n) none takes in left ∙ same
+no_fault_taken : (of_door before begun after : ℕ) → of_door ≡ 0 → begun ≡ before → TakesFaults begun after of_door → after ≡ before
+no_fault_taken of_door before begun after none same takes =
+    let left : TakesFaults begun after 0 = subst (λ (n : ℕ). TakesFaults begun after n) none takes in left ∙ same
 
 -- one with a fault raises it
-fault_taken : (of_door before opened after : ℕ) → 1 ≤ of_door → opened ≡ before → TakesFaults opened after of_door → Rises before after
-fault_taken zero before opened after some same takes = absurd (omega (arith, some))
-fault_taken (suc n) before opened after some same takes = subst (λ (m : ℕ). Rises m after) same takes
+fault_taken : (of_door before begun after : ℕ) → 1 ≤ of_door → begun ≡ before → TakesFaults begun after of_door → Rises before after
+fault_taken of_door before begun after some same takes =
+    let has_some : (of_door == 0) ≡ false = ne_eqb of_door 0 (λ none. omega (arith, some, none)) in
+    subst (λ (m : ℕ). Rises m after) same (subst (λ (b : Bool). MatchBool b (after ≡ begun) (Rises begun after)) has_some takes)
 
 rose_from_none : (old new : ℕ) → old ≡ 0 → Rises old new → 1 ≤ new
 rose_from_none old new none rises = omega (arith, none, rises.rose)

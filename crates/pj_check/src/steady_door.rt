@@ -19,7 +19,7 @@ pub struct SteadyDoor<D: ClassDoor, V: Knowing + Send> {
     /// The door.
     pub door: D,
     of: PhantomData<V>,
-    ghost steady: { ∥ V.never_fails → D.never_fails door × (D.faults door ≡ 0) ∥₁ },
+    ghost steady: { ∥ (V.never_fails → D.never_fails door × (D.faults door ≡ 0)) ∥₁ },
 }
 
 impl<D: ClassDoor, V: Knowing + Send> SteadyDoor<D, V> {

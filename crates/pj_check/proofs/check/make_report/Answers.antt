@@ -20,26 +20,26 @@ returns-in_err-settings-clause-refused g c =
     let words = c.args.words.now in
     let told = g.T.Tree.holds c.args.tree.now in
     let explained = c.in_err-settings.ensures.refused told in
-    let exit = err_from_is_err_and c.from_residual-in_err-settings.result c.from_residual-in_err-settings.ensures.1 in
-    refused_on (HasNoReport words told) c.from_residual-in_err-settings.result exit.0 c.in_err-settings.field-0.0 exit.1 exit.2 (no_report words told c.in_err-settings.field-0.0 explained)
+    let exit = err_from_is_err_and c.from_residual.result c.from_residual.ensures.1 in
+    refused_on (HasNoReport words told) c.from_residual.result exit.0 c.in_err-settings.field-0.0 exit.1 exit.2 (no_report words told c.in_err-settings.field-0.0 explained)
 
 pub returns-in_err-settings-clause-class_faults : goal.returns-in_err-settings-clause-class_faults
 returns-in_err-settings-clause-class_faults g c =
     let words = c.args.words.now in
     let told = g.T.Tree.holds c.args.tree.now in
     let explained = c.in_err-settings.ensures.refused told in
-    let exit = err_from_is_err_and c.from_residual-in_err-settings.result c.from_residual-in_err-settings.ensures.1 in
+    let exit = err_from_is_err_and c.from_residual.result c.from_residual.ensures.1 in
     let faults = g.C.ClassPath.faults c.args.classes.now in
-    result_on (λ (w : Result Written Refusal). CountsOfClasses faults faults w) c.from_residual-in_err-settings.result exit.0 c.in_err-settings.field-0.0 exit.1 exit.2 (classes_idle words told c.in_err-settings.field-0.0 faults explained)
+    result_on (λ (w : Result Written Refusal). CountsOfClasses faults faults w) c.from_residual.result exit.0 c.in_err-settings.field-0.0 exit.1 exit.2 (classes_idle words told c.in_err-settings.field-0.0 faults explained)
 
 pub returns-in_err-settings-clause-doors : goal.returns-in_err-settings-clause-doors
 returns-in_err-settings-clause-doors g c =
     let words = c.args.words.now in
     let told = g.T.Tree.holds c.args.tree.now in
     let explained = c.in_err-settings.ensures.refused told in
-    let exit = err_from_is_err_and c.from_residual-in_err-settings.result c.from_residual-in_err-settings.ensures.1 in
+    let exit = err_from_is_err_and c.from_residual.result c.from_residual.ensures.1 in
     let doors : DoorCounts = record { given = g.C.ClassPath.given c.args.classes.now; taken = g.C.ClassPath.taken c.args.classes.now; finds = g.C.ClassPath.finds c.args.classes.now } in
-    result_on (λ (w : Result Written Refusal). CountsDoor doors doors w) c.from_residual-in_err-settings.result exit.0 c.in_err-settings.field-0.0 exit.1 exit.2 (doors_idle words told c.in_err-settings.field-0.0 doors explained)
+    result_on (λ (w : Result Written Refusal). CountsDoor doors doors w) c.from_residual.result exit.0 c.in_err-settings.field-0.0 exit.1 exit.2 (doors_idle words told c.in_err-settings.field-0.0 doors explained)
 
 -- ---- there is no list of sources
 
@@ -276,8 +276,8 @@ returns-in_err-settings-clause-steady_classes g c = λ never.
     let words = c.args.words.now in
     let told = g.T.Tree.holds c.args.tree.now in
     let explained = c.in_err-settings.ensures.refused told in
-    let exit = err_from_is_err_and c.from_residual-in_err-settings.result c.from_residual-in_err-settings.ensures.1 in
-    (never, result_on (λ (w : Result Written Refusal). w ≢ Err ClassFault) c.from_residual-in_err-settings.result exit.0 c.in_err-settings.field-0.0 exit.1 exit.2 (classes_steady Written words told c.in_err-settings.field-0.0 explained))
+    let exit = err_from_is_err_and c.from_residual.result c.from_residual.ensures.1 in
+    (never, result_on (λ (w : Result Written Refusal). w ≢ Err ClassFault) c.from_residual.result exit.0 c.in_err-settings.field-0.0 exit.1 exit.2 (classes_steady Written words told c.in_err-settings.field-0.0 explained))
 
 pub returns-in_err-listing-clause-steady_classes : goal.returns-in_err-listing-clause-steady_classes
 returns-in_err-listing-clause-steady_classes g c = λ never.
@@ -339,8 +339,8 @@ returns-in_err-report-clause-steady_classes g c = λ never.
 
 pub returns-in_err-settings-clause-made : goal.returns-in_err-settings-clause-made
 returns-in_err-settings-clause-made g c =
-    let exit = err_from_is_err_and c.from_residual-in_err-settings.result c.from_residual-in_err-settings.ensures.1 in
-    nothing_made c.args.words.now (g.T.Tree.holds c.args.tree.now) (g.C.ClassPath.holds c.args.classes.now) c.args.work.now c.args.work.now c.from_residual-in_err-settings.result exit.0 exit.1
+    let exit = err_from_is_err_and c.from_residual.result c.from_residual.ensures.1 in
+    nothing_made c.args.words.now (g.T.Tree.holds c.args.tree.now) (g.C.ClassPath.holds c.args.classes.now) c.args.work.now c.args.work.now c.from_residual.result exit.0 exit.1
 
 pub returns-in_err-listing-clause-made : goal.returns-in_err-listing-clause-made
 returns-in_err-listing-clause-made g c =
