@@ -36,6 +36,14 @@ fn rows_of(alloc: Global, found: PathResults) -> Result<PathRows, NoMemory>
     Ok(rows)
 }
 
+/// The door of an oracle that is asked no more.
+fn door_of<'a, D: ClassDoor>(oracle: DoorOracle<'a, D>) -> &'a mut D
+    ensures same_reference { result.ghost_name ≡ oracle.entry.door.ghost_name }
+    ensures same_door { result.now ≡ oracle.entry.door.now }
+{
+    oracle.door
+}
+
 /// What the rules find in the files, in their order, over the class folders of a door.
 fn file_results<D: ClassDoor>(
     alloc: Global,
@@ -51,8 +59,10 @@ fn file_results<D: ClassDoor>(
     ensures skipped { work.new.skipped ≡ work.old.skipped }
 {
     sets_have_rules(rules);
-    let mut oracle = DoorOracle::new(alloc, &mut *door);
-    analyse_files(alloc, &mut oracle, files, rules, work)
+    let mut oracle = DoorOracle::new(alloc, door);
+    let found = analyse_files(alloc, &mut oracle, files, rules, work);
+    let _door = door_of(oracle);
+    found
 }
 
 /// The rows of the files, in their order, over the class folders of a door.

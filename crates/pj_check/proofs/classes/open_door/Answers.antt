@@ -7,7 +7,7 @@ pub returns-in-Err-clause-refused : goal.returns-in-Err-clause-refused
 returns-in-Err-clause-refused g c = unopened_is c.in-Err.refused c.after_opening.result c.after_opening.ensures
 
 pub returns-in-Err-clause-class_faults : goal.returns-in-Err-clause-class_faults
-returns-in-Err-clause-class_faults g c = unopened_faults _ c.in-Err.refused c.after_opening.result _ _ c.after_opening.ensures c.in-Err.ensures.counts_faults
+returns-in-Err-clause-class_faults g c = unopened_faults g.row.C-Door.Denot c.in-Err.refused c.after_opening.result _ _ c.after_opening.ensures c.in-Err.ensures.counts_faults
 
 pub returns-in-Err-clause-steady : goal.returns-in-Err-clause-steady
 returns-in-Err-clause-steady g c = λ never.

@@ -47,18 +47,18 @@ pub returns-clause-steady : goal.returns-clause-steady
 returns-clause-steady g c = λ known.
     let opened = c.in_ok-opened.ensures.steady (c.requires known) in (
       c.shut.ensures.steady opened.0,
-      no_class_fault c.report_over.result _ _ (c.into_door.ensures.steady known) c.report_over.ensures.faults,
+      no_class_fault c.report_over-report.result _ _ (c.into_door.ensures.steady known) c.report_over-report.ensures.faults,
     )
 
 pub returns-clause-cold : goal.returns-clause-cold
 returns-clause-cold g c =
-    cold_of_classes (g.C.ClassPath.holds c.args.classes.now) _ c.args.folders.now (λ (world : World). IfOk c.report_over.result (IsColdOf world c.args.sources.now c.args.rules.now))
-    (c.new.ensures.holds ∙ c.in_ok-opened.ensures.door) c.report_over.ensures.cold
+    cold_of_classes (g.C.ClassPath.holds c.args.classes.now) _ c.args.folders.now (λ (world : World). IfOk c.report_over-report.result (IsColdOf world c.args.sources.now c.args.rules.now))
+    (c.new-door.ensures.holds ∙ c.in_ok-opened.ensures.door) c.report_over-report.ensures.cold
 
 pub returns-clause-class_faults : goal.returns-clause-class_faults
 returns-clause-class_faults g c =
-    shut_faults c.report_over.result _ _ _ (g.C.ClassPath.faults c.args.classes.now) (g.C.ClassPath.faults c.open_door.new.classes) (g.C.ClassPath.faults c.shut.new.self)
-    c.report_over.ensures.refused c.new.ensures.no_faults c.report_over.ensures.faults c.in_ok-opened.ensures.class_faults c.into_door.ensures.faults c.shut.ensures.counts_faults
+    shut_faults c.report_over-report.result _ _ _ (g.C.ClassPath.faults c.args.classes.now) (g.C.ClassPath.faults c.open_door.new.classes) (g.C.ClassPath.faults c.shut.new.self)
+    c.report_over-report.ensures.refused c.new-door.ensures.no_faults c.report_over-report.ensures.faults c.in_ok-opened.ensures.class_faults c.into_door.ensures.faults c.shut.ensures.counts_faults
 
 pub returns-clause-doors : goal.returns-clause-doors
 returns-clause-doors g c =
@@ -67,5 +67,5 @@ returns-clause-doors g c =
     let new : DoorCounts = record { given = g.C.ClassPath.given c.shut.new.self; taken = g.C.ClassPath.taken c.shut.new.self; finds = g.C.ClassPath.finds c.shut.new.self } in
     let begun = c.in_ok-opened.ensures in
     let shut = c.shut.ensures in
-    shut_door c.report_over.result old new c.report_over.ensures.refused
+    shut_door c.report_over-report.result old new c.report_over-report.ensures.refused
     (one_door old opened new _ begun.counts_given begun.same_taken begun.same_finds shut.same_given shut.counts_taken shut.counts_finds)
