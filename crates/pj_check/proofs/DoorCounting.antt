@@ -1,5 +1,5 @@
 -- From the calls of a class path to what is counted of a run.
-use Rattle.std.proofs.Common.{◌≡◌, ◌≢◌, ◌∙◌, ◌≤◌, ◌+◌, ◌-◌, ◌^◌, min, ne_eqb, ◌==◌, Bool, false, ℕ, List, Option, None, Some, IfErr, IfSome, Result, Ok, Err, inl, inr, ap, sym, subst, refl, arith}
+use Rattle.std.proofs.Common.{◌≡◌, ◌≢◌, ◌∙◌, ◌≤◌, ne_eqb, ◌==◌, Bool, false, ℕ, List, Option, None, Some, IfErr, IfSome, Result, Ok, Err, inl, inr, ap, sym, subst, refl, arith}
 use Rattle.std.specs.Bool.{MatchBool}
 use Rattle.std.specs.Option.{option_map}
 use Rattle.pj_names.specs.declared.oracle.AskFault.{AskFault}

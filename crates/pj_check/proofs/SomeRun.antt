@@ -1,16 +1,14 @@
 -- Rules that rulesets come to have a cold report, and words and files have a run or a cause of refusal, where the rulesets have rules or a fault.
-use Rattle.std.proofs.Common.{◌≡◌, ◌<◌, ◌≤◌, ℕ, Bool, true, false, ltb, ◌⊎◌, inl, inr, List, [], ◌∷◌, length, Option, Some, None, Result, Ok, Err, refl}
+use Rattle.std.proofs.Common.{◌≡◌, ℕ, Bool, true, false, ltb, ◌⊎◌, inl, inr, List, [], ◌∷◌, length, Option, Some, None, Result, Ok, Err, refl}
 use Rattle.std.specs.Prelude.{⊤}
 use Rattle.std.specs.List.{AllByRecursion, AllZip}
 use Rattle.std.proofs.lemmas.Bool.{ltb-true, ltb-false}
 use Rattle.pj_outside.specs.Doors.{ClassFolders}
 use Rattle.pj_outside.specs.Files.{Bytes, Files}
-use Rattle.pj_reports.specs.declared.report.Report.{Report}
 use Rattle.pj_rule_sets.specs.Expressions.{IsSound}
 use Rattle.pj_rule_sets.specs.Rules.{EffectiveRule, EffectiveRules, texts_of}
 use Rattle.pj_rules.specs.Laws.{RulesAreSound}
-use Rattle.pj_rules.specs.Load.{IsEffective, IsFirstFault, count_of, greatest_count}
-use Rattle.pj_rules.specs.declared.fault.RuleFault.{RuleFault}
+use Rattle.pj_rules.specs.Load.{IsEffective, count_of, greatest_count}
 use Rattle.pj_settings.specs.Job.{job}
 use Rattle.pj_settings.specs.declared.settings.Settings.{Settings}
 use Rattle.pj_settings.specs.declared.usage.UsageFault.{UsageFault}
@@ -25,7 +23,7 @@ use Rattle.pj_sources.specs.declared.refused.ReadRefused.TheVariants as unread
 use Rattle.pj_workers.specs.Laws.{SomeCold}
 use Rattle.pj_workers.specs.NoFunctions.{no_functions}
 use Rattle.pj_workers.specs.Rules.{IsRuleOf, Rule, source_of}
-use Rattle.pj_check.specs.Cold.{IsColdOf, world_of}
+use Rattle.pj_check.specs.Cold.{world_of}
 use Rattle.pj_check.specs.Laws.{LoadsOrFault, RunOrRefusal, SomeReport}
 use Rattle.pj_check.specs.Limits.{limit_of}
 use Rattle.pj_check.specs.Refused.{IsRefused, bad_rules, nothing_there, source_missing, too_many_bytes, too_many_rules, too_many_sources, usage}
