@@ -5,6 +5,7 @@
 #![tactic(auto)]
 
 mod check;
+mod classes;
 mod cold;
 mod laws;
 mod limit;
@@ -16,6 +17,7 @@ mod refusal;
 mod report_laws;
 mod report_putting;
 mod report_rendering;
+mod steady_door;
 mod steps;
 mod verdict;
 

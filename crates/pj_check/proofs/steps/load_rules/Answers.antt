@@ -2,7 +2,7 @@ use Rattle.std.proofs.Common.{sym, subst}
 use Rattle.pj_check.specs.Steps.{Explains}
 use Rattle.pj_check.specs.declared.refusal.Refusal.{Refusal}
 use Rattle.pj_check.proofs.Explaining.{explain_loading}
-use Rattle.pj_check.proofs.steps.loaded.Goals as goal
+use Rattle.pj_check.proofs.steps.load_rules.Goals as goal
 
 pub returns-in-Err-clause-refused : goal.returns-in-Err-clause-refused
 returns-in-Err-clause-refused g c = λ words listing asked sources.

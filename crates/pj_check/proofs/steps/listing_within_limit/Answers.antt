@@ -3,7 +3,7 @@ use Rattle.pj_check.specs.Steps.{Explains}
 use Rattle.pj_check.specs.declared.limit.LimitKind.{LimitKind}
 use Rattle.pj_check.specs.declared.refusal.Refusal.TheVariants.{Limit}
 use Rattle.pj_check.proofs.Explaining.{explain_many}
-use Rattle.pj_check.proofs.steps.listed.Goals as goal
+use Rattle.pj_check.proofs.steps.listing_within_limit.Goals as goal
 
 pub returns-in-Err-clause-refused : goal.returns-in-Err-clause-refused
 returns-in-Err-clause-refused g c = λ words asked.
