@@ -1,12 +1,14 @@
 -- The type of a call of a method (JLS 15.12.3): its result, in which its own type parameters are replaced by what the arguments say of them (in the place of JLS 18.5).
 use Rattle.std.specs.Prelude.{ℕ, ◌&&◌, Bool, true, false, Option, None, Some, unwrap_or, if◌then◌else◌, List, [], ◌∷◌, map}
 use Rattle.pj_names.specs.JavaType.{JavaType, Primitive, Void, Null, Class, Array, Variable, Unknown}
+use Rattle.pj_names.specs.Asking.{Asking, Return, bind}
 use Rattle.pj_signatures.specs.Types.{MethodTypes}
 use Rattle.pj_types.specs.Conversions.{boxed}
 use Rattle.pj_types.specs.Substitution.{erased, substituted}
 use Rattle.pj_written.specs.Words.{same_text}
 use Rattle.pj_operators.specs.Same.{same_type}
-use Rattle.pj_calls.specs.Choosing.{Chosen}
+use Rattle.pj_calls.specs.Candidates.{Candidates}
+use Rattle.pj_calls.specs.Choosing.{Chosen, chosen_among}
 
 -- ---- what arguments say of a type parameter
 
@@ -54,3 +56,7 @@ result_type types arguments = substituted (all_inferred types arguments) types.r
 abbrev pub result_or_unknown : Option Chosen → JavaType
 result_or_unknown None = Unknown
 result_or_unknown (Some chosen) = result_type chosen.method.types chosen.arguments
+
+-- that of the method that is chosen among candidates
+abbrev pub chosen_result : Candidates → List JavaType → List ℕ → Asking JavaType
+chosen_result candidates arguments functions = bind (chosen_among candidates arguments functions) (λ found. Return (result_or_unknown found))

@@ -2,13 +2,15 @@
 
 ghost use Rattle.std.specs.Prelude.{◌≡◌, ◌++◌, ◌∷◌, List, IfOk, OnOk};
 ghost use Rattle.pj_names.specs.JavaType.{JavaType, bound_types, java_type, type_list};
+ghost use Rattle.pj_names.specs.Told.{Asks, seen};
 ghost use Rattle.pj_signatures.specs.Seen.{method_view, seen_option};
-ghost use Rattle.pj_calls.specs.Results.{all_inferred, all_same, common, inferred, is_variable, passed_for, result_or_unknown, result_type};
-ghost use Rattle.pj_calls.specs.Seen.{seen_chosen};
+ghost use Rattle.pj_calls.specs.Results.{all_inferred, all_same, chosen_result, common, inferred, is_variable, passed_for, result_or_unknown, result_type};
+ghost use Rattle.pj_calls.specs.Seen.{candidates_view, seen_chosen};
 
-use crate::choosing::Chosen;
-use pj_base::{Copied, NoMemory, Text};
-use pj_names::{Bindings, Ty, TyList};
+use crate::candidates::Candidates;
+use crate::choosing::{Chosen, chosen_among};
+use pj_base::{Copied, NoMemory, Numbers, Text};
+use pj_names::{AskFault, Bindings, Oracle, Ty, TyList};
 use pj_operators::same_type;
 use pj_signatures::MethodSig;
 use pj_types::{boxed, erase, substitute};
@@ -141,4 +143,20 @@ pub fn result_or_unknown(alloc: Global, chosen: &Option<Chosen>) -> Result<Ty, N
         Some(chosen) => result_type(alloc, &chosen.method.signature, &chosen.arguments),
         None => Ok(Ty::Unknown),
     }
+}
+
+/// The type of a method call by its candidates and the types of its arguments: the result of the method that is chosen.
+#[tactic(auto, using(pj_names::proofs::AskingLaws::asking_steps))]
+pub fn chosen_result<O: Oracle>(
+    alloc: Global,
+    oracle: &mut O,
+    candidates: Candidates,
+    arguments: TyList,
+    functions: &Numbers,
+) -> Result<Ty, AskFault>
+    ensures { Asks (chosen_result (candidates_view candidates) (type_list arguments) functions.now) (O.tells oracle.old) (O.tells oracle.new) (seen java_type result) }
+{
+    let chosen = chosen_among(alloc, oracle, candidates, arguments, functions)?;
+    let ty = result_or_unknown(alloc, &chosen)?;
+    Ok(ty)
 }
