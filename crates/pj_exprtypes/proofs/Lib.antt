@@ -3,6 +3,5 @@ pub mod Steps
 pub mod Tables
 pub mod Inside
 pub mod Depth
-pub mod Kinds
 pub mod Others
 pub mod Due

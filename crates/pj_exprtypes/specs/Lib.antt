@@ -6,8 +6,6 @@ pub mod Declarations
 pub mod Names
 pub mod TypeOf
 pub mod Table
--- laws
-pub mod ByKind
 -- for private clauses
 pub mod Seen
 pub mod Parts
