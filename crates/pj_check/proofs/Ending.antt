@@ -1,10 +1,13 @@
 -- From the steps of a run to what its outcome says.
-use Rattle.std.proofs.Common.{◌≡◌, ◌≢◌, ◌∙◌, ◌++◌, ℕ, List, map, Option, IfSome, Result, Ok, Err, OnOk, OnErr, IfOk, IfErr, ap, sym, subst, refl}
+use Rattle.std.specs.Prelude.{⊤}
+use Rattle.std.proofs.Common.{◌≡◌, ◌≢◌, ◌∙◌, ◌++◌, ℕ, List, map, Option, IfSome, Result, Ok, Err, OnOk, OnErr, IfOk, IfErr, inl, inr, ap, sym, subst, refl}
+use Rattle.pj_outside.specs.Doors.{ClassFolders}
 use Rattle.pj_outside.specs.Faults.{Rises}
 use Rattle.pj_outside.specs.Files.{Bytes, Files}
 use Rattle.pj_outside.specs.Putting.{Gets, GetsPrefix}
 use Rattle.pj_reports.specs.declared.report.Report.{Report}
 use Rattle.pj_rule_sets.specs.Rules.{EffectiveRules}
+use Rattle.pj_settings.specs.Job.{job}
 use Rattle.pj_settings.specs.declared.settings.Settings.{Settings}
 use Rattle.pj_sources.specs.Reading.{AreRead, AreWithin}
 use Rattle.pj_sources.specs.declared.listing.Listing.{Listing}
@@ -14,10 +17,10 @@ use Rattle.pj_check.specs.Verdicts.{verdict_of}
 use Rattle.pj_check.specs.declared.verdict.Verdict.{Verdict}
 use Rattle.pj_check.specs.declared.verdict.Verdict.TheVariants as verdict
 use Rattle.pj_check.specs.declared.report_rendering.Written.{Written}
-use Rattle.pj_check.specs.Cold.{IsColdOf}
-use Rattle.pj_check.specs.Outcome.{CountsSinkFaults, CountsTreeFaults, GetsSome, KeepsWork, Says, SaysOfSink, SaysOfWords, Worked}
+use Rattle.pj_check.specs.Cold.{IsColdOf, world_of}
+use Rattle.pj_check.specs.Outcome.{CountsClassFaults, CountsDoors, CountsSinkFaults, CountsTreeFaults, DoorCounts, GetsSome, IsAnalysed, IsCut, IsReported, KeepsWork, OneDoor, Says, SaysOfFiles, SaysOfSink, SaysOfWords, Worked}
 use Rattle.pj_check.specs.Run.{HasRules, Run}
-use Rattle.pj_check.specs.Steps.{CountsFaults, Explains, IsMade, IsOfSome, SaysBefore, SaysRefusal, ended, refused}
+use Rattle.pj_check.specs.Steps.{CountsFaults, Explains, HasNoReport, IsMade, IsOfClasses, IsOfSome, SaysNoReport, SaysNotPut, SaysRefusal, outcome_of, refused}
 use Rattle.pj_check.specs.declared.outcome.Outcome.{Outcome}
 use Rattle.pj_check.specs.declared.outcome.Outcome.TheVariants as outcome
 use Rattle.pj_check.specs.declared.refusal.Refusal.{Refusal}
@@ -33,54 +36,142 @@ no_memory words told = record { cause = all_told told (λ held. SaysRefusal word
 pub worked : (run : Run) (old new : Work) → new.analysed ≡ old.analysed ++ run.listing.paths → new.reused ≡ old.reused → new.skipped ≡ run.listing.skipped → Worked run old new
 worked run old new a r s = λ i. record { analysed = a i; reused = r i; skipped = s i }
 
+worked_on : (listing : Listing) (old new : Work) → new.analysed ≡ old.analysed ++ listing.paths → new.reused ≡ old.reused → new.skipped ≡ listing.skipped →
+    new ≡ record { analysed = old.analysed ++ listing.paths; reused = old.reused; skipped = listing.skipped }
+worked_on listing old new a r s = λ i. record { analysed = a i; reused = r i; skipped = s i }
+
 -- what is said of the same files at another moment
 pub told_later : {A : Type 0} (o p : Option A) (P : A → Type 0) → p ≡ o → IfSome o P → IfSome p P
 told_later o p P e h = subst (λ (w : Option _). IfSome w P) (sym e) h
 
-pub is_made : (words : List Bytes) (told : Option Files) (settings : Settings) (listing : Listing) (rules : EffectiveRules) (sources : Files) (report : Report) (written : Written) (old new : Work) →
-    IfSome told (λ held. HasRules words held settings listing rules) → IfSome told (λ held. AreRead held listing.paths sources) → AreWithin listing.paths sources → IsColdOf sources rules report →
+pub is_made : (words : List Bytes) (told : Option Files) (classes : Option ClassFolders) (settings : Settings) (listing : Listing) (rules : EffectiveRules) (sources : Files) (report : Report) (written : Written) (old new : Work) →
+    IfSome told (λ held. HasRules words held settings listing rules) → IfSome told (λ held. AreRead held listing.paths sources) → AreWithin listing.paths sources → IfSome classes (λ folders. IsColdOf (world_of folders settings.classes) sources rules report) →
     written.text ≡ report_text settings.format report → written.verdict ≡ verdict_of report →
     new.analysed ≡ old.analysed ++ map (λ file. file.0) sources → new.reused ≡ old.reused → new.skipped ≡ listing.skipped →
-    IfSome told (λ held. IsMade words held old new written)
-is_made words told settings listing rules sources report written old new has read within cold text comes analysed reused skipped =
+    IfSome told (λ held. IfSome classes (λ folders. IsMade words held folders old new written))
+is_made words told classes settings listing rules sources report written old new has read within colds text comes analysed reused skipped =
     let run : Run = record { settings = settings; listing = listing; rules = rules; sources = sources; report = report } in
-    told_both told told (λ held. HasRules words held settings listing rules) (λ held. AreRead held listing.paths sources) (λ held. IsMade words held old new written) refl
-    (λ held h r. record {
+    told_both told told (λ held. HasRules words held settings listing rules) (λ held. AreRead held listing.paths sources) (λ held. IfSome classes (λ folders. IsMade words held folders old new written)) refl
+    (λ held h r. told_so classes (λ folders. IsColdOf (world_of folders settings.classes) sources rules report) (λ folders. IsMade words held folders old new written)
+    (λ folders cold. record {
       run = run;
       is_run = record { has_rules = h; read = r; reported = cold };
       text = text;
       comes_to = comes;
       worked = worked run old new (analysed ∙ ap (λ paths. old.analysed ++ paths) within.paths_are) reused skipped;
     })
+    colds)
     has read
+
+pub is_analysed : (words : List Bytes) (told : Option Files) (settings : Settings) (listing : Listing) (rules : EffectiveRules) (sources : Files) (old new : Work) →
+    IfSome told (λ held. HasRules words held settings listing rules) → IfSome told (λ held. AreRead held listing.paths sources) → AreWithin listing.paths sources →
+    new.analysed ≡ old.analysed ++ map (λ file. file.0) sources → new.reused ≡ old.reused → new.skipped ≡ listing.skipped →
+    IfSome told (λ held. IsAnalysed words held old new)
+is_analysed words told settings listing rules sources old new has read within analysed reused skipped =
+    told_both told told (λ held. HasRules words held settings listing rules) (λ held. AreRead held listing.paths sources) (λ held. IsAnalysed words held old new) refl
+    (λ held h r. record {
+      settings = settings;
+      listing = listing;
+      rules = rules;
+      sources = sources;
+      has_rules = h;
+      read = r;
+      worked = worked_on listing old new (analysed ∙ ap (λ paths. old.analysed ++ paths) within.paths_are) reused skipped;
+    })
+    has read
+
+-- ---- the report is not made
+
+-- what is refused before the sources are analysed has no report
+no_report_held : (words : List Bytes) (held : Files) (r : Refusal) → SaysRefusal words held r → SaysNoReport words held r
+no_report_held words held (Usage fault) h = h
+no_report_held words held (Rules fault) h = h
+no_report_held words held TreeFault h = h
+no_report_held words held ClassFault h = absurd h
+no_report_held words held SinkFault h = h
+no_report_held words held (Missing path) h = h
+no_report_held words held (Limit kind) h = h
+no_report_held words held Memory h = h
+
+pub no_report : (words : List Bytes) (told : Option Files) (r : Refusal) → Explains words told r → HasNoReport words told r
+no_report words told (Usage fault) h = record { cause = told_so told (λ held. SaysRefusal words held (Usage fault)) (λ held. SaysNoReport words held (Usage fault)) (λ held. no_report_held words held (Usage fault)) h.cause; of_words = h.of_words }
+no_report words told (Rules fault) h = record { cause = told_so told (λ held. SaysRefusal words held (Rules fault)) (λ held. SaysNoReport words held (Rules fault)) (λ held. no_report_held words held (Rules fault)) h.cause; of_words = h.of_words }
+no_report words told TreeFault h = record { cause = told_so told (λ held. SaysRefusal words held TreeFault) (λ held. SaysNoReport words held TreeFault) (λ held. no_report_held words held TreeFault) h.cause; of_words = h.of_words }
+no_report words told ClassFault h = absurd (h.of_words)
+no_report words told SinkFault h = absurd (h.of_words)
+no_report words told (Missing path) h = record { cause = told_so told (λ held. SaysRefusal words held (Missing path)) (λ held. SaysNoReport words held (Missing path)) (λ held. no_report_held words held (Missing path)) h.cause; of_words = h.of_words }
+no_report words told (Limit kind) h = record { cause = told_so told (λ held. SaysRefusal words held (Limit kind)) (λ held. SaysNoReport words held (Limit kind)) (λ held. no_report_held words held (Limit kind)) h.cause; of_words = h.of_words }
+no_report words told Memory h = record { cause = told_so told (λ held. SaysRefusal words held Memory) (λ held. SaysNoReport words held Memory) (λ held. no_report_held words held Memory) h.cause; of_words = h.of_words }
+
+-- nor does the class path's fault, which comes once the sources are read, or want of memory then
+pub no_cold : (words : List Bytes) (told : Option Files) (settings : Settings) (listing : Listing) (rules : EffectiveRules) (sources : Files) (r : Refusal) → job words ≡ Ok settings →
+    IfSome told (λ held. HasRules words held settings listing rules) → IfSome told (λ held. AreRead held listing.paths sources) → IsOfClasses r → HasNoReport words told r
+no_cold words told settings listing rules sources r asked has read (inl is) = subst (λ (x : Refusal). HasNoReport words told x) (sym is) (record {
+  cause = told_both told told (λ held. HasRules words held settings listing rules) (λ held. AreRead held listing.paths sources) (λ held. SaysNoReport words held ClassFault) refl
+      (λ held h k. record { settings = settings; listing = listing; rules = rules; sources = sources; has_rules = h; read = k }) has read;
+  of_words = (settings, asked, tt);
+})
+no_cold words told settings listing rules sources r asked has read (inr is) = subst (λ (x : Refusal). HasNoReport words told x) (sym is) (no_report words told Memory (no_memory words told))
+
+-- before the sources are analysed the class path is not called
+pub classes_idle : (words : List Bytes) (told : Option Files) (r : Refusal) (faults : ℕ) → Explains words told r → CountsClassFaults (refused r) faults faults
+classes_idle words told (Usage fault) faults h = refl
+classes_idle words told (Rules fault) faults h = refl
+classes_idle words told TreeFault faults h = refl
+classes_idle words told ClassFault faults h = absurd (h.of_words)
+classes_idle words told SinkFault faults h = refl
+classes_idle words told (Missing path) faults h = refl
+classes_idle words told (Limit kind) faults h = refl
+classes_idle words told Memory faults h = refl
+
+pub doors_idle : (words : List Bytes) (told : Option Files) (r : Refusal) (doors : DoorCounts) → Explains words told r → CountsDoors (refused r) doors doors
+doors_idle words told (Usage fault) doors h = refl
+doors_idle words told (Rules fault) doors h = refl
+doors_idle words told TreeFault doors h = refl
+doors_idle words told ClassFault doors h = inl refl
+doors_idle words told SinkFault doors h = absurd (h.of_words)
+doors_idle words told (Missing path) doors h = refl
+doors_idle words told (Limit kind) doors h = refl
+doors_idle words told Memory doors h = inl refl
 
 -- ---- the run ends before the report is put
 
-pub says_before : (r : Refusal) (words : List Bytes) (held : Files) (old new : Option Bytes) (before after : Work) → SaysRefusal words held r → Says (refused r) words held old new before after
-says_before (Usage fault) words held old new before after h = h
-says_before (Rules fault) words held old new before after h = h
-says_before TreeFault words held old new before after h = tt
-says_before ClassFault words held old new before after h = absurd h
-says_before SinkFault words held old new before after h = absurd h
-says_before (Missing path) words held old new before after h = h
-says_before (Limit kind) words held old new before after h = h
-says_before Memory words held old new before after h = tt
+pub says_before : (r : Refusal) (words : List Bytes) (held : Files) (classes : Option ClassFolders) (old new : Option Bytes) (before after : Work) → SaysNoReport words held r → Says (refused r) words held classes old new before after
+says_before (Usage fault) words held classes old new before after h = h
+says_before (Rules fault) words held classes old new before after h = h
+says_before TreeFault words held classes old new before after h = tt
+says_before ClassFault words held classes old new before after h = h
+says_before SinkFault words held classes old new before after h = absurd h
+says_before (Missing path) words held classes old new before after h = h
+says_before (Limit kind) words held classes old new before after h = h
+says_before Memory words held classes old new before after h = tt
 
-pub all_say_before : (r : Refusal) (words : List Bytes) (told : Option Files) (old new : Option Bytes) (before after : Work) → Explains words told r → IfSome told (λ held. Says (refused r) words held old new before after)
-all_say_before r words told old new before after e =
-    told_so told (λ held. SaysRefusal words held r) (λ held. Says (refused r) words held old new before after) (λ held h. says_before r words held old new before after h) e.cause
+pub all_say_before : (r : Refusal) (words : List Bytes) (told : Option Files) (classes : Option ClassFolders) (old new : Option Bytes) (before after : Work) → HasNoReport words told r → IfSome told (λ held. Says (refused r) words held classes old new before after)
+all_say_before r words told classes old new before after e =
+    told_so told (λ held. SaysNoReport words held r) (λ held. Says (refused r) words held classes old new before after) (λ held h. says_before r words held classes old new before after h) e.cause
 
-pub words_before : (r : Refusal) (words : List Bytes) → SaysBefore r words → SaysOfWords (refused r) words
+-- a refusal before the report is put is no fault of the sink
+pub files_before : (r : Refusal) (words : List Bytes) (told : Option Files) (before after : Work) → SaysNotPut r words → IfSome told (λ held. SaysOfFiles (refused r) words held before after)
+files_before (Usage fault) words told before after h = all_told told (λ held. ⊤) (λ held. tt)
+files_before (Rules fault) words told before after h = all_told told (λ held. ⊤) (λ held. tt)
+files_before TreeFault words told before after h = all_told told (λ held. ⊤) (λ held. tt)
+files_before ClassFault words told before after h = all_told told (λ held. ⊤) (λ held. tt)
+files_before SinkFault words told before after h = absurd h
+files_before (Missing path) words told before after h = all_told told (λ held. ⊤) (λ held. tt)
+files_before (Limit kind) words told before after h = all_told told (λ held. ⊤) (λ held. tt)
+files_before Memory words told before after h = all_told told (λ held. ⊤) (λ held. tt)
+
+pub words_before : (r : Refusal) (words : List Bytes) → SaysNotPut r words → SaysOfWords (refused r) words
 words_before (Usage fault) words h = h
 words_before (Rules fault) words h = h
 words_before TreeFault words h = h
-words_before ClassFault words h = absurd h
+words_before ClassFault words h = h
 words_before SinkFault words h = absurd h
 words_before (Missing path) words h = h
 words_before (Limit kind) words h = h
 words_before Memory words h = h
 
-pub sink_before : (r : Refusal) (words : List Bytes) (old : Option Bytes) → SaysBefore r words → SaysOfSink (refused r) words old old
+pub sink_before : (r : Refusal) (words : List Bytes) (old : Option Bytes) → SaysNotPut r words → SaysOfSink (refused r) words old old
 sink_before (Usage fault) words old h = refl
 sink_before (Rules fault) words old h = refl
 sink_before TreeFault words old h = refl
@@ -100,7 +191,7 @@ work_before (Missing path) old new same = same
 work_before (Limit kind) old new same = same
 work_before Memory old new same = same
 
-pub counts_before : (r : Refusal) (words : List Bytes) (faults : ℕ) → SaysBefore r words → CountsSinkFaults (refused r) faults faults
+pub counts_before : (r : Refusal) (words : List Bytes) (faults : ℕ) → SaysNotPut r words → CountsSinkFaults (refused r) faults faults
 counts_before (Usage fault) words faults h = refl
 counts_before (Rules fault) words faults h = refl
 counts_before TreeFault words faults h = refl
@@ -130,29 +221,51 @@ no_fault_before (Missing path) n e = absurd (cc)
 no_fault_before (Limit kind) n e = absurd (cc)
 no_fault_before Memory n e = absurd (cc)
 
+pub no_class_before : (r : Refusal) → r ≢ ClassFault → refused r ≢ outcome.ClassFault
+no_class_before (Usage fault) n e = absurd (cc)
+no_class_before (Rules fault) n e = absurd (cc)
+no_class_before TreeFault n e = absurd (cc)
+no_class_before ClassFault n e = n refl
+no_class_before SinkFault n e = absurd (cc)
+no_class_before (Missing path) n e = absurd (cc)
+no_class_before (Limit kind) n e = absurd (cc)
+no_class_before Memory n e = absurd (cc)
+
 -- ---- the report is put
 
 -- what the end of a run says whose report was put, or was cut
-pub ends_so : (v : Verdict) (words : List Bytes) (held : Files) (written : Written) (old new : Option Bytes) (before after : Work) → v ≡ written.verdict → Gets old new written.text → IsMade words held before after written →
-    Says (ended (Ok v)) words held old new before after
-ends_so verdict.Clean words held written old new before after is got made =
-    record { run = made.run; is_run = made.is_run; comes_to = sym (is ∙ made.comes_to); got = subst (λ (t : Bytes). Gets old new t) made.text got; worked = made.worked }
-ends_so verdict.Violations words held written old new before after is got made =
-    record { run = made.run; is_run = made.is_run; comes_to = sym (is ∙ made.comes_to); got = subst (λ (t : Bytes). Gets old new t) made.text got; worked = made.worked }
-ends_so verdict.Errors words held written old new before after is got made =
-    record { run = made.run; is_run = made.is_run; comes_to = sym (is ∙ made.comes_to); got = subst (λ (t : Bytes). Gets old new t) made.text got; worked = made.worked }
+reported_so : (v : Verdict) (words : List Bytes) (held : Files) (classes : Option ClassFolders) (written : Written) (old new : Option Bytes) (before after : Work) → v ≡ written.verdict → Gets old new written.text →
+    IfSome classes (λ folders. IsMade words held folders before after written) → IfSome classes (λ folders. IsReported v words held folders old new before after)
+reported_so v words held classes written old new before after is got made =
+    told_so classes (λ folders. IsMade words held folders before after written) (λ folders. IsReported v words held folders old new before after)
+    (λ folders m. record { run = m.run; is_run = m.is_run; comes_to = sym (is ∙ m.comes_to); got = subst (λ (t : Bytes). Gets old new t) m.text got; worked = m.worked }) made
 
-pub put_says : (r : Result Verdict Refusal) (words : List Bytes) (told : Option Files) (written : Written) (old new : Option Bytes) (before after : Work) →
+pub ends_so : (v : Verdict) (words : List Bytes) (held : Files) (classes : Option ClassFolders) (written : Written) (old new : Option Bytes) (before after : Work) → v ≡ written.verdict → Gets old new written.text →
+    IfSome classes (λ folders. IsMade words held folders before after written) → Says (outcome_of (Ok v)) words held classes old new before after
+ends_so verdict.Clean words held classes written old new before after is got made = reported_so verdict.Clean words held classes written old new before after is got made
+ends_so verdict.Violations words held classes written old new before after is got made = reported_so verdict.Violations words held classes written old new before after is got made
+ends_so verdict.Errors words held classes written old new before after is got made = reported_so verdict.Errors words held classes written old new before after is got made
+
+pub put_says : (r : Result Verdict Refusal) (words : List Bytes) (told : Option Files) (classes : Option ClassFolders) (written : Written) (old new : Option Bytes) (before after : Work) →
     IfOk r (λ v. v ≡ written.verdict) → OnOk r (Gets old new written.text) → OnErr r (GetsPrefix old new written.text) → IfErr r (λ e. e ≡ SinkFault) →
-    IfSome told (λ held. IsMade words held before after written) → IfSome told (λ held. Says (ended r) words held old new before after)
-put_says (Ok v) words told written old new before after is got cut fault made =
-    told_so told (λ held. IsMade words held before after written) (λ held. Says (ended (Ok v)) words held old new before after) (λ held m. ends_so v words held written old new before after is got m) made
-put_says (Err r) words told written old new before after is got cut fault made =
-    told_so told (λ held. IsMade words held before after written) (λ held. Says (refused r) words held old new before after)
-    (λ held m. subst (λ (e : Refusal). Says (refused e) words held old new before after) (sym fault)
-    (record { run = m.run; is_run = m.is_run; got = subst (λ (t : Bytes). GetsPrefix old new t) m.text cut; worked = m.worked })) made
+    IfSome told (λ held. IfSome classes (λ folders. IsMade words held folders before after written)) → IfSome told (λ held. Says (outcome_of r) words held classes old new before after)
+put_says (Ok v) words told classes written old new before after is got cut fault made =
+    told_so told (λ held. IfSome classes (λ folders. IsMade words held folders before after written)) (λ held. Says (outcome_of (Ok v)) words held classes old new before after)
+    (λ held m. ends_so v words held classes written old new before after is got m) made
+put_says (Err r) words told classes written old new before after is got cut fault made =
+    told_so told (λ held. IfSome classes (λ folders. IsMade words held folders before after written)) (λ held. Says (refused r) words held classes old new before after)
+    (λ held of_folders. subst (λ (e : Refusal). Says (refused e) words held classes old new before after) (sym fault)
+    (told_so classes (λ folders. IsMade words held folders before after written) (λ folders. IsCut words held folders old new before after)
+    (λ folders m. record { run = m.run; is_run = m.is_run; got = subst (λ (t : Bytes). GetsPrefix old new t) m.text cut; worked = m.worked }) of_folders)) made
 
-pub put_words : (r : Result Verdict Refusal) (words : List Bytes) (written : Written) → IfErr r (λ e. e ≡ SinkFault) → IsOfSome words written → SaysOfWords (ended r) words
+pub put_files : (r : Result Verdict Refusal) (words : List Bytes) (told : Option Files) (before after : Work) → IfErr r (λ e. e ≡ SinkFault) → IfSome told (λ held. IsAnalysed words held before after) →
+    IfSome told (λ held. SaysOfFiles (outcome_of r) words held before after)
+put_files (Ok verdict.Clean) words told before after fault read = read
+put_files (Ok verdict.Violations) words told before after fault read = read
+put_files (Ok verdict.Errors) words told before after fault read = read
+put_files (Err r) words told before after fault read = subst (λ (e : Refusal). IfSome told (λ held. SaysOfFiles (refused e) words held before after)) (sym fault) read
+
+pub put_words : (r : Result Verdict Refusal) (words : List Bytes) (written : Written) → IfErr r (λ e. e ≡ SinkFault) → IsOfSome words written → SaysOfWords (outcome_of r) words
 put_words (Ok verdict.Clean) words written fault some = (some.settings, some.asked, tt)
 put_words (Ok verdict.Violations) words written fault some = (some.settings, some.asked, tt)
 put_words (Ok verdict.Errors) words written fault some = (some.settings, some.asked, tt)
@@ -168,7 +281,7 @@ gets_some v words written old new is got some = record {
 }
 
 pub put_sink : (r : Result Verdict Refusal) (words : List Bytes) (written : Written) (old new : Option Bytes) →
-    IfOk r (λ v. v ≡ written.verdict) → OnOk r (Gets old new written.text) → OnErr r (GetsPrefix old new written.text) → IfErr r (λ e. e ≡ SinkFault) → IsOfSome words written → SaysOfSink (ended r) words old new
+    IfOk r (λ v. v ≡ written.verdict) → OnOk r (Gets old new written.text) → OnErr r (GetsPrefix old new written.text) → IfErr r (λ e. e ≡ SinkFault) → IsOfSome words written → SaysOfSink (outcome_of r) words old new
 put_sink (Ok verdict.Clean) words written old new is got cut fault some = gets_some verdict.Clean words written old new is got some
 put_sink (Ok verdict.Violations) words written old new is got cut fault some = gets_some verdict.Violations words written old new is got some
 put_sink (Ok verdict.Errors) words written old new is got cut fault some = gets_some verdict.Errors words written old new is got some
@@ -176,25 +289,43 @@ put_sink (Err r) words written old new is got cut fault some =
     subst (λ (e : Refusal). SaysOfSink (refused e) words old new) (sym fault)
     (record { settings = some.settings; asked = some.asked; report = some.report; got = subst (λ (t : Bytes). GetsPrefix old new t) some.text cut })
 
-pub put_work : (r : Result Verdict Refusal) (old new : Work) → IfErr r (λ e. e ≡ SinkFault) → KeepsWork (ended r) old new
+pub put_work : (r : Result Verdict Refusal) (old new : Work) → IfErr r (λ e. e ≡ SinkFault) → KeepsWork (outcome_of r) old new
 put_work (Ok verdict.Clean) old new fault = tt
 put_work (Ok verdict.Violations) old new fault = tt
 put_work (Ok verdict.Errors) old new fault = tt
 put_work (Err r) old new fault = subst (λ (e : Refusal). KeepsWork (refused e) old new) (sym fault) tt
 
-pub put_tree : (r : Result Verdict Refusal) (old new : ℕ) → IfErr r (λ e. e ≡ SinkFault) → new ≡ old → CountsTreeFaults (ended r) old new
+pub put_tree : (r : Result Verdict Refusal) (old new : ℕ) → IfErr r (λ e. e ≡ SinkFault) → new ≡ old → CountsTreeFaults (outcome_of r) old new
 put_tree (Ok verdict.Clean) old new fault same = same
 put_tree (Ok verdict.Violations) old new fault same = same
 put_tree (Ok verdict.Errors) old new fault same = same
 put_tree (Err r) old new fault same = subst (λ (e : Refusal). CountsTreeFaults (refused e) old new) (sym fault) same
 
-pub put_counts : (r : Result Verdict Refusal) (old new : ℕ) → IfErr r (λ e. e ≡ SinkFault) → OnOk r (new ≡ old) → OnErr r (Rises old new) → CountsSinkFaults (ended r) old new
+pub put_classes : (r : Result Verdict Refusal) (old new : ℕ) → IfErr r (λ e. e ≡ SinkFault) → new ≡ old → CountsClassFaults (outcome_of r) old new
+put_classes (Ok verdict.Clean) old new fault same = same
+put_classes (Ok verdict.Violations) old new fault same = same
+put_classes (Ok verdict.Errors) old new fault same = same
+put_classes (Err r) old new fault same = subst (λ (e : Refusal). CountsClassFaults (refused e) old new) (sym fault) same
+
+pub put_doors : (r : Result Verdict Refusal) (old new : DoorCounts) → IfErr r (λ e. e ≡ SinkFault) → OneDoor old new → CountsDoors (outcome_of r) old new
+put_doors (Ok verdict.Clean) old new fault one = one
+put_doors (Ok verdict.Violations) old new fault one = one
+put_doors (Ok verdict.Errors) old new fault one = one
+put_doors (Err r) old new fault one = subst (λ (e : Refusal). CountsDoors (refused e) old new) (sym fault) one
+
+pub put_classes_steady : (r : Result Verdict Refusal) → IfErr r (λ e. e ≡ SinkFault) → outcome_of r ≢ outcome.ClassFault
+put_classes_steady (Ok verdict.Clean) fault e = absurd (cc)
+put_classes_steady (Ok verdict.Violations) fault e = absurd (cc)
+put_classes_steady (Ok verdict.Errors) fault e = absurd (cc)
+put_classes_steady (Err r) fault e = let f : outcome.SinkFault ≡ outcome.ClassFault = subst (λ (x : Refusal). refused x ≡ outcome.ClassFault) fault e in absurd (cc)
+
+pub put_counts : (r : Result Verdict Refusal) (old new : ℕ) → IfErr r (λ e. e ≡ SinkFault) → OnOk r (new ≡ old) → OnErr r (Rises old new) → CountsSinkFaults (outcome_of r) old new
 put_counts (Ok verdict.Clean) old new fault same rises = same
 put_counts (Ok verdict.Violations) old new fault same rises = same
 put_counts (Ok verdict.Errors) old new fault same rises = same
 put_counts (Err r) old new fault same rises = subst (λ (e : Refusal). CountsSinkFaults (refused e) old new) (sym fault) rises
 
-pub put_steady : (r : Result Verdict Refusal) → IfErr r (λ e. e ≡ SinkFault) → ended r ≢ outcome.TreeFault
+pub put_steady : (r : Result Verdict Refusal) → IfErr r (λ e. e ≡ SinkFault) → outcome_of r ≢ outcome.TreeFault
 put_steady (Ok verdict.Clean) fault e = absurd (cc)
 put_steady (Ok verdict.Violations) fault e = absurd (cc)
 put_steady (Ok verdict.Errors) fault e = absurd (cc)
@@ -203,16 +334,48 @@ put_steady (Err r) fault e = let f : outcome.SinkFault ≡ outcome.TreeFault = s
 -- ---- an early end, as a function gives it on
 
 -- the end is this refusal
-pub ends_before : (P : Outcome → Type 0) (r : Result Verdict Refusal) (e x : Refusal) → r ≡ Err e → e ≡ x → P (refused x) → P (ended r)
-ends_before P r e x is same h = subst (λ (w : Result Verdict Refusal). P (ended w)) (sym is) (subst (λ (y : Refusal). P (refused y)) (sym same) h)
+pub ends_before : (P : Outcome → Type 0) (r : Result Verdict Refusal) (e x : Refusal) → r ≡ Err e → e ≡ x → P (refused x) → P (outcome_of r)
+ends_before P r e x is same h = subst (λ (w : Result Verdict Refusal). P (outcome_of w)) (sym is) (subst (λ (y : Refusal). P (refused y)) (sym same) h)
 
 module _ {A : Type 0} where
-  pub explains_on : (words : List Bytes) (told : Option Files) (r : Result A Refusal) (e x : Refusal) → r ≡ Err e → e ≡ x → Explains words told x → IfErr r (Explains words told)
-  explains_on words told r e x is same h = subst (λ (w : Result A Refusal). IfErr w (Explains words told)) (sym is) (subst (λ (y : Refusal). Explains words told y) (sym same) h)
+  pub refused_on : (P : Refusal → Type 0) (r : Result A Refusal) (e x : Refusal) → r ≡ Err e → e ≡ x → P x → IfErr r P
+  refused_on P r e x is same h = subst (λ (w : Result A Refusal). IfErr w P) (sym is) (subst P (sym same) h)
 
-  -- memory is wanted where no fault was counted
-  pub counts_on : (old new : ℕ) (r : Result A Refusal) (e : Refusal) → r ≡ Err e → e ≡ Memory → new ≡ old → CountsFaults old new r
-  counts_on old new r e is memory same = subst (λ (w : Result A Refusal). CountsFaults old new w) (sym is) (subst (λ (x : Refusal). CountsFaults {A = A} old new (Err x)) (sym memory) same)
+-- no report is made where there is a refusal
+pub nothing_made : (words : List Bytes) (told : Option Files) (classes : Option ClassFolders) (old new : Work) (r : Result Written Refusal) (e : Refusal) → r ≡ Err e →
+    IfSome told (λ held. IfSome classes (λ folders. IfOk r (IsMade words held folders old new)))
+nothing_made words told classes old new r e is =
+    subst (λ (w : Result Written Refusal). IfSome told (λ held. IfSome classes (λ folders. IfOk w (IsMade words held folders old new)))) (sym is)
+    (all_told told (λ held. IfSome classes (λ folders. ⊤)) (λ held. all_told classes (λ folders. ⊤) (λ folders. tt)))
+
+pub nothing_analysed : (words : List Bytes) (told : Option Files) (old new : Work) (r : Result Written Refusal) (e : Refusal) → r ≡ Err e → IfSome told (λ held. OnOk r (IsAnalysed words held old new))
+nothing_analysed words told old new r e is =
+    subst (λ (w : Result Written Refusal). IfSome told (λ held. OnOk w (IsAnalysed words held old new))) (sym is) (all_told told (λ held. ⊤) (λ held. tt))
+
+-- the tree's count is the same where the class path refuses
+pub tree_idle : (A : Type 0) (r : Refusal) (old new : ℕ) → IsOfClasses r → new ≡ old → CountsFaults {A = A} old new (Err r)
+tree_idle A r old new (inl is) same = subst (λ (x : Refusal). CountsFaults {A = A} old new (Err x)) (sym is) same
+tree_idle A r old new (inr is) same = subst (λ (x : Refusal). CountsFaults {A = A} old new (Err x)) (sym is) same
+
+pub no_tree_fault : (A : Type 0) (r : Refusal) → IsOfClasses r → (let w : Result A Refusal = Err r in w) ≢ Err TreeFault
+no_tree_fault A r (inl is) e = let f : (let w : Result A Refusal = Err ClassFault in w) ≡ Err TreeFault = ap (λ (x : Refusal). Err x) (sym is) ∙ e in absurd (cc)
+no_tree_fault A r (inr is) e = let f : (let w : Result A Refusal = Err Memory in w) ≡ Err TreeFault = ap (λ (x : Refusal). Err x) (sym is) ∙ e in absurd (cc)
+
+-- before the sources are analysed the class path does not fail
+pub classes_steady : (A : Type 0) (words : List Bytes) (told : Option Files) (r : Refusal) → Explains words told r → (let w : Result A Refusal = Err r in w) ≢ Err ClassFault
+classes_steady A words told r h e = let same : r ≡ ClassFault = cc in absurd ((subst (λ (x : Refusal). Explains words told x) same h).of_words)
+
+pub memory_end : (A : Type 0) → (let w : Result A Refusal = Err Memory in w) ≢ Err ClassFault
+memory_end A e = absurd (cc)
+
+-- the same refusal of another result
+pub other_end : (A B : Type 0) (r : Refusal) → (let w : Result A Refusal = Err r in w) ≢ Err ClassFault → (let w : Result B Refusal = Err r in w) ≢ Err ClassFault
+other_end A B r never e = let same : r ≡ ClassFault = cc in never (ap (λ (x : Refusal). Err x) same)
+
+module _ {A E : Type 0} where
+  -- what holds of the end with this error
+  pub result_on : (P : Result A E → Type 0) (r : Result A E) (e x : E) → r ≡ Err e → e ≡ x → P (Err x) → P r
+  result_on P r e x is same h = subst P (sym is) (subst (λ (y : E). P (Err y)) (sym same) h)
 
 pub explains_later : (words : List Bytes) (o p : Option Files) (r : Refusal) → p ≡ o → Explains words p r → Explains words o r
 explains_later words o p r e h = subst (λ (w : Option Files). Explains words w r) e h

@@ -1,5 +1,6 @@
 -- Words and files that have a run have no cause of refusal.
 use Rattle.std.proofs.Common.{◌≡◌, ◌∙◌, ◌<◌, ◌≤◌, ℕ, List, length, Option, None, Some, Result, Ok, Err, ap, sym, subst, arith}
+use Rattle.pj_outside.specs.Doors.{ClassFolders}
 use Rattle.pj_outside.specs.Files.{Bytes, Files}
 use Rattle.pj_rules.specs.Laws.{OneSet, RulesOrFault}
 use Rattle.pj_rules.specs.Load.{IsEffective, IsFirstFault, count_of}
@@ -29,7 +30,7 @@ none_missing o x none some = let e = sym none ∙ some in absurd (cc)
 pub no_usage : (r : Result Settings UsageFault) (settings : Settings) (fault : UsageFault) → r ≡ Ok settings → r ≡ Err fault → ⊥
 no_usage r settings fault ok err = let e = sym ok ∙ err in absurd (cc)
 
-module _ (one : OneListing) (unrefused : ReadIsNotRefused) (one_set : OneSet) (no_fault : RulesOrFault) (words : List Bytes) (held : Files) (run : Run) (is : IsRun words held run) where
+module _ (one : OneListing) (unrefused : ReadIsNotRefused) (one_set : OneSet) (no_fault : RulesOrFault) (words : List Bytes) (held : Files) (classes : ClassFolders) (run : Run) (is : IsRun words held classes run) where
   asked : job words ≡ Ok run.settings
   asked = is.has_rules.has_sources.asked
 

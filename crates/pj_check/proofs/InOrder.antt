@@ -1,17 +1,17 @@
 -- The report of a run stands in order.
 use Rattle.std.proofs.Common.{◌∙◌, List, subst, sym}
 use Rattle.std.specs.List.Sorted.{IsStrictlySortedBy}
-use Rattle.pj_names.specs.declared.answer.Answer.TheVariants.{Absent}
 use Rattle.pj_outside.specs.Files.{Bytes}
 use Rattle.pj_sources.specs.Paths.{byte_order}
 use Rattle.pj_workers.specs.Laws.{ColdIsInOrder}
 use Rattle.pj_workers.specs.NoFunctions.{no_functions}
+use Rattle.pj_check.specs.Cold.{world_of}
 use Rattle.pj_check.specs.Laws.{ReportIsInOrder}
 
 pub report_in_order : ColdIsInOrder → ReportIsInOrder
-report_in_order cold words held run is =
+report_in_order cold words held classes run is =
     let of = is.reported in
-    let both = cold no_functions (λ name. Absent) run.sources of.rules run.rules.unusable run.report (of.cold (λ name. Absent)) in (
+    let both = cold no_functions (world_of classes run.settings.classes) run.sources of.rules run.rules.unusable run.report of.cold in (
       subst (λ (paths : List Bytes). IsStrictlySortedBy byte_order paths) (sym (both.0 ∙ is.read.within.paths_are)) is.has_rules.has_sources.listed.paths.ascending,
       both.1,
     )

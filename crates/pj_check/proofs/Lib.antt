@@ -1,6 +1,7 @@
 mod Told
 mod Explaining
 mod Gathering
+mod DoorCounting
 mod Ending
 mod Excluding
 mod OneRefusal

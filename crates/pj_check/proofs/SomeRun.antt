@@ -1,15 +1,15 @@
--- Rules that rulesets come to have a cold report, and words and files have a run or a cause of refusal, where the rulesets have rules or a fault.
-use Rattle.std.proofs.Common.{◌≡◌, ◌<◌, ◌≤◌, ℕ, Bool, true, false, ltb, ◌⊎◌, inl, inr, List, [], ◌∷◌, length, Option, Some, None, Result, Ok, Err, refl}
+-- Rules that rulesets come to have a cold report, and words, files and class folders have a run or a cause of refusal.
+use Rattle.std.proofs.Common.{◌≡◌, ℕ, Bool, true, false, ltb, ◌⊎◌, inl, inr, List, [], ◌∷◌, length, Option, Some, None, Result, Ok, Err, refl}
 use Rattle.std.specs.Prelude.{⊤}
 use Rattle.std.specs.List.{AllByRecursion, AllZip}
 use Rattle.std.proofs.lemmas.Bool.{ltb-true, ltb-false}
+use Rattle.pj_outside.specs.Doors.{ClassFolders}
 use Rattle.pj_outside.specs.Files.{Bytes, Files}
-use Rattle.pj_reports.specs.declared.report.Report.{Report}
 use Rattle.pj_rule_sets.specs.Expressions.{IsSound}
 use Rattle.pj_rule_sets.specs.Rules.{EffectiveRule, EffectiveRules, texts_of}
+use Rattle.pj_rule_laws.specs.Laws.{RulesOrFirstFault}
 use Rattle.pj_rules.specs.Laws.{RulesAreSound}
-use Rattle.pj_rules.specs.Load.{IsEffective, IsFirstFault, count_of, greatest_count}
-use Rattle.pj_rules.specs.declared.fault.RuleFault.{RuleFault}
+use Rattle.pj_rules.specs.Load.{IsEffective, count_of, greatest_count}
 use Rattle.pj_settings.specs.Job.{job}
 use Rattle.pj_settings.specs.declared.settings.Settings.{Settings}
 use Rattle.pj_settings.specs.declared.usage.UsageFault.{UsageFault}
@@ -24,8 +24,8 @@ use Rattle.pj_sources.specs.declared.refused.ReadRefused.TheVariants as unread
 use Rattle.pj_workers.specs.Laws.{SomeCold}
 use Rattle.pj_workers.specs.NoFunctions.{no_functions}
 use Rattle.pj_workers.specs.Rules.{IsRuleOf, Rule, source_of}
-use Rattle.pj_check.specs.Cold.{IsColdOf}
-use Rattle.pj_check.specs.Laws.{LoadsOrFault, RunOrRefusal, SomeReport}
+use Rattle.pj_check.specs.Cold.{world_of}
+use Rattle.pj_check.specs.Laws.{RunOrRefusal, SomeReport}
 use Rattle.pj_check.specs.Limits.{limit_of}
 use Rattle.pj_check.specs.Refused.{IsRefused, bad_rules, nothing_there, source_missing, too_many_bytes, too_many_rules, too_many_sources, usage}
 use Rattle.pj_check.specs.Run.{HasRules, HasSources, IsRun, Run}
@@ -43,15 +43,15 @@ spelled marker (rule ∷ rules) h =
     )
 
 pub some_report : RulesAreSound → SomeCold → SomeReport
-some_report sound cold files paths minimum marker set effective held =
+some_report sound cold files paths minimum marker set effective world held =
     let (all, are) = spelled set.marker set.rules (sound files paths minimum marker set effective) in
     let (report, is) = cold no_functions (λ path file function at arguments. tt) held all set.unusable in
-    (report, record { rules = all; are_rules = are; cold = is })
+    (report, record { rules = all; are_rules = are; cold = is world })
 
 -- ---- a run, or why there is none
 
-abbrev Ends : List Bytes → Files → Type 0
-Ends words held = ((run : Run) × IsRun words held run) ⊎ ((outcome : Outcome) × IsRefused words held outcome)
+abbrev Ends : List Bytes → Files → ClassFolders → Type 0
+Ends words held classes = ((run : Run) × IsRun words held classes run) ⊎ ((outcome : Outcome) × IsRefused words held outcome)
 
 -- nothing is refused for a fault of a tree or for want of memory
 abbrev HasCause : ReadRefused → Type 0
@@ -65,30 +65,30 @@ has_cause files before path refused (IsRefusedBehind.missing at) = tt
 has_cause files before path refused (IsRefusedBehind.too_long bytes at more) = tt
 has_cause files before path refused (IsRefusedBehind.too_much bytes at fits more) = tt
 
-module _ (listings : SomeListing) (readings : SomeOutcome) (reports : SomeReport) (words : List Bytes) (held : Files) where
+module _ (listings : SomeListing) (readings : SomeOutcome) (reports : SomeReport) (loads : RulesOrFirstFault) (words : List Bytes) (held : Files) (classes : ClassFolders) where
   module _ (settings : Settings) (listing : Listing) (rules : EffectiveRules) (has : HasRules words held settings listing rules) where
-    unreadable : (refused : ReadRefused) → sources.IsRefused held listing.paths refused → HasCause refused → Ends words held
+    unreadable : (refused : ReadRefused) → sources.IsRefused held listing.paths refused → HasCause refused → Ends words held classes
     unreadable (unread.Missing path) is cause = inr (outcome.Missing path, source_missing settings listing rules has is)
     unreadable (unread.Limit kind) is cause = inr (outcome.Limit (limit_of kind), too_many_bytes settings listing rules has is)
     unreadable unread.Failed is cause = absurd cause
     unreadable unread.Memory is cause = absurd cause
 
-    made : (read : Files) → AreRead held listing.paths read → Ends words held
+    made : (read : Files) → AreRead held listing.paths read → Ends words held classes
     made read are =
-        let (report, is) = reports held settings.rulesets settings.minimum settings.marker rules has.loaded read in
+        let (report, is) = reports held settings.rulesets settings.minimum settings.marker rules has.loaded (world_of classes settings.classes) read in
         inl (record { settings = settings; listing = listing; rules = rules; sources = read; report = report }, record { has_rules = has; read = are; reported = is })
 
-    of_rules : Ends words held
+    of_rules : Ends words held classes
     of_rules = elim (readings held listing.paths) [
       | inl (read, are) ↦ made read are
       | inr (refused, is) ↦ unreadable refused is (has_cause held _ is.path refused is.is_refused)
     ]
 
   module _ (settings : Settings) (listing : Listing) (has : HasSources words held settings listing) where
-    counted : (rules : EffectiveRules) → IsEffective held settings.rulesets settings.minimum settings.marker rules → Ends words held
+    counted : (rules : EffectiveRules) → IsEffective held settings.rulesets settings.minimum settings.marker rules → Ends words held classes
     counted rules effective = by (ltb greatest_count (count_of rules)) refl
       where
-        by : (b : Bool) → ltb greatest_count (count_of rules) ≡ b → Ends words held
+        by : (b : Bool) → ltb greatest_count (count_of rules) ≡ b → Ends words held classes
         by true e =
             inr (
               outcome.Limit limit.Rules,
@@ -97,25 +97,27 @@ module _ (listings : SomeListing) (readings : SomeOutcome) (reports : SomeReport
             )
         by false e = of_rules settings listing rules (record { has_sources = has; loaded = effective; few_rules = ltb-false greatest_count (count_of rules) e })
 
-    of_sources : LoadsOrFault held settings → Ends words held
-    of_sources (inl (rules, effective)) = counted rules effective
-    of_sources (inr (fault, is)) = inr (outcome.Rules fault, bad_rules settings listing has is)
+    of_sources : Ends words held classes
+    of_sources = elim (loads held settings.rulesets settings.minimum settings.marker) [
+      | inl (rules, effective) ↦ counted rules effective
+      | inr (fault, is) ↦ inr (outcome.Rules fault, bad_rules settings listing has is)
+    ]
 
-  module _ (settings : Settings) (asked : job words ≡ Ok settings) (loads : LoadsOrFault held settings) where
-    of_listing : (listing : Listing) → IsListing held settings.dirs listing → Ends words held
+  module _ (settings : Settings) (asked : job words ≡ Ok settings) where
+    of_listing : (listing : Listing) → IsListing held settings.dirs listing → Ends words held classes
     of_listing listing is = by (ltb most_files (length listing.paths)) refl
       where
-        by : (b : Bool) → ltb most_files (length listing.paths) ≡ b → Ends words held
+        by : (b : Bool) → ltb most_files (length listing.paths) ≡ b → Ends words held classes
         by true e = inr (outcome.Limit limit.Files, too_many_sources settings listing asked is (ltb-true most_files (length listing.paths) e))
-        by false e = of_sources settings listing (record { asked = asked; listed = is; few_sources = ltb-false most_files (length listing.paths) e }) loads
+        by false e = of_sources settings listing (record { asked = asked; listed = is; few_sources = ltb-false most_files (length listing.paths) e })
 
-    of_items : (missing : Option Bytes) → first_missing held settings.dirs ≡ missing → Ends words held
+    of_items : (missing : Option Bytes) → first_missing held settings.dirs ≡ missing → Ends words held classes
     of_items (Some item) is = inr (outcome.Missing item, nothing_there settings asked is)
     of_items None is = let (listing, listed) = listings held settings.dirs is in of_listing listing listed
 
-  of_words : (found : Result Settings UsageFault) → job words ≡ found → ((settings : Settings) → job words ≡ Ok settings → LoadsOrFault held settings) → Ends words held
-  of_words (Err fault) is loads = inr (outcome.Usage fault, usage is)
-  of_words (Ok settings) is loads = of_items settings is (loads settings is) (first_missing held settings.dirs) refl
+  of_words : (found : Result Settings UsageFault) → job words ≡ found → Ends words held classes
+  of_words (Err fault) is = inr (outcome.Usage fault, usage is)
+  of_words (Ok settings) is = of_items settings is (first_missing held settings.dirs) refl
 
-pub run_or_refusal : SomeListing → SomeOutcome → SomeReport → RunOrRefusal
-run_or_refusal listings readings reports words held loads = of_words listings readings reports words held (job words) refl loads
+pub run_or_refusal : SomeListing → SomeOutcome → SomeReport → RulesOrFirstFault → RunOrRefusal
+run_or_refusal listings readings reports loads words held classes = of_words listings readings reports loads words held classes (job words) refl

@@ -1,51 +1,44 @@
 -- What follows from the definitions.
-use Rattle.std.specs.Prelude.{◌≡◌, ◌⊎◌, ℕ, List, Ok, map}
+use Rattle.std.specs.Prelude.{◌≡◌, ◌⊎◌, ℕ, List, map}
 use Rattle.std.specs.List.{AllByRecursion}
 use Rattle.std.specs.List.Sorted.{IsStrictlySortedBy}
+use Rattle.pj_outside.specs.Doors.{ClassFolders}
 use Rattle.pj_outside.specs.Files.{Files, Bytes}
 use Rattle.pj_reports.specs.declared.report.Report.{Report}
 use Rattle.pj_reports.specs.declared.rows.FileRows.{FileRows}
 use Rattle.pj_rule_sets.specs.Rules.{EffectiveRules}
-use Rattle.pj_rules.specs.Load.{IsEffective, IsFirstFault}
-use Rattle.pj_rules.specs.declared.fault.RuleFault.{RuleFault}
-use Rattle.pj_settings.specs.Job.{job}
-use Rattle.pj_settings.specs.declared.settings.Settings.{Settings}
+use Rattle.pj_rules.specs.Load.{IsEffective}
 use Rattle.pj_sources.specs.Paths.{byte_order}
+use Rattle.pj_workers.specs.Cold.{World}
 use Rattle.pj_workers.specs.Laws.{AreInOrder}
 use Rattle.pj_check.specs.Cold.{IsColdOf}
 use Rattle.pj_check.specs.Refused.{IsRefused}
 use Rattle.pj_check.specs.Run.{IsRun, Run}
 use Rattle.pj_check.specs.declared.outcome.Outcome.{Outcome}
 
--- Words and files that have a run have no cause of refusal. So a run over a tree that tells its files comes to its report, or the tree
--- or the sink failed, or memory was wanting.
+-- Words and files that have a run have no cause of refusal. So a run over a tree that tells its files comes to its report, or the tree,
+-- the class path or the sink failed, or memory was wanting.
 abbrev pub RunIsNotRefused : Type 0
-RunIsNotRefused = (words : List Bytes) (held : Files) (run : Run) (outcome : Outcome) → IsRun words held run → IsRefused words held outcome → ⊥
+RunIsNotRefused = (words : List Bytes) (held : Files) (classes : ClassFolders) (run : Run) (outcome : Outcome) → IsRun words held classes run → IsRefused words held outcome → ⊥
 
 -- They have one cause of refusal at most.
 abbrev pub OneRefusal : Type 0
 OneRefusal = (words : List Bytes) (held : Files) (a b : Outcome) → IsRefused words held a → IsRefused words held b → a ≡ b
 
--- Words and files have one run at most.
+-- Words, files and class folders have one run at most.
 abbrev pub OneRun : Type 0
-OneRun = (words : List Bytes) (held : Files) (a b : Run) → IsRun words held a → IsRun words held b → a ≡ b
+OneRun = (words : List Bytes) (held : Files) (classes : ClassFolders) (a b : Run) → IsRun words held classes a → IsRun words held classes b → a ≡ b
 
 -- The report of a run has its files by path, in the order of their bytes, each once; and the rows of each file in order.
 abbrev pub ReportIsInOrder : Type 0
-ReportIsInOrder = (words : List Bytes) (held : Files) (run : Run) → IsRun words held run
+ReportIsInOrder = (words : List Bytes) (held : Files) (classes : ClassFolders) (run : Run) → IsRun words held classes run
     → IsStrictlySortedBy byte_order (map (λ (of_file : Bytes × FileRows). of_file.0) run.report.files) × AllByRecursion (λ (of_file : Bytes × FileRows). AreInOrder of_file.1) run.report.files
 
--- The rules that rulesets come to have a cold report of every list of sources.
+-- The rules that rulesets come to have a cold report of every list of sources, in every world of classes.
 abbrev pub SomeReport : Type 0
-SomeReport = (files : Files) (paths : List Bytes) (minimum : ℕ) (marker : Bytes) (set : EffectiveRules) → IsEffective files paths minimum marker set → (sources : Files)
-    → (report : Report) × IsColdOf sources set report
+SomeReport = (files : Files) (paths : List Bytes) (minimum : ℕ) (marker : Bytes) (set : EffectiveRules) → IsEffective files paths minimum marker set → (world : World) (sources : Files)
+    → (report : Report) × IsColdOf world sources set report
 
--- The rulesets that are asked for come to rules, or they have a first fault.
-abbrev pub LoadsOrFault : Files → Settings → Type 0
-LoadsOrFault held settings =
-    ((rules : EffectiveRules) × IsEffective held settings.rulesets settings.minimum settings.marker rules) ⊎ ((fault : RuleFault) × IsFirstFault held settings.rulesets fault)
-
--- Words and files have a run or a cause of refusal, where the rulesets that the words ask for come to rules or have a first fault.
+-- Words, files and class folders have a run or a cause of refusal.
 abbrev pub RunOrRefusal : Type 0
-RunOrRefusal = (words : List Bytes) (held : Files) → ((settings : Settings) → job words ≡ Ok settings → LoadsOrFault held settings)
-    → ((run : Run) × IsRun words held run) ⊎ ((outcome : Outcome) × IsRefused words held outcome)
+RunOrRefusal = (words : List Bytes) (held : Files) (classes : ClassFolders) → ((run : Run) × IsRun words held classes run) ⊎ ((outcome : Outcome) × IsRefused words held outcome)

@@ -1,19 +1,23 @@
 -- What each outcome of a run says.
-use Rattle.std.specs.Prelude.{⊤, ◌≡◌, ◌⊎◌, ◌++◌, ℕ, List, Contains, Option, Ok, Err}
-use Rattle.pj_outside.specs.Faults.{Rises}
+use Rattle.std.specs.Prelude.{⊤, ◌≡◌, ◌⊎◌, ◌++◌, ℕ, List, Contains, Option, IfSome, Ok, Err}
+use Rattle.pj_outside.specs.Doors.{ClassFolders, count_and}
+use Rattle.pj_outside.specs.Faults.{Rises, next_count}
 use Rattle.pj_outside.specs.Files.{Files, Bytes}
 use Rattle.pj_outside.specs.Putting.{Gets, GetsPrefix}
 use Rattle.pj_reports.specs.declared.report.Report.{Report}
 use Rattle.pj_settings.specs.Job.{job}
 use Rattle.pj_settings.specs.declared.settings.Settings.{Settings}
+use Rattle.pj_rule_sets.specs.Rules.{EffectiveRules}
 use Rattle.pj_sources.specs.Listing.{IsSourceOf}
+use Rattle.pj_sources.specs.Reading.{AreRead}
+use Rattle.pj_sources.specs.declared.listing.Listing.{Listing}
 use Rattle.pj_workers.specs.declared.work.Work.{Work}
 use Rattle.pj_check.specs.Formats.{report_text}
 use Rattle.pj_check.specs.Verdicts.{verdict_of}
 use Rattle.pj_check.specs.declared.verdict.Verdict.{Verdict}
 use Rattle.pj_check.specs.declared.verdict.Verdict.TheVariants as verdict
 use Rattle.pj_check.specs.Refused.{IsRefused}
-use Rattle.pj_check.specs.Run.{IsRun, Run, text_of}
+use Rattle.pj_check.specs.Run.{HasRules, IsRun, Run, text_of}
 use Rattle.pj_check.specs.declared.outcome.Outcome.{Outcome}
 use Rattle.pj_check.specs.declared.outcome.Outcome.TheVariants.{Clean, Violations, Errors, Usage, Rules, TreeFault, ClassFault, SinkFault, Missing, Limit, Memory}
 
@@ -22,34 +26,63 @@ abbrev pub Worked : Run → Work → Work → Type 0
 Worked run old new = new ≡ record { analysed = old.analysed ++ run.listing.paths; reused = old.reused; skipped = run.listing.skipped }
 
 -- The run came to this verdict, and the sink got the whole text of its report.
-pub record IsReported (verdict : Verdict) (words : List Bytes) (held : Files) (old new : Option Bytes) (before after : Work) : Type 0 where
+pub record IsReported (verdict : Verdict) (words : List Bytes) (held : Files) (classes : ClassFolders) (old new : Option Bytes) (before after : Work) : Type 0 where
   pub run : Run
-  pub is_run : IsRun words held run
+  pub is_run : IsRun words held classes run
   pub comes_to : verdict_of run.report ≡ verdict
   pub got : Gets old new (text_of run)
   pub worked : Worked run before after
 
 -- The sink got a prefix of the text of the run's report.
-pub record IsCut (words : List Bytes) (held : Files) (old new : Option Bytes) (before after : Work) : Type 0 where
+pub record IsCut (words : List Bytes) (held : Files) (classes : ClassFolders) (old new : Option Bytes) (before after : Work) : Type 0 where
   pub run : Run
-  pub is_run : IsRun words held run
+  pub is_run : IsRun words held classes run
   pub got : GetsPrefix old new (text_of run)
   pub worked : Worked run before after
 
--- What an outcome says of the words and the files of a tree that tells them, of what the sink held and holds, and of the work. Of a
--- fault of the tree and of want of memory they say nothing. No class is looked for.
-abbrev pub Says : Outcome → List Bytes → Files → Option Bytes → Option Bytes → Work → Work → Type 0
-Says Clean words held old new before after = IsReported verdict.Clean words held old new before after
-Says Violations words held old new before after = IsReported verdict.Violations words held old new before after
-Says Errors words held old new before after = IsReported verdict.Errors words held old new before after
-Says (Usage fault) words held old new before after = IsRefused words held (Usage fault)
-Says (Rules fault) words held old new before after = IsRefused words held (Rules fault)
-Says TreeFault words held old new before after = ⊤
-Says ClassFault words held old new before after = ⊥
-Says SinkFault words held old new before after = IsCut words held old new before after
-Says (Missing path) words held old new before after = IsRefused words held (Missing path)
-Says (Limit kind) words held old new before after = IsRefused words held (Limit kind)
-Says Memory words held old new before after = ⊤
+-- Nothing refuses the run before the sources are analysed.
+pub record IsReady (words : List Bytes) (held : Files) : Type 0 where
+  pub settings : Settings
+  pub listing : Listing
+  pub rules : EffectiveRules
+  pub sources : Files
+  pub has_rules : HasRules words held settings listing rules
+  pub read : AreRead held listing.paths sources
+
+-- What an outcome says of the words and the files of a tree that tells them, of the class folders, where the class path tells
+-- them, of what the sink held and holds, and of the work. Of a fault of the tree and of want of memory it says nothing. A fault of the
+-- class path comes once the sources are read.
+abbrev pub Says : Outcome → List Bytes → Files → Option ClassFolders → Option Bytes → Option Bytes → Work → Work → Type 0
+Says Clean words held told old new before after = IfSome told (λ classes. IsReported verdict.Clean words held classes old new before after)
+Says Violations words held told old new before after = IfSome told (λ classes. IsReported verdict.Violations words held classes old new before after)
+Says Errors words held told old new before after = IfSome told (λ classes. IsReported verdict.Errors words held classes old new before after)
+Says (Usage fault) words held told old new before after = IsRefused words held (Usage fault)
+Says (Rules fault) words held told old new before after = IsRefused words held (Rules fault)
+Says TreeFault words held told old new before after = ⊤
+Says ClassFault words held told old new before after = IsReady words held
+Says SinkFault words held told old new before after = IfSome told (λ classes. IsCut words held classes old new before after)
+Says (Missing path) words held told old new before after = IsRefused words held (Missing path)
+Says (Limit kind) words held told old new before after = IsRefused words held (Limit kind)
+Says Memory words held told old new before after = ⊤
+
+-- The sources were read and analysed by the rules of the rulesets, and nothing was used again.
+pub record IsAnalysed (words : List Bytes) (held : Files) (before after : Work) : Type 0 where
+  pub settings : Settings
+  pub listing : Listing
+  pub rules : EffectiveRules
+  pub sources : Files
+  pub has_rules : HasRules words held settings listing rules
+  pub read : AreRead held listing.paths sources
+  pub worked : after ≡ record { analysed = before.analysed ++ listing.paths; reused = before.reused; skipped = listing.skipped }
+
+-- What an outcome says of the words and the files of a tree that tells them, also where nothing is known of the class folders: nothing
+-- refuses a run that comes to a report.
+abbrev pub SaysOfFiles : Outcome → List Bytes → Files → Work → Work → Type 0
+SaysOfFiles Clean words held before after = IsAnalysed words held before after
+SaysOfFiles Violations words held before after = IsAnalysed words held before after
+SaysOfFiles Errors words held before after = IsAnalysed words held before after
+SaysOfFiles SinkFault words held before after = IsAnalysed words held before after
+SaysOfFiles other words held before after = ⊤
 
 -- the words ask for something
 abbrev pub AsksFor : (Settings → Type 0) → List Bytes → Type 0
@@ -64,7 +97,7 @@ SaysOfWords Errors words = AsksFor (λ settings. ⊤) words
 SaysOfWords (Usage fault) words = job words ≡ Err fault
 SaysOfWords (Rules fault) words = AsksFor (λ settings. ⊤) words
 SaysOfWords TreeFault words = AsksFor (λ settings. ⊤) words
-SaysOfWords ClassFault words = ⊥
+SaysOfWords ClassFault words = AsksFor (λ settings. ⊤) words
 SaysOfWords SinkFault words = AsksFor (λ settings. ⊤) words
 SaysOfWords (Missing path) words = AsksFor (λ settings. Contains settings.dirs path ⊎ IsSourceOf settings.dirs path) words
 SaysOfWords (Limit kind) words = AsksFor (λ settings. ⊤) words
@@ -74,6 +107,34 @@ SaysOfWords Memory words = ⊤
 abbrev pub CountsTreeFaults : Outcome → ℕ → ℕ → Type 0
 CountsTreeFaults TreeFault old new = Rises old new
 CountsTreeFaults other old new = new ≡ old
+
+-- The class path's faults rise exactly with `ClassFault`.
+abbrev pub CountsClassFaults : Outcome → ℕ → ℕ → Type 0
+CountsClassFaults ClassFault old new = Rises old new
+CountsClassFaults other old new = new ≡ old
+
+-- how many doors a class path gave and took back, and how many finds those had that it took
+pub record DoorCounts : Type 0 where
+  pub given : ℕ
+  pub taken : ℕ
+  pub finds : ℕ
+
+-- One door was opened and shut, and its finds were added.
+pub record OneDoor (old new : DoorCounts) : Type 0 where
+  pub given : new.given ≡ next_count old.given
+  pub taken : new.taken ≡ next_count old.taken
+  pub finds : (of_door : ℕ) × (new.finds ≡ count_and old.finds of_door)
+
+-- Each door that was opened is shut. There is none where a run ends before its sources are analysed, and one where it comes to its
+-- report; where the class path failed or memory was wanting, there is one or none.
+abbrev pub CountsDoors : Outcome → DoorCounts → DoorCounts → Type 0
+CountsDoors Clean old new = OneDoor old new
+CountsDoors Violations old new = OneDoor old new
+CountsDoors Errors old new = OneDoor old new
+CountsDoors SinkFault old new = OneDoor old new
+CountsDoors ClassFault old new = (new ≡ old) ⊎ OneDoor old new
+CountsDoors Memory old new = (new ≡ old) ⊎ OneDoor old new
+CountsDoors other old new = new ≡ old
 
 -- The sink's faults rise exactly with `SinkFault`.
 abbrev pub CountsSinkFaults : Outcome → ℕ → ℕ → Type 0

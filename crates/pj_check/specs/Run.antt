@@ -1,5 +1,6 @@
--- A run that nothing refuses: what its words, the files of its tree and its rulesets come to.
+-- A run that nothing refuses: what its words, the files of its tree, its rulesets and its class folders come to.
 use Rattle.std.specs.Prelude.{◌≡◌, ◌≤◌, List, length, Ok}
+use Rattle.pj_outside.specs.Doors.{ClassFolders}
 use Rattle.pj_outside.specs.Files.{Files, Bytes}
 use Rattle.pj_reports.specs.declared.report.Report.{Report}
 use Rattle.pj_rule_sets.specs.Rules.{EffectiveRules}
@@ -11,7 +12,7 @@ use Rattle.pj_sources.specs.Listing.{IsListing}
 use Rattle.pj_sources.specs.Reading.{AreRead}
 use Rattle.pj_sources.specs.declared.listing.Listing.{Listing}
 use Rattle.pj_check.specs.Formats.{report_text}
-use Rattle.pj_check.specs.Cold.{IsColdOf}
+use Rattle.pj_check.specs.Cold.{IsColdOf, world_of}
 
 -- all that a run works out, step by step
 pub record Run : Type 0 where
@@ -33,11 +34,11 @@ pub record HasRules (words : List Bytes) (held : Files) (settings : Settings) (l
   pub loaded : IsEffective held settings.rulesets settings.minimum settings.marker rules
   pub few_rules : count_of rules ≤ greatest_count
 
--- And the sources are read within the limits, and the report of the rules over them is this one.
-pub record IsRun (words : List Bytes) (held : Files) (run : Run) : Type 0 where
+-- And the sources are read within the limits, and the report of the rules over them is this one, in the world of the class folders.
+pub record IsRun (words : List Bytes) (held : Files) (classes : ClassFolders) (run : Run) : Type 0 where
   pub has_rules : HasRules words held run.settings run.listing run.rules
   pub read : AreRead held run.listing.paths run.sources
-  pub reported : IsColdOf run.sources run.rules run.report
+  pub reported : IsColdOf (world_of classes run.settings.classes) run.sources run.rules run.report
 
 -- the text of the run's report, in the format that was asked for
 abbrev pub text_of : Run → Bytes

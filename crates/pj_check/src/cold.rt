@@ -1,33 +1,17 @@
 //! The cold report.
-ghost use Rattle.std.specs.Prelude.{◌≡◌, ◌≢◌, ◌++◌, List, Err, IfOk, OnOk, map};
-ghost use Rattle.std.specs.List.{AllZip};
-ghost use Rattle.pj_workers.specs.Rules.{AreRulesOf, IsRuleOf, Rule as AnyRule};
+ghost use Rattle.std.specs.Prelude.{◌≡◌, ◌++◌, IfOk, IfSome, OnOk, map};
+ghost use Rattle.pj_table.specs.ClassWorld.{folders_world};
 ghost use Rattle.pj_check.specs.Cold.{IsColdOf};
-ghost use Rattle.pj_check.specs.Steps.{AreRows};
+ghost use Rattle.pj_check.specs.Steps.{AreRows, CountsDoorFaults};
 
 use pj_base::{Bytes, Copied, NoMemory, Text};
-use pj_names::{Answers, AskFault, MapOracle, RuleRowList};
-use pj_outside::Files;
+use pj_names::{AskFault, RuleRowList};
+use pj_outside::{ClassDoor, Files};
 use pj_reports::{PathRows, Report};
 use pj_rule_sets::{Rule, RuleSet};
-use pj_workers::{PathResults, Work, analyse_files};
+use pj_table::DoorOracle;
+use pj_workers::{PathResults, Work, analyse_files, sets_have_rules};
 use std::alloc::Global;
-
-/// The texts of these rules spell expressions, since the rules keep them.
-fn are_spelled(marker: &Text, rules: &[Rule])
-    ensures { (all : List AnyRule) × AllZip (IsRuleOf marker.now) rules.now all }
-{
-    for rule in rules {
-        let _ = rule.expressions();
-    }
-}
-
-/// The texts of each rule of the set spell expressions.
-fn rules_are_spelled(rules: &RuleSet)
-    ensures { (all : List AnyRule) × AreRulesOf rules.now all }
-{
-    are_spelled(rules.marker(), rules.rules().as_slice());
-}
 
 /// The rows of the rules, in the order of their numbers.
 fn rule_rows(alloc: Global, rules: &[Rule]) -> Result<RuleRowList, NoMemory>
@@ -52,40 +36,62 @@ fn rows_of(alloc: Global, found: PathResults) -> Result<PathRows, NoMemory>
     Ok(rows)
 }
 
-/// The rows of the files, in their order. There are no class folders, so that no class is there.
-fn all_rows(
+/// The door of an oracle that is asked no more.
+fn door_of<'a, D: ClassDoor>(oracle: DoorOracle<'a, D>) -> &'a mut D
+    ensures same_reference { result.ghost_name ≡ oracle.entry.door.ghost_name }
+    ensures same_door { result.now ≡ oracle.entry.door.now }
+{
+    oracle.door
+}
+
+/// What the rules find in the files, in their order, over the class folders of a door.
+fn file_results<D: ClassDoor>(
     alloc: Global,
+    door: &mut D,
     files: &[(Text, Bytes)],
     rules: &RuleSet,
     work: &mut Work,
-) -> Result<PathRows, AskFault>
-    ensures rows { IfOk result (AreRows rules.now files.now) }
-    ensures never_failed { result ≢ Err AskFault.Failed }
+) -> Result<PathResults, AskFault>
+    ensures found { IfSome (D.holds door.old) (λ folders. IfOk result (λ found. AreRows (folders_world folders).answer rules.now files.now (map (λ of_file. (of_file.0, of_file.1.rows)) found))) }
+    ensures faults { CountsDoorFaults (D.faults door.old) (D.faults door.new) result }
     ensures analysed { OnOk result (work.new.analysed ≡ work.old.analysed ++ map (λ file. file.0) files.now) }
     ensures reused { work.new.reused ≡ work.old.reused }
     ensures skipped { work.new.skipped ≡ work.old.skipped }
 {
-    rules_are_spelled(rules);
-    let mut oracle = MapOracle::new(alloc, Answers::new(alloc));
-    let found = analyse_files(alloc, &mut oracle, files, rules, work)?;
-    Ok(rows_of(alloc, found)?)
+    sets_have_rules(rules);
+    let mut oracle = DoorOracle::new(alloc, door);
+    let found = analyse_files(alloc, &mut oracle, files, rules, work);
+    let _door = door_of(oracle);
+    found
 }
 
-/// The cold report of the rules over the sources.
-pub fn cold_report(
+/// The rows of the files, in their order, over the class folders of a door.
+fn all_rows<D: ClassDoor>(
     alloc: Global,
-    sources: &Files,
+    door: &mut D,
+    files: &[(Text, Bytes)],
     rules: &RuleSet,
     work: &mut Work,
-) -> Result<Report, AskFault>
-    ensures cold { IfOk result (IsColdOf sources.now rules.now) }
-    ensures never_failed { result ≢ Err AskFault.Failed }
-    ensures analysed { OnOk result (work.new.analysed ≡ work.old.analysed ++ map (λ file. file.0) sources.now) }
+) -> Result<PathRows, AskFault>
+    ensures rows { IfSome (D.holds door.old) (λ folders. IfOk result (AreRows (folders_world folders).answer rules.now files.now)) }
+    ensures faults { CountsDoorFaults (D.faults door.old) (D.faults door.new) result }
+    ensures analysed { OnOk result (work.new.analysed ≡ work.old.analysed ++ map (λ file. file.0) files.now) }
     ensures reused { work.new.reused ≡ work.old.reused }
     ensures skipped { work.new.skipped ≡ work.old.skipped }
 {
-    rules_are_spelled(rules);
-    let files = all_rows(alloc, sources.as_slice(), rules, work)?;
+    let found = file_results(alloc, door, files, rules, work)?;
+    match rows_of(alloc, found) {
+        Ok(rows) => Ok(rows),
+        Err(NoMemory) => Err(AskFault::Memory),
+    }
+}
+
+/// The report of the rules, with these rows of the files.
+fn report_of(alloc: Global, files: PathRows, rules: &RuleSet) -> Result<Report, NoMemory>
+    ensures rules { IfOk result (λ report. report.rules ≡ map (λ rule. rule.row) rules.now.rules) }
+    ensures files { IfOk result (λ report. report.files ≡ files) }
+    ensures errors { IfOk result (λ report. report.errors ≡ rules.now.unusable) }
+{
     let errors = rules.unusable().copied()?;
     let rules = rule_rows(alloc, rules.rules().as_slice())?;
     Ok(Report {
@@ -93,4 +99,26 @@ pub fn cold_report(
         files,
         errors,
     })
+}
+
+/// The cold report of the rules over the sources and the class folders of a door.
+pub fn cold_report<D: ClassDoor>(
+    alloc: Global,
+    door: &mut D,
+    sources: &Files,
+    rules: &RuleSet,
+    work: &mut Work,
+) -> Result<Report, AskFault>
+    ensures cold { IfSome (D.holds door.old) (λ folders. IfOk result (IsColdOf (folders_world folders).answer sources.now rules.now)) }
+    ensures faults { CountsDoorFaults (D.faults door.old) (D.faults door.new) result }
+    ensures analysed { OnOk result (work.new.analysed ≡ work.old.analysed ++ map (λ file. file.0) sources.now) }
+    ensures reused { work.new.reused ≡ work.old.reused }
+    ensures skipped { work.new.skipped ≡ work.old.skipped }
+{
+    sets_have_rules(rules);
+    let files = all_rows(alloc, door, sources.as_slice(), rules, work)?;
+    match report_of(alloc, files, rules) {
+        Ok(report) => Ok(report),
+        Err(NoMemory) => Err(AskFault::Memory),
+    }
 }

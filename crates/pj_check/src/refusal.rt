@@ -1,12 +1,13 @@
 //! Why a run does not come to its report.
 ghost use Rattle.std.specs.Prelude.{◌≡◌};
-ghost use Rattle.pj_check.specs.Steps.{after_asking, after_listing, after_loading, after_reading, after_words, ended};
+ghost use Rattle.pj_check.specs.Steps.{after_asking, after_listing, after_loading, after_opening, after_reading, after_words, outcome_of};
 
 use crate::Verdict;
 use crate::limit::{LimitKind, limit_of};
 use crate::outcome::Outcome;
 use pj_base::{NoMemory, Text};
 use pj_names::AskFault;
+use pj_outside::Refused;
 use pj_rules::{RuleFault, RuleRefused};
 use pj_settings::{UsageFault, UsageRefused};
 use pj_sources::{ListRefused, ReadRefused};
@@ -80,6 +81,16 @@ impl From<NoMemory> for Refusal {
     }
 }
 
+/// Why no door is open.
+pub fn after_opening(refused: Refused) -> Refusal
+    ensures { result ≡ after_opening refused }
+{
+    match refused {
+        Refused::Failed => Refusal::ClassFault,
+        Refused::Memory => Refusal::Memory,
+    }
+}
+
 /// Why there is no report.
 pub fn after_asking(fault: AskFault) -> Refusal
     ensures { result ≡ after_asking fault }
@@ -91,8 +102,8 @@ pub fn after_asking(fault: AskFault) -> Refusal
 }
 
 /// What a run comes to that ended so.
-pub fn ended(end: Result<Verdict, Refusal>) -> Outcome
-    ensures { result ≡ ended end }
+pub fn outcome_of(end: Result<Verdict, Refusal>) -> Outcome
+    ensures { result ≡ outcome_of end }
 {
     match end {
         Ok(Verdict::Clean) => Outcome::Clean,

@@ -1,5 +1,5 @@
 //! The steps of a run up to its rules and sources.
-ghost use Rattle.std.specs.Prelude.{◌≡◌, ◌≢◌, ◌++◌, List, Ok, Err, Option, IfOk, IfErr, IfSome, OnOk, map};
+ghost use Rattle.std.specs.Prelude.{◌≡◌, ◌≢◌, List, Ok, Err, Option, IfOk, IfErr, IfSome};
 ghost use Rattle.pj_outside.specs.Files.{Bytes, Files as AnyFiles};
 ghost use Rattle.pj_rule_sets.specs.Rules.{EffectiveRules};
 ghost use Rattle.pj_settings.specs.Job.{job};
@@ -7,26 +7,20 @@ ghost use Rattle.pj_settings.specs.declared.settings.Settings.{Settings as AnySe
 ghost use Rattle.pj_sources.specs.Listing.{AreSourcesOf, IsListing};
 ghost use Rattle.pj_sources.specs.Reading.{AreRead, AreWithin};
 ghost use Rattle.pj_sources.specs.declared.listing.Listing.{Listing as AnyListing};
-ghost use Rattle.pj_check.specs.Cold.{IsColdOf};
 ghost use Rattle.pj_check.specs.Run.{HasRules, HasSources};
 ghost use Rattle.pj_check.specs.Steps.{CountsFaults, Explains};
 
-use crate::cold::cold_report;
 use crate::limit::limit_of;
-use crate::refusal::{
-    Refusal, after_asking, after_listing, after_loading, after_reading, after_words,
-};
+use crate::refusal::{Refusal, after_listing, after_loading, after_reading, after_words};
 use pj_base::Words;
 use pj_outside::{Files, Tree};
-use pj_reports::Report;
 use pj_rules::{RuleSet, load};
 use pj_settings::{Settings, read};
 use pj_sources::{Listing, list_sources, read_sources, test_files};
-use pj_workers::Work;
 use std::alloc::Global;
 
 /// What the words ask for.
-pub fn asked(alloc: Global, words: &Words) -> Result<Settings, Refusal>
+pub fn read_settings(alloc: Global, words: &Words) -> Result<Settings, Refusal>
     ensures asked { IfOk result (λ settings. job words.now ≡ Ok settings) }
     ensures refused { (told : Option AnyFiles) → IfErr result (Explains words.now told) }
     ensures no_fault { result ≢ Err Refusal.TreeFault }
@@ -38,7 +32,7 @@ pub fn asked(alloc: Global, words: &Words) -> Result<Settings, Refusal>
 }
 
 /// The list of the sources that are asked for.
-fn list<T: Tree>(alloc: Global, tree: &mut T, settings: &Settings) -> Result<Listing, Refusal>
+fn listing_of<T: Tree>(alloc: Global, tree: &mut T, settings: &Settings) -> Result<Listing, Refusal>
     ensures listed { IfSome (T.holds tree.old) (λ held. IfOk result (IsListing held settings.now.dirs)) }
     ensures sources { IfOk result (λ listing. AreSourcesOf settings.now.dirs listing.paths) }
     ensures refused { (words : List Bytes) → job words ≡ Ok settings.now → IfErr result (Explains words (T.holds tree.old)) }
@@ -53,7 +47,11 @@ fn list<T: Tree>(alloc: Global, tree: &mut T, settings: &Settings) -> Result<Lis
 }
 
 /// The sources that are asked for, where they are not too many.
-pub fn listed<T: Tree>(alloc: Global, tree: &mut T, settings: &Settings) -> Result<Listing, Refusal>
+pub fn listing_within_limit<T: Tree>(
+    alloc: Global,
+    tree: &mut T,
+    settings: &Settings,
+) -> Result<Listing, Refusal>
     ensures sources { (words : List Bytes) → job words ≡ Ok settings.now → IfSome (T.holds tree.old) (λ held. IfOk result (HasSources words held settings.now)) }
     ensures of_sources { IfOk result (λ listing. AreSourcesOf settings.now.dirs listing.paths) }
     ensures refused { (words : List Bytes) → job words ≡ Ok settings.now → IfErr result (Explains words (T.holds tree.old)) }
@@ -61,7 +59,7 @@ pub fn listed<T: Tree>(alloc: Global, tree: &mut T, settings: &Settings) -> Resu
     ensures counts_faults { CountsFaults (T.faults tree.old) (T.faults tree.new) result }
     ensures steady { T.never_fails tree.old → T.never_fails tree.new × (result ≢ Err Refusal.TreeFault) }
 {
-    let listing = list(alloc, tree, settings)?;
+    let listing = listing_of(alloc, tree, settings)?;
     match test_files(&listing.paths) {
         Ok(()) => Ok(listing),
         Err(kind) => Err(Refusal::Limit(limit_of(kind))),
@@ -69,7 +67,11 @@ pub fn listed<T: Tree>(alloc: Global, tree: &mut T, settings: &Settings) -> Resu
 }
 
 /// The rules of the rulesets that are asked for.
-pub fn loaded<T: Tree>(alloc: Global, tree: &mut T, settings: &Settings) -> Result<RuleSet, Refusal>
+pub fn load_rules<T: Tree>(
+    alloc: Global,
+    tree: &mut T,
+    settings: &Settings,
+) -> Result<RuleSet, Refusal>
     ensures rules { (words : List Bytes) (listing : AnyListing) → IfSome (T.holds tree.old) (λ held. HasSources words held settings.now listing) → IfSome (T.holds tree.old) (λ held. IfOk result (HasRules words held settings.now listing)) }
     ensures refused { (words : List Bytes) (listing : AnyListing) → job words ≡ Ok settings.now → IfSome (T.holds tree.old) (λ held. HasSources words held settings.now listing) → IfErr result (Explains words (T.holds tree.old)) }
     ensures same_files { T.holds tree.new ≡ T.holds tree.old }
@@ -100,24 +102,5 @@ pub fn sources_of<T: Tree>(alloc: Global, tree: &mut T, listing: &Listing) -> Re
     match read_sources(alloc, tree, &listing.paths) {
         Ok(sources) => Ok(sources),
         Err(refused) => Err(after_reading(refused)),
-    }
-}
-
-/// The cold report of the rules over the sources. No class is looked for, so that none can fail.
-pub fn reported(
-    alloc: Global,
-    sources: &Files,
-    rules: &RuleSet,
-    work: &mut Work,
-) -> Result<Report, Refusal>
-    ensures cold { IfOk result (IsColdOf sources.now rules.now) }
-    ensures refused { IfErr result (λ refusal. refusal ≡ Refusal.Memory) }
-    ensures analysed { OnOk result (work.new.analysed ≡ work.old.analysed ++ map (λ file. file.0) sources.now) }
-    ensures reused { work.new.reused ≡ work.old.reused }
-    ensures skipped { work.new.skipped ≡ work.old.skipped }
-{
-    match cold_report(alloc, sources, rules, work) {
-        Ok(report) => Ok(report),
-        Err(fault) => Err(after_asking(fault)),
     }
 }

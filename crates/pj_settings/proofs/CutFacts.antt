@@ -1,5 +1,5 @@
 -- Where `cut_at` cuts.
-use Rattle.std.proofs.Common.{◌≡◌, ◌≢◌, ◌∙◌, ◌<◌, ℕ, suc, [], ◌∷◌, ◌++◌, length, get_or, refl, ap, arith, append_assoc, append-nil, eqb, ne_eqb, eq-eqb}
+use Rattle.std.proofs.Common.{◌≡◌, ◌≢◌, ◌∙◌, ◌<◌, ℕ, suc, [], ◌∷◌, ◌++◌, length, get_or, refl, ap, arith, append_assoc, append-nil, ne_eqb, eq-eqb}
 use Rattle.clap.specs.Words.{Text}
 use Rattle.pj_settings.specs.Values.{cut_onto}
 

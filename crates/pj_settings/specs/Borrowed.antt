@@ -1,4 +1,5 @@
 -- What the borrowed words of options hold, for private clauses.
+use Rattle.std.specs.Option.{option_map}
 use Rattle.pj_settings.specs.Job.{Given}
 use Rattle.pj_settings.specs.declared.reading.Given as borrowed
 
@@ -7,6 +8,7 @@ given_seen g = record {
   dir = g.dir.now;
   rulesets = g.rulesets.now;
   format = g.format.now;
+  classes = option_map (λ word. word.now) g.classes;
   threads = g.threads.now;
   minimum = g.minimum.now;
   marker = g.marker.now;

@@ -1,21 +1,22 @@
 -- What words ask for: first the line, as `clap` takes it, then the values of the options, in the order of the options.
-use Rattle.std.specs.Prelude.{◌≡◌, ⊤, Bool, false, List, [], ◌∷◌, Result, Ok, Err, codes, unwrap_or}
+use Rattle.std.specs.Prelude.{◌≡◌, ⊤, Bool, false, List, [], ◌∷◌, Option, Result, Ok, Err, codes, unwrap_or}
 use Rattle.std.specs.Prelude.{if◌then◌else◌}
 use Rattle.std.specs.Str.{bytes_eq}
 use Rattle.clap.specs.Words.{Kinds, Row, Text, fault_of, first_of, matches_of}
 use Rattle.pj_settings.specs.Options.{check_app}
-use Rattle.pj_settings.specs.Values.{format_value, list_value, marker_value, number_value, version_value}
+use Rattle.pj_settings.specs.Values.{classes_value, format_value, list_value, marker_value, number_value, version_value}
 use Rattle.pj_settings.specs.declared.settings.Settings.{Settings}
 use Rattle.pj_settings.specs.declared.usage.UsageFault.{UsageFault}
 use Rattle.pj_settings.specs.declared.usage.UsageFault.TheVariants as usage
 use Rattle.pj_settings.specs.declared.usage.UsageRefused.{UsageRefused}
 use Rattle.pj_settings.specs.declared.usage.UsageRefused.TheVariants as refused
 
--- the value of an option, or its default; `clap` sees to it that the two without one are there
+-- the value of an option, or its default; `clap` sees to it that the first two are there
 pub record Given : Type 0 where
   pub dir : Text
   pub rulesets : Text
   pub format : Text
+  pub classes : Option Text
   pub threads : Text
   pub minimum : Text
   pub marker : Text
@@ -29,6 +30,7 @@ given_of rows = record {
   dir = value_of (codes "dir") [] rows;
   rulesets = value_of (codes "rulesets") [] rows;
   format = value_of (codes "format") (codes "text") rows;
+  classes = first_of (codes "aux-classpath") rows;
   threads = value_of (codes "threads") (codes "1") rows;
   minimum = value_of (codes "minimum-priority") (codes "5") rows;
   marker = value_of (codes "suppress-marker") (codes "NOPMD") rows;
@@ -47,11 +49,12 @@ settings_of g =
     and_then (list_value 44 (codes "--dir") g.dir) (λ dirs.
     and_then (list_value 44 (codes "--rulesets") g.rulesets) (λ rulesets.
     and_then (format_value g.format) (λ form.
+    and_then (classes_value g.classes) (λ classes.
     and_then (number_value (codes "--threads") 0 64 g.threads) (λ threads.
     and_then (number_value (codes "--minimum-priority") 1 5 g.minimum) (λ minimum.
     and_then (marker_value g.marker) (λ marker.
     and_then (version_value g.version) (λ _.
-    Ok (record { dirs = dirs; rulesets = rulesets; format = form; threads = threads; minimum = minimum; marker = marker }))))))))
+    Ok (record { dirs = dirs; rulesets = rulesets; format = form; classes = classes; threads = threads; minimum = minimum; marker = marker })))))))))
 
 abbrev pub rows_job : List Row → Result Settings UsageFault
 rows_job rows = settings_of (given_of rows)

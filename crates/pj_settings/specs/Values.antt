@@ -33,6 +33,11 @@ list_value mark option word =
     if list_any is_empty (cut_at mark word) then Err (usage.Value option word)
     else Ok (cut_at mark word)
 
+-- the class folders are split at `:`; without the option there are none
+abbrev pub classes_value : Option Text → Result (List Text) UsageFault
+classes_value None = Ok []
+classes_value (Some word) = list_value 58 (codes "--aux-classpath") word
+
 -- a decimal has no sign, and no leading zero but `0` itself
 abbrev pub is_decimal : Text → Bool
 is_decimal text = all_ascii_digits text

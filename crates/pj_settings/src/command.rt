@@ -49,6 +49,7 @@ fn check_command<'a>(alloc: Global) -> Result<Command<'a>, AllocError>
     let dir = dir_option(alloc);
     let rulesets = rulesets_option(alloc);
     let format = format_option(alloc);
+    let classes = long_option(alloc, "aux-classpath");
     let threads = long_option(alloc, "threads");
     let minimum = long_option(alloc, "minimum-priority");
     let marker = long_option(alloc, "suppress-marker");
@@ -58,6 +59,7 @@ fn check_command<'a>(alloc: Global) -> Result<Command<'a>, AllocError>
         .arg(dir)?
         .arg(rulesets)?
         .arg(format)?
+        .arg(classes)?
         .arg(threads)?
         .arg(minimum)?
         .arg(marker)?

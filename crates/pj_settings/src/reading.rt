@@ -1,5 +1,6 @@
 //! From words to settings.
 ghost use Rattle.std.specs.Prelude.{◌≡◌, unwrap_or};
+ghost use Rattle.std.specs.Option.{option_map};
 ghost use Rattle.clap.specs.Words.{first_of, found_of, rows_of};
 ghost use Rattle.pj_settings.specs.Job.{Gives, given_of, job, rows_job, settings_of};
 ghost use Rattle.pj_settings.specs.Borrowed.{given_seen};
@@ -8,30 +9,39 @@ use crate::command::matched;
 use crate::settings::Settings;
 use crate::usage::{UsageFault, UsageRefused};
 use crate::values::{
-    format_value, list_value, marker_value, minimum_value, threads_value, version_value,
+    classes_value, format_value, items_value, marker_value, minimum_value, threads_value,
+    version_value,
 };
 use clap::ArgMatches;
 use pj_base::Words;
 use std::alloc::Global;
 use std::convert::AsStr;
 
-/// The word of each option, or its default.
+/// The word of each option, or its default. The class folders have none.
 #[derive(Drop)]
 struct Given<'a> {
     dir: &'a str,
     rulesets: &'a str,
     format: &'a str,
+    classes: Option<&'a str>,
     threads: &'a str,
     minimum: &'a str,
     marker: &'a str,
     version: &'a str,
 }
 
+/// The value of an option, where it is given.
+fn value_of<'a>(matches: &ArgMatches<'a>, id: &str) -> Option<&'a str>
+    ensures { option_map (λ word. word.now) result ≡ first_of id.now (rows_of (found_of matches.now)) }
+{
+    matches.get_str(id)
+}
+
 /// The value of an option, or what stands for it.
 fn value_or<'a>(matches: &ArgMatches<'a>, id: &str, default: &'a str) -> &'a str
     ensures { result.now ≡ unwrap_or (first_of id.now (rows_of (found_of matches.now))) default.entry.now }
 {
-    match matches.get_str(id) {
+    match value_of(matches, id) {
         Some(value) => value,
         None => default,
     }
@@ -45,6 +55,7 @@ fn given_of<'a>(matches: &ArgMatches<'a>) -> Given<'a>
         dir: value_or(matches, "dir", ""),
         rulesets: value_or(matches, "rulesets", ""),
         format: value_or(matches, "format", "text"),
+        classes: value_of(matches, "aux-classpath"),
         threads: value_or(matches, "threads", "1"),
         minimum: value_or(matches, "minimum-priority", "5"),
         marker: value_or(matches, "suppress-marker", "NOPMD"),
@@ -56,9 +67,10 @@ fn given_of<'a>(matches: &ArgMatches<'a>) -> Given<'a>
 fn settings_of(alloc: Global, given: &Given<'_>) -> Result<Settings, UsageRefused>
     ensures { Gives result (settings_of (given_seen given.now)) }
 {
-    let dirs = list_value(alloc, "--dir", given.dir)?;
-    let rulesets = list_value(alloc, "--rulesets", given.rulesets)?;
+    let dirs = items_value(alloc, "--dir", given.dir)?;
+    let rulesets = items_value(alloc, "--rulesets", given.rulesets)?;
     let format = format_value(alloc, given.format)?;
+    let classes = classes_value(alloc, given.classes)?;
     let threads = threads_value(alloc, given.threads)?;
     let minimum = minimum_value(alloc, given.minimum)?;
     let marker = marker_value(alloc, given.marker)?;
@@ -67,6 +79,7 @@ fn settings_of(alloc: Global, given: &Given<'_>) -> Result<Settings, UsageRefuse
         dirs,
         rulesets,
         format,
+        classes,
         threads,
         minimum,
         marker,

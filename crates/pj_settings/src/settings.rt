@@ -21,6 +21,8 @@ pub struct Settings {
     pub rulesets: Names,
     /// The form of the report.
     pub format: Format,
+    /// The class folders, in the order in which a class is looked for.
+    pub classes: Names,
     /// The number of workers; with 0 the caller's own thread works.
     pub threads: u32,
     /// The greatest number of a priority, from 1 to 5, whose rules are kept: 1 is the highest priority.

@@ -1,8 +1,9 @@
 //! The values of options.
 ghost use Rattle.std.specs.Prelude.{◌≡◌, ◌<◌, ◌≤◌, ◌^◌, IfSome, codes};
+ghost use Rattle.std.specs.Option.{option_map};
 ghost use Rattle.std.specs.Str.{all_ascii_digits};
 ghost use Rattle.pj_settings.specs.Job.{Gives, RefusedBy};
-ghost use Rattle.pj_settings.specs.Values.{format_named, format_value, is_decimal, list_value, marker_value, number_between, number_value, version_value};
+ghost use Rattle.pj_settings.specs.Values.{classes_value, format_named, format_value, is_decimal, list_value, marker_value, number_between, number_value, version_value};
 
 use crate::settings::Format;
 use crate::usage::{UsageFault, UsageRefused};
@@ -109,13 +110,14 @@ pub fn format_value(alloc: Global, word: &str) -> Result<Format, UsageRefused>
     }
 }
 
-/// The items of the word between its commas.
-pub fn list_value(alloc: Global, option: &str, word: &str) -> Result<Names, UsageRefused>
-    ensures { Gives result (list_value 44 option.now word.now) }
+/// The items of the word between the marks, which are ASCII.
+fn list_value(alloc: Global, mark: char, option: &str, word: &str) -> Result<Names, UsageRefused>
+    requires { mark < 128 }
+    ensures { Gives result (list_value mark option.now word.now) }
 {
     let mut names = Names::new(alloc);
     let mut left = word;
-    while let Some((piece, rest)) = left.split_once(',') {
+    while let Some((piece, rest)) = left.split_once(mark) {
         if piece.is_empty() {
             return Err(bad_value(alloc, option, word));
         }
@@ -127,6 +129,23 @@ pub fn list_value(alloc: Global, option: &str, word: &str) -> Result<Names, Usag
     }
     names.push(Text::from_str(alloc, left)?)?;
     Ok(names)
+}
+
+/// The items of the word between its commas.
+pub fn items_value(alloc: Global, option: &str, word: &str) -> Result<Names, UsageRefused>
+    ensures { Gives result (list_value 44 option.now word.now) }
+{
+    list_value(alloc, ',', option, word)
+}
+
+/// The class folders, split at `:`. Without a word there are none.
+pub fn classes_value(alloc: Global, word: Option<&str>) -> Result<Names, UsageRefused>
+    ensures { Gives result (classes_value (option_map (λ text. text.now) word.entry)) }
+{
+    match word {
+        Some(word) => list_value(alloc, ':', "--aux-classpath", word),
+        None => Ok(Names::new(alloc)),
+    }
 }
 
 /// The marker, which is not empty.

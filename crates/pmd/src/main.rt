@@ -1,9 +1,9 @@
-//! The program: `pmd check -d SOURCES -R RULESETS` over the real file system.
+//! The program: `pmd check -d SOURCES -R RULESETS --aux-classpath FOLDERS` over the real file system.
 #![tactic(auto)]
 
 ghost use Rattle.std.specs.Prelude.{◌≡◌, ◌≢◌, IfSome};
 ghost use Rattle.pj_check.specs.Notes.{GetNotes, notes_of};
-ghost use Rattle.pj_check.specs.Outcome.{CountsSinkFaults, CountsTreeFaults, KeepsWork, Says, SaysOfSink, SaysOfWords};
+ghost use Rattle.pj_check.specs.Outcome.{CountsClassFaults, CountsDoors, CountsSinkFaults, CountsTreeFaults, KeepsWork, Says, SaysOfFiles, SaysOfSink, SaysOfWords};
 
 #[cfg(test)]
 mod tests;
@@ -30,7 +30,8 @@ fn run<T: Tree, C: ClassPath, K: Keeper, S: Sink, N: Sink>(
     notes: &mut N,
     work: &mut Work,
 ) -> Outcome
-    ensures says { IfSome (T.holds tree.old) (λ held. Says result words.now held (S.held out.old) (S.held out.new) work.old work.new) }
+    ensures says { IfSome (T.holds tree.old) (λ held. Says result words.now held (C.holds classes.old) (S.held out.old) (S.held out.new) work.old work.new) }
+    ensures of_files { IfSome (T.holds tree.old) (λ held. SaysOfFiles result words.now held work.old work.new) }
     ensures of_words { SaysOfWords result words.now }
     ensures of_sink { SaysOfSink result words.now (S.held out.old) (S.held out.new) }
     ensures notes { GetNotes (notes_of result) (N.held notes.old) (N.held notes.new) (N.faults notes.old) (N.faults notes.new) }
@@ -38,7 +39,10 @@ fn run<T: Tree, C: ClassPath, K: Keeper, S: Sink, N: Sink>(
     ensures tree_faults { CountsTreeFaults result (T.faults tree.old) (T.faults tree.new) }
     ensures steady { T.never_fails tree.old → T.never_fails tree.new × (result ≢ Outcome.TreeFault) }
     ensures sink_faults { CountsSinkFaults result (S.faults out.old) (S.faults out.new) }
-    ensures same_classes { classes.new ≡ classes.old }
+    ensures same_folders { C.holds classes.new ≡ C.holds classes.old }
+    ensures steady_classes { C.never_fails classes.old → C.never_fails classes.new × (result ≢ Outcome.ClassFault) }
+    ensures class_faults { CountsClassFaults result (C.faults classes.old) (C.faults classes.new) }
+    ensures doors { CountsDoors result (record { given = C.given classes.old; taken = C.taken classes.old; finds = C.finds classes.old }) (record { given = C.given classes.new; taken = C.taken classes.new; finds = C.finds classes.new }) }
     ensures same_keeper { keeper.new ≡ keeper.old }
     ensures reused { work.new.reused ≡ work.old.reused }
     ensures keeps_work { KeepsWork result work.old work.new }
@@ -72,8 +76,8 @@ fn main(rt: HostRuntime) -> ExitCode {
     };
     let alloc = rt.alloc();
     let mut tree = RealTree::new(rt);
-    // The cold run looks for no class and keeps nothing: these two are not called.
     let mut classes = RealClassPath::new(rt);
+    // The cold run keeps nothing: this one is not called.
     let mut keeper = RealKeeper::new(rt, process::id(rt.process()));
     let mut out = RealSink::new(io::writer(&rt));
     let mut work = Work::new(alloc);

@@ -1,10 +1,15 @@
 //! Which calls of a run fail.
 
-/// The numbers of the calls that fail, of the tree, of the sink of the report and of that of the notes. 0 is none.
+/// The numbers of the calls that fail, of the tree, of those that open a door to the class folders, of the finds of the first door, of the
+/// sink of the report and of that of the notes. 0 is none.
 #[derive(Clone, Copy)]
 pub struct Failing {
     /// Of the tree.
     pub tree: u32,
+    /// Of those that open a door.
+    pub classes: u32,
+    /// Of the finds of the first door.
+    pub find: u32,
     /// Of the sink of the report.
     pub report: u32,
     /// Of the sink of the notes.
@@ -23,21 +28,14 @@ fn number_of(given: &str, sought: &str) -> u32 {
 }
 
 impl Failing {
-    /// Those that a row gives.
+    /// Those that a row or a section gives.
     pub fn of(given: &str) -> Failing {
         Failing {
             tree: number_of(given, "tree"),
+            classes: number_of(given, "classes"),
+            find: number_of(given, "find"),
             report: number_of(given, "report"),
             notes: number_of(given, "notes"),
-        }
-    }
-
-    /// None.
-    pub fn none() -> Failing {
-        Failing {
-            tree: 0,
-            report: 0,
-            notes: 0,
         }
     }
 }

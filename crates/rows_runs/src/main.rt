@@ -2,6 +2,7 @@
 #![tactic(auto)]
 
 mod calls;
+mod classes;
 mod notes;
 mod outcome;
 mod put;
@@ -18,7 +19,7 @@ use sources::Sources;
 use std::process::ExitCode;
 
 /// The files of whole runs.
-static RUNS: [&str; 8] = [
+static RUNS: [&str; 9] = [
     "queries.rows",
     "rulesets.rows",
     "paths.rows",
@@ -26,6 +27,7 @@ static RUNS: [&str; 8] = [
     "findings.rows",
     "refusals.rows",
     "calls.rows",
+    "classes.rows",
     "work.rows",
 ];
 

@@ -19,6 +19,7 @@ fn outcome_of(alloc: Global, word: &str, text: Text) -> Option<Outcome> {
             path: text,
             what: RuleWhat::RefCycle(Text::new(alloc)),
         })),
+        "ClassFault" => Some(Outcome::ClassFault),
         "Missing" => Some(Outcome::Missing(text)),
         "FileBytes" => Some(Outcome::Limit(LimitKind::FileBytes(text))),
         "Memory" => Some(Outcome::Memory),

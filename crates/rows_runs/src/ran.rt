@@ -1,8 +1,9 @@
 //! Runs over trees and sinks in memory, and what they leave.
 use crate::calls::Failing;
+use crate::classes::{CountedClasses, classes_of};
 use pj_base::{NoMemory, Numbers, Words};
 use pj_check::{Outcome, check_alone};
-use pj_outside::{Files, Folders, MemClassPath, MemKeeper, MemSink, MemTree, Pairs};
+use pj_outside::{Files, MemKeeper, MemSink, MemTree};
 use pj_row_folders::tree_of;
 use pj_workers::Work;
 use std::alloc::Global;
@@ -18,6 +19,8 @@ pub struct Ran {
     pub notes: MemSink,
     /// What it tells of its work.
     pub work: Work,
+    /// The class path.
+    pub classes: CountedClasses,
 }
 
 /// A sink whose call of this number fails. Calls are counted from 1.
@@ -27,25 +30,15 @@ fn sink_of(alloc: Global, call: u32) -> Result<MemSink, NoMemory> {
     Ok(MemSink::new(alloc, fail))
 }
 
-/// A class path without a folder.
-fn no_classes(alloc: Global) -> MemClassPath {
-    MemClassPath::new(
-        alloc,
-        Folders::new(alloc),
-        Numbers::new(alloc),
-        Pairs::new(alloc),
-    )
-}
-
-/// What a run of these words over this tree leaves in these sinks.
+/// What a run of these words over this tree and these class folders leaves in these sinks.
 fn run_into(
     alloc: Global,
     words: &Words,
     tree: &mut MemTree,
+    mut classes: CountedClasses,
     mut report: MemSink,
     mut notes: MemSink,
 ) -> Ran {
-    let mut classes = no_classes(alloc);
     let mut keeper = MemKeeper::new(alloc, Numbers::new(alloc));
     let mut work = Work::new(alloc);
     let outcome = check_alone(
@@ -63,13 +56,15 @@ fn run_into(
         report,
         notes,
         work,
+        classes,
     }
 }
 
 /// What a run of these words over these files leaves, where these calls fail.
 pub fn run(alloc: Global, files: Files, words: &Words, failing: Failing) -> Result<Ran, NoMemory> {
+    let classes = classes_of(alloc, &files, failing)?;
     let mut tree = tree_of(alloc, files, Some(failing.tree))?;
     let report = sink_of(alloc, failing.report)?;
     let notes = sink_of(alloc, failing.notes)?;
-    Ok(run_into(alloc, words, &mut tree, report, notes))
+    Ok(run_into(alloc, words, &mut tree, classes, report, notes))
 }

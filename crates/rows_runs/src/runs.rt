@@ -53,6 +53,18 @@ fn put_work(out: &mut String, work: &Work) -> Result<(), NoMemory> {
     Ok(())
 }
 
+/// Puts the outcome with the exit status, and how many doors to the class folders were given and taken back, with their finds.
+fn put_doors(out: &mut String, ran: &Ran) -> Result<(), NoMemory> {
+    put_outcome(out, &ran.outcome)?;
+    let (given, taken, finds) = (
+        ran.classes.given(),
+        ran.classes.taken(),
+        ran.classes.finds(),
+    );
+    write!(out, "; doors given {given}, taken {taken}, finds {finds}")?;
+    Ok(())
+}
+
 /// Puts the outcome with the exit status, below it the notes, and below these the report.
 fn put_ran(out: &mut String, ran: &Ran) -> Result<(), NoMemory> {
     put_outcome(out, &ran.outcome)?;
@@ -65,16 +77,17 @@ fn told(alloc: Global, section: &Section, ran: &Ran) -> Result<String, NoMemory>
     let mut out = String::new(alloc);
     match section.setting("asks") {
         Some("work") => put_work(&mut out, &ran.work)?,
+        Some("doors") => put_doors(&mut out, ran)?,
         _ => put_ran(&mut out, ran)?,
     }
     Ok(out)
 }
 
-/// Which calls fail in a row.
+/// Which calls fail in a row: those that it gives, or those of its section.
 fn failing_of(section: &Section, given: &str) -> Failing {
     match section.setting("asks") {
         Some("calls") => Failing::of(given),
-        _ => Failing::none(),
+        _ => Failing::of(section.setting("fails").unwrap_or("")),
     }
 }
 
@@ -93,7 +106,7 @@ fn answer_command(
 
 impl Table for Runs {
     fn has_setting(&self, name: &str) -> bool {
-        matches!(name, "file" | "run" | "asks")
+        matches!(name, "file" | "run" | "asks" | "fails")
     }
 
     fn answer(&self, alloc: Global, section: &Section, row: &Row) -> Result<String, NoMemory> {

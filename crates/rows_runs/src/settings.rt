@@ -27,14 +27,23 @@ fn format_word(format: Format) -> &'static str {
     }
 }
 
-/// Puts the sources, the rulesets, the format, the number of workers, the least priority and the marker.
+/// Puts each class folder behind a blank.
+fn put_classes(out: &mut String, classes: &Names) -> Result<(), NoMemory> {
+    for folder in classes.as_slice() {
+        put(out, &[" [", folder.as_str(), "]"])?;
+    }
+    Ok(())
+}
+
+/// Puts the sources, the rulesets, the format, the number of workers, the least priority, the marker and the class folders.
 fn put_settings(out: &mut String, settings: &Settings) -> Result<(), NoMemory> {
     put_items(out, &settings.dirs)?;
     put_items(out, &settings.rulesets)?;
     let (threads, minimum) = (settings.threads, settings.minimum);
     put(out, &[format_word(settings.format)])?;
     write!(out, " {threads} {minimum} ")?;
-    put(out, &["[", settings.marker.as_str(), "]"])
+    put(out, &["[", settings.marker.as_str(), "]"])?;
+    put_classes(out, &settings.classes)
 }
 
 /// Puts what words ask for, or what is wrong with them.

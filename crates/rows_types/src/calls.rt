@@ -2,8 +2,6 @@
 
 ghost use Rattle.std.specs.Prelude.{◌<◌, length};
 
-use crate::noted::{Beneath, without_number};
-use crate::shown::put_type;
 use pj_base::{NoMemory, Text};
 use pj_calls::{
     Chosen, arguments_of, candidates_of, chosen_among, functions_of, receiver_of, result_or_unknown,
@@ -12,6 +10,7 @@ use pj_exprtypes::{Typed, type_of};
 use pj_file_oracle::{FileOracle, Held};
 use pj_names::{AskFault, Ty, TyList};
 use pj_outer_names::File;
+use pj_row_java::{Beneath, put_type, without_number};
 use pj_tree::{Kind, Node};
 use pj_types::Method;
 use pj_written::Nodes;

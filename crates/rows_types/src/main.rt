@@ -2,13 +2,10 @@
 #![tactic(auto)]
 
 mod calls;
-mod classes;
 mod file;
-mod noted;
-mod shown;
 
 use file::Types;
-use pj_marked::Java;
+use pj_row_java::Java;
 use pj_rows::Run;
 use std::process::ExitCode;
 

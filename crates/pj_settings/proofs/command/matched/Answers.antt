@@ -1,8 +1,6 @@
 use Rattle.std.proofs.Common.{◌≡◌, ◌∙◌, ap, ap₂, map, List, ℕ, refl, sym, inr}
 use Rattle.std.proofs.lemmas.List.{map-id}
 use Rattle.clap.specs.Words.{fault_of, is_simple, is_simple_and_free, matches_of}
-use Rattle.clap.specs.declared.error.kind.ErrorKind.TheVariants as kind
-use Rattle.pj_settings.specs.Options.{check_app}
 use Rattle.pj_settings.proofs.AppFacts.{check_app-free, check_app-simple, only_memory}
 use Rattle.pj_settings.proofs.command.matched.Goals as goal
 

@@ -1,10 +1,8 @@
 use Rattle.std.proofs.Common.{refl}
-use Rattle.clap.specs.Words.{found_of}
-use Rattle.clap.proofs.WalkLemmas.{first_value-rows}
 use Rattle.pj_settings.proofs.reading.value_or.Goals as goal
 
 pub returns-in-Some : goal.returns-in-Some
-returns-in-Some c = rw (← first_value-rows (found_of c.args.matches.now) c.args.id.now, ← c.get_str.ensures, c.in-Some.is) refl
+returns-in-Some c = rw (← c.value_of.ensures, c.in-Some.is) refl
 
 pub returns-in-None : goal.returns-in-None
-returns-in-None c = rw (← first_value-rows (found_of c.args.matches.now) c.args.id.now, ← c.get_str.ensures, c.in-None.is) refl
+returns-in-None c = rw (← c.value_of.ensures, c.in-None.is) refl

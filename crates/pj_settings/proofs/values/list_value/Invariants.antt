@@ -8,7 +8,7 @@ use Rattle.pj_settings.proofs.values.list_value.Given as goal
 abbrev pub invariant-loop-piece : goal.invariant-loop-piece
 invariant-loop-piece l = record {
   text : shadow (Utf8 l.left);
-  cut : cut_at 44 l.fn.word ≡ l.names ++ cut_at 44 l.left;
+  cut : cut_at l.fn.mark l.fn.word ≡ l.names ++ cut_at l.fn.mark l.left;
   full : list_any is_empty l.names ≡ false;
 }
 
