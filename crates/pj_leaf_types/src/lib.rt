@@ -11,8 +11,9 @@ mod written;
 
 pub use laws::sources_agree;
 pub use leaves::leaf_type;
+pub use superclass::superclass_of;
 pub use variables::{
     declared_by, first_name, initializer_of, is_in_own_initializer, is_var, is_var_name,
     statement_of,
 };
-pub use written::declared_type;
+pub use written::{created, declared_type};

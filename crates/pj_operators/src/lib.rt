@@ -13,3 +13,4 @@ pub use laws::{
 };
 pub use literals::{class_literal, number_type, string_type};
 pub use operators::{Infix, Unary, infix_of, infix_type, unary_of, unary_type};
+pub use same::same_type;

@@ -173,23 +173,67 @@ fn fields_of(alloc: Global, written: &str) -> Result<Members, NoMemory> {
     Ok(members)
 }
 
-/// A class with these words behind its name, and these fields.
+/// The flags of a method, and the method without the dots that say that it is one of variable arity.
+fn method_flags(word: &str) -> (u16, &str) {
+    match word.strip_prefix("...") {
+        Some(rest) => (0x0081, rest),
+        None => (0x0001, word),
+    }
+}
+
+/// The name of a method, which stands before its signature.
+fn method_name(word: &str) -> &str {
+    if word.starts_with("<init>") {
+        "<init>"
+    } else {
+        before(before(word, '<'), '(')
+    }
+}
+
+/// A method.
+fn method(alloc: Global, word: &str) -> Result<Member, NoMemory> {
+    let (flags, word) = method_flags(word);
+    let name = method_name(word);
+    let signature = word.strip_prefix(name).unwrap_or("");
+    let name = Text::from_str(alloc, name)?;
+    let signature = Text::from_str(alloc, signature)?;
+    Ok(Member {
+        flags,
+        name,
+        signature,
+    })
+}
+
+/// The methods that are written.
+fn methods_of(alloc: Global, written: &str) -> Result<Members, NoMemory> {
+    let mut members = Members::new(alloc);
+    for word in written.split(' ') {
+        if !word.is_empty() {
+            members.push(method(alloc, word)?)?;
+        }
+    }
+    Ok(members)
+}
+
+/// A class with these words behind its name, these fields and these methods.
 fn found(
     alloc: Global,
     name: &ClassName,
     flags: u16,
     words: &str,
     fields: &str,
+    methods: &str,
 ) -> Result<Answer, NoMemory> {
     let name = name.copied()?;
     let signature = signature(alloc, words)?;
     let fields = fields_of(alloc, fields)?;
+    let methods = methods_of(alloc, methods)?;
     Ok(Answer::Found(ClassInfo {
         name,
         flags,
         signature,
         fields,
-        methods: Members::new(alloc),
+        methods,
     }))
 }
 
@@ -204,12 +248,13 @@ fn flags(entry: &str) -> u16 {
 
 /// What a class answers that is written so.
 fn answer_of(alloc: Global, name: &ClassName, entry: &str) -> Result<Answer, NoMemory> {
-    let (head, fields) = entry.split_once(" {").unwrap_or((entry, ""));
+    let (front, methods) = entry.split_once(" has ").unwrap_or((entry, ""));
+    let (head, fields) = front.split_once(" {").unwrap_or((front, ""));
     let (_, words) = without_word(head).split_once(' ').unwrap_or((head, ""));
     match words {
         "broken" => Ok(Answer::Broken(Broken::OtherName)),
         "absent" => Ok(Answer::Absent),
-        _ => found(alloc, name, flags(entry), words, fields),
+        _ => found(alloc, name, flags(entry), words, fields, methods),
     }
 }
 

@@ -4,8 +4,9 @@
 //! `/*!*/` stands before the declaration that is wanted. A text may have a name in front, and parts that are repeated.
 //!
 //! A line with `with` in front writes classes out that a file does not declare, with `and` between. A class is `q.C`, or `interface q.C`; behind it may stand
-//! `broken` or `absent`, or `extends` and its superclass, `implements` and its interfaces, or `signature` and its signature as it is; and then in braces its
-//! fields, as `{ int x; }`. Every other class is absent. Oracles over such classes note the names that they are asked.
+//! `broken` or `absent`, or `extends` and its superclass, `implements` and its interfaces, or `signature` and its signature as it is; then in braces its
+//! fields, as `{ int x; }`; and behind `has` its methods, each with its signature, as `has m(I)J <init>()V`. Before one of variable
+//! arity stands `...`. Every other class is absent. Oracles over such classes note the names that they are asked.
 #![tactic(auto)]
 
 mod classes;

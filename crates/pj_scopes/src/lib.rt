@@ -11,6 +11,7 @@ mod names;
 mod variable;
 mod variable_laws;
 
+pub use imports::{imported_class, static_imports};
 pub use laws::sources_agree;
 pub use names::resolve_name;
 pub use pj_file_oracle::{FileOracle, resolve_type};

@@ -3,6 +3,7 @@
 ghost use Rattle.std.specs.Prelude.{◌≡◌, ◌<◌, length};
 ghost use Rattle.pj_symbols.specs.Symbols.{symbols_of};
 
+use crate::calls::put_call;
 use pj_base::{NoMemory, Text};
 use pj_declared::Declarations;
 use pj_exprtypes::{Typed, type_of};
@@ -22,6 +23,8 @@ use std::alloc::Global;
 pub struct Types<'g> {
     /// The grammar of the texts.
     pub java: &'g Java,
+    /// Whether the rows are of calls: what is chosen for them, and the type of a method call.
+    pub is_of_calls: bool,
 }
 
 impl<'g> Table for Types<'g> {
@@ -30,7 +33,7 @@ impl<'g> Table for Types<'g> {
     }
 
     fn answer(&self, alloc: Global, section: &Section, row: &Row) -> Result<String, NoMemory> {
-        let found = answer_row(alloc, self.java, section, row.given.as_str())?;
+        let found = answer_row(alloc, self, section, row.given.as_str())?;
         Ok(found.into_string())
     }
 }
@@ -42,6 +45,7 @@ struct Asked<'r> {
     text: &'r str,
     classes: &'r str,
     is_again: bool,
+    is_of_calls: bool,
 }
 
 /// A text in which an expression stands in the place of a `$`, with a mark before it.
@@ -66,17 +70,18 @@ fn text_of(alloc: Global, section: &Section, line: &str) -> Result<Text, NoMemor
 /// The answer for what a row gives.
 fn answer_row(
     alloc: Global,
-    java: &Java,
+    table: &Types<'_>,
     section: &Section,
     given: &str,
 ) -> Result<Text, NoMemory> {
     let (line, classes) = given.split_once('\n').unwrap_or((given, ""));
     let text = text_of(alloc, section, line)?;
     let asked = Asked {
-        java,
+        java: table.java,
         text: text.as_str(),
         classes,
         is_again: section.has("again"),
+        is_of_calls: table.is_of_calls,
     };
     answer_text(alloc, &asked)
 }
@@ -129,7 +134,9 @@ fn answer_at(alloc: Global, file: &File<'_>, asked: &Asked<'_>, n: Node) -> Resu
 {
     let mut beneath = Beneath::of(alloc, asked.classes)?;
     let mut out = Text::new(alloc);
-    let found = if asked.is_again {
+    let found = if asked.is_of_calls {
+        put_call(alloc, file, &mut beneath, n, &mut out)
+    } else if asked.is_again {
         put_found_again(alloc, file, &mut beneath, n, &mut out)
     } else {
         put_found(alloc, file, &mut beneath, n, &mut out)
