@@ -1,9 +1,8 @@
--- Which caches have a text in format 2: what the format says of order, of keys and names, and that its numbers have room.
-use Rattle.std.specs.Prelude.{◌≡◌, ◌<◌, ◌^◌, ℕ, true, List, [], ◌∷◌, length, map, Option, Some, None}
+-- Which caches have a text in format 2: order and room at once, field by field, as they are read.
+use Rattle.std.specs.Prelude.{◌≡◌, ◌<◌, ◌^◌, ℕ, true, List, [], length, map, Option, Some, None}
 use Rattle.std.specs.Ordering.{nat_cmp}
 use Rattle.pj_format.specs.Fields.{Chain, Along}
 use Rattle.pj_names.specs.ClassName.{Name}
-use Rattle.pj_tree.specs.declared.node.Place.{Place}
 use Rattle.pj_reports.specs.declared.ruled.Head.{Head}
 use Rattle.pj_reports.specs.declared.ruled.Head.TheVariants as heads
 use Rattle.pj_reports.specs.declared.ruled.Ruled.{Ruled}
@@ -15,31 +14,26 @@ use Rattle.pj_cache.specs.declared.cache.Entry.{Entry}
 use Rattle.pj_cache.specs.declared.cache.Cache.{Cache}
 use Rattle.pj_cache.specs.Places.{byte_order, member_at}
 use Rattle.pj_cache_format.specs.Judges.{is_behind, is_path_behind}
-use Rattle.pj_cache_format.specs.Whole.{HasRoom, IsTextFor, AreAnswers}
-use Rattle.pj_cache_format.specs.FormatTwo.{is_key_place, is_name_place, first_of, with_places, keys_of, are_named}
+use Rattle.pj_cache_format.proofs.Whole.{AreAnswers}
+use Rattle.pj_cache_format.specs.FormatTwo.{is_key_place, is_name_place, keys_of, are_named}
 use Rattle.pj_cache.specs.Places.{place_in}
+use Rattle.pj_cache_format.specs.Fitting.{FitsHead, FitsPlace, FitsText, HasRoom}
+use Rattle.pj_cache_format.specs.Ordered.{places_of, result_step}
 
 -- Results.
 
-abbrev pub IsPlace : Place → Type 0
-IsPlace p = (p.line < 2 ^ 32) × (p.column < 2 ^ 32)
-
 abbrev pub IsSpotBehind : Option ℕ → Spot → Type 0
-IsSpotBehind before s = (s.node < 2 ^ 32) × (is_behind nat_cmp before s.node ≡ true) × IsPlace s.begin × IsPlace s.end
+IsSpotBehind before s = (s.node < 2 ^ 32) × (is_behind nat_cmp before s.node ≡ true) × FitsPlace s.begin × FitsPlace s.end
 
 abbrev pub AreRows : Ruled → Type 0
 AreRows (ruled.Spots spots) = HasRoom spots × Chain IsSpotBehind (λ before s. Some s.node) None spots
-AreRows (ruled.Message message) = IsTextFor message
+AreRows (ruled.Message message) = FitsText message
 
 abbrev pub IsKeyBehind : Option (List ℕ) → List ℕ → Type 0
 IsKeyBehind before key = HasRoom key × (is_behind byte_order before key ≡ true)
 
 abbrev pub AreKeys : List (List ℕ) → Type 0
 AreKeys keys = HasRoom keys × Chain IsKeyBehind (λ before key. Some key) None keys
-
--- the places of the keys of a result
-abbrev pub places_of : List (List ℕ) → CachedResult → List ℕ
-places_of keys r = map (λ (k : KeyRows). place_in keys k.key) r.group
 
 -- some places of keys, in a result behind the first key of another one
 abbrev pub AreKeyPlaces : ℕ → List ℕ → Option ℕ → List ℕ → Type 0
@@ -60,21 +54,14 @@ AreNames names list = HasRoom list × Chain (IsNameBehind names) (λ before name
 abbrev pub IsResultBehind : List (List ℕ) → List Name → Option ℕ × List ℕ → CachedResult → Type 0
 IsResultBehind keys names state r = AreKeyPlaces (length keys) state.1 state.0 (places_of keys r) × AreNames names r.names × Along (AreKeyRows keys) (places_of keys r) r.group
 
-abbrev pub result_step : List (List ℕ) → Option ℕ × List ℕ → CachedResult → Option ℕ × List ℕ
-result_step keys state r = (first_of (places_of keys r), with_places state.1 (places_of keys r))
-
 -- Entries.
-
-abbrev pub IsHead : Head → Type 0
-IsHead (heads.Package package_name) = IsTextFor package_name
-IsHead (heads.Message message) = IsTextFor message
 
 abbrev pub AreResults : List (List ℕ) → List Name → Head → List CachedResult → Type 0
 AreResults keys names (heads.Package package_name) results = HasRoom results × Chain (IsResultBehind keys names) (result_step keys) (None, []) results
 AreResults keys names (heads.Message message) results = results ≡ []
 
 abbrev pub IsEntryBehind : List (List ℕ) → List Name → Option (List ℕ) → Entry → Type 0
-IsEntryBehind keys names before e = (HasRoom e.path × (is_path_behind before e.path ≡ true)) × HasRoom e.bytes × IsHead e.head × AreResults keys names e.head e.results
+IsEntryBehind keys names before e = (HasRoom e.path × (is_path_behind before e.path ≡ true)) × HasRoom e.bytes × FitsHead e.head × AreResults keys names e.head e.results
 
 -- A cache that has a text.
 pub record IsWhole (c : Cache) : Type 0 where

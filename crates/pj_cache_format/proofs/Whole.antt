@@ -1,45 +1,28 @@
--- What parts of a cache have a text, in both formats.
-use Rattle.std.specs.Prelude.{◌≡◌, ◌<◌, ◌^◌, ℕ, true, List, length, Option, Some, None}
+-- What answers have a text: order and room at once, field by field, as they are read.
+use Rattle.std.specs.Prelude.{◌≡◌, ◌<◌, ◌^◌, true, List, Option, Some, None}
 use Rattle.std.specs.List.{AllByRecursion}
-use Rattle.std.specs.Str.{is_utf8}
 use Rattle.pj_format.specs.Fields.{Chain}
 use Rattle.pj_names.specs.declared.answer.Answer.{Answer}
 use Rattle.pj_names.specs.declared.answer.Answer.TheVariants as answers
-use Rattle.pj_names.specs.declared.answer.Broken.{Broken}
-use Rattle.pj_names.specs.declared.answer.Broken.TheVariants as broken
 use Rattle.pj_names.specs.declared.answer.ClassInfo.{ClassInfo}
 use Rattle.pj_names.specs.declared.answer.Member.{Member}
 use Rattle.pj_names.specs.ClassName.{Name}
 use Rattle.pj_cache_format.specs.Answers.{is_name_behind}
-
--- its number of members has room
-abbrev pub HasRoom : {A : Type 0} → List A → Type 0
-HasRoom list = length list < 2 ^ 32
-
-abbrev pub IsTextFor : List ℕ → Type 0
-IsTextFor text = HasRoom text × (is_utf8 text ≡ true)
+use Rattle.pj_cache_format.specs.Fitting.{FitsBroken, FitsMember, FitsText, HasRoom}
 
 -- Answers.
 
-abbrev pub IsMember : Member → Type 0
-IsMember m = (m.flags < 2 ^ 16) × IsTextFor m.name × IsTextFor m.signature
-
 abbrev pub AreMembers : List Member → Type 0
-AreMembers ms = HasRoom ms × AllByRecursion IsMember ms
+AreMembers ms = HasRoom ms × AllByRecursion FitsMember ms
 
 abbrev pub IsClass : ClassInfo → Type 0
-IsClass c = (c.flags < 2 ^ 16) × IsTextFor c.signature × AreMembers c.fields × AreMembers c.methods
-
-abbrev pub IsBrokenFor : Broken → Type 0
-IsBrokenFor (broken.Class f) = (f.kind < 256) × (f.offset < 2 ^ 32)
-IsBrokenFor broken.OtherName = Unit {0}
-IsBrokenFor broken.TooLong = Unit {0}
+IsClass c = (c.flags < 2 ^ 16) × FitsText c.signature × AreMembers c.fields × AreMembers c.methods
 
 -- an answer for a name: a class has that name
 abbrev pub IsAnswerFor : Name → Answer → Type 0
 IsAnswerFor name answers.Absent = Unit {0}
 IsAnswerFor name (answers.Found class) = (class.name ≡ name) × IsClass class
-IsAnswerFor name (answers.Broken what) = IsBrokenFor what
+IsAnswerFor name (answers.Broken what) = FitsBroken what
 
 -- an answer, with its name, behind that of another name
 abbrev pub IsAnswerBehind : Option Name → Name × Answer → Type 0
