@@ -3,7 +3,7 @@ use Rattle.std.specs.List.Sorted.{IsStrictlySortedBy}
 use Rattle.pj_names.specs.ClassName.{Name}
 use Rattle.pj_names.specs.declared.answer.Answer.{Answer}
 use Rattle.pj_cache.specs.Places.{byte_order}
-use Rattle.tests_cache.proofs.texts.is_text.Goals as goal
+use Rattle.rows_cache.proofs.caches.is_text.Goals as goal
 
 -- no answers stand in order
 none_in_order : (answers : List (Name × Answer)) → answers ≡ [] → IsStrictlySortedBy byte_order (map (λ (a : Name × Answer). a.0) answers)
