@@ -1,2 +1,3 @@
 -- definitions
 pub mod Places
+pub mod Found

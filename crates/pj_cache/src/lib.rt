@@ -2,6 +2,7 @@
 #![tactic(auto)]
 
 mod cache;
+mod found;
 mod key;
 mod old;
 

@@ -1,10 +1,9 @@
 -- Laws of the parts that both formats have: their bytes are their text.
-use Rattle.std.proofs.Common.{◌≡◌, ◌≢◌, ℕ, zero, suc, ◌<◌, ◌≤◌, ◌^◌, Bool, true, false, ◌&&◌, cond, ltb, eqb, List, [], ◌∷◌, ◌++◌, length, map, Option, Some, None, Result, Ok, Err, refl, sym, ap, subst, ◌∙◌, arith}
+use Rattle.std.proofs.Common.{◌≡◌, ◌≢◌, ℕ, ◌<◌, ◌^◌, Bool, true, false, ◌&&◌, cond, ltb, eqb, List, [], ◌∷◌, ◌++◌, length, Option, Some, None, Result, Ok, Err, refl, sym, ap, subst, arith}
 use Rattle.std.specs.List.{flat_map, AllByRecursion}
-use Rattle.std.specs.Int.{w16, w32, to_be_bytes}
 use Rattle.std.specs.Str.{is_utf8}
 use Rattle.std.proofs.lemmas.Bool.{ltb-true, eqb-true, eqb-false}
-use Rattle.pj_format.specs.Format.{Format, Done, ◌>>=◌, Spells}
+use Rattle.pj_format.specs.Format.{Format, Done, ◌>>=◌}
 use Rattle.pj_format.specs.Fields.{u8, u8_as, u16, u16_as, u32, u32_as, sized, sized_as, several, several_from, Chain}
 use Rattle.pj_format.proofs.Parts.{IsText, IsOpen, text_then, text_next, text_as, text_made, made_open, cond_open, done_text, u8_text, u16_text, u32_text, sized_text, several_text, from_text}
 use Rattle.pj_names.specs.declared.answer.Answer.{Answer}
@@ -15,10 +14,11 @@ use Rattle.pj_names.specs.declared.answer.ClassInfo.{ClassInfo}
 use Rattle.pj_names.specs.declared.answer.ClassFault.{ClassFault}
 use Rattle.pj_names.specs.declared.answer.Member.{Member}
 use Rattle.pj_names.specs.ClassName.{Name}
-use Rattle.pj_cache_format.specs.Judges.{is_behind, passing, text, is_below}
+use Rattle.pj_cache_format.specs.Judges.{passing, text, is_below}
 use Rattle.pj_cache_format.specs.Answers.{member, members, found, class_fault, is_broken_tag, broken_behind, broken_class, answer_behind, is_name_behind, answer, answer_list}
 use Rattle.pj_cache_format.specs.Texts.{number, flags, string, counted, member_text, class_text, broken_tag, broken_content, broken_text, answer_tag, answer_content, answer_text}
-use Rattle.pj_cache_format.specs.Whole.{HasRoom, IsTextFor, IsMember, AreMembers, IsClass, IsBrokenFor, IsAnswerFor, IsAnswerBehind, AreAnswers}
+use Rattle.pj_cache_format.proofs.Whole.{AreMembers, IsAnswerFor, IsAnswerBehind, AreAnswers}
+use Rattle.pj_cache_format.specs.Fitting.{FitsBroken, FitsMember, FitsText, HasRoom}
 
 -- ---- fields
 
@@ -46,7 +46,7 @@ number_text test = u32_text (λ n. n) (λ n. test n ≡ true) (passing test) (pa
 pub string_text : (test : List ℕ → Bool) → IsText (sized_as (passing test)) string (λ s. HasRoom s × (test s ≡ true))
 string_text test = sized_text (λ s. s) (λ s. test s ≡ true) (passing test) (passed test) (passes test)
 
-pub text_text : IsText text string IsTextFor
+pub text_text : IsText text string FitsText
 unfolding text
 text_text = string_text is_utf8
 
@@ -86,15 +86,15 @@ counted_from item t F step s law =
 
 -- ---- answers
 
-pub member_law : IsText member member_text IsMember
+pub member_law : IsText member member_text FitsMember
 unfolding member
 member_law =
-    text_as ((u16) >>= λ flags. (text) >>= λ name. (text) >>= λ signature. Done (let made : Member = record { flags = flags; name = name; signature = signature } in made)) (λ y. (flags) ((λ (z : Member). z.flags) y) ++ ((string) ((λ (z : Member). z.name) y) ++ ((string) ((λ (z : Member). z.signature) y)))) (member_text) (λ y. ((λ (n : ℕ). n < 2 ^ 16) ((λ (z : Member). z.flags) y)) × ((λ (flags : ℕ). ((IsTextFor) ((λ (z : Member). z.name) y)) × ((λ (name : List ℕ). ((IsTextFor) ((λ (z : Member). z.signature) y)) × (y ≡ (λ (signature : List ℕ). let made : Member = record { flags = flags; name = name; signature = signature } in made) ((λ (z : Member). z.signature) y))) ((λ (z : Member). z.name) y))) ((λ (z : Member). z.flags) y))) (IsMember)
-    (text_next (u16) (λ flags. (text) >>= λ name. (text) >>= λ signature. Done (let made : Member = record { flags = flags; name = name; signature = signature } in made)) (flags) (λ (n : ℕ). n < 2 ^ 16) (λ y. (string) ((λ (z : Member). z.name) y) ++ ((string) ((λ (z : Member). z.signature) y))) (λ flags y. ((IsTextFor) ((λ (z : Member). z.name) y)) × ((λ (name : List ℕ). ((IsTextFor) ((λ (z : Member). z.signature) y)) × (y ≡ (λ (signature : List ℕ). let made : Member = record { flags = flags; name = name; signature = signature } in made) ((λ (z : Member). z.signature) y))) ((λ (z : Member). z.name) y))) (λ (z : Member). z.flags)
+    text_as ((u16) >>= λ flags. (text) >>= λ name. (text) >>= λ signature. Done (let made : Member = record { flags = flags; name = name; signature = signature } in made)) (λ y. (flags) ((λ (z : Member). z.flags) y) ++ ((string) ((λ (z : Member). z.name) y) ++ ((string) ((λ (z : Member). z.signature) y)))) (member_text) (λ y. ((λ (n : ℕ). n < 2 ^ 16) ((λ (z : Member). z.flags) y)) × ((λ (flags : ℕ). ((FitsText) ((λ (z : Member). z.name) y)) × ((λ (name : List ℕ). ((FitsText) ((λ (z : Member). z.signature) y)) × (y ≡ (λ (signature : List ℕ). let made : Member = record { flags = flags; name = name; signature = signature } in made) ((λ (z : Member). z.signature) y))) ((λ (z : Member). z.name) y))) ((λ (z : Member). z.flags) y))) (FitsMember)
+    (text_next (u16) (λ flags. (text) >>= λ name. (text) >>= λ signature. Done (let made : Member = record { flags = flags; name = name; signature = signature } in made)) (flags) (λ (n : ℕ). n < 2 ^ 16) (λ y. (string) ((λ (z : Member). z.name) y) ++ ((string) ((λ (z : Member). z.signature) y))) (λ flags y. ((FitsText) ((λ (z : Member). z.name) y)) × ((λ (name : List ℕ). ((FitsText) ((λ (z : Member). z.signature) y)) × (y ≡ (λ (signature : List ℕ). let made : Member = record { flags = flags; name = name; signature = signature } in made) ((λ (z : Member). z.signature) y))) ((λ (z : Member). z.name) y))) (λ (z : Member). z.flags)
     (u16_law)
-    (λ flags. text_next (text) (λ name. (text) >>= λ signature. Done (let made : Member = record { flags = flags; name = name; signature = signature } in made)) (string) (IsTextFor) (λ y. (string) ((λ (z : Member). z.signature) y)) (λ name y. ((IsTextFor) ((λ (z : Member). z.signature) y)) × (y ≡ (λ (signature : List ℕ). let made : Member = record { flags = flags; name = name; signature = signature } in made) ((λ (z : Member). z.signature) y))) (λ (z : Member). z.name)
+    (λ flags. text_next (text) (λ name. (text) >>= λ signature. Done (let made : Member = record { flags = flags; name = name; signature = signature } in made)) (string) (FitsText) (λ y. (string) ((λ (z : Member). z.signature) y)) (λ name y. ((FitsText) ((λ (z : Member). z.signature) y)) × (y ≡ (λ (signature : List ℕ). let made : Member = record { flags = flags; name = name; signature = signature } in made) ((λ (z : Member). z.signature) y))) (λ (z : Member). z.name)
     (text_text)
-    (λ name. text_made (text) (λ signature. let made : Member = record { flags = flags; name = name; signature = signature } in made) (λ (z : Member). z.signature) (string) (IsTextFor) (λ signature g. refl) (text_text))
+    (λ name. text_made (text) (λ signature. let made : Member = record { flags = flags; name = name; signature = signature } in made) (λ (z : Member). z.signature) (string) (FitsText) (λ signature g. refl) (text_text))
     (λ name y g h. ap (λ (z : Member). z.name) h.1))
     (λ flags y g h. ap (λ (z : Member). z.flags) h.1.1))
     (λ y h. ((h.0, h.1.0, h.1.1.0), refl))
@@ -102,7 +102,7 @@ member_law =
 
 pub members_law : IsText members (counted member_text) AreMembers
 unfolding members
-members_law = counted_text member member_text IsMember member_law
+members_law = counted_text member member_text FitsMember member_law
 
 -- the class of an answer, or one that no answer has
 no_class : ClassInfo
@@ -119,7 +119,7 @@ class_made name flags signature fields methods = answers.Found (record { name = 
 IsFoundFor : Name → Answer → Type 0
 IsFoundFor name a = (answer_tag a ≡ 1) × IsAnswerFor name a
 
-found_from : (name : Name) (y : Answer) → ((class_in y).flags < 2 ^ 16) × (IsTextFor (class_in y).signature × (AreMembers (class_in y).fields × (AreMembers (class_in y).methods × (y ≡ class_made name (class_in y).flags (class_in y).signature (class_in y).fields (class_in y).methods))))
+found_from : (name : Name) (y : Answer) → ((class_in y).flags < 2 ^ 16) × (FitsText (class_in y).signature × (AreMembers (class_in y).fields × (AreMembers (class_in y).methods × (y ≡ class_made name (class_in y).flags (class_in y).signature (class_in y).fields (class_in y).methods))))
     → ((answer_tag y ≡ 1) × IsAnswerFor name y) × (class_text (class_in y) ≡ answer_content y)
 found_from name answers.Absent h = absurd cc
 found_from name (answers.Broken what) h = absurd cc
@@ -128,7 +128,7 @@ found_from name (answers.Found class) h =
     ((refl, (is, (h.0, h.1.0, h.1.1.0, h.1.1.1.0))), refl)
 
 found_to : (name : Name) (y : Answer) → (answer_tag y ≡ 1) × IsAnswerFor name y
-    → (((class_in y).flags < 2 ^ 16) × (IsTextFor (class_in y).signature × (AreMembers (class_in y).fields × (AreMembers (class_in y).methods × (y ≡ class_made name (class_in y).flags (class_in y).signature (class_in y).fields (class_in y).methods))))) × (class_text (class_in y) ≡ answer_content y)
+    → (((class_in y).flags < 2 ^ 16) × (FitsText (class_in y).signature × (AreMembers (class_in y).fields × (AreMembers (class_in y).methods × (y ≡ class_made name (class_in y).flags (class_in y).signature (class_in y).fields (class_in y).methods))))) × (class_text (class_in y) ≡ answer_content y)
 found_to name answers.Absent h = absurd (omega (arith, h.0))
 found_to name (answers.Broken what) h = absurd (omega (arith, h.0))
 found_to name (answers.Found class) h =
@@ -138,10 +138,10 @@ found_to name (answers.Found class) h =
 pub found_law : (name : Name) → IsText (found name) answer_content (λ a. (answer_tag a ≡ 1) × IsAnswerFor name a)
 unfolding found
 found_law name =
-    text_as ((u16) >>= λ flags. (text) >>= λ signature. (members) >>= λ fields. (members) >>= λ methods. Done (class_made name flags signature fields methods)) (λ y. (flags) ((λ (z : Answer). (class_in z).flags) y) ++ ((string) ((λ (z : Answer). (class_in z).signature) y) ++ ((counted member_text) ((λ (z : Answer). (class_in z).fields) y) ++ ((counted member_text) ((λ (z : Answer). (class_in z).methods) y))))) (answer_content) (λ y. ((λ (n : ℕ). n < 2 ^ 16) ((λ (z : Answer). (class_in z).flags) y)) × ((λ (flags : ℕ). ((IsTextFor) ((λ (z : Answer). (class_in z).signature) y)) × ((λ (signature : List ℕ). ((AreMembers) ((λ (z : Answer). (class_in z).fields) y)) × ((λ (fields : List Member). ((AreMembers) ((λ (z : Answer). (class_in z).methods) y)) × (y ≡ (λ (methods : List Member). class_made name flags signature fields methods) ((λ (z : Answer). (class_in z).methods) y))) ((λ (z : Answer). (class_in z).fields) y))) ((λ (z : Answer). (class_in z).signature) y))) ((λ (z : Answer). (class_in z).flags) y))) (λ a. (answer_tag a ≡ 1) × IsAnswerFor name a)
-    (text_next (u16) (λ flags. (text) >>= λ signature. (members) >>= λ fields. (members) >>= λ methods. Done (class_made name flags signature fields methods)) (flags) (λ (n : ℕ). n < 2 ^ 16) (λ y. (string) ((λ (z : Answer). (class_in z).signature) y) ++ ((counted member_text) ((λ (z : Answer). (class_in z).fields) y) ++ ((counted member_text) ((λ (z : Answer). (class_in z).methods) y)))) (λ flags y. ((IsTextFor) ((λ (z : Answer). (class_in z).signature) y)) × ((λ (signature : List ℕ). ((AreMembers) ((λ (z : Answer). (class_in z).fields) y)) × ((λ (fields : List Member). ((AreMembers) ((λ (z : Answer). (class_in z).methods) y)) × (y ≡ (λ (methods : List Member). class_made name flags signature fields methods) ((λ (z : Answer). (class_in z).methods) y))) ((λ (z : Answer). (class_in z).fields) y))) ((λ (z : Answer). (class_in z).signature) y))) (λ (z : Answer). (class_in z).flags)
+    text_as ((u16) >>= λ flags. (text) >>= λ signature. (members) >>= λ fields. (members) >>= λ methods. Done (class_made name flags signature fields methods)) (λ y. (flags) ((λ (z : Answer). (class_in z).flags) y) ++ ((string) ((λ (z : Answer). (class_in z).signature) y) ++ ((counted member_text) ((λ (z : Answer). (class_in z).fields) y) ++ ((counted member_text) ((λ (z : Answer). (class_in z).methods) y))))) (answer_content) (λ y. ((λ (n : ℕ). n < 2 ^ 16) ((λ (z : Answer). (class_in z).flags) y)) × ((λ (flags : ℕ). ((FitsText) ((λ (z : Answer). (class_in z).signature) y)) × ((λ (signature : List ℕ). ((AreMembers) ((λ (z : Answer). (class_in z).fields) y)) × ((λ (fields : List Member). ((AreMembers) ((λ (z : Answer). (class_in z).methods) y)) × (y ≡ (λ (methods : List Member). class_made name flags signature fields methods) ((λ (z : Answer). (class_in z).methods) y))) ((λ (z : Answer). (class_in z).fields) y))) ((λ (z : Answer). (class_in z).signature) y))) ((λ (z : Answer). (class_in z).flags) y))) (λ a. (answer_tag a ≡ 1) × IsAnswerFor name a)
+    (text_next (u16) (λ flags. (text) >>= λ signature. (members) >>= λ fields. (members) >>= λ methods. Done (class_made name flags signature fields methods)) (flags) (λ (n : ℕ). n < 2 ^ 16) (λ y. (string) ((λ (z : Answer). (class_in z).signature) y) ++ ((counted member_text) ((λ (z : Answer). (class_in z).fields) y) ++ ((counted member_text) ((λ (z : Answer). (class_in z).methods) y)))) (λ flags y. ((FitsText) ((λ (z : Answer). (class_in z).signature) y)) × ((λ (signature : List ℕ). ((AreMembers) ((λ (z : Answer). (class_in z).fields) y)) × ((λ (fields : List Member). ((AreMembers) ((λ (z : Answer). (class_in z).methods) y)) × (y ≡ (λ (methods : List Member). class_made name flags signature fields methods) ((λ (z : Answer). (class_in z).methods) y))) ((λ (z : Answer). (class_in z).fields) y))) ((λ (z : Answer). (class_in z).signature) y))) (λ (z : Answer). (class_in z).flags)
     (u16_law)
-    (λ flags. text_next (text) (λ signature. (members) >>= λ fields. (members) >>= λ methods. Done (class_made name flags signature fields methods)) (string) (IsTextFor) (λ y. (counted member_text) ((λ (z : Answer). (class_in z).fields) y) ++ ((counted member_text) ((λ (z : Answer). (class_in z).methods) y))) (λ signature y. ((AreMembers) ((λ (z : Answer). (class_in z).fields) y)) × ((λ (fields : List Member). ((AreMembers) ((λ (z : Answer). (class_in z).methods) y)) × (y ≡ (λ (methods : List Member). class_made name flags signature fields methods) ((λ (z : Answer). (class_in z).methods) y))) ((λ (z : Answer). (class_in z).fields) y))) (λ (z : Answer). (class_in z).signature)
+    (λ flags. text_next (text) (λ signature. (members) >>= λ fields. (members) >>= λ methods. Done (class_made name flags signature fields methods)) (string) (FitsText) (λ y. (counted member_text) ((λ (z : Answer). (class_in z).fields) y) ++ ((counted member_text) ((λ (z : Answer). (class_in z).methods) y))) (λ signature y. ((AreMembers) ((λ (z : Answer). (class_in z).fields) y)) × ((λ (fields : List Member). ((AreMembers) ((λ (z : Answer). (class_in z).methods) y)) × (y ≡ (λ (methods : List Member). class_made name flags signature fields methods) ((λ (z : Answer). (class_in z).methods) y))) ((λ (z : Answer). (class_in z).fields) y))) (λ (z : Answer). (class_in z).signature)
     (text_text)
     (λ signature. text_next (members) (λ fields. (members) >>= λ methods. Done (class_made name flags signature fields methods)) (counted member_text) (AreMembers) (λ y. (counted member_text) ((λ (z : Answer). (class_in z).methods) y)) (λ fields y. ((AreMembers) ((λ (z : Answer). (class_in z).methods) y)) × (y ≡ (λ (methods : List Member). class_made name flags signature fields methods) ((λ (z : Answer). (class_in z).methods) y))) (λ (z : Answer). (class_in z).fields)
     (members_law)
@@ -160,20 +160,20 @@ fault_in broken.TooLong = record { kind = 0; offset = 0 }
 abbrev fault_made : ℕ → ℕ → Broken
 fault_made kind offset = broken.Class (record { kind = kind; offset = offset })
 
-fault_from : (y : Broken) → ((fault_in y).kind < 256) × (((fault_in y).offset < 2 ^ 32) × (y ≡ fault_made (fault_in y).kind (fault_in y).offset)) → ((broken_tag y ≡ 1) × IsBrokenFor y) × ((fault_in y).kind ∷ number (fault_in y).offset ≡ broken_content y)
+fault_from : (y : Broken) → ((fault_in y).kind < 256) × (((fault_in y).offset < 2 ^ 32) × (y ≡ fault_made (fault_in y).kind (fault_in y).offset)) → ((broken_tag y ≡ 1) × FitsBroken y) × ((fault_in y).kind ∷ number (fault_in y).offset ≡ broken_content y)
 fault_from (broken.Class f) h = ((refl, (h.0, h.1.0)), refl)
 fault_from broken.OtherName h = absurd cc
 fault_from broken.TooLong h = absurd cc
 
-fault_to : (y : Broken) → (broken_tag y ≡ 1) × IsBrokenFor y → (((fault_in y).kind < 256) × (((fault_in y).offset < 2 ^ 32) × (y ≡ fault_made (fault_in y).kind (fault_in y).offset))) × ((fault_in y).kind ∷ number (fault_in y).offset ≡ broken_content y)
+fault_to : (y : Broken) → (broken_tag y ≡ 1) × FitsBroken y → (((fault_in y).kind < 256) × (((fault_in y).offset < 2 ^ 32) × (y ≡ fault_made (fault_in y).kind (fault_in y).offset))) × ((fault_in y).kind ∷ number (fault_in y).offset ≡ broken_content y)
 fault_to (broken.Class f) h = ((h.1.0, (h.1.1, refl)), refl)
 fault_to broken.OtherName h = absurd (omega (arith, h.0))
 fault_to broken.TooLong h = absurd (omega (arith, h.0))
 
-pub class_fault_law : IsText class_fault broken_content (λ b. (broken_tag b ≡ 1) × IsBrokenFor b)
+pub class_fault_law : IsText class_fault broken_content (λ b. (broken_tag b ≡ 1) × FitsBroken b)
 unfolding class_fault
 class_fault_law =
-    text_as ((u8) >>= λ kind. (u32) >>= λ offset. Done (fault_made kind offset)) (λ y. (λ (n : ℕ). n ∷ []) ((λ (z : Broken). (fault_in z).kind) y) ++ ((number) ((λ (z : Broken). (fault_in z).offset) y))) (broken_content) (λ y. ((λ (n : ℕ). n < 256) ((λ (z : Broken). (fault_in z).kind) y)) × ((λ (kind : ℕ). ((λ (n : ℕ). n < 2 ^ 32) ((λ (z : Broken). (fault_in z).offset) y)) × (y ≡ (λ (offset : ℕ). fault_made kind offset) ((λ (z : Broken). (fault_in z).offset) y))) ((λ (z : Broken). (fault_in z).kind) y))) (λ b. (broken_tag b ≡ 1) × IsBrokenFor b)
+    text_as ((u8) >>= λ kind. (u32) >>= λ offset. Done (fault_made kind offset)) (λ y. (λ (n : ℕ). n ∷ []) ((λ (z : Broken). (fault_in z).kind) y) ++ ((number) ((λ (z : Broken). (fault_in z).offset) y))) (broken_content) (λ y. ((λ (n : ℕ). n < 256) ((λ (z : Broken). (fault_in z).kind) y)) × ((λ (kind : ℕ). ((λ (n : ℕ). n < 2 ^ 32) ((λ (z : Broken). (fault_in z).offset) y)) × (y ≡ (λ (offset : ℕ). fault_made kind offset) ((λ (z : Broken). (fault_in z).offset) y))) ((λ (z : Broken). (fault_in z).kind) y))) (λ b. (broken_tag b ≡ 1) × FitsBroken b)
     (text_next (u8) (λ kind. (u32) >>= λ offset. Done (fault_made kind offset)) (λ (n : ℕ). n ∷ []) (λ (n : ℕ). n < 256) (λ y. (number) ((λ (z : Broken). (fault_in z).offset) y)) (λ kind y. ((λ (n : ℕ). n < 2 ^ 32) ((λ (z : Broken). (fault_in z).offset) y)) × (y ≡ (λ (offset : ℕ). fault_made kind offset) ((λ (z : Broken). (fault_in z).offset) y))) (λ (z : Broken). (fault_in z).kind)
     (u8_law)
     (λ kind. text_made (u32) (λ offset. fault_made kind offset) (λ (z : Broken). (fault_in z).offset) (number) (λ (n : ℕ). n < 2 ^ 32) (λ offset g. refl) (u32_law))
@@ -186,31 +186,31 @@ is_zero_or : (n m : ℕ) (b : Bool) → eqb n m ≡ b → cond b (n ≡ m) (n �
 is_zero_or n m true e = eqb-true n m e
 is_zero_or n m false e = eqb-false n m e
 
-other_name : (y : Broken) → (broken_tag y ≡ 2) × IsBrokenFor y → y ≡ broken.OtherName
+other_name : (y : Broken) → (broken_tag y ≡ 2) × FitsBroken y → y ≡ broken.OtherName
 other_name (broken.Class f) h = absurd (omega (arith, h.0))
 other_name broken.OtherName h = refl
 other_name broken.TooLong h = absurd (omega (arith, h.0))
 
-too_long : (y : Broken) → (broken_tag y ≡ 3) × IsBrokenFor y → y ≡ broken.TooLong
+too_long : (y : Broken) → (broken_tag y ≡ 3) × FitsBroken y → y ≡ broken.TooLong
 too_long (broken.Class f) h = absurd (omega (arith, h.0))
 too_long broken.OtherName h = absurd (omega (arith, h.0))
 too_long broken.TooLong h = refl
 
 broken_cases : (tag : ℕ) (a b : Bool) → eqb tag 1 ≡ a → eqb tag 2 ≡ b → 0 < tag → tag < 4
-    → IsText (cond a class_fault (cond b (Done broken.OtherName) (Done broken.TooLong))) broken_content (λ y. (broken_tag y ≡ tag) × IsBrokenFor y)
+    → IsText (cond a class_fault (cond b (Done broken.OtherName) (Done broken.TooLong))) broken_content (λ y. (broken_tag y ≡ tag) × FitsBroken y)
 broken_cases tag true b e g low high =
-    subst (λ (n : ℕ). IsText class_fault broken_content (λ y. (broken_tag y ≡ n) × IsBrokenFor y)) (sym (eqb-true tag 1 e)) class_fault_law
+    subst (λ (n : ℕ). IsText class_fault broken_content (λ y. (broken_tag y ≡ n) × FitsBroken y)) (sym (eqb-true tag 1 e)) class_fault_law
 broken_cases tag false true e g low high =
-    subst (λ (n : ℕ). IsText (Done broken.OtherName) broken_content (λ y. (broken_tag y ≡ n) × IsBrokenFor y)) (sym (eqb-true tag 2 g)) (done_text broken.OtherName broken_content (λ y. (broken_tag y ≡ 2) × IsBrokenFor y) refl (refl, tt) other_name)
+    subst (λ (n : ℕ). IsText (Done broken.OtherName) broken_content (λ y. (broken_tag y ≡ n) × FitsBroken y)) (sym (eqb-true tag 2 g)) (done_text broken.OtherName broken_content (λ y. (broken_tag y ≡ 2) × FitsBroken y) refl (refl, tt) other_name)
 broken_cases tag false false e g low high =
     let is : tag ≡ 3 = omega (arith, eqb-false tag 1 e, eqb-false tag 2 g, low, high) in
-    subst (λ (n : ℕ). IsText (Done broken.TooLong) broken_content (λ y. (broken_tag y ≡ n) × IsBrokenFor y)) (sym is) (done_text broken.TooLong broken_content (λ y. (broken_tag y ≡ 3) × IsBrokenFor y) refl (refl, tt) too_long)
+    subst (λ (n : ℕ). IsText (Done broken.TooLong) broken_content (λ y. (broken_tag y ≡ n) × FitsBroken y)) (sym is) (done_text broken.TooLong broken_content (λ y. (broken_tag y ≡ 3) × FitsBroken y) refl (refl, tt) too_long)
 
 pub both_true : (a b : Bool) → (a && b) ≡ true → (a ≡ true) × (b ≡ true)
 both_true true b e = (refl, e)
 both_true false b e = absurd cc
 
-broken_behind_law : (tag : ℕ) → is_broken_tag tag ≡ true → IsText (broken_behind tag) broken_content (λ y. (broken_tag y ≡ tag) × IsBrokenFor y)
+broken_behind_law : (tag : ℕ) → is_broken_tag tag ≡ true → IsText (broken_behind tag) broken_content (λ y. (broken_tag y ≡ tag) × FitsBroken y)
 broken_behind_law tag g =
     let both = both_true (ltb 0 tag) (ltb tag 4) g in
     broken_cases tag (eqb tag 1) (eqb tag 2) refl refl (ltb-true 0 tag both.0) (ltb-true tag 4 both.1)
@@ -229,12 +229,12 @@ tag_below (broken.Class f) = (omega arith, refl)
 tag_below broken.OtherName = (omega arith, refl)
 tag_below broken.TooLong = (omega arith, refl)
 
-broken_from : (name : Name) (y : Answer) → ((broken_tag (what_in y) < 256) × (is_broken_tag (broken_tag (what_in y)) ≡ true)) × (((broken_tag (what_in y) ≡ broken_tag (what_in y)) × IsBrokenFor (what_in y)) × (y ≡ answers.Broken (what_in y))) → ((answer_tag y ≡ 2) × IsAnswerFor name y) × (broken_text (what_in y) ≡ answer_content y)
+broken_from : (name : Name) (y : Answer) → ((broken_tag (what_in y) < 256) × (is_broken_tag (broken_tag (what_in y)) ≡ true)) × (((broken_tag (what_in y) ≡ broken_tag (what_in y)) × FitsBroken (what_in y)) × (y ≡ answers.Broken (what_in y))) → ((answer_tag y ≡ 2) × IsAnswerFor name y) × (broken_text (what_in y) ≡ answer_content y)
 broken_from name answers.Absent h = absurd cc
 broken_from name (answers.Found class) h = absurd cc
 broken_from name (answers.Broken what) h = ((refl, h.1.0.1), refl)
 
-broken_to : (name : Name) (y : Answer) → (answer_tag y ≡ 2) × IsAnswerFor name y → (((broken_tag (what_in y) < 256) × (is_broken_tag (broken_tag (what_in y)) ≡ true)) × (((broken_tag (what_in y) ≡ broken_tag (what_in y)) × IsBrokenFor (what_in y)) × (y ≡ answers.Broken (what_in y)))) × (broken_text (what_in y) ≡ answer_content y)
+broken_to : (name : Name) (y : Answer) → (answer_tag y ≡ 2) × IsAnswerFor name y → (((broken_tag (what_in y) < 256) × (is_broken_tag (broken_tag (what_in y)) ≡ true)) × (((broken_tag (what_in y) ≡ broken_tag (what_in y)) × FitsBroken (what_in y)) × (y ≡ answers.Broken (what_in y)))) × (broken_text (what_in y) ≡ answer_content y)
 broken_to name answers.Absent h = absurd (omega (arith, h.0))
 broken_to name (answers.Found class) h = absurd (omega (arith, h.0))
 broken_to name (answers.Broken what) h = ((tag_below what, ((refl, h.1), refl)), refl)
@@ -243,11 +243,11 @@ broken_law : (name : Name) → IsText broken_class answer_content (λ a. (answer
 unfolding broken_class
 broken_law name =
     text_as (u8_as (passing is_broken_tag) >>= λ tag. broken_behind tag >>= λ what. Done (answers.Broken what)) (λ y. broken_tag (what_in y) ∷ [] ++ broken_content (what_in y)) answer_content
-    (λ y. ((broken_tag (what_in y) < 256) × (is_broken_tag (broken_tag (what_in y)) ≡ true)) × (((broken_tag (what_in y) ≡ broken_tag (what_in y)) × IsBrokenFor (what_in y)) × (y ≡ answers.Broken (what_in y))))
+    (λ y. ((broken_tag (what_in y) < 256) × (is_broken_tag (broken_tag (what_in y)) ≡ true)) × (((broken_tag (what_in y) ≡ broken_tag (what_in y)) × FitsBroken (what_in y)) × (y ≡ answers.Broken (what_in y))))
     (λ a. (answer_tag a ≡ 2) × IsAnswerFor name a)
-    (text_then (u8_as (passing is_broken_tag)) (λ tag. broken_behind tag >>= λ what. Done (answers.Broken what)) (λ (n : ℕ). n ∷ []) (λ (n : ℕ). (n < 256) × (is_broken_tag n ≡ true)) (λ y. broken_content (what_in y)) (λ tag y. ((broken_tag (what_in y) ≡ tag) × IsBrokenFor (what_in y)) × (y ≡ answers.Broken (what_in y))) (λ y. broken_tag (what_in y))
+    (text_then (u8_as (passing is_broken_tag)) (λ tag. broken_behind tag >>= λ what. Done (answers.Broken what)) (λ (n : ℕ). n ∷ []) (λ (n : ℕ). (n < 256) × (is_broken_tag n ≡ true)) (λ y. broken_content (what_in y)) (λ tag y. ((broken_tag (what_in y) ≡ tag) × FitsBroken (what_in y)) × (y ≡ answers.Broken (what_in y))) (λ y. broken_tag (what_in y))
     (tag_text is_broken_tag)
-    (λ tag p. text_made (broken_behind tag) (λ what. answers.Broken what) what_in broken_content (λ b. (broken_tag b ≡ tag) × IsBrokenFor b) (λ what g. refl) (broken_behind_law tag p.1))
+    (λ tag p. text_made (broken_behind tag) (λ what. answers.Broken what) what_in broken_content (λ b. (broken_tag b ≡ tag) × FitsBroken b) (λ what g. refl) (broken_behind_law tag p.1))
     (λ tag. made_open (broken_behind tag) (λ what. answers.Broken what) (broken_behind_open tag))
     (λ tag y g h. h.0.0))
     (broken_from name) (broken_to name)

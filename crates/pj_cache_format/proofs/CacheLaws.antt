@@ -1,34 +1,31 @@
 -- Laws of whole caches of format 2: their bytes are their text.
-use Rattle.std.proofs.Common.{◌≡◌, ℕ, zero, suc, ◌-◌, ◌+◌, ◌<◌, ◌≤◌, ◌^◌, Bool, true, false, ◌&&◌, cond, ltb, eqb, List, [], ◌∷◌, ◌++◌, length, take, drop, map, Option, Some, None, Result, Ok, Err, refl, sym, ap, subst, ◌∙◌, append_assoc, arith}
+use Rattle.std.proofs.Common.{◌≡◌, ℕ, Bool, true, false, List, [], ◌∷◌, ◌++◌, length, map, Option, Some, None, refl, sym, ap, arith}
 use Rattle.std.specs.Prelude.{codes, nat_eq}
 use Rattle.std.specs.List.Sorted.{IsStrictlySortedBy}
-use Rattle.std.specs.Cmp.Lexicographic.{pointwise, pointwise_decides, bytes_decides}
-use Rattle.std.specs.Bool.{Decides}
-use Rattle.std.proofs.lemmas.Bool.{eqb-true}
-use Rattle.std.proofs.lemmas.List.{append-nil, length-append, take_at, drop_at}
-use Rattle.sha2.specs.Sha256.{sha256}
-use Rattle.pj_format.specs.Format.{Format, Done, End, ◌>>=◌, Spells, whole}
-use Rattle.pj_format.specs.Fields.{u32, u32_as, sized, sized_as, run, several_from, each, Chain}
-use Rattle.pj_format.proofs.Parts.{IsBytes, IsText, IsOpen, bytes_left, bytes_right, spells_then, then_spells, open_then, from_open, each_open, text_then, text_next, text_as, made_open, done_text}
+use Rattle.std.specs.Cmp.Lexicographic.{pointwise, bytes_decides}
+use Rattle.std.proofs.lemmas.List.{append-nil}
+use Rattle.pj_format.specs.Format.{Format, Done, ◌>>=◌, Spells}
+use Rattle.pj_format.specs.Fields.{u32, u32_as, sized, sized_as, several_from, each, Chain}
+use Rattle.pj_format.proofs.Parts.{IsText, IsOpen, open_then, from_open, each_open, text_then, text_next, text_as, made_open, done_text}
 use Rattle.pj_names.specs.declared.answer.Answer.{Answer}
 use Rattle.pj_names.specs.ClassName.{Name, is_class_name}
 use Rattle.std.specs.Str.{is_utf8}
 use Rattle.pj_reports.specs.declared.ruled.Head.{Head}
-use Rattle.pj_cache.specs.declared.cache.CachedResult.{CachedResult}
 use Rattle.pj_cache.specs.declared.cache.Entry.{Entry}
 use Rattle.pj_cache.specs.declared.cache.Cache.{Cache}
 use Rattle.pj_cache.specs.Places.{byte_order}
 use Rattle.pj_cache_format.specs.Judges.{is_behind, passing, when, fault_here, is_path_behind, is_language}
 use Rattle.pj_cache_format.specs.Answers.{answer_list}
 use Rattle.pj_cache_format.specs.FormatTwo.{key_list, key_places, is_name_place, name_at, name_list, key_rows, result as result_format, head, is_result_count, result_list, entry, entry_list, keys_of, names_of, is_same_list, are_named, cache}
-use Rattle.pj_cache_format.specs.Texts.{number, string, counted, answer_text}
+use Rattle.pj_cache_format.specs.Texts.{string, counted, answer_text}
 use Rattle.pj_cache_format.specs.TextTwo.{entry_text, cache_text}
-use Rattle.pj_cache_format.specs.Whole.{HasRoom, IsAnswerBehind, AreAnswers}
-use Rattle.pj_cache_format.specs.WholeTwo.{IsKeyBehind, AreKeys, IsEntryBehind, IsWhole}
+use Rattle.pj_cache_format.proofs.Whole.{IsAnswerBehind, AreAnswers}
+use Rattle.pj_cache_format.proofs.WholeTwo.{IsKeyBehind, AreKeys, IsEntryBehind, IsWhole}
 use Rattle.pj_cache_format.proofs.Order.{AreBehind, behind_sorted}
 use Rattle.pj_cache_format.proofs.AnswerLaws.{number_text, string_text, u32_law, sized_law, both_true, answer_list_law}
 use Rattle.pj_cache_format.proofs.ResultLaws.{key_list_law, key_places_law, name_made, key_rows_law}
 use Rattle.pj_cache_format.proofs.EntryLaws.{ResultState, result_made, head_law, entry_made, entry_list_law}
+use Rattle.pj_cache_format.specs.Fitting.{HasRoom}
 
 -- ---- order
 

@@ -1,50 +1,31 @@
 -- Laws of results, entries and caches of format 2: their bytes are their text.
-use Rattle.std.proofs.Common.{◌≡◌, ◌≢◌, ℕ, zero, suc, ◌<◌, ◌≤◌, ◌^◌, Bool, true, false, ◌&&◌, ◌||◌, cond, ltb, eqb, List, [], ◌∷◌, ◌++◌, length, map, Option, Some, None, Result, Ok, Err, refl, sym, ap, subst, ◌∙◌, arith}
-use Rattle.std.specs.Prelude.{codes, nat_eq}
-use Rattle.std.specs.List.{flat_map, AllByRecursion}
+use Rattle.std.proofs.Common.{◌≡◌, ℕ, ◌<◌, ◌^◌, Bool, true, false, ◌||◌, cond, ltb, eqb, List, [], ◌∷◌, ◌++◌, length, map, Option, Some, None, refl, sym, ap, subst, ◌∙◌, arith}
+use Rattle.std.specs.List.{flat_map}
 use Rattle.std.specs.List.Sorted.{IsStrictlySortedBy}
-use Rattle.std.specs.Int.{w16, w32, to_be_bytes}
-use Rattle.std.specs.Str.{is_utf8}
 use Rattle.std.proofs.lemmas.Str.{is_utf8-from_IsUtf8}
-use Rattle.std.specs.Ordering.{nat_cmp}
-use Rattle.std.specs.Cmp.Lexicographic.{pointwise}
-use Rattle.std.proofs.lemmas.Bool.{ltb-true, eqb-true, eqb-false, lt-ltb}
-use Rattle.std.proofs.lemmas.List.{append-nil, length-map}
+use Rattle.std.proofs.lemmas.Bool.{ltb-true, eqb-true, eqb-false}
+use Rattle.std.proofs.lemmas.List.{length-map}
 use Rattle.std.proofs.lemmas.List.Concat.{flat_map-cons}
-use Rattle.pj_format.specs.Format.{Format, Done, ◌>>=◌, Spells}
-use Rattle.pj_format.specs.Fields.{u8, u8_as, u16, u32, u32_as, sized, sized_as, several_from, each, Chain, Along}
-use Rattle.pj_format.proofs.Parts.{IsText, IsOpen, open_then, from_open, each_open, text_then, text_next, text_as, text_made, made_open, cond_open, done_text, u8_text, from_text, each_text}
-use Rattle.pj_names.specs.declared.answer.Answer.{Answer}
+use Rattle.pj_format.specs.Format.{Format, Done, ◌>>=◌}
+use Rattle.pj_format.specs.Fields.{u8_as, u32_as, sized, sized_as, several_from, each, Chain, Along}
+use Rattle.pj_format.proofs.Parts.{IsText, IsOpen, open_then, text_then, text_next, text_as, text_made, cond_open, done_text, from_text, each_text}
 use Rattle.pj_names.specs.ClassName.{Name}
-use Rattle.pj_tree.specs.declared.node.Place.{Place}
-use Rattle.pj_reports.specs.declared.rows.Reason.{Reason}
-use Rattle.pj_reports.specs.declared.rows.Reason.TheVariants as reasons
 use Rattle.pj_reports.specs.declared.ruled.Head.{Head}
 use Rattle.pj_reports.specs.declared.ruled.Head.TheVariants as heads
-use Rattle.pj_reports.specs.declared.ruled.Ruled.{Ruled}
-use Rattle.pj_reports.specs.declared.ruled.Ruled.TheVariants as ruled
-use Rattle.pj_reports.specs.declared.ruled.Spot.{Spot}
 use Rattle.pj_cache.specs.declared.cache.KeyRows.{KeyRows}
 use Rattle.pj_cache.specs.declared.cache.CachedResult.{CachedResult}
 use Rattle.pj_cache.specs.declared.cache.Entry.{Entry}
-use Rattle.pj_cache.specs.declared.cache.Cache.{Cache}
-use Rattle.pj_cache.specs.Places.{byte_order, place_in, member_at}
-use Rattle.pj_cache_format.specs.Judges.{is_behind, passing, when, text, is_path_behind, is_language, is_below}
-use Rattle.pj_cache_format.specs.Answers.{answer_list}
-use Rattle.pj_cache_format.specs.FormatTwo.{key, key_list, reason_of, place, spot, spot_list, spots, rule_message, rows_behind, rows, is_key_place, key_place, key_places, is_name_place, name_at, name_list, key_rows, first_of, with_places, result as result_format, is_empty, is_head_tag, head_message, head_behind, head, is_result_count, result_list, entry, entry_list}
+use Rattle.pj_cache.specs.Places.{byte_order, place_in}
+use Rattle.pj_cache_format.specs.Judges.{passing, text, is_path_behind}
+use Rattle.pj_cache_format.specs.FormatTwo.{is_key_place, key_places, name_list, key_rows, first_of, with_places, result as result_format, is_empty, is_head_tag, head_message, head_behind, head, is_result_count, result_list, entry, entry_list}
 use Rattle.pj_cache_format.specs.Texts.{number, string, counted}
-use Rattle.pj_cache_format.specs.TextTwo.{reason_byte, place_text, spot_text, rows_tag, rows_content, rows_text, result_text, package_of, head_tag, head_content, head_text, entry_text}
-use Rattle.pj_cache_format.specs.Whole.{HasRoom, IsTextFor}
-use Rattle.pj_cache_format.specs.WholeTwo.{IsPlace, IsSpotBehind, AreRows, IsKeyBehind, AreKeys, places_of, AreKeyPlaces, AreKeyRows, IsNameBehind, AreNames, IsResultBehind, result_step, IsHead, AreResults, IsEntryBehind}
+use Rattle.pj_cache_format.specs.TextTwo.{rows_text, result_text, package_of, head_tag, head_content, head_text, entry_text}
+use Rattle.pj_cache_format.proofs.WholeTwo.{AreKeyPlaces, AreKeyRows, AreNames, IsResultBehind, AreResults, IsEntryBehind}
 use Rattle.pj_cache.proofs.Places.{place_of_member}
-use Rattle.pj_cache_format.proofs.AnswerLaws.{passed, passes, tag_text, number_text, string_text, text_text, u8_law, u32_law, sized_law, counted_text, counted_from, both_true}
-use Rattle.pj_cache_format.specs.FormatTwo.{keys_of, is_same_list, are_named, cache}
-use Rattle.pj_cache_format.specs.TextTwo.{cache_text}
-use Rattle.pj_cache_format.specs.Whole.{AreAnswers}
-use Rattle.pj_cache_format.specs.WholeTwo.{IsWhole}
-use Rattle.pj_cache_format.proofs.Order.{AreBehind, behind_sorted}
-use Rattle.pj_cache_format.proofs.AnswerLaws.{answer_list_law}
-use Rattle.pj_cache_format.proofs.ResultLaws.{key_list_law, key_places_law, name_list_law, key_rows_law}
+use Rattle.pj_cache_format.proofs.AnswerLaws.{tag_text, number_text, string_text, text_text, sized_law, counted_from, both_true}
+use Rattle.pj_cache_format.proofs.ResultLaws.{key_places_law, name_list_law, key_rows_law}
+use Rattle.pj_cache_format.specs.Fitting.{FitsHead, FitsText, HasRoom}
+use Rattle.pj_cache_format.specs.Ordered.{places_of, result_step}
 
 -- ---- results
 
@@ -123,21 +104,21 @@ head_message_in (heads.Package package_name) = []
 head_message_in (heads.Message message) = message
 
 abbrev Heads : List ℕ → ℕ → Head → Type 0
-Heads package_name tag y = (head_tag y ≡ tag) × ((package_of y ≡ package_name) × IsHead y)
+Heads package_name tag y = (head_tag y ≡ tag) × ((package_of y ≡ package_name) × FitsHead y)
 
-head_message_from : (y : Head) → IsTextFor (head_message_in y) × (y ≡ heads.Message (head_message_in y)) → Heads [] 1 y × (string (head_message_in y) ≡ head_content y)
+head_message_from : (y : Head) → FitsText (head_message_in y) × (y ≡ heads.Message (head_message_in y)) → Heads [] 1 y × (string (head_message_in y) ≡ head_content y)
 head_message_from (heads.Package package_name) h = absurd cc
 head_message_from (heads.Message message) h = ((refl, (refl, h.0)), refl)
 
-head_message_to : (y : Head) → Heads [] 1 y → (IsTextFor (head_message_in y) × (y ≡ heads.Message (head_message_in y))) × (string (head_message_in y) ≡ head_content y)
+head_message_to : (y : Head) → Heads [] 1 y → (FitsText (head_message_in y) × (y ≡ heads.Message (head_message_in y))) × (string (head_message_in y) ≡ head_content y)
 head_message_to (heads.Package package_name) h = absurd (omega (arith, h.0))
 head_message_to (heads.Message message) h = ((h.1.1, refl), refl)
 
 head_message_law : IsText head_message head_content (Heads [] 1)
 unfolding head_message
 head_message_law =
-    text_as (text >>= λ message. Done (heads.Message message)) (λ y. string (head_message_in y)) head_content (λ y. IsTextFor (head_message_in y) × (y ≡ heads.Message (head_message_in y))) (Heads [] 1)
-    (text_made text (λ message. heads.Message message) head_message_in string IsTextFor (λ message g. refl) text_text) head_message_from head_message_to
+    text_as (text >>= λ message. Done (heads.Message message)) (λ y. string (head_message_in y)) head_content (λ y. FitsText (head_message_in y) × (y ≡ heads.Message (head_message_in y))) (Heads [] 1)
+    (text_made text (λ message. heads.Message message) head_message_in string FitsText (λ message g. refl) text_text) head_message_from head_message_to
 
 package_one : (package_name : List ℕ) (y : Head) → Heads package_name 0 y → y ≡ heads.Package package_name
 package_one package_name (heads.Package p) h = ap (λ (l : List ℕ). heads.Package l) h.1.0
@@ -151,7 +132,7 @@ or_false : (a b : Bool) → a ≡ false → (a || b) ≡ true → b ≡ true
 or_false true b is e = absurd cc
 or_false false b is e = e
 
-head_cases : (package_name : List ℕ) (tag : ℕ) (a : Bool) → eqb tag 0 ≡ a → tag < 2 → (eqb tag 0 || is_empty package_name) ≡ true → IsTextFor package_name → IsText (cond a (Done (heads.Package package_name)) head_message) head_content (Heads package_name tag)
+head_cases : (package_name : List ℕ) (tag : ℕ) (a : Bool) → eqb tag 0 ≡ a → tag < 2 → (eqb tag 0 || is_empty package_name) ≡ true → FitsText package_name → IsText (cond a (Done (heads.Package package_name)) head_message) head_content (Heads package_name tag)
 head_cases package_name tag true e high test fits =
     subst (λ (n : ℕ). IsText (Done (heads.Package package_name)) head_content (Heads package_name n)) (sym (eqb-true tag 0 e)) (done_text (heads.Package package_name) head_content (Heads package_name 0) refl (refl, (refl, fits)) (package_one package_name))
 head_cases package_name tag false e high test fits =
@@ -159,7 +140,7 @@ head_cases package_name tag false e high test fits =
     let none : package_name ≡ [] = empty_is package_name (or_false (eqb tag 0) (is_empty package_name) e test) in
     subst (λ (n : ℕ). IsText head_message head_content (Heads package_name n)) (sym is) (subst (λ (l : List ℕ). IsText head_message head_content (Heads l 1)) (sym none) head_message_law)
 
-head_behind_law : (package_name : List ℕ) (tag : ℕ) → is_head_tag package_name tag ≡ true → IsTextFor package_name → IsText (head_behind package_name tag) head_content (Heads package_name tag)
+head_behind_law : (package_name : List ℕ) (tag : ℕ) → is_head_tag package_name tag ≡ true → FitsText package_name → IsText (head_behind package_name tag) head_content (Heads package_name tag)
 head_behind_law package_name tag test fits =
     let both = both_true (ltb tag 2) (eqb tag 0 || is_empty package_name) test in
     head_cases package_name tag (eqb tag 0) refl (ltb-true tag 2 both.0) both.1 fits
@@ -168,23 +149,23 @@ head_behind_open : (package_name : List ℕ) (tag : ℕ) → IsOpen (head_behind
 unfolding IsOpen
 head_behind_open package_name tag = cond_open (eqb tag 0) (Done (heads.Package package_name)) head_message tt head_message_law.is_open
 
-head_fits : (y : Head) → IsHead y → IsTextFor (package_of y) × ((head_tag y < 256) × (is_head_tag (package_of y) (head_tag y) ≡ true))
+head_fits : (y : Head) → FitsHead y → FitsText (package_of y) × ((head_tag y < 256) × (is_head_tag (package_of y) (head_tag y) ≡ true))
 head_fits (heads.Package package_name) h = (h, (omega arith, refl))
 head_fits (heads.Message message) h = ((omega arith, is_utf8-from_IsUtf8 [] ([], (refl, refl))), (omega arith, refl))
 
 abbrev Tagged : List ℕ → Head → Type 0
 Tagged package_name y = ((head_tag y < 256) × (is_head_tag package_name (head_tag y) ≡ true)) × Heads package_name (head_tag y) y
 
-head_tagged : (package_name : List ℕ) → IsTextFor package_name → IsText (u8_as (passing (is_head_tag package_name)) >>= λ tag. head_behind package_name tag) (λ y. head_tag y ∷ [] ++ head_content y) (Tagged package_name)
+head_tagged : (package_name : List ℕ) → FitsText package_name → IsText (u8_as (passing (is_head_tag package_name)) >>= λ tag. head_behind package_name tag) (λ y. head_tag y ∷ [] ++ head_content y) (Tagged package_name)
 head_tagged package_name fits =
     text_then (u8_as (passing (is_head_tag package_name))) (λ tag. head_behind package_name tag) (λ n. n ∷ []) (λ n. (n < 256) × (is_head_tag package_name n ≡ true)) head_content (λ tag y. Heads package_name tag y) head_tag
     (tag_text (is_head_tag package_name)) (λ tag p. head_behind_law package_name tag p.1 fits) (head_behind_open package_name) (λ tag y g h. h.0)
 
-pub head_law : IsText head head_text IsHead
+pub head_law : IsText head head_text FitsHead
 unfolding head
 head_law =
-    text_as (text >>= λ package_name. u8_as (passing (is_head_tag package_name)) >>= λ tag. head_behind package_name tag) (λ y. string (package_of y) ++ (head_tag y ∷ [] ++ head_content y)) head_text (λ y. IsTextFor (package_of y) × Tagged (package_of y) y) IsHead
-    (text_then text (λ package_name. u8_as (passing (is_head_tag package_name)) >>= λ tag. head_behind package_name tag) string IsTextFor (λ y. head_tag y ∷ [] ++ head_content y) (λ package_name y. Tagged package_name y) package_of
+    text_as (text >>= λ package_name. u8_as (passing (is_head_tag package_name)) >>= λ tag. head_behind package_name tag) (λ y. string (package_of y) ++ (head_tag y ∷ [] ++ head_content y)) head_text (λ y. FitsText (package_of y) × Tagged (package_of y) y) FitsHead
+    (text_then text (λ package_name. u8_as (passing (is_head_tag package_name)) >>= λ tag. head_behind package_name tag) string FitsText (λ y. head_tag y ∷ [] ++ head_content y) (λ package_name y. Tagged package_name y) package_of
     text_text head_tagged (λ package_name. open_then (u8_as (passing (is_head_tag package_name))) (λ tag. head_behind package_name tag) (tag_text (is_head_tag package_name)).is_open (head_behind_open package_name)) (λ package_name y g h. h.1.1.0))
     (λ y h. (h.1.1.1.1, refl)) (λ y h. let fits = head_fits y h in ((fits.0, (fits.1, (refl, (refl, h)))), refl))
 
@@ -228,19 +209,19 @@ module _ (keys : List (List ℕ)) (names : List Name) (keys_sorted : IsStrictlyS
   abbrev head_on : List ℕ → List ℕ → Head → Format EntryRead
   head_on path bytes h = result_list keys names h >>= λ results. Done (entry_made path bytes h results)
 
-  heads_law : (path bytes : List ℕ) → IsText (head >>= head_on path bytes) (λ y. head_text y.0.head ++ counted (result_text keys names) y.0.results) (λ y. IsHead y.0.head × (AreResults keys names y.0.head y.0.results × (y ≡ entry_made path bytes y.0.head y.0.results)))
-  heads_law path bytes = text_next head (head_on path bytes) head_text IsHead (λ y. counted (result_text keys names) y.0.results) (λ h y. AreResults keys names h y.0.results × (y ≡ entry_made path bytes h y.0.results)) (λ y. y.0.head) head_law (results_law path bytes) (λ h y g l. ap (λ (z : EntryRead). z.0.head) l.1)
+  heads_law : (path bytes : List ℕ) → IsText (head >>= head_on path bytes) (λ y. head_text y.0.head ++ counted (result_text keys names) y.0.results) (λ y. FitsHead y.0.head × (AreResults keys names y.0.head y.0.results × (y ≡ entry_made path bytes y.0.head y.0.results)))
+  heads_law path bytes = text_next head (head_on path bytes) head_text FitsHead (λ y. counted (result_text keys names) y.0.results) (λ h y. AreResults keys names h y.0.results × (y ≡ entry_made path bytes h y.0.results)) (λ y. y.0.head) head_law (results_law path bytes) (λ h y g l. ap (λ (z : EntryRead). z.0.head) l.1)
 
-  bytes_law : (path : List ℕ) → IsText (sized >>= λ bytes. head >>= head_on path bytes) (λ y. string y.0.bytes ++ (head_text y.0.head ++ counted (result_text keys names) y.0.results)) (λ y. HasRoom y.0.bytes × (IsHead y.0.head × (AreResults keys names y.0.head y.0.results × (y ≡ entry_made path y.0.bytes y.0.head y.0.results))))
-  bytes_law path = text_next sized (λ bytes. head >>= head_on path bytes) string HasRoom (λ y. head_text y.0.head ++ counted (result_text keys names) y.0.results) (λ bytes y. IsHead y.0.head × (AreResults keys names y.0.head y.0.results × (y ≡ entry_made path bytes y.0.head y.0.results))) (λ y. y.0.bytes) sized_law (heads_law path) (λ bytes y g l. ap (λ (z : EntryRead). z.0.bytes) l.1.1)
+  bytes_law : (path : List ℕ) → IsText (sized >>= λ bytes. head >>= head_on path bytes) (λ y. string y.0.bytes ++ (head_text y.0.head ++ counted (result_text keys names) y.0.results)) (λ y. HasRoom y.0.bytes × (FitsHead y.0.head × (AreResults keys names y.0.head y.0.results × (y ≡ entry_made path y.0.bytes y.0.head y.0.results))))
+  bytes_law path = text_next sized (λ bytes. head >>= head_on path bytes) string HasRoom (λ y. head_text y.0.head ++ counted (result_text keys names) y.0.results) (λ bytes y. FitsHead y.0.head × (AreResults keys names y.0.head y.0.results × (y ≡ entry_made path bytes y.0.head y.0.results))) (λ y. y.0.bytes) sized_law (heads_law path) (λ bytes y g l. ap (λ (z : EntryRead). z.0.bytes) l.1.1)
 
   entry_law : (before : Option (List ℕ)) → IsText (entry keys names before) (λ y. entry_text keys names y.0) (λ y. IsEntryBehind keys names before y.0 × (y.1 ≡ Some y.0.path))
   unfolding entry
   entry_law before =
       text_as (sized_as (passing (is_path_behind before)) >>= λ path. sized >>= λ bytes. head >>= head_on path bytes) (λ y. entry_text keys names y.0) (λ y. entry_text keys names y.0)
-      (λ y. (HasRoom y.0.path × (is_path_behind before y.0.path ≡ true)) × (HasRoom y.0.bytes × (IsHead y.0.head × (AreResults keys names y.0.head y.0.results × (y ≡ entry_made y.0.path y.0.bytes y.0.head y.0.results))))) (λ y. IsEntryBehind keys names before y.0 × (y.1 ≡ Some y.0.path))
+      (λ y. (HasRoom y.0.path × (is_path_behind before y.0.path ≡ true)) × (HasRoom y.0.bytes × (FitsHead y.0.head × (AreResults keys names y.0.head y.0.results × (y ≡ entry_made y.0.path y.0.bytes y.0.head y.0.results))))) (λ y. IsEntryBehind keys names before y.0 × (y.1 ≡ Some y.0.path))
       (text_next (sized_as (passing (is_path_behind before))) (λ path. sized >>= λ bytes. head >>= head_on path bytes) string (λ s. HasRoom s × (is_path_behind before s ≡ true)) (λ y. string y.0.bytes ++ (head_text y.0.head ++ counted (result_text keys names) y.0.results))
-      (λ path y. HasRoom y.0.bytes × (IsHead y.0.head × (AreResults keys names y.0.head y.0.results × (y ≡ entry_made path y.0.bytes y.0.head y.0.results)))) (λ y. y.0.path) (string_text (is_path_behind before)) bytes_law (λ path y g l. ap (λ (z : EntryRead). z.0.path) l.1.1.1))
+      (λ path y. HasRoom y.0.bytes × (FitsHead y.0.head × (AreResults keys names y.0.head y.0.results × (y ≡ entry_made path y.0.bytes y.0.head y.0.results)))) (λ y. y.0.path) (string_text (is_path_behind before)) bytes_law (λ path y g l. ap (λ (z : EntryRead). z.0.path) l.1.1.1))
       (λ y h. ((((h.0.0, h.0.1), h.1.0, h.1.1.0, h.1.1.1.0), ap (λ (z : EntryRead). z.1) h.1.1.1.1), refl))
       (λ y h. (((h.0.0.0, h.0.0.1), (h.0.1, (h.0.2, (h.0.3, ap (λ (o : Option (List ℕ)). let z : EntryRead = (y.0, o) in z) h.1)))), refl))
 

@@ -1,8 +1,11 @@
 pub mod Order
+pub mod Whole
+pub mod WholeTwo
 pub mod AnswerLaws
 pub mod ResultLaws
 pub mod EntryLaws
 pub mod CacheLaws
 pub mod StoredLaws
+pub mod Split
 pub mod Noted
 pub mod Written

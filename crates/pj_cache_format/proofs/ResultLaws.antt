@@ -1,42 +1,29 @@
 -- Laws of the parts of format 2: their bytes are their text.
-use Rattle.std.proofs.Common.{◌≡◌, ◌≢◌, ℕ, zero, suc, ◌<◌, ◌≤◌, ◌^◌, Bool, true, false, ◌&&◌, ◌||◌, cond, ltb, eqb, List, [], ◌∷◌, ◌++◌, length, map, Option, Some, None, Result, Ok, Err, refl, sym, ap, subst, ◌∙◌, arith}
-use Rattle.std.specs.Prelude.{codes, nat_eq}
-use Rattle.std.specs.List.{flat_map, AllByRecursion}
+use Rattle.std.proofs.Common.{◌≡◌, ℕ, ◌<◌, ◌^◌, Bool, true, false, cond, ltb, eqb, List, [], ◌∷◌, ◌++◌, length, Option, Some, None, Result, Ok, Err, refl, sym, ap, subst, ◌∙◌, arith}
+use Rattle.std.specs.List.{flat_map}
 use Rattle.std.specs.List.Sorted.{IsStrictlySortedBy}
-use Rattle.std.specs.Int.{w16, w32, to_be_bytes}
-use Rattle.std.specs.Str.{is_utf8}
 use Rattle.std.specs.Ordering.{nat_cmp}
-use Rattle.std.specs.Cmp.Lexicographic.{pointwise}
 use Rattle.std.proofs.lemmas.Bool.{ltb-true, eqb-true, eqb-false, lt-ltb}
-use Rattle.std.proofs.lemmas.List.{append-nil, length-map}
-use Rattle.std.proofs.lemmas.List.Concat.{flat_map-cons}
-use Rattle.pj_format.specs.Format.{Format, Done, ◌>>=◌, Spells}
-use Rattle.pj_format.specs.Fields.{u8, u8_as, u16, u32, u32_as, sized, sized_as, several_from, each, Chain, Along}
-use Rattle.pj_format.proofs.Parts.{IsText, IsOpen, open_then, from_open, each_open, text_then, text_next, text_as, text_made, made_open, cond_open, done_text, u8_text, from_text, each_text}
-use Rattle.pj_names.specs.declared.answer.Answer.{Answer}
+use Rattle.pj_format.specs.Format.{Done, ◌>>=◌}
+use Rattle.pj_format.specs.Fields.{u8_as, u32, u32_as, sized_as, several_from, Chain}
+use Rattle.pj_format.proofs.Parts.{IsText, text_then, text_next, text_as, text_made, cond_open, u8_text, from_text}
 use Rattle.pj_names.specs.ClassName.{Name}
 use Rattle.pj_tree.specs.declared.node.Place.{Place}
 use Rattle.pj_reports.specs.declared.rows.Reason.{Reason}
 use Rattle.pj_reports.specs.declared.rows.Reason.TheVariants as reasons
-use Rattle.pj_reports.specs.declared.ruled.Head.{Head}
-use Rattle.pj_reports.specs.declared.ruled.Head.TheVariants as heads
 use Rattle.pj_reports.specs.declared.ruled.Ruled.{Ruled}
 use Rattle.pj_reports.specs.declared.ruled.Ruled.TheVariants as ruled
 use Rattle.pj_reports.specs.declared.ruled.Spot.{Spot}
 use Rattle.pj_cache.specs.declared.cache.KeyRows.{KeyRows}
-use Rattle.pj_cache.specs.declared.cache.CachedResult.{CachedResult}
-use Rattle.pj_cache.specs.declared.cache.Entry.{Entry}
-use Rattle.pj_cache.specs.declared.cache.Cache.{Cache}
 use Rattle.pj_cache.specs.Places.{byte_order, place_in, member_at}
-use Rattle.pj_cache_format.specs.Judges.{is_behind, passing, when, text, is_path_behind, is_language, is_below}
-use Rattle.pj_cache_format.specs.Answers.{answer_list}
-use Rattle.pj_cache_format.specs.FormatTwo.{key, key_list, reason_of, place, spot, spot_list, spots, rule_message, rows_behind, rows, is_key_place, key_place, key_places, is_name_place, name_at, name_list, key_rows, first_of, with_places, result as result_format, is_empty, is_head_tag, head_message, head_behind, head, is_result_count, result_list, entry, entry_list}
+use Rattle.pj_cache_format.specs.Judges.{is_behind, passing, text, is_below}
+use Rattle.pj_cache_format.specs.FormatTwo.{key, key_list, reason_of, place, spot, spot_list, spots, rule_message, rows_behind, rows, is_key_place, key_place, key_places, is_name_place, name_at, name_list, key_rows}
 use Rattle.pj_cache_format.specs.Texts.{number, string, counted}
-use Rattle.pj_cache_format.specs.TextTwo.{reason_byte, place_text, spot_text, rows_tag, rows_content, rows_text, result_text, package_of, head_tag, head_content, head_text, entry_text}
-use Rattle.pj_cache_format.specs.Whole.{HasRoom, IsTextFor}
-use Rattle.pj_cache_format.specs.WholeTwo.{IsPlace, IsSpotBehind, AreRows, IsKeyBehind, AreKeys, places_of, AreKeyPlaces, AreKeyRows, IsNameBehind, AreNames, IsResultBehind, result_step, IsHead, AreResults, IsEntryBehind}
+use Rattle.pj_cache_format.specs.TextTwo.{reason_byte, place_text, spot_text, rows_tag, rows_content, rows_text}
+use Rattle.pj_cache_format.proofs.WholeTwo.{IsSpotBehind, AreRows, IsKeyBehind, AreKeys, AreKeyPlaces, AreKeyRows, IsNameBehind, AreNames}
 use Rattle.pj_cache.proofs.Places.{place_of_member}
-use Rattle.pj_cache_format.proofs.AnswerLaws.{passed, passes, tag_text, number_text, string_text, text_text, u8_law, u32_law, sized_law, counted_text, counted_from, both_true}
+use Rattle.pj_cache_format.proofs.AnswerLaws.{tag_text, number_text, string_text, text_text, u32_law, counted_from, both_true}
+use Rattle.pj_cache_format.specs.Fitting.{FitsPlace, FitsText, HasRoom}
 
 -- ---- rows
 
@@ -83,10 +70,10 @@ reason_below (Some reasons.XPath) = omega arith
 reason_law : IsText (u8_as reason_of) (λ (r : Option Reason). reason_byte r ∷ []) (λ (r : Option Reason). (reason_byte r < 256) × Unit {0})
 reason_law = u8_text reason_byte (λ r. Unit {0}) reason_of reason_read reason_again
 
-pub place_law : IsText place place_text IsPlace
+pub place_law : IsText place place_text FitsPlace
 unfolding place
 place_law =
-    text_as ((u32) >>= λ line. (u32) >>= λ column. Done (let made : Place = record { line = line; column = column } in made)) (λ y. (number) ((λ (z : Place). z.line) y) ++ ((number) ((λ (z : Place). z.column) y))) (place_text) (λ y. ((λ (n : ℕ). n < 2 ^ 32) ((λ (z : Place). z.line) y)) × ((λ (line : ℕ). ((λ (n : ℕ). n < 2 ^ 32) ((λ (z : Place). z.column) y)) × (y ≡ (λ (column : ℕ). let made : Place = record { line = line; column = column } in made) ((λ (z : Place). z.column) y))) ((λ (z : Place). z.line) y))) (IsPlace)
+    text_as ((u32) >>= λ line. (u32) >>= λ column. Done (let made : Place = record { line = line; column = column } in made)) (λ y. (number) ((λ (z : Place). z.line) y) ++ ((number) ((λ (z : Place). z.column) y))) (place_text) (λ y. ((λ (n : ℕ). n < 2 ^ 32) ((λ (z : Place). z.line) y)) × ((λ (line : ℕ). ((λ (n : ℕ). n < 2 ^ 32) ((λ (z : Place). z.column) y)) × (y ≡ (λ (column : ℕ). let made : Place = record { line = line; column = column } in made) ((λ (z : Place). z.column) y))) ((λ (z : Place). z.line) y))) (FitsPlace)
     (text_next (u32) (λ line. (u32) >>= λ column. Done (let made : Place = record { line = line; column = column } in made)) (number) (λ (n : ℕ). n < 2 ^ 32) (λ y. (number) ((λ (z : Place). z.column) y)) (λ line y. ((λ (n : ℕ). n < 2 ^ 32) ((λ (z : Place). z.column) y)) × (y ≡ (λ (column : ℕ). let made : Place = record { line = line; column = column } in made) ((λ (z : Place). z.column) y))) (λ (z : Place). z.line)
     (u32_law)
     (λ line. text_made (u32) (λ column. let made : Place = record { line = line; column = column } in made) (λ (z : Place). z.column) (number) (λ (n : ℕ). n < 2 ^ 32) (λ column g. refl) (u32_law))
@@ -103,12 +90,12 @@ spot_made node begin end reason = (record { node = node; begin = begin; end = en
 pub spot_law : (before : Option ℕ) → IsText (spot before) (λ y. spot_text y.0) (λ y. IsSpotBehind before y.0 × (y.1 ≡ Some y.0.node))
 unfolding spot
 spot_law before =
-    text_as ((u32_as (passing (is_behind nat_cmp before))) >>= λ node. (place) >>= λ begin. (place) >>= λ end. (u8_as reason_of) >>= λ reason. Done (spot_made node begin end reason)) (λ y. (number) ((λ (z : SpotRead). z.0.node) y) ++ ((place_text) ((λ (z : SpotRead). z.0.begin) y) ++ ((place_text) ((λ (z : SpotRead). z.0.end) y) ++ ((λ (r : Option Reason). reason_byte r ∷ []) ((λ (z : SpotRead). z.0.reason) y))))) (λ y. spot_text y.0) (λ y. ((λ (n : ℕ). (n < 2 ^ 32) × (is_behind nat_cmp before n ≡ true)) ((λ (z : SpotRead). z.0.node) y)) × ((λ (node : ℕ). ((IsPlace) ((λ (z : SpotRead). z.0.begin) y)) × ((λ (begin : Place). ((IsPlace) ((λ (z : SpotRead). z.0.end) y)) × ((λ (end : Place). ((λ (r : Option Reason). (reason_byte r < 256) × Unit {0}) ((λ (z : SpotRead). z.0.reason) y)) × (y ≡ (λ (reason : Option Reason). spot_made node begin end reason) ((λ (z : SpotRead). z.0.reason) y))) ((λ (z : SpotRead). z.0.end) y))) ((λ (z : SpotRead). z.0.begin) y))) ((λ (z : SpotRead). z.0.node) y))) (λ y. IsSpotBehind before y.0 × (y.1 ≡ Some y.0.node))
-    (text_next (u32_as (passing (is_behind nat_cmp before))) (λ node. (place) >>= λ begin. (place) >>= λ end. (u8_as reason_of) >>= λ reason. Done (spot_made node begin end reason)) (number) (λ (n : ℕ). (n < 2 ^ 32) × (is_behind nat_cmp before n ≡ true)) (λ y. (place_text) ((λ (z : SpotRead). z.0.begin) y) ++ ((place_text) ((λ (z : SpotRead). z.0.end) y) ++ ((λ (r : Option Reason). reason_byte r ∷ []) ((λ (z : SpotRead). z.0.reason) y)))) (λ node y. ((IsPlace) ((λ (z : SpotRead). z.0.begin) y)) × ((λ (begin : Place). ((IsPlace) ((λ (z : SpotRead). z.0.end) y)) × ((λ (end : Place). ((λ (r : Option Reason). (reason_byte r < 256) × Unit {0}) ((λ (z : SpotRead). z.0.reason) y)) × (y ≡ (λ (reason : Option Reason). spot_made node begin end reason) ((λ (z : SpotRead). z.0.reason) y))) ((λ (z : SpotRead). z.0.end) y))) ((λ (z : SpotRead). z.0.begin) y))) (λ (z : SpotRead). z.0.node)
+    text_as ((u32_as (passing (is_behind nat_cmp before))) >>= λ node. (place) >>= λ begin. (place) >>= λ end. (u8_as reason_of) >>= λ reason. Done (spot_made node begin end reason)) (λ y. (number) ((λ (z : SpotRead). z.0.node) y) ++ ((place_text) ((λ (z : SpotRead). z.0.begin) y) ++ ((place_text) ((λ (z : SpotRead). z.0.end) y) ++ ((λ (r : Option Reason). reason_byte r ∷ []) ((λ (z : SpotRead). z.0.reason) y))))) (λ y. spot_text y.0) (λ y. ((λ (n : ℕ). (n < 2 ^ 32) × (is_behind nat_cmp before n ≡ true)) ((λ (z : SpotRead). z.0.node) y)) × ((λ (node : ℕ). ((FitsPlace) ((λ (z : SpotRead). z.0.begin) y)) × ((λ (begin : Place). ((FitsPlace) ((λ (z : SpotRead). z.0.end) y)) × ((λ (end : Place). ((λ (r : Option Reason). (reason_byte r < 256) × Unit {0}) ((λ (z : SpotRead). z.0.reason) y)) × (y ≡ (λ (reason : Option Reason). spot_made node begin end reason) ((λ (z : SpotRead). z.0.reason) y))) ((λ (z : SpotRead). z.0.end) y))) ((λ (z : SpotRead). z.0.begin) y))) ((λ (z : SpotRead). z.0.node) y))) (λ y. IsSpotBehind before y.0 × (y.1 ≡ Some y.0.node))
+    (text_next (u32_as (passing (is_behind nat_cmp before))) (λ node. (place) >>= λ begin. (place) >>= λ end. (u8_as reason_of) >>= λ reason. Done (spot_made node begin end reason)) (number) (λ (n : ℕ). (n < 2 ^ 32) × (is_behind nat_cmp before n ≡ true)) (λ y. (place_text) ((λ (z : SpotRead). z.0.begin) y) ++ ((place_text) ((λ (z : SpotRead). z.0.end) y) ++ ((λ (r : Option Reason). reason_byte r ∷ []) ((λ (z : SpotRead). z.0.reason) y)))) (λ node y. ((FitsPlace) ((λ (z : SpotRead). z.0.begin) y)) × ((λ (begin : Place). ((FitsPlace) ((λ (z : SpotRead). z.0.end) y)) × ((λ (end : Place). ((λ (r : Option Reason). (reason_byte r < 256) × Unit {0}) ((λ (z : SpotRead). z.0.reason) y)) × (y ≡ (λ (reason : Option Reason). spot_made node begin end reason) ((λ (z : SpotRead). z.0.reason) y))) ((λ (z : SpotRead). z.0.end) y))) ((λ (z : SpotRead). z.0.begin) y))) (λ (z : SpotRead). z.0.node)
     (number_text (is_behind nat_cmp before))
-    (λ node. text_next (place) (λ begin. (place) >>= λ end. (u8_as reason_of) >>= λ reason. Done (spot_made node begin end reason)) (place_text) (IsPlace) (λ y. (place_text) ((λ (z : SpotRead). z.0.end) y) ++ ((λ (r : Option Reason). reason_byte r ∷ []) ((λ (z : SpotRead). z.0.reason) y))) (λ begin y. ((IsPlace) ((λ (z : SpotRead). z.0.end) y)) × ((λ (end : Place). ((λ (r : Option Reason). (reason_byte r < 256) × Unit {0}) ((λ (z : SpotRead). z.0.reason) y)) × (y ≡ (λ (reason : Option Reason). spot_made node begin end reason) ((λ (z : SpotRead). z.0.reason) y))) ((λ (z : SpotRead). z.0.end) y))) (λ (z : SpotRead). z.0.begin)
+    (λ node. text_next (place) (λ begin. (place) >>= λ end. (u8_as reason_of) >>= λ reason. Done (spot_made node begin end reason)) (place_text) (FitsPlace) (λ y. (place_text) ((λ (z : SpotRead). z.0.end) y) ++ ((λ (r : Option Reason). reason_byte r ∷ []) ((λ (z : SpotRead). z.0.reason) y))) (λ begin y. ((FitsPlace) ((λ (z : SpotRead). z.0.end) y)) × ((λ (end : Place). ((λ (r : Option Reason). (reason_byte r < 256) × Unit {0}) ((λ (z : SpotRead). z.0.reason) y)) × (y ≡ (λ (reason : Option Reason). spot_made node begin end reason) ((λ (z : SpotRead). z.0.reason) y))) ((λ (z : SpotRead). z.0.end) y))) (λ (z : SpotRead). z.0.begin)
     (place_law)
-    (λ begin. text_next (place) (λ end. (u8_as reason_of) >>= λ reason. Done (spot_made node begin end reason)) (place_text) (IsPlace) (λ y. (λ (r : Option Reason). reason_byte r ∷ []) ((λ (z : SpotRead). z.0.reason) y)) (λ end y. ((λ (r : Option Reason). (reason_byte r < 256) × Unit {0}) ((λ (z : SpotRead). z.0.reason) y)) × (y ≡ (λ (reason : Option Reason). spot_made node begin end reason) ((λ (z : SpotRead). z.0.reason) y))) (λ (z : SpotRead). z.0.end)
+    (λ begin. text_next (place) (λ end. (u8_as reason_of) >>= λ reason. Done (spot_made node begin end reason)) (place_text) (FitsPlace) (λ y. (λ (r : Option Reason). reason_byte r ∷ []) ((λ (z : SpotRead). z.0.reason) y)) (λ end y. ((λ (r : Option Reason). (reason_byte r < 256) × Unit {0}) ((λ (z : SpotRead). z.0.reason) y)) × (y ≡ (λ (reason : Option Reason). spot_made node begin end reason) ((λ (z : SpotRead). z.0.reason) y))) (λ (z : SpotRead). z.0.end)
     (place_law)
     (λ end. text_made (u8_as reason_of) (λ reason. spot_made node begin end reason) (λ (z : SpotRead). z.0.reason) (λ (r : Option Reason). reason_byte r ∷ []) (λ (r : Option Reason). (reason_byte r < 256) × Unit {0}) (λ reason g. refl) (reason_law))
     (λ end y g h. ap (λ (z : SpotRead). z.0.end) h.1))
@@ -146,19 +133,19 @@ spots_law =
     text_as (spot_list >>= λ all. Done (ruled.Spots all)) (λ y. counted spot_text (spots_in y)) rows_content (λ y. AreSpots (spots_in y) × (y ≡ ruled.Spots (spots_in y))) (λ y. (rows_tag y ≡ 0) × AreRows y)
     (text_made spot_list (λ all. ruled.Spots all) spots_in (counted spot_text) AreSpots (λ all g. refl) spot_list_law) spots_from spots_to
 
-message_from : (y : Ruled) → IsTextFor (message_in y) × (y ≡ ruled.Message (message_in y)) → ((rows_tag y ≡ 1) × AreRows y) × (string (message_in y) ≡ rows_content y)
+message_from : (y : Ruled) → FitsText (message_in y) × (y ≡ ruled.Message (message_in y)) → ((rows_tag y ≡ 1) × AreRows y) × (string (message_in y) ≡ rows_content y)
 message_from (ruled.Spots all) h = absurd cc
 message_from (ruled.Message message) h = ((refl, h.0), refl)
 
-message_to : (y : Ruled) → (rows_tag y ≡ 1) × AreRows y → (IsTextFor (message_in y) × (y ≡ ruled.Message (message_in y))) × (string (message_in y) ≡ rows_content y)
+message_to : (y : Ruled) → (rows_tag y ≡ 1) × AreRows y → (FitsText (message_in y) × (y ≡ ruled.Message (message_in y))) × (string (message_in y) ≡ rows_content y)
 message_to (ruled.Spots all) h = absurd (omega (arith, h.0))
 message_to (ruled.Message message) h = ((h.1, refl), refl)
 
 message_law : IsText rule_message rows_content (λ y. (rows_tag y ≡ 1) × AreRows y)
 unfolding rule_message
 message_law =
-    text_as (text >>= λ message. Done (ruled.Message message)) (λ y. string (message_in y)) rows_content (λ y. IsTextFor (message_in y) × (y ≡ ruled.Message (message_in y))) (λ y. (rows_tag y ≡ 1) × AreRows y)
-    (text_made text (λ message. ruled.Message message) message_in string IsTextFor (λ message g. refl) text_text) message_from message_to
+    text_as (text >>= λ message. Done (ruled.Message message)) (λ y. string (message_in y)) rows_content (λ y. FitsText (message_in y) × (y ≡ ruled.Message (message_in y))) (λ y. (rows_tag y ≡ 1) × AreRows y)
+    (text_made text (λ message. ruled.Message message) message_in string FitsText (λ message g. refl) text_text) message_from message_to
 
 rows_cases : (tag : ℕ) (a : Bool) → eqb tag 0 ≡ a → tag < 2 → IsText (cond a spots rule_message) rows_content (λ y. (rows_tag y ≡ tag) × AreRows y)
 rows_cases tag true e high = subst (λ (n : ℕ). IsText spots rows_content (λ y. (rows_tag y ≡ n) × AreRows y)) (sym (eqb-true tag 0 e)) spots_law

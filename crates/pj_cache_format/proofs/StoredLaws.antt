@@ -1,22 +1,24 @@
 -- Laws of sealed texts: a cache has one, and it is read from no other.
-use Rattle.std.proofs.Common.{◌≡◌, ◌≢◌, ℕ, zero, suc, ◌-◌, ◌+◌, ◌*◌, ◌<◌, ◌≤◌, ◌^◌, Bool, true, false, List, [], ◌∷◌, ◌++◌, length, take, drop, get_or, min, Result, Ok, Err, refl, sym, ap, subst, ◌∙◌, append_assoc, arith}
-use Rattle.std.specs.Prelude.{codes}
+use Rattle.std.proofs.Common.{◌≡◌, ◌⊎◌, inl, inr, ℕ, zero, suc, ◌-◌, ◌+◌, ◌*◌, ◌<◌, ◌≤◌, ◌^◌, true, List, [], ◌++◌, length, take, get_or, Result, Ok, Err, refl, sym, ap, subst, ◌∙◌, append_assoc, arith}
 use Rattle.std.specs.Int.{w32, to_be_bytes}
 use Rattle.std.proofs.lemmas.Bool.{eqb-true}
-use Rattle.std.proofs.lemmas.List.{append-nil, length-append, length-take, take_at, drop_at, take-append-drop, take-take}
+use Rattle.std.proofs.lemmas.List.{append-nil, length-append, take_at, drop_at, take-append-drop, take-take}
 use Rattle.sha2.specs.Sha256.{sha256, digest_bytes, final_hash, initial_hash_256}
 use Rattle.pj_format.specs.declared.fault.Fault.{Fault}
-use Rattle.pj_format.specs.Format.{Format, Done, End, ◌>>=◌, Spells, whole}
+use Rattle.pj_format.specs.Format.{Format, Done, End, ◌>>=◌, Spells, fault, whole}
 use Rattle.pj_format.specs.Fields.{u32_as, run}
 use Rattle.pj_format.proofs.Parts.{IsBytes, bytes_left, bytes_right, bytes_take, IsText, IsOpen, spells_then, then_spells, open_then, text_next, text_as}
 use Rattle.pj_format.proofs.Spelling.{means_one}
 use Rattle.pj_cache.specs.declared.cache.Cache.{Cache}
+use Rattle.pj_cache_format.specs.declared.fault.CacheFault.TheVariants as faults
+use Rattle.pj_cache_format.specs.declared.fault.CacheRefused.{CacheRefused}
+use Rattle.pj_cache_format.specs.declared.fault.CacheRefused.TheVariants as refused
 use Rattle.pj_cache_format.specs.Judges.{passing}
 use Rattle.pj_cache_format.specs.FormatTwo.{cache}
 use Rattle.pj_cache_format.specs.Texts.{number}
 use Rattle.pj_cache_format.specs.TextTwo.{cache_text}
-use Rattle.pj_cache_format.specs.WholeTwo.{IsWhole}
-use Rattle.pj_cache_format.specs.Decoded.{magic, sealed, text_two, content_of, seal_of, is_version, stored, IsSealed, IsStored}
+use Rattle.pj_cache_format.proofs.WholeTwo.{IsWhole}
+use Rattle.pj_cache_format.specs.Decoded.{magic, sealed, text_two, content_of, seal_of, is_version, stored, IsStored, IsDecoded}
 use Rattle.pj_cache_format.proofs.AnswerLaws.{number_text}
 use Rattle.pj_cache_format.proofs.CacheLaws.{cache_law}
 
@@ -149,3 +151,21 @@ one_cache bytes c d h k =
 -- different caches have different texts
 pub one_text : (c d : Cache) → IsWhole c → IsWhole d → text_two c ≡ text_two d → c ≡ d
 one_text c d w v e = one_cache (text_two d) c d (subst (λ (l : List ℕ). IsStored l c) e (text_stored c w)) (text_stored d v)
+
+-- ---- what a reader answers
+
+abbrev answered : Cache → Result Cache CacheRefused
+answered c = Ok c
+
+abbrev failed : Fault → Result Cache Fault
+failed f = Err f
+
+-- of bytes that spell a cache it is that cache, or want of memory
+pub one_answer : (bytes : List ℕ) (c : Cache) (r : Result Cache CacheRefused) → IsStored bytes c → IsDecoded bytes r → (r ≡ Ok c) ⊎ (r ≡ Err refused.Memory)
+one_answer bytes c (Ok d) s h = inl (ap answered (one_cache bytes d c h s))
+one_answer bytes c (Err refused.Memory) s h = inr refl
+one_answer bytes c (Err (refused.Fault faults.Short)) s h = absurd (omega (arith, h, s.is_sealed.long))
+one_answer bytes c (Err (refused.Fault faults.Magic)) s h = absurd (h.1 s.is_sealed.magic_is)
+one_answer bytes c (Err (refused.Fault (faults.Seal kept computed))) s h = absurd (h.differ (h.kept_is ∙ s.is_sealed.seal_is ∙ sym h.computed_is))
+one_answer bytes c (Err (refused.Fault (faults.Form offset))) s h =
+    let both : read c ≡ failed (fault h.1.0 offset) = means_one (whole 1 stored) (content_of bytes) (Ok c) (Err (fault h.1.0 offset)) s.spelled h.1.1 in absurd cc

@@ -1,5 +1,5 @@
 -- Answers about classes in a cache, in both formats.
-use Rattle.std.specs.Prelude.{ℕ, Bool, true, false, ◌==◌, ◌&&◌, List, map, Option, Some, None, Result, Ok, Err, nat_lt, cond}
+use Rattle.std.specs.Prelude.{ℕ, Bool, ◌==◌, ◌&&◌, List, Option, Some, None, nat_lt, cond}
 use Rattle.std.specs.Str.{is_utf8}
 use Rattle.pj_format.specs.Format.{Format, Done, ◌>>=◌}
 use Rattle.pj_format.specs.Fields.{u8, u8_as, u16, u32, sized_as, several, several_from}

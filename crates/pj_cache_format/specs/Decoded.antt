@@ -1,7 +1,7 @@
 -- What bytes are as a cache: a text that is sealed, or what is wrong with it.
-use Rattle.std.specs.Prelude.{◌≡◌, ◌≢◌, ◌-◌, ◌<◌, ◌≤◌, ◌==◌, ◌++◌, ℕ, Bool, List, codes, length, take, drop, Result, Ok, Err, if◌then◌else◌}
+use Rattle.std.specs.Prelude.{◌≡◌, ◌≢◌, ◌-◌, ◌<◌, ◌≤◌, ◌==◌, ◌++◌, ℕ, Bool, List, codes, length, take, drop, Result, Ok, Err}
 use Rattle.sha2.specs.Sha256.{sha256}
-use Rattle.pj_format.specs.Format.{Format, Done, ◌>>=◌, Spells, IsFirst, fault, whole}
+use Rattle.pj_format.specs.Format.{Format, ◌>>=◌, Spells, IsFirst, fault, whole}
 use Rattle.pj_format.specs.Fields.{run, u32_as}
 use Rattle.pj_cache.specs.declared.cache.Cache.{Cache}
 use Rattle.pj_cache_format.specs.declared.fault.CacheFault.TheVariants as faults

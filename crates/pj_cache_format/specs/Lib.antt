@@ -3,7 +3,7 @@ pub mod Judges
 pub mod Answers
 pub mod FormatTwo
 pub mod Texts
-pub mod Whole
+pub mod Fitting
 pub mod TextTwo
-pub mod WholeTwo
+pub mod Ordered
 pub mod Decoded

@@ -12,7 +12,8 @@ mod writing;
 pub use encoding::encode;
 pub use fault::{CacheFault, CacheRefused, Digest32};
 pub use laws::{
-    different_caches_differ, spelled_is_its_text, spells_one_cache, text_spells_its_cache,
+    different_caches_differ, order_is_strict, spelled_is_decoded, spelled_is_its_text,
+    spells_one_cache, text_spells_its_cache,
 };
 pub use named::{keys_of, names_of};
 pub use seal::digest_of;

@@ -1,5 +1,6 @@
 //! Writing numbers, byte strings and answers.
-ghost use Rattle.std.specs.Prelude.{◌≡◌, ◌++◌, ◌∷◌, [], OnOk};
+ghost use Rattle.std.specs.Prelude.{◌≡◌, ◌++◌, ◌∷◌, ◌<◌, ◌^◌, [], OnOk};
+ghost use Rattle.pj_cache_format.specs.Fitting.{HasRoom, AllFit, FitsText, FitsMember, FitsClass, FitsBroken, FitsAnswer, FitsNamed};
 ghost use Rattle.pj_cache_format.specs.Texts.{number, flags, string, counted, member_text, class_text, broken_text, answer_tag, answer_content, answer_text};
 
 use pj_base::NoMemory;
@@ -16,7 +17,8 @@ pub(crate) fn put_number(out: &mut Vec<u8>, n: u32) -> Result<(), NoMemory>
 
 /// Puts how many there are at the end. More than four bytes tell are want of memory.
 pub(crate) fn put_count(out: &mut Vec<u8>, count: usize) -> Result<(), NoMemory>
-    ensures { OnOk result (out.new.items ≡ out.old.items ++ number count) }
+    ensures put { OnOk result (out.new.items ≡ out.old.items ++ number count) }
+    ensures room { OnOk result (count < 2 ^ 32) }
 {
     if count > 0xffff_ffff {
         return Err(NoMemory);
@@ -26,7 +28,8 @@ pub(crate) fn put_count(out: &mut Vec<u8>, count: usize) -> Result<(), NoMemory>
 
 /// Puts bytes at the end, behind their number.
 pub(crate) fn put_bytes(out: &mut Vec<u8>, bytes: &[u8]) -> Result<(), NoMemory>
-    ensures { OnOk result (out.new.items ≡ out.old.items ++ string bytes.now) }
+    ensures put { OnOk result (out.new.items ≡ out.old.items ++ string bytes.now) }
+    ensures room { OnOk result (HasRoom bytes.now) }
 {
     put_count(out, bytes.len())?;
     out.extend_from_slice(bytes)?;
@@ -35,7 +38,8 @@ pub(crate) fn put_bytes(out: &mut Vec<u8>, bytes: &[u8]) -> Result<(), NoMemory>
 
 /// Puts a text at the end, behind the number of its bytes.
 pub(crate) fn put_text(out: &mut Vec<u8>, text: &str) -> Result<(), NoMemory>
-    ensures { OnOk result (out.new.items ≡ out.old.items ++ string text.now) }
+    ensures put { OnOk result (out.new.items ≡ out.old.items ++ string text.now) }
+    ensures room { OnOk result (FitsText text.now) }
 {
     put_bytes(out, text.as_bytes())
 }
@@ -50,7 +54,8 @@ fn put_flags(out: &mut Vec<u8>, n: u16) -> Result<(), NoMemory>
 
 /// Puts a field or a method at the end.
 fn put_member(out: &mut Vec<u8>, member: &Member) -> Result<(), NoMemory>
-    ensures { OnOk result (out.new.items ≡ out.old.items ++ member_text member.now) }
+    ensures put { OnOk result (out.new.items ≡ out.old.items ++ member_text member.now) }
+    ensures room { OnOk result (FitsMember member.now) }
 {
     put_flags(out, member.flags)?;
     put_text(out, member.name.as_str())?;
@@ -59,7 +64,8 @@ fn put_member(out: &mut Vec<u8>, member: &Member) -> Result<(), NoMemory>
 
 /// Puts fields or methods at the end.
 fn put_members(out: &mut Vec<u8>, members: &[Member]) -> Result<(), NoMemory>
-    ensures { OnOk result (out.new.items ≡ out.old.items ++ counted member_text members.now) }
+    ensures put { OnOk result (out.new.items ≡ out.old.items ++ counted member_text members.now) }
+    ensures room { OnOk result (AllFit FitsMember members.now) }
 {
     put_count(out, members.len())?;
     for member in members {
@@ -70,7 +76,8 @@ fn put_members(out: &mut Vec<u8>, members: &[Member]) -> Result<(), NoMemory>
 
 /// Puts a class at the end, without its name.
 fn put_class(out: &mut Vec<u8>, class: &ClassInfo) -> Result<(), NoMemory>
-    ensures { OnOk result (out.new.items ≡ out.old.items ++ class_text class.now) }
+    ensures put { OnOk result (out.new.items ≡ out.old.items ++ class_text class.now) }
+    ensures room { OnOk result (FitsClass class.now) }
 {
     put_flags(out, class.flags)?;
     put_text(out, class.signature.as_str())?;
@@ -80,7 +87,8 @@ fn put_class(out: &mut Vec<u8>, class: &ClassInfo) -> Result<(), NoMemory>
 
 /// Puts why a class is not readable at the end.
 fn put_broken(out: &mut Vec<u8>, broken: &Broken) -> Result<(), NoMemory>
-    ensures { OnOk result (out.new.items ≡ out.old.items ++ broken_text broken.now) }
+    ensures put { OnOk result (out.new.items ≡ out.old.items ++ broken_text broken.now) }
+    ensures room { OnOk result (FitsBroken broken.now) }
 {
     match broken {
         Broken::Class(fault) => {
@@ -96,7 +104,8 @@ fn put_broken(out: &mut Vec<u8>, broken: &Broken) -> Result<(), NoMemory>
 
 /// Puts what stands behind the name of an answer at the end.
 fn put_content(out: &mut Vec<u8>, answer: &Answer) -> Result<(), NoMemory>
-    ensures { OnOk result (out.new.items ≡ out.old.items ++ answer_tag answer.now ∷ answer_content answer.now) }
+    ensures put { OnOk result (out.new.items ≡ out.old.items ++ answer_tag answer.now ∷ answer_content answer.now) }
+    ensures room { OnOk result (FitsAnswer answer.now) }
 {
     match answer {
         Answer::Absent => {
@@ -116,7 +125,8 @@ fn put_content(out: &mut Vec<u8>, answer: &Answer) -> Result<(), NoMemory>
 
 /// Puts a name with its answer at the end.
 fn put_answer(out: &mut Vec<u8>, name: &ClassName, answer: &Answer) -> Result<(), NoMemory>
-    ensures { OnOk result (out.new.items ≡ out.old.items ++ answer_text (name.now, answer.now)) }
+    ensures put { OnOk result (out.new.items ≡ out.old.items ++ answer_text (name.now, answer.now)) }
+    ensures room { OnOk result (FitsNamed (name.now, answer.now)) }
 {
     put_text(out, name.as_str())?;
     put_content(out, answer)
@@ -127,7 +137,8 @@ pub(crate) fn put_answers(
     out: &mut Vec<u8>,
     answers: &[(ClassName, Arc<Answer>)],
 ) -> Result<(), NoMemory>
-    ensures { OnOk result (out.new.items ≡ out.old.items ++ counted (λ a. answer_text (a.0, a.1.value)) answers.now) }
+    ensures put { OnOk result (out.new.items ≡ out.old.items ++ counted (λ a. answer_text (a.0, a.1.value)) answers.now) }
+    ensures room { OnOk result (AllFit (λ a. FitsNamed (a.0, a.1.value)) answers.now) }
 {
     put_count(out, answers.len())?;
     for (name, answer) in answers {

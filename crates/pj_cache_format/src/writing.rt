@@ -5,6 +5,8 @@ ghost use Rattle.pj_cache.specs.Places.{byte_order};
 ghost use Rattle.pj_cache_format.specs.FormatTwo.{keys_of};
 ghost use Rattle.pj_cache_format.specs.Texts.{number, string, counted, answer_text};
 ghost use Rattle.pj_cache.specs.Places.{place_in};
+ghost use Rattle.std.specs.List.{All};
+ghost use Rattle.pj_cache_format.specs.Fitting.{HasRoom, AllFit, FitsNamed, FitsPlace, FitsSpot, FitsRows, FitsKeyRows, FitsResult, FitsHead, FitsEntry, FitsFields};
 ghost use Rattle.pj_cache_format.specs.TextTwo.{place_text, reason_byte, spot_text, rows_text, head_text, result_text, entry_text, cache_text};
 
 use crate::named::keys_of;
@@ -72,7 +74,8 @@ fn reason_byte(reason: Option<Reason>) -> u8
 
 /// Puts a place at the end.
 fn put_place(out: &mut Vec<u8>, place: Place) -> Result<(), NoMemory>
-    ensures { OnOk result (out.new.items ≡ out.old.items ++ place_text place) }
+    ensures put { OnOk result (out.new.items ≡ out.old.items ++ place_text place) }
+    ensures room { OnOk result (FitsPlace place) }
 {
     put_number(out, place.line)?;
     put_number(out, place.column)
@@ -80,7 +83,8 @@ fn put_place(out: &mut Vec<u8>, place: Place) -> Result<(), NoMemory>
 
 /// Puts a node with its places at the end.
 fn put_spot(out: &mut Vec<u8>, spot: &Spot) -> Result<(), NoMemory>
-    ensures { OnOk result (out.new.items ≡ out.old.items ++ spot_text spot.now) }
+    ensures put { OnOk result (out.new.items ≡ out.old.items ++ spot_text spot.now) }
+    ensures room { OnOk result (FitsSpot spot.now) }
 {
     put_number(out, spot.node)?;
     put_place(out, spot.begin)?;
@@ -91,7 +95,8 @@ fn put_spot(out: &mut Vec<u8>, spot: &Spot) -> Result<(), NoMemory>
 
 /// Puts nodes at the end, behind their number.
 fn put_spots(out: &mut Vec<u8>, spots: &[Spot]) -> Result<(), NoMemory>
-    ensures { OnOk result (out.new.items ≡ out.old.items ++ counted spot_text spots.now) }
+    ensures put { OnOk result (out.new.items ≡ out.old.items ++ counted spot_text spots.now) }
+    ensures room { OnOk result (AllFit FitsSpot spots.now) }
 {
     put_count(out, spots.len())?;
     for spot in spots {
@@ -102,7 +107,8 @@ fn put_spots(out: &mut Vec<u8>, spots: &[Spot]) -> Result<(), NoMemory>
 
 /// Puts what a rule comes to at the end.
 fn put_rows(out: &mut Vec<u8>, rows: &Ruled) -> Result<(), NoMemory>
-    ensures { OnOk result (out.new.items ≡ out.old.items ++ rows_text rows.now) }
+    ensures put { OnOk result (out.new.items ≡ out.old.items ++ rows_text rows.now) }
+    ensures room { OnOk result (FitsRows rows.now) }
 {
     match rows {
         Ruled::Spots(spots) => {
@@ -119,7 +125,8 @@ fn put_rows(out: &mut Vec<u8>, rows: &Ruled) -> Result<(), NoMemory>
 /// Puts the places of the keys of a result at the end, behind their number.
 fn put_key_places(out: &mut Vec<u8>, keys: &[Key], group: &[KeyRows]) -> Result<(), NoMemory>
     requires { IsStrictlySortedBy byte_order keys.now }
-    ensures { OnOk result (out.new.items ≡ out.old.items ++ counted (λ k. number (place_in keys.now k.key)) group.now) }
+    ensures put { OnOk result (out.new.items ≡ out.old.items ++ counted (λ k. number (place_in keys.now k.key)) group.now) }
+    ensures room { OnOk result (HasRoom group.now) }
 {
     put_count(out, group.len())?;
     for member in group {
@@ -135,7 +142,8 @@ fn put_name_places(
     names: &[ClassName],
 ) -> Result<(), NoMemory>
     requires { IsStrictlySortedBy byte_order (map (λ a. a.0) answers.now) }
-    ensures { OnOk result (out.new.items ≡ out.old.items ++ counted (λ n. number (place_in (map (λ a. a.0) answers.now) n)) names.now) }
+    ensures put { OnOk result (out.new.items ≡ out.old.items ++ counted (λ n. number (place_in (map (λ a. a.0) answers.now) n)) names.now) }
+    ensures room { OnOk result (HasRoom names.now) }
 {
     put_count(out, names.len())?;
     for name in names {
@@ -146,7 +154,8 @@ fn put_name_places(
 
 /// Puts the rows of keys at the end.
 fn put_group(out: &mut Vec<u8>, group: &[KeyRows]) -> Result<(), NoMemory>
-    ensures { OnOk result (out.new.items ≡ out.old.items ++ flat_map (λ k. rows_text k.rows) group.now) }
+    ensures put { OnOk result (out.new.items ≡ out.old.items ++ flat_map (λ k. rows_text k.rows) group.now) }
+    ensures room { OnOk result (All FitsKeyRows group.now) }
 {
     for member in group {
         put_rows(out, &member.rows)?;
@@ -163,7 +172,8 @@ fn put_result(
 ) -> Result<(), NoMemory>
     requires keys { IsStrictlySortedBy byte_order keys.now }
     requires answers { IsStrictlySortedBy byte_order (map (λ a. a.0) answers.now) }
-    ensures { OnOk result (out.new.items ≡ out.old.items ++ result_text keys.now (map (λ a. a.0) answers.now) item.now) }
+    ensures put { OnOk result (out.new.items ≡ out.old.items ++ result_text keys.now (map (λ a. a.0) answers.now) item.now) }
+    ensures room { OnOk result (FitsResult item.now) }
 {
     put_key_places(out, keys, item.group.as_slice())?;
     put_name_places(out, answers, item.names.as_slice())?;
@@ -180,7 +190,8 @@ fn put_results(
 ) -> Result<(), NoMemory>
     requires keys { IsStrictlySortedBy byte_order keys.now }
     requires answers { IsStrictlySortedBy byte_order (map (λ a. a.0) answers.now) }
-    ensures { OnOk result (out.new.items ≡ out.old.items ++ counted (result_text keys.now (map (λ a. a.0) answers.now)) items.now) }
+    ensures put { OnOk result (out.new.items ≡ out.old.items ++ counted (result_text keys.now (map (λ a. a.0) answers.now)) items.now) }
+    ensures room { OnOk result (AllFit FitsResult items.now) }
 {
     put_count(out, items.len())?;
     for item in items {
@@ -191,7 +202,8 @@ fn put_results(
 
 /// Puts what a file is at the end.
 fn put_head(out: &mut Vec<u8>, head: &Head) -> Result<(), NoMemory>
-    ensures { OnOk result (out.new.items ≡ out.old.items ++ head_text head.now) }
+    ensures put { OnOk result (out.new.items ≡ out.old.items ++ head_text head.now) }
+    ensures room { OnOk result (FitsHead head.now) }
 {
     match head {
         Head::Package(package) => {
@@ -216,7 +228,8 @@ fn put_entry(
 ) -> Result<(), NoMemory>
     requires keys { IsStrictlySortedBy byte_order keys.now }
     requires answers { IsStrictlySortedBy byte_order (map (λ a. a.0) answers.now) }
-    ensures { OnOk result (out.new.items ≡ out.old.items ++ entry_text keys.now (map (λ a. a.0) answers.now) entry.now) }
+    ensures put { OnOk result (out.new.items ≡ out.old.items ++ entry_text keys.now (map (λ a. a.0) answers.now) entry.now) }
+    ensures room { OnOk result (FitsEntry entry.now) }
 {
     put_text(out, entry.path.as_str())?;
     put_bytes(out, entry.bytes.as_slice())?;
@@ -233,7 +246,8 @@ fn put_entries(
 ) -> Result<(), NoMemory>
     requires keys { IsStrictlySortedBy byte_order keys.now }
     requires answers { IsStrictlySortedBy byte_order (map (λ a. a.0) answers.now) }
-    ensures { OnOk result (out.new.items ≡ out.old.items ++ counted (entry_text keys.now (map (λ a. a.0) answers.now)) entries.now) }
+    ensures put { OnOk result (out.new.items ≡ out.old.items ++ counted (entry_text keys.now (map (λ a. a.0) answers.now)) entries.now) }
+    ensures room { OnOk result (AllFit FitsEntry entries.now) }
 {
     put_count(out, entries.len())?;
     for entry in entries {
@@ -244,7 +258,8 @@ fn put_entries(
 
 /// Puts keys at the end, behind their number.
 fn put_keys(out: &mut Vec<u8>, keys: &[Key]) -> Result<(), NoMemory>
-    ensures { OnOk result (out.new.items ≡ out.old.items ++ counted string keys.now) }
+    ensures put { OnOk result (out.new.items ≡ out.old.items ++ counted string keys.now) }
+    ensures room { OnOk result (AllFit (λ key. HasRoom key) keys.now) }
 {
     put_count(out, keys.len())?;
     for key in keys {
@@ -262,7 +277,10 @@ fn put_content(
 ) -> Result<(), NoMemory>
     requires keys { IsStrictlySortedBy byte_order keys.now }
     requires answers { IsStrictlySortedBy byte_order (map (λ a. a.0) answers.now) }
-    ensures { OnOk result (out.new.items ≡ out.old.items ++ (string (codes "java-17") ++ (counted string keys.now ++ (counted (λ a. answer_text (a.0, a.1.value)) answers.now ++ counted (entry_text keys.now (map (λ a. a.0) answers.now)) entries.now)))) }
+    ensures put { OnOk result (out.new.items ≡ out.old.items ++ (string (codes "java-17") ++ (counted string keys.now ++ (counted (λ a. answer_text (a.0, a.1.value)) answers.now ++ counted (entry_text keys.now (map (λ a. a.0) answers.now)) entries.now)))) }
+    ensures keys_fit { OnOk result (AllFit (λ key. HasRoom key) keys.now) }
+    ensures answers_fit { OnOk result (AllFit (λ a. FitsNamed (a.0, a.1.value)) answers.now) }
+    ensures entries_fit { OnOk result (AllFit FitsEntry entries.now) }
 {
     put_text(out, "java-17")?;
     put_keys(out, keys)?;
@@ -273,7 +291,8 @@ fn put_content(
 /// Puts all of a cache behind the number of the format at the end.
 pub(crate) fn put_cache(alloc: Global, out: &mut Vec<u8>, cache: &Cache) -> Result<(), NoMemory>
     requires { IsStrictlySortedBy byte_order (map (λ a. a.0) cache.now.answers) }
-    ensures { OnOk result (out.new.items ≡ out.old.items ++ cache_text cache.now) }
+    ensures put { OnOk result (out.new.items ≡ out.old.items ++ cache_text cache.now) }
+    ensures room { OnOk result (FitsFields cache.now) }
 {
     let keys = keys_of(alloc, cache.entries.as_slice())?;
     let answers = cache.answers.as_slice();

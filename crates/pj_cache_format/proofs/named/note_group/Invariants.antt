@@ -1,6 +1,5 @@
 use Rattle.std.proofs.Common.{◌≡◌, drop, map}
-use Rattle.std.specs.List.{flat_map}
-use Rattle.pj_cache_format.specs.FormatTwo.{with_more, with_places, results_of}
+use Rattle.pj_cache_format.specs.FormatTwo.{with_more}
 use Rattle.pj_cache_format.proofs.named.note_group.Given as goal
 
 abbrev pub invariant-loop-member : goal.invariant-loop-member

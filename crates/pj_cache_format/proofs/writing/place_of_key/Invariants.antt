@@ -1,4 +1,4 @@
-use Rattle.std.proofs.Common.{◌≡◌, ◌-◌, ◌≤◌, length, map}
+use Rattle.std.proofs.Common.{◌-◌, ◌≤◌, length}
 use Rattle.pj_cache.specs.Places.{place_in}
 use Rattle.pj_cache_format.proofs.writing.place_of_key.Given as goal
 

@@ -1,8 +1,7 @@
-use Rattle.std.proofs.Common.{◌≡◌, ◌++◌, length, take, map}
+use Rattle.std.proofs.Common.{◌≡◌, ◌++◌, length, take}
 use Rattle.std.specs.List.{flat_map}
-use Rattle.pj_cache_format.specs.Texts.{number, string, member_text, answer_text}
+use Rattle.pj_cache_format.specs.Texts.{number}
 use Rattle.pj_cache.specs.Places.{place_in}
-use Rattle.pj_cache_format.specs.TextTwo.{spot_text, rows_text, result_text, entry_text}
 use Rattle.pj_cache_format.proofs.writing.put_key_places.Given as goal
 
 abbrev pub invariant-loop-member : goal.invariant-loop-member

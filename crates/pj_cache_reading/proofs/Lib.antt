@@ -1,0 +1,5 @@
+pub mod Texts
+pub mod Same
+pub mod Sealed
+pub mod Ends
+pub mod OneAnswer

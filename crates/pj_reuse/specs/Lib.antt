@@ -1,0 +1,3 @@
+-- definitions
+pub mod Same
+pub mod Serving

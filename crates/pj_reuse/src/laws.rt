@@ -1,0 +1,20 @@
+//! Laws of what a cache serves, each the contract of a call that does nothing.
+ghost use Rattle.std.specs.Prelude.{◌≡◌, ◌↔◌, ℕ, true, List};
+ghost use Rattle.pj_names.specs.declared.answer.Answer.{Answer};
+ghost use Rattle.pj_names.specs.ClassName.{Name};
+ghost use Rattle.pj_names.specs.Asking.{names_of, value_of};
+ghost use Rattle.pj_cache.specs.declared.cache.CachedResult.{CachedResult};
+ghost use Rattle.pj_reuse.specs.Same.{is_same_answer};
+ghost use Rattle.pj_reuse.specs.Serving.{looked_in, served, served_in};
+
+/// Answers that are the same part by part are equal, and others are not.
+pub fn same_is_equal()
+    ensures { (first second : Answer) → (is_same_answer first second ≡ true) ↔ (first ≡ second) }
+{}
+
+/// In a world the places served are just those of the keys that a result has, each of whose answers is the world's; and just the
+/// names of the results for these keys are asked, up to the first one whose answer is another.
+pub fn served_is()
+    ensures places { (depth : ℕ) (world : Name → Answer) (answers : List (Name × Answer)) (results : List CachedResult) (keys : List (List ℕ)) → value_of depth world (served answers results keys) ≡ served_in answers world results keys }
+    ensures names { (depth : ℕ) (world : Name → Answer) (answers : List (Name × Answer)) (results : List CachedResult) (keys : List (List ℕ)) → names_of depth world (served answers results keys) ≡ looked_in answers world results keys }
+{}
