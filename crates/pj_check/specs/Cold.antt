@@ -1,4 +1,4 @@
--- The cold report of a set of rules over class folders. As long as there are no functions of PMD it asks for no class.
+-- The cold report of a set of rules over class folders.
 use Rattle.std.specs.Prelude.{List}
 use Rattle.pj_outside.specs.Doors.{ClassFolders, opened}
 use Rattle.pj_outside.specs.Files.{Bytes, Files}
