@@ -50,6 +50,16 @@ fn result_over<'t, 'a, 'f, O: Oracle>(
     rule_result(file, rule, &mut calls)
 }
 
+/// What an oracle of a file that is asked no more was made over: the oracle beneath, and what is held of the file.
+fn parts_of<'a, 'f, O: Oracle>(over: FileOracle<'a, 'f, O>) -> (&'a mut O, &'a mut Held)
+    ensures same_oracle { result.0.ghost_name ≡ over.entry.inner.ghost_name }
+    ensures oracle { result.0.now ≡ over.entry.inner.now }
+    ensures same_held { result.1.ghost_name ≡ over.entry.held.ghost_name }
+    ensures held { result.1.now ≡ over.entry.held.now }
+{
+    (over.inner, over.held)
+}
+
 /// What an active rule comes to in a file, with what is held of the file.
 fn active_result<'t, O: Oracle>(
     file: &'t FileView<'t>,
@@ -66,7 +76,9 @@ fn active_result<'t, O: Oracle>(
     ensures right { AreRight (file_seen file.now).tree (O.tells oracle.new) held.new types.new.variables }
 {
     let mut over = FileOracle::new(file.alloc, file.java, oracle, held);
-    result_over(file, rule, &mut over, types)
+    let came_to = result_over(file, rule, &mut over, types);
+    let _parts = parts_of(over);
+    came_to
 }
 
 /// What a rule comes to in a file: nothing where it is not active.
