@@ -29,17 +29,16 @@ keeps-beneath tree types h keeps = λ is.
     subst (λ (w : Worlds). All (Holds tree (λ depth. world_by (file_answer tree) depth (w depth))) types) (sym (ap (λ k. k.world) h.same_kept)) (keeps (sym h.same_told ∙ is))
 
 -- the functions ask beneath as the oracle of the file does
-pub asks-calls : {K A : Type 0} (by on : GName) (own after : FileOwn) (lent kept place then : GName) (m : Asking A) {t u : Told K} {r : Result A AskFault}
-    → kept ≡ lent → then ≡ place → Asks m (tells_by by own own_answer t) (tells_by on after own_answer u) r
-    → Asks (expand (file_answer own.tree) m) (tells_calls by (record { tree = own.tree; held = own.held; oracle = lent; types = place }) t)
-    (tells_calls on (record { tree = after.tree; held = after.held; oracle = kept; types = then }) u) r
-asks-calls by on own after lent kept place then m same_oracle same_types h =
+pub asks-calls : {K A : Type 0} (by on : GName) (own after : FileOwn) (place then : GName) (m : Asking A) {t u : Told K} {r : Result A AskFault}
+    → then ≡ place → Asks m (tells_by by own own_answer t) (tells_by on after own_answer u) r
+    → Asks (expand (file_answer own.tree) m) (tells_calls by (record { tree = own.tree; held = own.held; types = place }) t) (tells_calls on (record { tree = after.tree; held = after.held; types = then }) u) r
+asks-calls by on own after place then m same h =
     let beneath = asks-inner by on own after own_answer m h in
     record {
       same_told = beneath.same_told;
       same_world = beneath.same_world;
       same_kept = λ i. record {
-        own = record { tree = (h.same_kept i).own.tree; held = (h.same_kept i).own.held; oracle = same_oracle i; types = same_types i };
+        own = record { tree = (h.same_kept i).own.tree; held = (h.same_kept i).own.held; types = same i };
         reference = (h.same_kept i).reference;
         is_told = (h.same_kept i).is_told;
         world = (h.same_kept i).world;
@@ -53,18 +52,3 @@ asks-calls by on own after lent kept place then m same_oracle same_types h =
       asked_stays = beneath.asked_stays;
       asked_within = beneath.asked_within;
     }
-
--- and so, over the functions, the oracle beneath was asked
-pub asks-under : {K A : Type 0} {by on : GName} {own after : CallsOwn} {m : Asking A} {t u : Told K} {r : Result A AskFault} → Asks m (tells_calls by own t) (tells_calls on after u) r → Asks m t u r
-asks-under h = record {
-  same_told = h.same_told;
-  same_world = h.same_world;
-  same_kept = ap (λ k. k.kept) h.same_kept;
-  faults_grow = h.faults_grow;
-  faults_stay = h.faults_stay;
-  failed = h.failed;
-  value_is = h.value_is;
-  asked_is = h.asked_is;
-  asked_stays = h.asked_stays;
-  asked_within = h.asked_within;
-}

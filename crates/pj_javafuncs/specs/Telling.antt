@@ -3,11 +3,10 @@ use Rattle.std.specs.Borrow.{GName}
 use Rattle.pj_names.specs.Told.{Over, Told}
 use Rattle.pj_tree.specs.Tree.{Tree}
 
--- What they keep of their own: the tree of the file, and the references to its oracle and to what is held of it, the answers of its classes and the types.
+-- What they keep of their own: the tree of the file, and the references to what is held of it, the answers of its classes and the types.
 pub record CallsOwn : Type 0 where
   pub tree : Tree
   pub held : GName
-  pub oracle : GName
   pub types : GName
 
 -- They tell the world beneath, where a reply is the meaning expanded, and ask beneath.

@@ -24,7 +24,7 @@ use pj_xeval::{Focus, evaluate};
 use pj_xexpressions::Expr;
 use pj_xfuncs::Patterns;
 use pj_xparse::{Parser, parse_with};
-use pj_xvalue::{Attributes, BoundVars, Item, XFault};
+use pj_xvalue::{Attributes, BoundVars, Calls, Item, XFault};
 use std::alloc::Global;
 
 /// The tables of functions. The settings of a section: `@file` is a text of Java, in which `/*^*/` stands before the context node, which is the outermost one that begins there,
@@ -256,8 +256,8 @@ fn put_with<'t, A: Attributes>(
 {
     let mut held = Held::new(alloc);
     let mut types = Typed::new(alloc);
-    let mut oracle = FileOracle::new(alloc, file, beneath, &mut held);
-    let mut calls = JavaCalls::new(&mut oracle, &mut types, facts, path);
+    let oracle = FileOracle::new(alloc, file, beneath, &mut held);
+    let calls = JavaCalls::new(oracle, &mut types, facts, path);
     let focus = Focus {
         item: item_at(at),
         position: 1,
@@ -265,6 +265,24 @@ fn put_with<'t, A: Attributes>(
         variables,
         patterns,
     };
-    let items = evaluate(alloc, expression, focus, file.tree(), facts, &mut calls)?;
+    put_by(alloc, file.tree(), facts, expression, focus, calls, out)
+}
+
+/// Puts the value of an expression by these functions of PMD.
+fn put_by<'t, A: Attributes, C: Calls + Drop>(
+    alloc: Global,
+    tree: &'t SyntaxTree<'t>,
+    facts: &'t A,
+    expression: &Expr,
+    focus: Focus<'t>,
+    mut calls: C,
+    out: &mut String,
+) -> Result<(), XFault>
+    requires facts { A.nodes facts.now ≡ length tree.now.nodes }
+    requires nodes { C.nodes calls ≡ length tree.now.nodes }
+    requires item { IsOfTree (length tree.now.nodes) (value_of_item focus.item) }
+    requires variables { focus.variables.now ≡ [] }
+{
+    let items = evaluate(alloc, expression, focus, tree, facts, &mut calls)?;
     Ok(put_items(out, &items)?)
 }

@@ -19,8 +19,8 @@ returns-clause-same_reply g c =
 
 pub returns-clause-asks : goal.returns-clause-asks
 returns-clause-asks g c =
-    let own : FileOwn = record { tree = c.args.self.now.oracle.now.file.now; held = c.args.self.now.oracle.now.held.ghost_name } in
-    asks-calls _ _ own _ c.args.self.now.oracle.ghost_name _ c.args.self.now.types.ghost_name _ _ refl refl c.reply.ensures.asks
+    let own : FileOwn = record { tree = c.args.self.now.oracle.file.now; held = c.args.self.now.oracle.held.ghost_name } in
+    asks-calls _ _ own _ c.args.self.now.types.ghost_name _ _ refl c.reply.ensures.asks
 
 pub returns-clause-kind : goal.returns-clause-kind
 returns-clause-kind g c = c.reply.ensures.kind
