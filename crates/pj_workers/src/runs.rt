@@ -1,7 +1,6 @@
 //! What the rules of a set come to in a file that has a tree, each with the classes on which that rests.
 ghost use Rattle.std.specs.Prelude.{◌≡◌, List, Ok, IfOk};
 ghost use Rattle.std.specs.List.{AllZip};
-ghost use Rattle.pj_exprtypes.specs.Table.{KeepsOver};
 ghost use Rattle.pj_names.specs.Asking.{each};
 ghost use Rattle.pj_names.specs.Noting.{Notes};
 ghost use Rattle.pj_names.specs.Told.{Asks, seen};
@@ -24,40 +23,21 @@ use pj_rule_sets::{Rule, which_are_active};
 use pj_xlaws::trees_tell_expressions;
 use pj_xparse::one_expression;
 use pj_xpatterns::trees_tell_patterns;
+use pj_xvalue::Attributes;
 
-/// What an active rule comes to in a file, over the oracle of the file.
-fn result_over<'t, 'a, 'f, O: Oracle>(
-    file: &'t FileView<'t>,
-    rule: &'t Rule,
-    over: &mut FileOracle<'a, 'f, O>,
-    types: &mut Typed,
-) -> Result<Ruled, AskFault>
-    requires file { IsOfOneFile file.now }
-    requires tree { over.old.file.now ≡ (file_seen file.now).tree }
-    requires keeps { KeepsOver over.old.file.now (O.tells over.old.inner.now) types.old.variables }
-    ensures asks { (meant : MeantRule) → IsRuleOf file.now.marker.now rule.now meant
-        → Asks (rule_in_file (java_replies file.now.path.now (file_seen file.now)) (file_seen file.now) meant) (O.tells over.old.inner.now) (O.tells over.new.inner.now) result }
-    ensures kept { (O.tells over.new.inner.now).kept ≡ (O.tells over.old.inner.now).kept }
-    ensures keeps { KeepsOver over.old.file.now (O.tells over.new.inner.now) types.new.variables }
-    ensures tree { over.new.file.now ≡ over.old.file.now }
-    ensures same_inner { over.new.inner.ghost_name ≡ over.old.inner.ghost_name }
-    ensures same_held { over.new.held.ghost_name ≡ over.old.held.ghost_name }
+/// What functions that are called no more were made over: the oracle beneath that of the file, and what is held of the file.
+fn parts_of<'a, 'f, O: Oracle, A: Attributes>(
+    calls: JavaCalls<'a, 'f, O, A>,
+) -> (&'a mut O, &'a mut Held, &'a mut Typed)
+    ensures same_oracle { result.0.ghost_name ≡ calls.entry.oracle.inner.ghost_name }
+    ensures oracle { result.0.now ≡ calls.entry.oracle.inner.now }
+    ensures same_held { result.1.ghost_name ≡ calls.entry.oracle.held.ghost_name }
+    ensures held { result.1.now ≡ calls.entry.oracle.held.now }
+    ensures same_types { result.2.ghost_name ≡ calls.entry.types.ghost_name }
+    ensures types { result.2.now ≡ calls.entry.types.now }
 {
-    one_expression();
-    trees_tell_expressions();
-    trees_tell_patterns();
-    let mut calls = JavaCalls::new(over, types, file.facts, file.path);
-    rule_result(file, rule, &mut calls)
-}
-
-/// What an oracle of a file that is asked no more was made over: the oracle beneath, and what is held of the file.
-fn parts_of<'a, 'f, O: Oracle>(over: FileOracle<'a, 'f, O>) -> (&'a mut O, &'a mut Held)
-    ensures same_oracle { result.0.ghost_name ≡ over.entry.inner.ghost_name }
-    ensures oracle { result.0.now ≡ over.entry.inner.now }
-    ensures same_held { result.1.ghost_name ≡ over.entry.held.ghost_name }
-    ensures held { result.1.now ≡ over.entry.held.now }
-{
-    (over.inner, over.held)
+    let over = calls.oracle;
+    (over.inner, over.held, calls.types)
 }
 
 /// What an active rule comes to in a file, with what is held of the file.
@@ -75,9 +55,13 @@ fn active_result<'t, O: Oracle>(
     ensures kept { (O.tells oracle.new).kept ≡ (O.tells oracle.old).kept }
     ensures right { AreRight (file_seen file.now).tree (O.tells oracle.new) held.new types.new.variables }
 {
-    let mut over = FileOracle::new(file.alloc, file.java, oracle, held);
-    let came_to = result_over(file, rule, &mut over, types);
-    let _parts = parts_of(over);
+    one_expression();
+    trees_tell_expressions();
+    trees_tell_patterns();
+    let over = FileOracle::new(file.alloc, file.java, oracle, held);
+    let mut calls = JavaCalls::new(over, types, file.facts, file.path);
+    let came_to = rule_result(file, rule, &mut calls);
+    let _parts = parts_of(calls);
     came_to
 }
 
