@@ -4,11 +4,11 @@ use Rattle.std.specs.List.{AllZip}
 use Rattle.pj_names.specs.declared.answer.Answer.{Answer}
 use Rattle.pj_names.specs.ClassName.{Name, NameSet}
 use Rattle.pj_names.specs.Meaning.{Gives, Means, whole}
-use Rattle.pj_outside.specs.Files.{Files}
+use Rattle.pj_outside.specs.Files.{Bytes, Files}
 use Rattle.pj_reports.specs.declared.report.Report.{Report}
 use Rattle.pj_reports.specs.declared.rows.FileRows.{FileRows}
 use Rattle.pj_names.specs.declared.rule_row.ConfigError.{ConfigError}
-use Rattle.pj_workers.specs.FileMeaning.{Bytes, Replies, file_meaning}
+use Rattle.pj_workers.specs.FileMeaning.{Replies, file_meaning}
 use Rattle.pj_workers.specs.Rules.{Rule}
 
 -- what the world answers for each name
