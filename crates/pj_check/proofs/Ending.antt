@@ -18,7 +18,7 @@ use Rattle.pj_check.specs.declared.verdict.Verdict.{Verdict}
 use Rattle.pj_check.specs.declared.verdict.Verdict.TheVariants as verdict
 use Rattle.pj_check.specs.declared.report_rendering.Written.{Written}
 use Rattle.pj_check.specs.Cold.{IsColdOf, world_of}
-use Rattle.pj_check.specs.Outcome.{CountsClassFaults, CountsDoors, CountsSinkFaults, CountsTreeFaults, DoorCounts, GetsSome, IsCut, IsReported, KeepsWork, OneDoor, Says, SaysOfSink, SaysOfWords, Worked}
+use Rattle.pj_check.specs.Outcome.{CountsClassFaults, CountsDoors, CountsSinkFaults, CountsTreeFaults, DoorCounts, GetsSome, IsAnalysed, IsCut, IsReported, KeepsWork, OneDoor, Says, SaysOfFiles, SaysOfSink, SaysOfWords, Worked}
 use Rattle.pj_check.specs.Run.{HasRules, Run}
 use Rattle.pj_check.specs.Steps.{CountsFaults, Explains, HasNoReport, IsMade, IsOfClasses, IsOfSome, SaysNoReport, SaysNotPut, SaysRefusal, outcome_of, refused}
 use Rattle.pj_check.specs.declared.outcome.Outcome.{Outcome}
@@ -35,6 +35,10 @@ no_memory words told = record { cause = all_told told (λ held. SaysRefusal word
 -- the work of a run, by its parts
 pub worked : (run : Run) (old new : Work) → new.analysed ≡ old.analysed ++ run.listing.paths → new.reused ≡ old.reused → new.skipped ≡ run.listing.skipped → Worked run old new
 worked run old new a r s = λ i. record { analysed = a i; reused = r i; skipped = s i }
+
+worked_on : (listing : Listing) (old new : Work) → new.analysed ≡ old.analysed ++ listing.paths → new.reused ≡ old.reused → new.skipped ≡ listing.skipped →
+    new ≡ record { analysed = old.analysed ++ listing.paths; reused = old.reused; skipped = listing.skipped }
+worked_on listing old new a r s = λ i. record { analysed = a i; reused = r i; skipped = s i }
 
 -- what is said of the same files at another moment
 pub told_later : {A : Type 0} (o p : Option A) (P : A → Type 0) → p ≡ o → IfSome o P → IfSome p P
@@ -57,6 +61,23 @@ is_made words told classes settings listing rules sources report written old new
       worked = worked run old new (analysed ∙ ap (λ paths. old.analysed ++ paths) within.paths_are) reused skipped;
     })
     colds)
+    has read
+
+pub is_analysed : (words : List Bytes) (told : Option Files) (settings : Settings) (listing : Listing) (rules : EffectiveRules) (sources : Files) (old new : Work) →
+    IfSome told (λ held. HasRules words held settings listing rules) → IfSome told (λ held. AreRead held listing.paths sources) → AreWithin listing.paths sources →
+    new.analysed ≡ old.analysed ++ map (λ file. file.0) sources → new.reused ≡ old.reused → new.skipped ≡ listing.skipped →
+    IfSome told (λ held. IsAnalysed words held old new)
+is_analysed words told settings listing rules sources old new has read within analysed reused skipped =
+    told_both told told (λ held. HasRules words held settings listing rules) (λ held. AreRead held listing.paths sources) (λ held. IsAnalysed words held old new) refl
+    (λ held h r. record {
+      settings = settings;
+      listing = listing;
+      rules = rules;
+      sources = sources;
+      has_rules = h;
+      read = r;
+      worked = worked_on listing old new (analysed ∙ ap (λ paths. old.analysed ++ paths) within.paths_are) reused skipped;
+    })
     has read
 
 -- ---- the report is not made
@@ -128,6 +149,17 @@ says_before Memory words held classes old new before after h = tt
 pub all_say_before : (r : Refusal) (words : List Bytes) (told : Option Files) (classes : Option ClassFolders) (old new : Option Bytes) (before after : Work) → HasNoReport words told r → IfSome told (λ held. Says (refused r) words held classes old new before after)
 all_say_before r words told classes old new before after e =
     told_so told (λ held. SaysNoReport words held r) (λ held. Says (refused r) words held classes old new before after) (λ held h. says_before r words held classes old new before after h) e.cause
+
+-- a refusal before the report is put is no fault of the sink
+pub files_before : (r : Refusal) (words : List Bytes) (told : Option Files) (before after : Work) → SaysNotPut r words → IfSome told (λ held. SaysOfFiles (refused r) words held before after)
+files_before (Usage fault) words told before after h = all_told told (λ held. ⊤) (λ held. tt)
+files_before (Rules fault) words told before after h = all_told told (λ held. ⊤) (λ held. tt)
+files_before TreeFault words told before after h = all_told told (λ held. ⊤) (λ held. tt)
+files_before ClassFault words told before after h = all_told told (λ held. ⊤) (λ held. tt)
+files_before SinkFault words told before after h = absurd h
+files_before (Missing path) words told before after h = all_told told (λ held. ⊤) (λ held. tt)
+files_before (Limit kind) words told before after h = all_told told (λ held. ⊤) (λ held. tt)
+files_before Memory words told before after h = all_told told (λ held. ⊤) (λ held. tt)
 
 pub words_before : (r : Refusal) (words : List Bytes) → SaysNotPut r words → SaysOfWords (refused r) words
 words_before (Usage fault) words h = h
@@ -226,6 +258,13 @@ put_says (Err r) words told classes written old new before after is got cut faul
     (told_so classes (λ folders. IsMade words held folders before after written) (λ folders. IsCut words held folders old new before after)
     (λ folders m. record { run = m.run; is_run = m.is_run; got = subst (λ (t : Bytes). GetsPrefix old new t) m.text cut; worked = m.worked }) of_folders)) made
 
+pub put_files : (r : Result Verdict Refusal) (words : List Bytes) (told : Option Files) (before after : Work) → IfErr r (λ e. e ≡ SinkFault) → IfSome told (λ held. IsAnalysed words held before after) →
+    IfSome told (λ held. SaysOfFiles (outcome_of r) words held before after)
+put_files (Ok verdict.Clean) words told before after fault read = read
+put_files (Ok verdict.Violations) words told before after fault read = read
+put_files (Ok verdict.Errors) words told before after fault read = read
+put_files (Err r) words told before after fault read = subst (λ (e : Refusal). IfSome told (λ held. SaysOfFiles (refused e) words held before after)) (sym fault) read
+
 pub put_words : (r : Result Verdict Refusal) (words : List Bytes) (written : Written) → IfErr r (λ e. e ≡ SinkFault) → IsOfSome words written → SaysOfWords (outcome_of r) words
 put_words (Ok verdict.Clean) words written fault some = (some.settings, some.asked, tt)
 put_words (Ok verdict.Violations) words written fault some = (some.settings, some.asked, tt)
@@ -308,6 +347,10 @@ pub nothing_made : (words : List Bytes) (told : Option Files) (classes : Option 
 nothing_made words told classes old new r e is =
     subst (λ (w : Result Written Refusal). IfSome told (λ held. IfSome classes (λ folders. IfOk w (IsMade words held folders old new)))) (sym is)
     (all_told told (λ held. IfSome classes (λ folders. ⊤)) (λ held. all_told classes (λ folders. ⊤) (λ folders. tt)))
+
+pub nothing_analysed : (words : List Bytes) (told : Option Files) (old new : Work) (r : Result Written Refusal) (e : Refusal) → r ≡ Err e → IfSome told (λ held. OnOk r (IsAnalysed words held old new))
+nothing_analysed words told old new r e is =
+    subst (λ (w : Result Written Refusal). IfSome told (λ held. OnOk w (IsAnalysed words held old new))) (sym is) (all_told told (λ held. ⊤) (λ held. tt))
 
 -- the tree's count is the same where the class path refuses
 pub tree_idle : (A : Type 0) (r : Refusal) (old new : ℕ) → IsOfClasses r → new ≡ old → CountsFaults {A = A} old new (Err r)

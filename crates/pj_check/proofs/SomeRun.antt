@@ -1,4 +1,4 @@
--- Rules that rulesets come to have a cold report, and words and files have a run or a cause of refusal, where the rulesets have rules or a fault.
+-- Rules that rulesets come to have a cold report, and words, files and class folders have a run or a cause of refusal.
 use Rattle.std.proofs.Common.{◌≡◌, ℕ, Bool, true, false, ltb, ◌⊎◌, inl, inr, List, [], ◌∷◌, length, Option, Some, None, Result, Ok, Err, refl}
 use Rattle.std.specs.Prelude.{⊤}
 use Rattle.std.specs.List.{AllByRecursion, AllZip}
@@ -7,6 +7,7 @@ use Rattle.pj_outside.specs.Doors.{ClassFolders}
 use Rattle.pj_outside.specs.Files.{Bytes, Files}
 use Rattle.pj_rule_sets.specs.Expressions.{IsSound}
 use Rattle.pj_rule_sets.specs.Rules.{EffectiveRule, EffectiveRules, texts_of}
+use Rattle.pj_rule_laws.specs.Laws.{RulesOrFirstFault}
 use Rattle.pj_rules.specs.Laws.{RulesAreSound}
 use Rattle.pj_rules.specs.Load.{IsEffective, count_of, greatest_count}
 use Rattle.pj_settings.specs.Job.{job}
@@ -24,7 +25,7 @@ use Rattle.pj_workers.specs.Laws.{SomeCold}
 use Rattle.pj_workers.specs.NoFunctions.{no_functions}
 use Rattle.pj_workers.specs.Rules.{IsRuleOf, Rule, source_of}
 use Rattle.pj_check.specs.Cold.{world_of}
-use Rattle.pj_check.specs.Laws.{LoadsOrFault, RunOrRefusal, SomeReport}
+use Rattle.pj_check.specs.Laws.{RunOrRefusal, SomeReport}
 use Rattle.pj_check.specs.Limits.{limit_of}
 use Rattle.pj_check.specs.Refused.{IsRefused, bad_rules, nothing_there, source_missing, too_many_bytes, too_many_rules, too_many_sources, usage}
 use Rattle.pj_check.specs.Run.{HasRules, HasSources, IsRun, Run}
@@ -64,7 +65,7 @@ has_cause files before path refused (IsRefusedBehind.missing at) = tt
 has_cause files before path refused (IsRefusedBehind.too_long bytes at more) = tt
 has_cause files before path refused (IsRefusedBehind.too_much bytes at fits more) = tt
 
-module _ (listings : SomeListing) (readings : SomeOutcome) (reports : SomeReport) (words : List Bytes) (held : Files) (classes : ClassFolders) where
+module _ (listings : SomeListing) (readings : SomeOutcome) (reports : SomeReport) (loads : RulesOrFirstFault) (words : List Bytes) (held : Files) (classes : ClassFolders) where
   module _ (settings : Settings) (listing : Listing) (rules : EffectiveRules) (has : HasRules words held settings listing rules) where
     unreadable : (refused : ReadRefused) → sources.IsRefused held listing.paths refused → HasCause refused → Ends words held classes
     unreadable (unread.Missing path) is cause = inr (outcome.Missing path, source_missing settings listing rules has is)
@@ -96,25 +97,27 @@ module _ (listings : SomeListing) (readings : SomeOutcome) (reports : SomeReport
             )
         by false e = of_rules settings listing rules (record { has_sources = has; loaded = effective; few_rules = ltb-false greatest_count (count_of rules) e })
 
-    of_sources : LoadsOrFault held settings → Ends words held classes
-    of_sources (inl (rules, effective)) = counted rules effective
-    of_sources (inr (fault, is)) = inr (outcome.Rules fault, bad_rules settings listing has is)
+    of_sources : Ends words held classes
+    of_sources = elim (loads held settings.rulesets settings.minimum settings.marker) [
+      | inl (rules, effective) ↦ counted rules effective
+      | inr (fault, is) ↦ inr (outcome.Rules fault, bad_rules settings listing has is)
+    ]
 
-  module _ (settings : Settings) (asked : job words ≡ Ok settings) (loads : LoadsOrFault held settings) where
+  module _ (settings : Settings) (asked : job words ≡ Ok settings) where
     of_listing : (listing : Listing) → IsListing held settings.dirs listing → Ends words held classes
     of_listing listing is = by (ltb most_files (length listing.paths)) refl
       where
         by : (b : Bool) → ltb most_files (length listing.paths) ≡ b → Ends words held classes
         by true e = inr (outcome.Limit limit.Files, too_many_sources settings listing asked is (ltb-true most_files (length listing.paths) e))
-        by false e = of_sources settings listing (record { asked = asked; listed = is; few_sources = ltb-false most_files (length listing.paths) e }) loads
+        by false e = of_sources settings listing (record { asked = asked; listed = is; few_sources = ltb-false most_files (length listing.paths) e })
 
     of_items : (missing : Option Bytes) → first_missing held settings.dirs ≡ missing → Ends words held classes
     of_items (Some item) is = inr (outcome.Missing item, nothing_there settings asked is)
     of_items None is = let (listing, listed) = listings held settings.dirs is in of_listing listing listed
 
-  of_words : (found : Result Settings UsageFault) → job words ≡ found → ((settings : Settings) → job words ≡ Ok settings → LoadsOrFault held settings) → Ends words held classes
-  of_words (Err fault) is loads = inr (outcome.Usage fault, usage is)
-  of_words (Ok settings) is loads = of_items settings is (loads settings is) (first_missing held settings.dirs) refl
+  of_words : (found : Result Settings UsageFault) → job words ≡ found → Ends words held classes
+  of_words (Err fault) is = inr (outcome.Usage fault, usage is)
+  of_words (Ok settings) is = of_items settings is (first_missing held settings.dirs) refl
 
-pub run_or_refusal : SomeListing → SomeOutcome → SomeReport → RunOrRefusal
-run_or_refusal listings readings reports words held classes loads = of_words listings readings reports words held classes (job words) refl loads
+pub run_or_refusal : SomeListing → SomeOutcome → SomeReport → RulesOrFirstFault → RunOrRefusal
+run_or_refusal listings readings reports loads words held classes = of_words listings readings reports loads words held classes (job words) refl

@@ -1,5 +1,5 @@
 -- What follows from the definitions.
-use Rattle.std.specs.Prelude.{◌≡◌, ◌⊎◌, ℕ, List, Ok, map}
+use Rattle.std.specs.Prelude.{◌≡◌, ◌⊎◌, ℕ, List, map}
 use Rattle.std.specs.List.{AllByRecursion}
 use Rattle.std.specs.List.Sorted.{IsStrictlySortedBy}
 use Rattle.pj_outside.specs.Doors.{ClassFolders}
@@ -7,10 +7,7 @@ use Rattle.pj_outside.specs.Files.{Files, Bytes}
 use Rattle.pj_reports.specs.declared.report.Report.{Report}
 use Rattle.pj_reports.specs.declared.rows.FileRows.{FileRows}
 use Rattle.pj_rule_sets.specs.Rules.{EffectiveRules}
-use Rattle.pj_rules.specs.Load.{IsEffective, IsFirstFault}
-use Rattle.pj_rules.specs.declared.fault.RuleFault.{RuleFault}
-use Rattle.pj_settings.specs.Job.{job}
-use Rattle.pj_settings.specs.declared.settings.Settings.{Settings}
+use Rattle.pj_rules.specs.Load.{IsEffective}
 use Rattle.pj_sources.specs.Paths.{byte_order}
 use Rattle.pj_workers.specs.Cold.{World}
 use Rattle.pj_workers.specs.Laws.{AreInOrder}
@@ -42,12 +39,6 @@ abbrev pub SomeReport : Type 0
 SomeReport = (files : Files) (paths : List Bytes) (minimum : ℕ) (marker : Bytes) (set : EffectiveRules) → IsEffective files paths minimum marker set → (world : World) (sources : Files)
     → (report : Report) × IsColdOf world sources set report
 
--- The rulesets that are asked for come to rules, or they have a first fault.
-abbrev pub LoadsOrFault : Files → Settings → Type 0
-LoadsOrFault held settings =
-    ((rules : EffectiveRules) × IsEffective held settings.rulesets settings.minimum settings.marker rules) ⊎ ((fault : RuleFault) × IsFirstFault held settings.rulesets fault)
-
--- Words, files and class folders have a run or a cause of refusal, where the rulesets that the words ask for come to rules or have a first fault.
+-- Words, files and class folders have a run or a cause of refusal.
 abbrev pub RunOrRefusal : Type 0
-RunOrRefusal = (words : List Bytes) (held : Files) (classes : ClassFolders) → ((settings : Settings) → job words ≡ Ok settings → LoadsOrFault held settings)
-    → ((run : Run) × IsRun words held classes run) ⊎ ((outcome : Outcome) × IsRefused words held outcome)
+RunOrRefusal = (words : List Bytes) (held : Files) (classes : ClassFolders) → ((run : Run) × IsRun words held classes run) ⊎ ((outcome : Outcome) × IsRefused words held outcome)

@@ -65,6 +65,25 @@ Says (Missing path) words held told old new before after = IsRefused words held 
 Says (Limit kind) words held told old new before after = IsRefused words held (Limit kind)
 Says Memory words held told old new before after = ⊤
 
+-- The sources were read and analysed by the rules of the rulesets, and nothing was used again.
+pub record IsAnalysed (words : List Bytes) (held : Files) (before after : Work) : Type 0 where
+  pub settings : Settings
+  pub listing : Listing
+  pub rules : EffectiveRules
+  pub sources : Files
+  pub has_rules : HasRules words held settings listing rules
+  pub read : AreRead held listing.paths sources
+  pub worked : after ≡ record { analysed = before.analysed ++ listing.paths; reused = before.reused; skipped = listing.skipped }
+
+-- What an outcome says of the words and the files of a tree that tells them, also where nothing is known of the class folders: nothing
+-- refuses a run that comes to a report.
+abbrev pub SaysOfFiles : Outcome → List Bytes → Files → Work → Work → Type 0
+SaysOfFiles Clean words held before after = IsAnalysed words held before after
+SaysOfFiles Violations words held before after = IsAnalysed words held before after
+SaysOfFiles Errors words held before after = IsAnalysed words held before after
+SaysOfFiles SinkFault words held before after = IsAnalysed words held before after
+SaysOfFiles other words held before after = ⊤
+
 -- the words ask for something
 abbrev pub AsksFor : (Settings → Type 0) → List Bytes → Type 0
 AsksFor fact words = (settings : Settings) × (job words ≡ Ok settings) × fact settings

@@ -3,7 +3,7 @@ ghost use Rattle.std.specs.Prelude.{◌≡◌, ◌≢◌, Err, IfOk, IfErr, IfSo
 ghost use Rattle.pj_outside.specs.Faults.{Rises};
 ghost use Rattle.pj_outside.specs.Putting.{Gets, GetsPrefix};
 ghost use Rattle.pj_check.specs.Notes.{GetNotes, notes_of};
-ghost use Rattle.pj_check.specs.Outcome.{CountsClassFaults, CountsDoors, CountsSinkFaults, CountsTreeFaults, KeepsWork, Says, SaysOfSink, SaysOfWords};
+ghost use Rattle.pj_check.specs.Outcome.{CountsClassFaults, CountsDoors, CountsSinkFaults, CountsTreeFaults, IsAnalysed, KeepsWork, Says, SaysOfFiles, SaysOfSink, SaysOfWords};
 ghost use Rattle.pj_check.specs.Steps.{CountsDoor, CountsFaults, CountsOfClasses, HasNoReport, IsMade, IsOfSome, outcome_of};
 
 use crate::classes::analyse_sources;
@@ -26,6 +26,7 @@ fn make_report<T: Tree, C: ClassPath>(
     work: &mut Work,
 ) -> Result<Written, Refusal>
     ensures made { IfSome (T.holds tree.old) (λ held. IfSome (C.holds classes.old) (λ folders. IfOk result (IsMade words.now held folders work.old work.new))) }
+    ensures analysed { IfSome (T.holds tree.old) (λ held. OnOk result (IsAnalysed words.now held work.old work.new)) }
     ensures of_some { IfOk result (IsOfSome words.now) }
     ensures refused { IfErr result (HasNoReport words.now (T.holds tree.old)) }
     ensures same_files { T.holds tree.new ≡ T.holds tree.old }
@@ -82,6 +83,7 @@ fn run<T: Tree, C: ClassPath, S: Sink>(
     work: &mut Work,
 ) -> Result<Verdict, Refusal>
     ensures says { IfSome (T.holds tree.old) (λ held. Says (outcome_of result) words.now held (C.holds classes.old) (S.held out.old) (S.held out.new) work.old work.new) }
+    ensures of_files { IfSome (T.holds tree.old) (λ held. SaysOfFiles (outcome_of result) words.now held work.old work.new) }
     ensures of_words { SaysOfWords (outcome_of result) words.now }
     ensures of_sink { SaysOfSink (outcome_of result) words.now (S.held out.old) (S.held out.new) }
     ensures same_files { T.holds tree.new ≡ T.holds tree.old }
@@ -117,6 +119,7 @@ pub fn check_alone<T: Tree, C: ClassPath, K: Keeper, S: Sink, N: Sink>(
     work: &mut Work,
 ) -> Outcome
     ensures says { IfSome (T.holds tree.old) (λ held. Says result words.now held (C.holds classes.old) (S.held out.old) (S.held out.new) work.old work.new) }
+    ensures of_files { IfSome (T.holds tree.old) (λ held. SaysOfFiles result words.now held work.old work.new) }
     ensures of_words { SaysOfWords result words.now }
     ensures of_sink { SaysOfSink result words.now (S.held out.old) (S.held out.new) }
     ensures notes { GetNotes (notes_of result) (N.held notes.old) (N.held notes.new) (N.faults notes.old) (N.faults notes.new) }

@@ -1,6 +1,7 @@
 //! Laws of the definitions, each the contract of a function that does nothing.
 ghost use Rattle.pj_check.specs.Laws.{OneRefusal, OneRun, ReportIsInOrder, RunIsNotRefused, RunOrRefusal, SomeReport};
 
+use pj_rule_laws::rules_or_first_fault;
 use pj_rules::{one_first_fault, one_set, rules_are_sound, rules_or_fault};
 use pj_sources::{one_listing, one_reading};
 use pj_workers::{
@@ -55,11 +56,12 @@ pub fn rules_have_reports()
     some_cold_report();
 }
 
-/// Words and files have a run or a cause of refusal, where the rulesets that the words ask for come to rules or have a first fault.
-pub fn run_or_refusal_of_rulesets()
+/// Words, files and class folders have a run or a cause of refusal.
+pub fn some_run_or_refusal()
     ensures { RunOrRefusal }
 {
     one_listing();
     one_reading();
     rules_have_reports();
+    rules_or_first_fault();
 }

@@ -23,8 +23,8 @@ mod verdict;
 
 pub use check::check_alone;
 pub use laws::{
-    one_refusal, one_run, reports_are_in_order, rules_have_reports, run_or_refusal_of_rulesets,
-    runs_are_not_refused,
+    one_refusal, one_run, reports_are_in_order, rules_have_reports, runs_are_not_refused,
+    some_run_or_refusal,
 };
 pub use limit::LimitKind;
 pub use note::put_outcome;

@@ -3,7 +3,7 @@
 
 ghost use Rattle.std.specs.Prelude.{◌≡◌, ◌≢◌, IfSome};
 ghost use Rattle.pj_check.specs.Notes.{GetNotes, notes_of};
-ghost use Rattle.pj_check.specs.Outcome.{CountsClassFaults, CountsDoors, CountsSinkFaults, CountsTreeFaults, KeepsWork, Says, SaysOfSink, SaysOfWords};
+ghost use Rattle.pj_check.specs.Outcome.{CountsClassFaults, CountsDoors, CountsSinkFaults, CountsTreeFaults, KeepsWork, Says, SaysOfFiles, SaysOfSink, SaysOfWords};
 
 #[cfg(test)]
 mod tests;
@@ -31,6 +31,7 @@ fn run<T: Tree, C: ClassPath, K: Keeper, S: Sink, N: Sink>(
     work: &mut Work,
 ) -> Outcome
     ensures says { IfSome (T.holds tree.old) (λ held. Says result words.now held (C.holds classes.old) (S.held out.old) (S.held out.new) work.old work.new) }
+    ensures of_files { IfSome (T.holds tree.old) (λ held. SaysOfFiles result words.now held work.old work.new) }
     ensures of_words { SaysOfWords result words.now }
     ensures of_sink { SaysOfSink result words.now (S.held out.old) (S.held out.new) }
     ensures notes { GetNotes (notes_of result) (N.held notes.old) (N.held notes.new) (N.faults notes.old) (N.faults notes.new) }

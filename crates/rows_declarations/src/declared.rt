@@ -5,7 +5,7 @@ ghost use Rattle.std.specs.Prelude.{◌<◌, length};
 use crate::question::Meaning;
 use pj_base::{NoMemory, Text};
 use pj_declared::{Declarations, Declared, ImportSort};
-use pj_marked::{name_at_mark, place_of, put_declaration};
+use pj_row_java::{name_at_mark, place_of, put_declaration};
 use pj_tree::{Node, SyntaxTree};
 use std::alloc::Global;
 

@@ -4,7 +4,7 @@ use crate::question::{Question, question_of};
 use crate::spelled::spelled;
 use crate::written::put_read;
 use pj_base::{NoMemory, Text};
-use pj_marked::{Java, expanded, named};
+use pj_row_java::{Java, expanded, named};
 use pj_rows::{Row, Section, Table};
 use pj_source::Source;
 use pj_tree::SyntaxTree;

@@ -8,7 +8,7 @@ mod spelled;
 mod written;
 
 use file::Declared;
-use pj_marked::Java;
+use pj_row_java::Java;
 use pj_rows::Run;
 use std::process::ExitCode;
 

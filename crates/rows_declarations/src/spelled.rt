@@ -2,8 +2,8 @@
 use crate::question::Spelling;
 use crate::written::put_parts;
 use pj_base::{Copied, NoMemory, Text};
-use pj_marked::unquoted;
 use pj_names::{Bindings, Ty, TyList, copied_types};
+use pj_row_java::unquoted;
 use pj_signatures::{ClassSig, MethodSig, field_signature};
 use pj_tree::Node;
 use pj_written::{

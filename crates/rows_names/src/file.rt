@@ -3,18 +3,16 @@
 ghost use Rattle.std.specs.Prelude.{◌≡◌};
 ghost use Rattle.pj_symbols.specs.Symbols.{symbols_of};
 
-use crate::classes::Classes;
 use crate::file_oracle::put_asked;
 use crate::inherited::put_classes_around;
-use crate::noted::{Beneath, Noted, Over};
 use crate::question::{Asked, Asking, Lookup, Question, question_of};
 use crate::{imports, inherited, node_types, type_names, variables};
 use pj_base::{NoMemory, Text};
 use pj_declared::Declarations;
 use pj_file_oracle::{FileOracle, Held};
-use pj_marked::{Java, expanded, named};
 use pj_names::{AskFault, Oracle};
 use pj_outer_names::File;
+use pj_row_java::{Beneath, Classes, Java, Noted, Over, expanded, named};
 use pj_rows::{Row, Section, Table};
 use pj_source::Source;
 use pj_symbols::Symbols;

@@ -2,16 +2,14 @@
 
 ghost use Rattle.std.specs.Prelude.{◌<◌, length};
 
-use crate::noted::Beneath;
 use crate::question::{Asked, Asking};
-use crate::shown::{put_answer, put_type, put_word};
 use crate::variables::put_variable;
 use pj_base::{NoMemory, Text};
 use pj_file_oracle::{Held, resolve_type};
-use pj_marked::place_of;
 use pj_members::find_field;
 use pj_names::{AskFault, ClassName, Oracle};
 use pj_outer_names::File;
+use pj_row_java::{Beneath, place_of, put_answer, put_type, put_word};
 use pj_scopes::{FileOracle, resolve_name};
 use pj_tree::Node;
 use pj_types::{Field, supertypes};

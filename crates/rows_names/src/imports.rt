@@ -1,9 +1,8 @@
 //! Names behind the scopes of a file.
-use crate::noted::Over;
-use crate::shown::put_type;
 use pj_base::Text;
 use pj_names::{AskFault, Oracle};
 use pj_outer_names::{File, dotted_class, outside};
+use pj_row_java::{Over, put_type};
 use std::alloc::Global;
 
 /// Puts what a simple name is behind the scopes of the file.

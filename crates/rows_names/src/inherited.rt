@@ -1,13 +1,11 @@
 //! Classes around a place, supertypes, and member classes along them.
 
-use crate::noted::{Over, without_number};
 use crate::question::Asked;
-use crate::shown::put_word;
 use pj_base::{NoMemory, Text};
 use pj_declared::Declared;
-use pj_marked::{place_of, unquoted};
 use pj_names::{Answer, AskFault, ClassName, ClassNames, Oracle, TyList};
 use pj_outer_names::{File, member_in, next_searched, outside_supertypes, with_classes};
+use pj_row_java::{Over, place_of, put_word, unquoted, without_number};
 use pj_signatures::{ClassSig, class_signature};
 use pj_tree::Node;
 use pj_types::NameWalk;

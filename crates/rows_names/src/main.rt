@@ -1,20 +1,17 @@
 //! The rows of names: what names mean in a Java file, what the oracle of the file answers, and which classes are asked for that.
 #![tactic(auto)]
 
-mod classes;
 mod file;
 mod file_oracle;
 mod imports;
 mod inherited;
 mod node_types;
-mod noted;
 mod question;
-mod shown;
 mod type_names;
 mod variables;
 
 use file::Names;
-use pj_marked::Java;
+use pj_row_java::Java;
 use pj_rows::Run;
 use std::process::ExitCode;
 

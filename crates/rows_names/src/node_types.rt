@@ -1,14 +1,12 @@
 //! Types of nodes that are told without the types of others, of variables by their declarations, and what is known of such a type behind a dot and in an enhanced `for`.
 
-use crate::noted::Over;
 use crate::question::Asked;
-use crate::shown::put_type;
 use pj_base::Text;
 use pj_leaf_types::{declared_by, leaf_type};
-use pj_marked::place_of;
 use pj_names::{AskFault, Oracle, Ty};
 use pj_outer_names::File;
 use pj_receivers::{field_of, iterated};
+use pj_row_java::{Over, place_of, put_type};
 use pj_symbols::declaration_of;
 use std::alloc::Global;
 

@@ -1,6 +1,6 @@
 //! What the rows of a section ask, by the words of its `@find`.
 use pj_base::value_in;
-use pj_marked::{Java, name_at_mark};
+use pj_row_java::{Java, name_at_mark};
 
 /// What a name or a written type means at a place, by all classes.
 #[derive(Clone, Copy)]

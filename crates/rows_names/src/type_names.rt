@@ -2,13 +2,11 @@
 
 ghost use Rattle.std.specs.Prelude.{◌<◌, length, IfSome};
 
-use crate::noted::Over;
 use crate::question::Asked;
-use crate::shown::put_type;
 use pj_base::{NoMemory, Numbers, Text};
-use pj_marked::{offset_behind, place_of};
 use pj_names::{AskFault, Oracle};
 use pj_outer_names::File;
+use pj_row_java::{Over, offset_behind, place_of, put_type};
 use pj_tree::{Kind, Node, SyntaxTree};
 use pj_type_names::{type_name, written_bound, written_type};
 use std::alloc::Global;

@@ -1,11 +1,9 @@
 //! Names of variables.
-use crate::noted::Over;
 use crate::question::Asked;
-use crate::shown::primitive_word;
 use pj_base::{NoMemory, Text};
-use pj_marked::{place_of, put_declaration};
 use pj_names::{AskFault, Oracle, Ty};
 use pj_outer_names::File;
+use pj_row_java::{Over, place_of, primitive_word, put_declaration};
 use pj_scopes::{Variable, variable_name};
 use pj_types::Field;
 use std::alloc::Global;

@@ -3,15 +3,13 @@
 ghost use Rattle.std.specs.Prelude.{◌≡◌, ◌<◌, length};
 ghost use Rattle.pj_symbols.specs.Symbols.{symbols_of};
 
-use crate::noted::Beneath;
-use crate::shown::put_type;
 use pj_base::{NoMemory, Text};
 use pj_declared::Declarations;
 use pj_exprtypes::{Typed, type_of};
 use pj_file_oracle::{FileOracle, Held};
-use pj_marked::{Java, expanded, place_of};
 use pj_names::AskFault;
 use pj_outer_names::File;
+use pj_row_java::{Beneath, Java, expanded, place_of, put_type};
 use pj_rows::{Row, Section, Table};
 use pj_source::Source;
 use pj_symbols::Symbols;

@@ -1,13 +1,10 @@
 //! The rows of types: what the type of a node is, and which classes are asked for that.
 #![tactic(auto)]
 
-mod classes;
 mod file;
-mod noted;
-mod shown;
 
 use file::Types;
-use pj_marked::Java;
+use pj_row_java::Java;
 use pj_rows::Run;
 use std::process::ExitCode;
 

@@ -1,5 +1,5 @@
 use Rattle.std.proofs.Common.{IfSome, subst, sym}
-use Rattle.pj_check.specs.Outcome.{Says}
+use Rattle.pj_check.specs.Outcome.{Says, SaysOfFiles}
 use Rattle.pj_check.specs.declared.outcome.Outcome.{Outcome}
 use Rattle.pj_check.proofs.check.check_alone.Goals as goal
 
@@ -9,3 +9,8 @@ returns-clause-says g c =
     let classes = g.C.ClassPath.holds c.args.classes.now in
     let out = g.S.Sink.held c.args.out.now in
     subst (λ (o : Outcome). IfSome told (λ held. Says o c.args.words.now held classes out (g.S.Sink.held c.run.new.out) c.args.work.now c.run.new.work)) (sym c.outcome_of-outcome.ensures) c.run.ensures.says
+
+pub returns-clause-of_files : goal.returns-clause-of_files
+returns-clause-of_files g c =
+    let told = g.T.Tree.holds c.args.tree.now in
+    subst (λ (o : Outcome). IfSome told (λ held. SaysOfFiles o c.args.words.now held c.args.work.now c.run.new.work)) (sym c.outcome_of-outcome.ensures) c.run.ensures.of_files

@@ -10,7 +10,7 @@ use Rattle.pj_check.specs.declared.refusal.Refusal.{Refusal}
 use Rattle.pj_check.specs.declared.refusal.Refusal.TheVariants.{ClassFault, Memory, TreeFault}
 use Rattle.pj_check.specs.declared.report_rendering.Written.{Written}
 use Rattle.pj_sources.specs.Reading.{AreRead}
-use Rattle.pj_check.proofs.Ending.{classes_idle, classes_steady, doors_idle, explains_later, is_made, memory_end, no_cold, no_memory, no_report, no_tree_fault, nothing_made, other_end, refused_on, result_on, told_later, tree_idle}
+use Rattle.pj_check.proofs.Ending.{classes_idle, classes_steady, doors_idle, explains_later, is_analysed, is_made, memory_end, no_cold, no_memory, no_report, no_tree_fault, nothing_analysed, nothing_made, other_end, refused_on, result_on, told_later, tree_idle}
 use Rattle.pj_check.proofs.check.make_report.Goals as goal
 
 -- ---- the words ask for nothing
@@ -372,6 +372,43 @@ returns-in_err-written-clause-made g c =
     let exit = err_from_is_err_and c.from_residual-in_err-written.result c.from_residual-in_err-written.ensures.1 in
     nothing_made c.args.words.now (g.T.Tree.holds c.args.tree.now) (g.C.ClassPath.holds c.args.classes.now) c.args.work.now c.args.work.now c.from_residual-in_err-written.result exit.0 exit.1
 
+-- ---- nothing is said of the files there
+
+pub returns-in_err-settings-clause-analysed : goal.returns-in_err-settings-clause-analysed
+returns-in_err-settings-clause-analysed g c =
+    let exit = err_from_is_err_and c.from_residual.result c.from_residual.ensures.1 in
+    nothing_analysed c.args.words.now (g.T.Tree.holds c.args.tree.now) c.args.work.now c.args.work.now c.from_residual.result exit.0 exit.1
+
+pub returns-in_err-listing-clause-analysed : goal.returns-in_err-listing-clause-analysed
+returns-in_err-listing-clause-analysed g c =
+    let exit = err_from_is_err_and c.from_residual-in_err-listing.result c.from_residual-in_err-listing.ensures.1 in
+    nothing_analysed c.args.words.now (g.T.Tree.holds c.args.tree.now) c.args.work.now c.args.work.now c.from_residual-in_err-listing.result exit.0 exit.1
+
+pub returns-in_err-rules-clause-analysed : goal.returns-in_err-rules-clause-analysed
+returns-in_err-rules-clause-analysed g c =
+    let exit = err_from_is_err_and c.from_residual-in_err-rules.result c.from_residual-in_err-rules.ensures.1 in
+    nothing_analysed c.args.words.now (g.T.Tree.holds c.args.tree.now) c.args.work.now c.args.work.now c.from_residual-in_err-rules.result exit.0 exit.1
+
+pub returns-in_err-sources-clause-analysed : goal.returns-in_err-sources-clause-analysed
+returns-in_err-sources-clause-analysed g c =
+    let exit = err_from_is_err_and c.from_residual-in_err-sources.result c.from_residual-in_err-sources.ensures.1 in
+    nothing_analysed c.args.words.now (g.T.Tree.holds c.args.tree.now) c.args.work.now c.args.work.now c.from_residual-in_err-sources.result exit.0 exit.1
+
+pub returns-in_err-done-clause-analysed : goal.returns-in_err-done-clause-analysed
+returns-in_err-done-clause-analysed g c =
+    let exit = err_from_is_err_and c.from_residual-in_err-done.result c.from_residual-in_err-done.ensures.1 in
+    nothing_analysed c.args.words.now (g.T.Tree.holds c.args.tree.now) c.args.work.now c.args.work.now c.from_residual-in_err-done.result exit.0 exit.1
+
+pub returns-in_err-report-clause-analysed : goal.returns-in_err-report-clause-analysed
+returns-in_err-report-clause-analysed g c =
+    let exit = err_from_is_err_and c.from_residual-in_err-report.result c.from_residual-in_err-report.ensures.1 in
+    nothing_analysed c.args.words.now (g.T.Tree.holds c.args.tree.now) c.args.work.now c.args.work.now c.from_residual-in_err-report.result exit.0 exit.1
+
+pub returns-in_err-written-clause-analysed : goal.returns-in_err-written-clause-analysed
+returns-in_err-written-clause-analysed g c =
+    let exit = err_from_is_err_and c.from_residual-in_err-written.result c.from_residual-in_err-written.ensures.1 in
+    nothing_analysed c.args.words.now (g.T.Tree.holds c.args.tree.now) c.args.work.now c.args.work.now c.from_residual-in_err-written.result exit.0 exit.1
+
 -- ---- the report is made
 
 pub returns-clause-of_some : goal.returns-clause-of_some
@@ -402,5 +439,26 @@ returns-clause-made g c =
     has_now read_now
     c.in_ok-sources.ensures.within
     c.in_ok-report.ensures.cold c.in_ok-written.ensures.text c.in_ok-written.ensures.verdict
+    (c.in_ok-report.ensures.analysed ∙ ap (λ (w : Work). w.analysed ++ map (λ (file : Bytes × Bytes). file.0) sources) c.in_ok-done.ensures)
+    (c.in_ok-report.ensures.reused ∙ ap (λ (w : Work). w.reused) c.in_ok-done.ensures) c.in_ok-report.ensures.skipped
+
+pub returns-clause-analysed : goal.returns-clause-analysed
+returns-clause-analysed g c =
+    let words = c.args.words.now in
+    let settings = c.in_ok-settings.settings in
+    let listing = c.in_ok-listing.listing in
+    let rules = c.in_ok-rules.rules in
+    let sources = c.in_ok-sources.sources in
+    let asked = c.in_ok-settings.ensures.asked in
+    let told = g.T.Tree.holds c.args.tree.now in
+    let listed = g.T.Tree.holds c.listing_within_limit.new.tree in
+    let loaded = g.T.Tree.holds c.load_rules.new.tree in
+    let same = c.in_ok-listing.ensures.same_files in
+    let has = c.in_ok-rules.ensures.rules words listing (told_later told listed (λ held. HasSources words held settings listing) same (c.in_ok-listing.ensures.sources words asked)) in
+    let has_now = told_later listed told (λ held. HasRules words held settings listing rules) (sym same) has in
+    let read_now = told_later loaded told (λ held. AreRead held listing.paths sources) (sym (c.in_ok-rules.ensures.same_files ∙ same)) c.in_ok-sources.ensures.read in
+    is_analysed words told settings listing rules sources c.args.work.now c.analyse_sources.new.work
+    has_now read_now
+    c.in_ok-sources.ensures.within
     (c.in_ok-report.ensures.analysed ∙ ap (λ (w : Work). w.analysed ++ map (λ (file : Bytes × Bytes). file.0) sources) c.in_ok-done.ensures)
     (c.in_ok-report.ensures.reused ∙ ap (λ (w : Work). w.reused) c.in_ok-done.ensures) c.in_ok-report.ensures.skipped

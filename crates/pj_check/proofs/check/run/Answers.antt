@@ -1,11 +1,11 @@
 use Rattle.std.proofs.Common.{◌≢◌, Err, IfSome, ap}
 use Rattle.std.proofs.lemmas.Result.{err_from_is_err_and}
-use Rattle.pj_check.specs.Outcome.{CountsClassFaults, CountsDoors, CountsSinkFaults, CountsTreeFaults, DoorCounts, KeepsWork, Says, SaysOfSink, SaysOfWords}
+use Rattle.pj_check.specs.Outcome.{CountsClassFaults, CountsDoors, CountsSinkFaults, CountsTreeFaults, DoorCounts, KeepsWork, Says, SaysOfFiles, SaysOfSink, SaysOfWords}
 use Rattle.pj_check.specs.declared.outcome.Outcome.{Outcome}
 use Rattle.pj_check.specs.declared.outcome.Outcome.TheVariants.{ClassFault, TreeFault}
 use Rattle.pj_check.specs.declared.refusal.Refusal.{Refusal}
 use Rattle.pj_check.specs.declared.report_rendering.Written.{Written}
-use Rattle.pj_check.proofs.Ending.{all_say_before, counts_before, ends_before, no_class_before, no_fault_before, put_classes, put_classes_steady, put_counts, put_doors, put_says, put_sink, put_steady, put_tree, put_words, put_work, sink_before, tree_counts_before, words_before, work_before}
+use Rattle.pj_check.proofs.Ending.{all_say_before, counts_before, ends_before, files_before, no_class_before, no_fault_before, put_classes, put_classes_steady, put_counts, put_doors, put_files, put_says, put_sink, put_steady, put_tree, put_words, put_work, sink_before, tree_counts_before, words_before, work_before}
 use Rattle.pj_check.proofs.check.run.Goals as goal
 
 -- ---- the report is not made
@@ -19,6 +19,14 @@ returns-in_err-written-clause-says g c =
     let exit = err_from_is_err_and c.from_residual.result c.from_residual.ensures.1 in
     ends_before (λ (o : Outcome). IfSome told (λ held. Says o c.args.words.now held classes out out c.args.work.now c.make_report.new.work)) c.from_residual.result exit.0 refusal exit.1 exit.2
     (all_say_before refusal c.args.words.now told classes out out c.args.work.now c.make_report.new.work c.in_err-written.ensures.refused)
+
+pub returns-in_err-written-clause-of_files : goal.returns-in_err-written-clause-of_files
+returns-in_err-written-clause-of_files g c =
+    let told = g.T.Tree.holds c.args.tree.now in
+    let refusal = c.in_err-written.field-0.0 in
+    let exit = err_from_is_err_and c.from_residual.result c.from_residual.ensures.1 in
+    ends_before (λ (o : Outcome). IfSome told (λ held. SaysOfFiles o c.args.words.now held c.args.work.now c.make_report.new.work)) c.from_residual.result exit.0 refusal exit.1 exit.2
+    (files_before refusal c.args.words.now told c.args.work.now c.make_report.new.work (c.in_err-written.ensures.refused).of_words)
 
 pub returns-in_err-written-clause-of_words : goal.returns-in_err-written-clause-of_words
 returns-in_err-written-clause-of_words g c =
@@ -95,6 +103,10 @@ pub returns-clause-says : goal.returns-clause-says
 returns-clause-says g c =
     put_says c.put.result c.args.words.now (g.T.Tree.holds c.args.tree.now) (g.C.ClassPath.holds c.args.classes.now) c.in_ok-written.written (g.S.Sink.held c.args.out.now) (g.S.Sink.held c.put.new.out) c.args.work.now c.make_report.new.work
     c.put.ensures.verdict c.put.ensures.got c.put.ensures.cut c.put.ensures.refused c.in_ok-written.ensures.made
+
+pub returns-clause-of_files : goal.returns-clause-of_files
+returns-clause-of_files g c =
+    put_files c.put.result c.args.words.now (g.T.Tree.holds c.args.tree.now) c.args.work.now c.make_report.new.work c.put.ensures.refused c.in_ok-written.ensures.analysed
 
 pub returns-clause-of_words : goal.returns-clause-of_words
 returns-clause-of_words g c = put_words c.put.result c.args.words.now c.in_ok-written.written c.put.ensures.refused c.in_ok-written.ensures.of_some

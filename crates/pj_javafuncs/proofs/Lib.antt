@@ -1,0 +1,4 @@
+pub mod Beneath
+pub mod First
+pub mod Given
+pub mod OfKind

@@ -1,0 +1,11 @@
+//! PMD's functions in rules over a Java file: places, kinds, modifiers, types and annotations of nodes, and the name of the file.
+#![tactic(auto)]
+
+mod calls;
+mod laws;
+mod node_tests;
+mod replies;
+mod setting;
+
+pub use calls::JavaCalls;
+pub use laws::sources_agree;

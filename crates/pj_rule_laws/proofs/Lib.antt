@@ -1,0 +1,12 @@
+-- sizes
+mod Lengths
+mod Fronts
+mod MarkupSizes
+mod WrittenSizes
+mod TextSizes
+mod ShortLists
+-- what files come to
+mod SomeSound
+mod Unopened
+mod SomeFile
+mod SomeLoad

@@ -1,0 +1,4 @@
+mod Made
+mod Parts
+mod Reading
+mod FewTokens
