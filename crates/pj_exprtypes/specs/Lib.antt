@@ -4,7 +4,9 @@ pub mod Operands
 pub mod Expressions
 pub mod Declarations
 pub mod Names
+pub mod Calls
 pub mod TypeOf
+pub mod Chosen
 pub mod Table
 -- for private clauses
 pub mod Seen
