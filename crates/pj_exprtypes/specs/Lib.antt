@@ -8,6 +8,8 @@ pub mod Calls
 pub mod TypeOf
 pub mod Chosen
 pub mod Table
+-- laws
+pub mod ByKind
 -- for private clauses
 pub mod Seen
 pub mod Parts

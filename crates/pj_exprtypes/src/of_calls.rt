@@ -29,6 +29,7 @@ use pj_types::Method;
 use std::alloc::Global;
 
 /// The type of the receiver of a call, where it has one that is typed.
+#[tactic(auto, using(pj_names::proofs::AskingLaws::asking_steps))]
 fn receiver_type<O: Oracle>(
     alloc: Global,
     file: &File<'_>,
@@ -51,6 +52,7 @@ fn receiver_type<O: Oracle>(
 }
 
 /// The types of nodes, one after the other.
+#[tactic(auto, using(pj_names::proofs::AskingLaws::asking_loops))]
 fn node_types<O: Oracle>(
     alloc: Global,
     file: &File<'_>,
@@ -72,6 +74,7 @@ fn node_types<O: Oracle>(
 }
 
 /// What is chosen among candidates by the types of the arguments.
+#[tactic(auto, using(pj_names::proofs::AskingLaws::asking_steps))]
 fn chosen_with<O: Oracle>(
     alloc: Global,
     file: &File<'_>,
@@ -95,6 +98,7 @@ fn chosen_with<O: Oracle>(
 }
 
 /// What is chosen for a call, over any oracle that answers the classes of the file too.
+#[tactic(auto, using(pj_names::proofs::AskingLaws::asking_steps))]
 pub(crate) fn node_chosen<O: Oracle>(
     alloc: Global,
     file: &File<'_>,
@@ -113,6 +117,7 @@ pub(crate) fn node_chosen<O: Oracle>(
 }
 
 /// The same without the types of the arguments.
+#[tactic(auto, using(pj_names::proofs::AskingLaws::asking_steps))]
 fn node_pair<O: Oracle>(
     alloc: Global,
     file: &File<'_>,

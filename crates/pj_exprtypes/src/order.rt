@@ -273,6 +273,7 @@ fn pass<'r, O: Oracle>(
 }
 
 /// What tells the type of a node by the types of its operands.
+#[tactic(auto, using(pj_names::proofs::AskingLaws::asking_steps))]
 fn told_by_operands<'r, O: Oracle>(
     alloc: Global,
     file: &File<'_>,
