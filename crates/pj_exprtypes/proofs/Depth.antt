@@ -150,13 +150,8 @@ no-kind : (t : Tree) (n : Node) → length t.nodes ≤ n.0 → kind_of t n ≡ N
 no-kind t n past = ap (option_map (λ x. x.kind)) (slice_get_past t.nodes n.0 past)
 
 -- past the last node there is no type
-<<<<<<< HEAD
-abbrev whole-by : Tree → (Node → Asking JavaType) → (Node → Asking JavaType) → Node → Option Kind → Asking JavaType
-whole-by t var f n kind = bind (each f (operands_by t n kind)) (λ types. bind (type_with t n kind types) (λ found. final_type t var f n found))
-=======
 abbrev pub whole-by : Tree → (Node → Asking JavaType) → (Node → Asking JavaType) → Node → Option Kind → Asking JavaType
-whole-by t var f n kind = bind (each f (operands_by t n kind)) (λ types. bind (type_with t n kind types) (λ found. final_type var found))
->>>>>>> main
+whole-by t var f n kind = bind (each f (operands_by t n kind)) (λ types. bind (type_with t n kind types) (λ found. final_type t var f n found))
 
 whole-none : (t : Tree) (var f : Node → Asking JavaType) (n : Node) → length t.nodes ≤ n.0 → whole_type t var f n ≡ Return Unknown
 whole-none t var f n past = ap (whole-by t var f n) (no-kind t n past)
