@@ -18,11 +18,17 @@ use Rattle.pj_operators.specs.declared.operators.Unary.TheVariants as u
 use Rattle.pj_operators.specs.Operators.{infix_of, infix_type, unary_of}
 use Rattle.pj_receivers.specs.Elements.{element_of}
 use Rattle.pj_receivers.specs.Fields.{field_of}
+use Rattle.pj_calls.specs.Nodes.{arguments_of, before_dot, functions_of, receiver_by}
+use Rattle.pj_calls.specs.Candidates.{Candidates, candidates_of}
+use Rattle.pj_calls.specs.Choosing.{Chosen, chosen_among}
+use Rattle.pj_calls.specs.Results.{result_or_unknown}
+use Rattle.pj_calls.specs.Calls.{call_type, chosen_with, type_if_any}
+use Rattle.pj_exprtypes.specs.Calls.{call_with, typing_of}
 use Rattle.pj_exprtypes.specs.ByKind.{IsOfBoth, IsOfFirst, IsOfLeft, IsOfNone, IsOfNoOperand, IsOfOperand, IsOfSecondAndThird}
 use Rattle.pj_exprtypes.specs.Expressions.{branches_with, infix_with, only, pair_of, unary_with}
-use Rattle.pj_exprtypes.specs.Operands.{but_first, first_only, infix_operands, unary_operands}
+use Rattle.pj_exprtypes.specs.Operands.{but_first, first_only, if_some, infix_operands, unary_operands}
 use Rattle.pj_exprtypes.specs.TypeOf.{earlier, final_type, type_of}
-use Rattle.pj_exprtypes.specs.Typing.{Known, known}
+use Rattle.pj_exprtypes.specs.Typing.{Typing, Known, known}
 use Rattle.pj_exprtypes.proofs.Depth.{type-goes-on, whole-by}
 
 -- ---- what is made of some types
@@ -127,3 +133,38 @@ module _ (t : Tree) (tree : IsSyntaxTree t) where
   signs n operand rest is told children =
       by-sign n u.Sign is told ∙ ap (λ (ns : List Node). unary-by n ns (Some u.Sign)) children
       ∙ one t (earlier t (length t.nodes)) (type_of t) n operand (λ types. Return (unary_with (Some u.Sign) types))
+
+  -- method calls
+
+  module _ (n : Node) where
+    -- what follows, by the recursion and by the definition of a call
+    abbrev made-call : Typing → Asking JavaType
+    made-call found = final_type t (earlier t (length t.nodes)) (type_of t) n found
+
+    abbrev result : Option Chosen → Asking JavaType
+    result found = Return (result_or_unknown found)
+
+    abbrev chosen-of : Option JavaType → Asking (Option Chosen)
+    chosen-of receiver = bind (candidates_of t n receiver) (λ found. chosen_with t (type_of t) n found)
+
+    found-same : (found : Option Candidates) → made-call (typing_of found) ≡ bind (chosen_with t (type_of t) n found) result
+    found-same None = refl
+    found-same (Some candidates) = sym (bind-bind (each (type_of t) (arguments_of t n)) (λ types. chosen_among candidates types (functions_of t n)) result)
+
+    by-found : (receiver : Option JavaType) → bind (bind (candidates_of t n receiver) (λ found. Return (typing_of found))) made-call ≡ bind (chosen-of receiver) result
+    by-found receiver =
+        bind-bind (candidates_of t n receiver) (λ found. Return (typing_of found)) made-call ∙ (λ j. bind (candidates_of t n receiver) (λ found. found-same found j))
+        ∙ sym (bind-bind (candidates_of t n receiver) (λ found. chosen_with t (type_of t) n found) result)
+
+    by-receiver : (before : Option Node) → bind (each (type_of t) (if_some before)) (λ types. bind (call_with t n types) made-call) ≡ bind (bind (type_if_any t (type_of t) before) chosen-of) result
+    by-receiver None = by-found None
+    by-receiver (Some m) =
+        bind-bind (type_of t m) (λ ty. Return (ty ∷ [])) (λ types. bind (call_with t n types) made-call)
+        ∙ (λ j. bind (type_of t m) (λ ty. by-found (Some ty) j))
+        ∙ sym (bind-bind (type_of t m) (λ ty. chosen-of (Some ty)) result)
+        ∙ sym (ap (λ (chosen : Asking (Option Chosen)). bind chosen result) (bind-bind (type_of t m) (λ ty. Return (Some ty)) chosen-of))
+
+    pub calls : kind_of t n ≡ Some k.MethodCall → type_of t n ≡ call_type t (type_of t) n
+    calls is =
+        by-kind n k.MethodCall is ∙ by-receiver (before_dot t n)
+        ∙ sym (ap (λ (before : Option Node). bind (bind (type_if_any t (type_of t) before) chosen-of) result) (ap (receiver_by t n) is))

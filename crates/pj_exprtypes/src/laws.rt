@@ -1,12 +1,13 @@
 //! Laws of types, each the contract of a call that does nothing.
 
-ghost use Rattle.std.specs.Prelude.{◌≡◌, ◌<◌, ◌+◌, ℕ, [], length};
+ghost use Rattle.std.specs.Prelude.{◌≡◌, ◌<◌, ◌+◌, ℕ, Some, [], length};
 ghost use Rattle.pj_names.specs.declared.ty.PrimitiveType.TheVariants as p;
 ghost use Rattle.pj_names.specs.Asking.{Asking, Return};
 ghost use Rattle.pj_names.specs.JavaType.{JavaType, Primitive};
 ghost use Rattle.pj_names.specs.Expand.{expand};
 ghost use Rattle.pj_names.specs.Meaning.{Source, Agrees};
-ghost use Rattle.pj_tree.specs.Tree.{IsSyntaxTree, Tree};
+ghost use Rattle.pj_calls.specs.Calls.{call_type};
+ghost use Rattle.pj_tree.specs.Tree.{IsSyntaxTree, Tree, kind_of};
 ghost use Rattle.pj_tree.specs.Words.{last_of, words_of};
 ghost use Rattle.pj_tree.specs.declared.kind.Kind.TheVariants as k;
 ghost use Rattle.pj_tree.specs.declared.node.Node.{Node};
@@ -49,4 +50,9 @@ pub fn expressions_are_of_operands()
     ensures negations { (t : Tree) → IsSyntaxTree t → IsOfNoOperand t u.Not (Primitive p.Boolean) }
     ensures steps { (t : Tree) → IsSyntaxTree t → IsOfOperand t u.Step (λ ty. ty) }
     ensures signs { (t : Tree) → IsSyntaxTree t → IsOfOperand t u.Sign promoted }
+{}
+
+/// The type of a method call is the result of the method that is chosen for it, by the whole types of its receiver and of its arguments (JLS 15.12).
+pub fn calls_are_chosen()
+    ensures { (t : Tree) → IsSyntaxTree t → (n : Node) → kind_of t n ≡ Some k.MethodCall → type_of t n ≡ call_type t (type_of t) n }
 {}

@@ -13,6 +13,6 @@ mod typing;
 mod variables;
 
 pub use held::Typed;
-pub use laws::{expressions_are_of_operands, sources_agree, types_go_on};
+pub use laws::{calls_are_chosen, expressions_are_of_operands, sources_agree, types_go_on};
 pub use node_types::type_of;
 pub use of_calls::chosen;
