@@ -1,7 +1,6 @@
 -- Classes around, and the turns of the loops over arguments and types.
-use Rattle.std.specs.Prelude.{Bool, true, false, ◌==◌, Option, None, Some, slice_get, if◌then◌else◌}
-use Rattle.std.specs.Option.{option_copied}
-use Rattle.std.proofs.Common.{◌≡◌, ℕ, ◌<◌, ◌≤◌, ◌+◌, List, [], ◌∷◌, ◌++◌, length, get_or, drop, map, ap, refl, subst, sym, ◌∙◌, append-nil, append_assoc, arith}
+use Rattle.std.specs.Prelude.{Bool, true, false, ◌==◌, None, Some, if◌then◌else◌}
+use Rattle.std.proofs.Common.{◌≡◌, ℕ, ◌<◌, ◌≤◌, ◌+◌, List, [], ◌∷◌, ◌++◌, length, get_or, drop, ap, refl, sym, ◌∙◌, append-nil, append_assoc, arith}
 use Rattle.std.proofs.Math.ListN.{drop_of_length-le}
 use Rattle.std.proofs.lemmas.List.{map-append}
 use Rattle.std.proofs.lemmas.Option.{slice_get-map}
@@ -10,14 +9,14 @@ use Rattle.pj_tree.specs.declared.node.Node.{Node}
 use Rattle.pj_names.specs.declared.ty.Ty.{Ty}
 use Rattle.pj_names.specs.JavaType.{JavaType, java_type, type_list}
 use Rattle.pj_names.specs.ClassName.{Name, is_class_name}
-use Rattle.pj_names.specs.Asking.{Asking, Return}
+use Rattle.pj_names.specs.Asking.{Return}
 use Rattle.pj_names.proofs.AskingLaws.{left_from}
 use Rattle.pj_types.specs.declared.members.Method.{Method}
-use Rattle.pj_types.specs.Members.{all_methods, method_view}
+use Rattle.pj_types.specs.Members.{all_methods}
 use Rattle.pj_types.specs.Conversions.{boxed}
 use Rattle.pj_outer_names.specs.Around.{further_in}
 use Rattle.pj_written.specs.Headers.{class_text}
-use Rattle.pj_calls.specs.Candidates.{Candidates, if_any, of_around, of_class}
+use Rattle.pj_calls.specs.Candidates.{if_any, of_around, of_class}
 use Rattle.pj_calls.specs.Nodes.{functions_from, is_function}
 use Rattle.pj_calls.specs.Results.{is_variable, passed_for}
 
