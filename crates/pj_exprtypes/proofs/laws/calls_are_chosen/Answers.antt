@@ -1,4 +1,4 @@
-use Rattle.pj_exprtypes.proofs.Kinds as kinds
+use Rattle.pj_exprtypes.proofs.OfKinds as kinds
 use Rattle.pj_exprtypes.proofs.laws.calls_are_chosen.Goals as goal
 
 pub returns : goal.returns

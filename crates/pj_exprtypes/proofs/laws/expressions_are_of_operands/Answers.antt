@@ -1,4 +1,4 @@
-use Rattle.pj_exprtypes.proofs.Kinds as kinds
+use Rattle.pj_exprtypes.proofs.OfKinds as kinds
 use Rattle.pj_exprtypes.proofs.laws.expressions_are_of_operands.Goals as goal
 
 pub returns-clause-fields : goal.returns-clause-fields
