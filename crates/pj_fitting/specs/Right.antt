@@ -18,7 +18,8 @@ use Rattle.pj_reuse.specs.Serving.{stands}
 abbrev pub Key : Type 0
 Key = List ℕ
 
--- What rules are at one file: the key of each, and what it means there, apart from any source of answers.
+-- What rules are at one file: the key of each, and what it means there, apart from any source of answers. They are to be all rules,
+-- and not those of one run: a result may have keys of rules that are gone.
 pub record RulesAt (R : Type 0) : Type 0 where
   pub key : R → Key
   pub meaning : R → Asking Ruled
@@ -49,7 +50,7 @@ pub record IsRight {R : Type 0} (rules : RulesAt R) (answers : List (Name × Ans
   pub known : All (λ (k : KeyRows). (rule : R) × (rules.key rule ≡ k.key)) r.group
   pub comes : (choice : Key → R) → AreRulesOf rules choice r → ComesTo rules choice (answers_of answers r) r
 
--- What a run leaves.
+-- What may be left: which of these a run has to keep, and which it has to make, is not said here.
 
 -- the answers for these names are the world's
 abbrev pub AreOf : List (Name × Answer) → (Name → Answer) → List Name → Type 0
@@ -62,7 +63,7 @@ pub record IsNew {R : Type 0} (rules : RulesAt R) (world : Name → Answer) (r :
   pub group_is : r.group ≡ record { key = rules.key rule; rows = rows } ∷ []
   pub comes : Means (whole world) (rules.meaning rule) (Gives rows (name_set r.names))
 
--- a result that is left at a file in a world: one of the old results that stands there, unchanged, or a new one
+-- a result that may be left at a file in a world: one of the old results that stands there, unchanged, or a new one
 abbrev pub IsLeft : {R : Type 0} → RulesAt R → List (Name × Answer) → (Name → Answer) → List CachedResult → CachedResult → Type 0
 IsLeft rules answers world old r = (Contains old r × IsTrue (stands answers world r)) ⊎ IsNew rules world r
 

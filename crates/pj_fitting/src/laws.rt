@@ -14,7 +14,7 @@ ghost use Rattle.pj_reuse.specs.Serving.{stands};
 ghost use Rattle.pj_fitting.specs.Right.{Key, RulesAt, HaveOneMeaning, AreRulesOf, AreOf, ComesTo, IsLeft, IsNew, IsRight, Files, IsRightCache, Fits};
 
 /// A right result that stands in a world, where each of its answers is the world's, is what its rules come to there: they ask for
-/// just its names, and how deep recursions may go, from some depth on each has just its rows.
+/// just its names, and from some depth on, however deep recursions go, each has just its rows.
 pub fn right_results_serve<R>()
     ensures comes { (rules : RulesAt R) (answers : List (Name × Answer)) (r : CachedResult) (world : Name → Answer) (choice : Key → R)
         → IsRight rules answers r → IsTrue (stands answers world r) → AreRulesOf rules choice r → ComesTo rules choice (whole world) r }
@@ -29,8 +29,8 @@ pub fn new_results_are_right<R>()
         → HaveOneMeaning rules → IsNew rules world r → AreOf later world r.names → IsRight rules later r }
 {}
 
-/// What a run in a world leaves at a file where the old results were right is right in each cache that has the world's answers for its
-/// names: so it serves every later run.
+/// What may be left at a file in a world, where the old results were right, is right in each cache that has the world's answers for its
+/// names. It serves a later run where each of these answers is that run's.
 pub fn left_results_are_right<R>()
     ensures { (rules : RulesAt R) (answers later : List (Name × Answer)) (world : Name → Answer) (old : List CachedResult) (r : CachedResult)
         → HaveOneMeaning rules → All (IsRight rules answers) old → IsLeft rules answers world old r → AreOf later world r.names → IsRight rules later r }
