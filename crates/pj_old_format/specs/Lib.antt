@@ -1,0 +1,5 @@
+-- definitions
+pub mod ListKeys
+pub mod FormatOne
+pub mod Stored
+pub mod TextOne
