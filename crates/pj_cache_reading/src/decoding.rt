@@ -190,8 +190,8 @@ fn seal_of(bytes: &[u8]) -> Digest32
 
 /// The cache that bytes spell, or what is wrong with them, tested in this order: `Short` where they are fewer than 44,
 /// `Magic` where they do not begin as caches do, `Seal` with the last 32 bytes and the SHA-256 of those before where these
-/// differ, `Form` with the first byte of the first field that runs into the seal or breaks a rule of the format. A rule that an
-/// answer or a key breaks which no result names, and bytes that are left over, are told behind the last entry.
+/// differ, `Form` with the first byte of the first field that runs into the seal or breaks a rule of the format. An answer or a
+/// key that no result names, and bytes that are left over, are told behind the last entry.
 ///
 /// The condition is that offsets are named by 32 bits.
 pub fn decode(alloc: Global, bytes: &[u8]) -> Result<Cache, CacheRefused>

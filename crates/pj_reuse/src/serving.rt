@@ -138,7 +138,7 @@ fn places_among(alloc: Global, held: &BTreeSet<Key>, keys: &[Key]) -> Result<Num
 }
 
 /// The places, counted from 0, of the keys that a result of the entry has, each of whose answers in the cache is what the oracle
-/// answers now. For each result that has one of the keys, its names are asked in the order of their bytes, up to the first one
+/// answers now. For each result that has one of the keys, its names are asked in the order of the result, up to the first one
 /// whose answer is another; no other name is asked. The conditions are that the bytes of the entry are those of the file, which no
 /// clause says, and that the answers of the cache stand in the order of their names' bytes, each once.
 #[tactic(auto, using(pj_names::proofs::AskingLaws::asking_steps))]
