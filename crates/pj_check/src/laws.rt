@@ -29,7 +29,7 @@ pub fn one_refusal()
     one_first_fault();
 }
 
-/// Words and files have one run at most: a run that comes to a report comes to this one.
+/// Words, files and class folders have one run at most: a run that comes to a report comes to this one.
 pub fn one_run()
     ensures { OneRun }
 {
