@@ -1,5 +1,5 @@
 -- The lists of rules that files make.
-use Rattle.std.specs.Prelude.{Bool, true, false, not, ◌&&◌, List, [], ◌∷◌, Option, Some, None, filter, codes, if◌then◌else◌}
+use Rattle.std.specs.Prelude.{Bool, true, false, not, ◌&&◌, List, [], ◌∷◌, ◌++◌, Option, Some, None, filter, codes, if◌then◌else◌}
 use Rattle.std.specs.List.{list_any}
 use Rattle.pj_rule_texts.specs.Values.{Text, is_same}
 use Rattle.pj_rule_sets.specs.declared.entry.Origin.{Origin}
@@ -35,6 +35,10 @@ name_of (entry.Unusable unusable) = unusable.name
 
 abbrev pub is_among : Text → List Text → Bool
 is_among text texts = list_any (is_same text) texts
+
+-- texts with one more at their end, unless it is among them
+abbrev pub with_text : List Text → Text → List Text
+with_text texts text = if is_among text texts then texts else texts ++ text ∷ []
 
 abbrev pub is_called : Text → Option Text → Bool
 is_called name None = false

@@ -1,7 +1,7 @@
 //! Files that are known: those that are read, and those that are being read.
-ghost use Rattle.std.specs.Prelude.{◌≡◌, ◌++◌, ◌∷◌, [], false, OnOk, MatchOption};
+ghost use Rattle.std.specs.Prelude.{◌≡◌, ◌++◌, ◌∷◌, [], OnOk, MatchOption};
 ghost use Rattle.std.specs.Option.{option_copied};
-ghost use Rattle.pj_rule_sets.specs.Lists.{is_among};
+ghost use Rattle.pj_rule_sets.specs.Lists.{is_among, with_text};
 ghost use Rattle.pj_rule_sets.specs.ReadFiles.{list_at, put_list};
 
 use crate::entry::{Entry, Origin};
@@ -87,7 +87,7 @@ impl OpenPaths {
 
     /// Puts a path at the end, unless it is there.
     pub fn put(&mut self, path: Text) -> Result<(), NoMemory>
-        ensures { OnOk result (is_among path self.old ≡ false → self.new ≡ self.old ++ path ∷ []) }
+        ensures { OnOk result (self.new ≡ with_text self.old path) }
     {
         let _ = self.held.insert(path)?;
         Ok(())

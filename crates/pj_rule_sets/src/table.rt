@@ -1,6 +1,6 @@
 //! Tables of what is read of a file.
-ghost use Rattle.std.specs.Prelude.{◌≡◌, ◌++◌, ◌∷◌, [], not, true, IfOk, OnOk};
-ghost use Rattle.pj_rule_sets.specs.Lists.{is_among, put};
+ghost use Rattle.std.specs.Prelude.{◌≡◌, [], not, IfOk, OnOk};
+ghost use Rattle.pj_rule_sets.specs.Lists.{is_among, put, with_text};
 
 use crate::entry::{Entry, Origin};
 use indexmap::{IndexMap, IndexSet};
@@ -79,10 +79,10 @@ impl NameSet {
         }
     }
 
-    /// Puts a name at the end and says `true`, unless it is there.
+    /// Puts a name at the end and says `true`; where it is there already the names stay as they are, and the answer is `false`.
     pub fn put(&mut self, name: Text) -> Result<bool, NoMemory>
         ensures was { IfOk result (λ is_new. is_new ≡ not (is_among name self.old)) }
-        ensures put { IfOk result (λ is_new. is_new ≡ true → self.new ≡ self.old ++ name ∷ []) }
+        ensures put { OnOk result (self.new ≡ with_text self.old name) }
     {
         Ok(self.held.insert(name)?)
     }

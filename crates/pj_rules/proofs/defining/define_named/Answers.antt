@@ -1,5 +1,6 @@
 use Rattle.std.proofs.Common.{◌≡◌, ◌∙◌, ◌++◌, ◌∷◌, [], true, false, ap, subst}
 use Rattle.pj_rule_sets.specs.Lists.{defined_in, is_among, put}
+use Rattle.pj_rule_sets.proofs.Keys.{put_new}
 use Rattle.pj_rules.specs.Defining.{IsDefinitionFault}
 use Rattle.pj_rules.specs.Refusals.{IfOwn}
 use Rattle.pj_rules.proofs.Definitions.{adds, handed_on, no_entry, not_there, same_name, there}
@@ -36,5 +37,5 @@ returns-clause-adds c = λ files.
     let fresh : is_among copy old.names ≡ false = not_there c.in_ok-is_new.is_new (is_among copy old.names) c.in_ok-is_new.ensures.was c.if-not-is_new.false in
     adds path c.args.rule_set.now old c.args.rule c.requires.is_defined name c.requires.is_named files entry _
     (subst (λ n. is_among n old.names ≡ false) c.in_ok-copied.ensures fresh) c.in_ok-entry.ensures.entry
-    (c.in_ok-is_new.ensures.put c.if-not-is_new.false ∙ ap (λ n. old.names ++ n ∷ []) c.in_ok-copied.ensures)
+    (c.in_ok-is_new.ensures.put ∙ put_new old.names copy fresh ∙ ap (λ n. old.names ++ n ∷ []) c.in_ok-copied.ensures)
     (c.in_ok-put.ensures ∙ ap (λ p. put old.list (defined_in p name, entry)) c.in_ok-copied-2.ensures)
