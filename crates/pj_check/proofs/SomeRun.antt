@@ -21,11 +21,11 @@ use Rattle.pj_sources.specs.Reading.{AreRead, IsRefusedBehind}
 use Rattle.pj_sources.specs.declared.listing.Listing.{Listing}
 use Rattle.pj_sources.specs.declared.refused.ReadRefused.{ReadRefused}
 use Rattle.pj_sources.specs.declared.refused.ReadRefused.TheVariants as unread
-use Rattle.pj_workers.specs.Laws.{SomeCold}
-use Rattle.pj_workers.specs.NoFunctions.{no_functions}
+use Rattle.pj_workers.specs.Laws.{SettledCold}
+use Rattle.pj_workers.specs.JavaReplies.{java_replies}
 use Rattle.pj_workers.specs.Rules.{IsRuleOf, Rule, source_of}
 use Rattle.pj_check.specs.Cold.{world_of}
-use Rattle.pj_check.specs.Laws.{RunOrRefusal, SomeReport}
+use Rattle.pj_check.specs.Laws.{RunOrRefusal, RunSettles, SomeReport}
 use Rattle.pj_check.specs.Limits.{limit_of}
 use Rattle.pj_check.specs.Refused.{IsRefused, bad_rules, nothing_there, source_missing, too_many_bytes, too_many_rules, too_many_sources, usage}
 use Rattle.pj_check.specs.Run.{HasRules, HasSources, IsRun, Run}
@@ -42,11 +42,11 @@ spelled marker (rule ∷ rules) h =
       (record { source = refl; spelled = record { query = h.0.spell.query_spelled; suppression = h.0.spell.suppression_spelled } }, are),
     )
 
-pub some_report : RulesAreSound → SomeCold → SomeReport
-some_report sound cold files paths minimum marker set effective world held =
+pub some_report : RulesAreSound → SettledCold → SomeReport
+some_report sound cold files paths minimum marker set effective world held settle =
     let (all, are) = spelled set.marker set.rules (sound files paths minimum marker set effective) in
-    let (report, is) = cold no_functions (λ path file function at arguments. tt) held all set.unusable in
-    (report, record { rules = all; are_rules = are; cold = is world })
+    let (report, is) = cold java_replies world held all set.unusable (settle all are) in
+    (report, record { rules = all; are_rules = are; cold = is })
 
 -- ---- a run, or why there is none
 
@@ -65,7 +65,7 @@ has_cause files before path refused (IsRefusedBehind.missing at) = tt
 has_cause files before path refused (IsRefusedBehind.too_long bytes at more) = tt
 has_cause files before path refused (IsRefusedBehind.too_much bytes at fits more) = tt
 
-module _ (listings : SomeListing) (readings : SomeOutcome) (reports : SomeReport) (loads : RulesOrFirstFault) (words : List Bytes) (held : Files) (classes : ClassFolders) where
+module _ (listings : SomeListing) (readings : SomeOutcome) (reports : SomeReport) (loads : RulesOrFirstFault) (words : List Bytes) (held : Files) (classes : ClassFolders) (settles : RunSettles words held classes) where
   module _ (settings : Settings) (listing : Listing) (rules : EffectiveRules) (has : HasRules words held settings listing rules) where
     unreadable : (refused : ReadRefused) → sources.IsRefused held listing.paths refused → HasCause refused → Ends words held classes
     unreadable (unread.Missing path) is cause = inr (outcome.Missing path, source_missing settings listing rules has is)
@@ -75,7 +75,7 @@ module _ (listings : SomeListing) (readings : SomeOutcome) (reports : SomeReport
 
     made : (read : Files) → AreRead held listing.paths read → Ends words held classes
     made read are =
-        let (report, is) = reports held settings.rulesets settings.minimum settings.marker rules has.loaded (world_of classes settings.classes) read in
+        let (report, is) = reports held settings.rulesets settings.minimum settings.marker rules has.loaded (world_of classes settings.classes) read (settles settings listing rules read has are) in
         inl (record { settings = settings; listing = listing; rules = rules; sources = read; report = report }, record { has_rules = has; read = are; reported = is })
 
     of_rules : Ends words held classes
@@ -120,4 +120,4 @@ module _ (listings : SomeListing) (readings : SomeOutcome) (reports : SomeReport
   of_words (Ok settings) is = of_items settings is (first_missing held settings.dirs) refl
 
 pub run_or_refusal : SomeListing → SomeOutcome → SomeReport → RulesOrFirstFault → RunOrRefusal
-run_or_refusal listings readings reports loads words held classes = of_words listings readings reports loads words held classes (job words) refl
+run_or_refusal listings readings reports loads words held classes settles = of_words listings readings reports loads words held classes settles (job words) refl

@@ -5,7 +5,7 @@ use pj_rule_laws::rules_or_first_fault;
 use pj_rules::{one_first_fault, one_set, rules_are_sound, rules_or_fault};
 use pj_sources::{one_listing, one_reading};
 use pj_workers::{
-    cold_reports_are_in_order, one_cold_report, rules_are_their_texts, some_cold_report,
+    cold_reports_are_in_order, one_cold_report, rules_are_their_texts, settled_cold_report,
 };
 
 /// Words and files that have a run are not refused.
@@ -48,15 +48,15 @@ pub fn reports_are_in_order()
     cold_reports_are_in_order();
 }
 
-/// The rules that rulesets come to have a cold report of every list of sources.
+/// The rules that rulesets come to have a cold report of every list of sources, where what they mean comes to something.
 pub fn rules_have_reports()
     ensures { SomeReport }
 {
     rules_are_sound();
-    some_cold_report();
+    settled_cold_report();
 }
 
-/// Words, files and class folders have a run or a cause of refusal.
+/// Words, files and class folders have a run or a cause of refusal, if what the rules mean comes to something.
 pub fn some_run_or_refusal()
     ensures { RunOrRefusal }
 {

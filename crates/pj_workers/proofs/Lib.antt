@@ -13,7 +13,8 @@ pub mod TextLaws
 pub mod Variables
 pub mod Nodes
 pub mod Finding
-pub mod Unasked
+pub mod Replying
+pub mod Holding
 pub mod Evaluating
 pub mod Kept
 pub mod Resting

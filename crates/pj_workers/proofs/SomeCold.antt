@@ -1,6 +1,6 @@
--- There is a cold report where no class is asked for.
+-- There is a cold report where no class is asked for, and where what rules mean comes to something.
 use Rattle.std.proofs.Common.{◌≡◌, cond, Bool, true, false, List, [], ◌∷◌, Option, Some, None, Result, Ok, Err, ap, refl, sym, subst, map}
-use Rattle.std.specs.List.{AllZip}
+use Rattle.std.specs.List.{AllByRecursion, AllZip}
 use Rattle.pj_findings.specs.Denoted.{denoted}
 use Rattle.pj_findings.specs.Merged.{merge}
 use Rattle.pj_names.specs.Asking.{Asking, Return, Ask, Unbounded, bind, each}
@@ -21,7 +21,7 @@ use Rattle.pj_rule_sets.specs.Expressions.{variables_of}
 use Rattle.pj_xvalue.specs.Boolean.{effective_boolean}
 use Rattle.pj_xvalue.specs.Items.{Document, Element}
 use Rattle.pj_xsteps.specs.Context.{at}
-use Rattle.pj_workers.specs.Cold.{AreRowsOf, IsCold, World}
+use Rattle.pj_workers.specs.Cold.{AreRowsOf, IsCold, Settles, World}
 use Rattle.pj_workers.specs.FileFacts.{around_file}
 use Rattle.pj_workers.specs.FileMeaning.{Bytes, Replies, file_meaning, head_of, nothing, rule_at}
 use Rattle.pj_workers.specs.Plain.{IsPlain, RepliesPlain}
@@ -98,3 +98,17 @@ module _ (replies : Replies) (plain : (path : Bytes) (file : JavaFile) → Repli
   some_cold files rules unusable =
       let (rows, are) = some_rows rules files in
       (record { rules = map (λ (rule : Rule). rule.source.texts.row) rules; files = rows; errors = unusable }, λ world. record { rules_are = refl; files_are = are world; errors_are = refl })
+
+-- ---- where what rules mean comes to something
+
+settled_rows : (replies : Replies) (world : World) (rules : List Rule) (files : Files) → AllByRecursion (Settles replies world rules) files → (rows : List (Bytes × FileRows)) × AllZip (AreRowsOf replies world rules) files rows
+settled_rows replies world rules [] settle = ([], tt)
+settled_rows replies world rules (file ∷ files) settle =
+    let (rows, are) = settled_rows replies world rules files settle.1 in
+    ((file.0, settle.0.0) ∷ rows, (record { path = refl; names = settle.0.1; comes = settle.0.2 }, are))
+
+pub settled_cold : (replies : Replies) (world : World) (files : Files) (rules : List Rule) (unusable : List ConfigError) → AllByRecursion (Settles replies world rules) files
+    → (report : Report) × IsCold replies world files rules unusable report
+settled_cold replies world files rules unusable settle =
+    let (rows, are) = settled_rows replies world rules files settle in
+    (record { rules = map (λ (rule : Rule). rule.source.texts.row) rules; files = rows; errors = unusable }, record { rules_are = refl; files_are = are; errors_are = refl })

@@ -20,6 +20,10 @@ World = Name → Answer
 abbrev pub ComesTo : Replies → World → List Rule → Bytes → Bytes → FileRows → NameSet → Type 0
 ComesTo replies world rules path bytes rows names = Means (whole world) (file_meaning replies path bytes rules) (Gives rows names)
 
+-- The meaning of the rules at a file of a path comes to something over a world.
+abbrev pub Settles : Replies → World → List Rule → Bytes × Bytes → Type 0
+Settles replies world rules file = (rows : FileRows) × (names : NameSet) × ComesTo replies world rules file.0 file.1 rows names
+
 -- the rows of a file of a path
 pub record AreRowsOf (replies : Replies) (world : World) (rules : List Rule) (file : Bytes × Bytes) (rows : Bytes × FileRows) : Type 0 where
   pub path : rows.0 ≡ file.0

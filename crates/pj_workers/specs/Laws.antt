@@ -28,7 +28,7 @@ use Rattle.pj_workers.specs.Plain.{RepliesPlain}
 use Rattle.pj_xvalue.specs.Items.{ItemValue, Element}
 use Rattle.pj_xvalue.specs.declared.fault.XCode.{XCode}
 use Rattle.pj_names.specs.declared.rule_row.ConfigError.{ConfigError}
-use Rattle.pj_workers.specs.Cold.{IsCold, World}
+use Rattle.pj_workers.specs.Cold.{IsCold, Settles, World}
 use Rattle.pj_workers.specs.Faults.{fault_message}
 use Rattle.pj_workers.specs.FileFacts.{place_of}
 use Rattle.pj_workers.specs.FileMeaning.{Bytes, Replies, file_meaning, nothing, rule_meaning}
@@ -59,6 +59,11 @@ OneCold = (replies : Replies) (world : World) (files : Files) (rules : List Rule
 abbrev pub SomeCold : Type 0
 SomeCold = (replies : Replies) → ((path : Bytes) (file : JavaFile) → RepliesPlain (replies path file)) → (files : Files) (rules : List Rule) (unusable : List ConfigError)
     → (report : Report) × ((world : World) → IsCold replies world files rules unusable report)
+
+-- Where the meaning of the rules comes to something at each file over a world, they have a cold report of the files over it.
+abbrev pub SettledCold : Type 0
+SettledCold = (replies : Replies) (world : World) (files : Files) (rules : List Rule) (unusable : List ConfigError) → AllByRecursion (Settles replies world rules) files
+    → (report : Report) × IsCold replies world files rules unusable report
 
 -- A finding stands where its node does.
 abbrev pub StandsAtNode : JavaFile → Spot → Type 0

@@ -6,7 +6,7 @@ pub mod Reasons
 pub mod RuleMeaning
 pub mod Faults
 pub mod FileMeaning
-pub mod NoFunctions
+pub mod JavaReplies
 pub mod Results
 pub mod Cold
 pub mod RuleFacts
