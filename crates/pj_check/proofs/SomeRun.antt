@@ -21,11 +21,14 @@ use Rattle.pj_sources.specs.Reading.{AreRead, IsRefusedBehind}
 use Rattle.pj_sources.specs.declared.listing.Listing.{Listing}
 use Rattle.pj_sources.specs.declared.refused.ReadRefused.{ReadRefused}
 use Rattle.pj_sources.specs.declared.refused.ReadRefused.TheVariants as unread
-use Rattle.pj_workers.specs.Laws.{SettledCold}
+use Rattle.pj_workers.specs.Calls.{RuleCallsOnly, asks_nothing}
+use Rattle.pj_workers.specs.Cold.{FileSettles, SourceSettles, World}
+use Rattle.pj_workers.specs.Laws.{SettleByReplies, SettleWithoutTypes, SettledCold}
 use Rattle.pj_workers.specs.JavaReplies.{java_replies}
 use Rattle.pj_workers.specs.Rules.{IsRuleOf, Rule, source_of}
+use Rattle.pj_xexpressions.specs.declared.pmd_function.PmdFunction.{PmdFunction}
 use Rattle.pj_check.specs.Cold.{world_of}
-use Rattle.pj_check.specs.Laws.{RunOrRefusal, RunSettles, SomeReport}
+use Rattle.pj_check.specs.Laws.{RunOrRefusal, RunOrRefusalWithoutTypes, RunSettles, SetSettlesByReplies, SetSettlesWithoutTypes, SomeReport}
 use Rattle.pj_check.specs.Limits.{limit_of}
 use Rattle.pj_check.specs.Refused.{IsRefused, bad_rules, nothing_there, source_missing, too_many_bytes, too_many_rules, too_many_sources, usage}
 use Rattle.pj_check.specs.Run.{HasRules, HasSources, IsRun, Run}
@@ -47,6 +50,21 @@ some_report sound cold files paths minimum marker set effective world held settl
     let (all, are) = spelled set.marker set.rules (sound files paths minimum marker set effective) in
     let (report, is) = cold java_replies world held all set.unusable (settle all are) in
     (report, record { rules = all; are_rules = are; cold = is })
+
+sources_settle : SettleByReplies → (may : PmdFunction → Bool) (world : World) (rules : List Rule) → AllByRecursion (RuleCallsOnly may) rules → (sources : Files) → AllByRecursion (SourceSettles may java_replies world) sources
+    → AllByRecursion (FileSettles java_replies world rules) sources
+sources_settle by_replies may world rules only [] settle = tt
+sources_settle by_replies may world rules only (source ∷ sources) settle = (by_replies java_replies may world source.0 source.1 rules only settle.0, sources_settle by_replies may world rules only sources settle.1)
+
+pub set_settles : SettleByReplies → SetSettlesByReplies
+set_settles by_replies may world sources set only settle rules are = sources_settle by_replies may world rules (only rules are) sources settle
+
+without_types : SettleWithoutTypes → (world : World) (rules : List Rule) → AllByRecursion (RuleCallsOnly asks_nothing) rules → (sources : Files) → AllByRecursion (FileSettles java_replies world rules) sources
+without_types settle world rules only [] = tt
+without_types settle world rules only (source ∷ sources) = (settle world source.0 source.1 rules only, without_types settle world rules only sources)
+
+pub set_settles_without_types : SettleWithoutTypes → SetSettlesWithoutTypes
+set_settles_without_types settle world sources set only rules are = without_types settle world rules (only rules are) sources
 
 -- ---- a run, or why there is none
 
@@ -121,3 +139,6 @@ module _ (listings : SomeListing) (readings : SomeOutcome) (reports : SomeReport
 
 pub run_or_refusal : SomeListing → SomeOutcome → SomeReport → RulesOrFirstFault → RunOrRefusal
 run_or_refusal listings readings reports loads words held classes settles = of_words listings readings reports loads words held classes settles (job words) refl
+
+pub run_or_refusal_without_types : SetSettlesWithoutTypes → RunOrRefusal → RunOrRefusalWithoutTypes
+run_or_refusal_without_types settle ends words held classes only = ends words held classes (λ settings listing rules sources has read. settle (world_of classes settings.classes) sources rules (only settings listing rules has))

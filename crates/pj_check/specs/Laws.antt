@@ -1,5 +1,5 @@
 -- What follows from the definitions.
-use Rattle.std.specs.Prelude.{◌≡◌, ◌⊎◌, ℕ, List, map}
+use Rattle.std.specs.Prelude.{◌≡◌, ◌⊎◌, ℕ, Bool, List, map}
 use Rattle.std.specs.List.{AllByRecursion}
 use Rattle.std.specs.List.Sorted.{IsStrictlySortedBy}
 use Rattle.pj_outside.specs.Doors.{ClassFolders}
@@ -12,10 +12,12 @@ use Rattle.pj_settings.specs.declared.settings.Settings.{Settings}
 use Rattle.pj_sources.specs.Paths.{byte_order}
 use Rattle.pj_sources.specs.Reading.{AreRead}
 use Rattle.pj_sources.specs.declared.listing.Listing.{Listing}
-use Rattle.pj_workers.specs.Cold.{Settles, World}
+use Rattle.pj_workers.specs.Calls.{RuleCallsOnly, asks_nothing}
+use Rattle.pj_workers.specs.Cold.{FileSettles, SourceSettles, World}
 use Rattle.pj_workers.specs.JavaReplies.{java_replies}
 use Rattle.pj_workers.specs.Laws.{AreInOrder}
 use Rattle.pj_workers.specs.Rules.{AreRulesOf, Rule}
+use Rattle.pj_xexpressions.specs.declared.pmd_function.PmdFunction.{PmdFunction}
 use Rattle.pj_check.specs.Cold.{IsColdOf, world_of}
 use Rattle.pj_check.specs.Refused.{IsRefused}
 use Rattle.pj_check.specs.Run.{HasRules, IsRun, Run}
@@ -41,7 +43,19 @@ ReportIsInOrder = (words : List Bytes) (held : Files) (classes : ClassFolders) (
 
 -- What a set of rules means at each source comes to something over a world of classes.
 abbrev pub SetSettles : World → Files → EffectiveRules → Type 0
-SetSettles world sources set = (rules : List Rule) → AreRulesOf set rules → AllByRecursion (Settles java_replies world rules) sources
+SetSettles world sources set = (rules : List Rule) → AreRulesOf set rules → AllByRecursion (FileSettles java_replies world rules) sources
+
+-- The rules of a set call only such functions of PMD.
+abbrev pub SetCallsOnly : (PmdFunction → Bool) → EffectiveRules → Type 0
+SetCallsOnly may set = (rules : List Rule) → AreRulesOf set rules → AllByRecursion (RuleCallsOnly may) rules
+
+-- Where what these functions reply in each source comes to something, what the rules mean does.
+abbrev pub SetSettlesByReplies : Type 0
+SetSettlesByReplies = (may : PmdFunction → Bool) (world : World) (sources : Files) (set : EffectiveRules) → SetCallsOnly may set → AllByRecursion (SourceSettles may java_replies world) sources → SetSettles world sources set
+
+-- So it is with rules that do not look at types: what they mean comes to something in every world.
+abbrev pub SetSettlesWithoutTypes : Type 0
+SetSettlesWithoutTypes = (world : World) (sources : Files) (set : EffectiveRules) → SetCallsOnly asks_nothing set → SetSettles world sources set
 
 -- The rules that rulesets come to have a cold report of every list of sources, in every world of classes over which what they mean comes to something.
 abbrev pub SomeReport : Type 0
@@ -56,3 +70,8 @@ RunSettles words held classes = (settings : Settings) (listing : Listing) (rules
 -- Words, files and class folders have a run or a cause of refusal, if what the rules mean comes to something.
 abbrev pub RunOrRefusal : Type 0
 RunOrRefusal = (words : List Bytes) (held : Files) (classes : ClassFolders) → RunSettles words held classes → ((run : Run) × IsRun words held classes run) ⊎ ((outcome : Outcome) × IsRefused words held outcome)
+
+-- So they have a run or a cause of refusal, whatever the class folders, if the rules that they name do not look at types.
+abbrev pub RunOrRefusalWithoutTypes : Type 0
+RunOrRefusalWithoutTypes = (words : List Bytes) (held : Files) (classes : ClassFolders) → ((settings : Settings) (listing : Listing) (rules : EffectiveRules) → HasRules words held settings listing rules → SetCallsOnly asks_nothing rules)
+    → ((run : Run) × IsRun words held classes run) ⊎ ((outcome : Outcome) × IsRefused words held outcome)

@@ -1,7 +1,8 @@
 pub mod FileLaws
 pub mod RuleLaws
 pub mod ColdLaws
-pub mod Plain
+pub mod Closed
+pub mod Settled
 pub mod SomeCold
 pub mod OrderLaws
 pub mod CodeLaws

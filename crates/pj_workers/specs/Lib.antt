@@ -7,6 +7,7 @@ pub mod RuleMeaning
 pub mod Faults
 pub mod FileMeaning
 pub mod JavaReplies
+pub mod Calls
 pub mod Results
 pub mod Cold
 pub mod RuleFacts
