@@ -24,20 +24,25 @@ use pj_xlaws::trees_tell_expressions;
 use pj_xparse::one_expression;
 use pj_xpatterns::trees_tell_patterns;
 use pj_xvalue::Attributes;
+use std::mem::{replace, swap};
 
-/// What functions that are called no more were made over: the oracle beneath that of the file, and what is held of the file.
-fn parts_of<'a, 'f, O: Oracle, A: Attributes>(
+/// The oracle beneath that of functions that are called no more. What they hold of the file is put in the place of these tables.
+fn give_back<'a, 'f, O: Oracle, A: Attributes>(
     calls: JavaCalls<'a, 'f, O, A>,
-) -> (&'a mut O, &'a mut Held, &'a mut Typed)
-    ensures same_oracle { result.0.ghost_name ≡ calls.entry.oracle.inner.ghost_name }
-    ensures oracle { result.0.now ≡ calls.entry.oracle.inner.now }
-    ensures same_held { result.1.ghost_name ≡ calls.entry.oracle.held.ghost_name }
-    ensures held { result.1.now ≡ calls.entry.oracle.held.now }
-    ensures same_types { result.2.ghost_name ≡ calls.entry.types.ghost_name }
-    ensures types { result.2.now ≡ calls.entry.types.now }
+    held: &mut Held,
+    types: &mut Typed,
+) -> &'a mut O
+    ensures same_oracle { result.ghost_name ≡ calls.entry.oracle.inner.ghost_name }
+    ensures oracle { result.now ≡ calls.entry.oracle.inner.now }
+    ensures held { held.new ≡ calls.entry.oracle.held.now }
+    ensures types { types.new ≡ calls.entry.types.now }
 {
     let over = calls.oracle;
-    (over.inner, over.held, calls.types)
+    let last_held = over.held;
+    let last_types = calls.types;
+    swap(last_held, held);
+    swap(last_types, types);
+    over.inner
 }
 
 /// What an active rule comes to in a file, with what is held of the file.
@@ -58,10 +63,12 @@ fn active_result<'t, O: Oracle>(
     one_expression();
     trees_tell_expressions();
     trees_tell_patterns();
-    let over = FileOracle::new(file.alloc, file.java, oracle, held);
-    let mut calls = JavaCalls::new(over, types, file.facts, file.path);
+    let mut own_held = replace(held, Held::new(file.alloc));
+    let mut own_types = replace(types, Typed::new(file.alloc));
+    let over = FileOracle::new(file.alloc, file.java, oracle, &mut own_held);
+    let mut calls = JavaCalls::new(over, &mut own_types, file.facts, file.path);
     let came_to = rule_result(file, rule, &mut calls);
-    let _parts = parts_of(calls);
+    let _inner = give_back(calls, held, types);
     came_to
 }
 

@@ -13,12 +13,15 @@ use Rattle.pj_workers.proofs.TextLaws.{same_in_file}
 use Rattle.pj_workers.proofs.runs.active_result.Goals as goal
 
 pub new-over-requires : goal.new-over-requires
-new-over-requires g c = subst (λ (t : Tree). Holds t (g.O.Oracle.tells c.args.oracle.now) c.args.held.now) (sym c.requires.file.java_is) c.requires.right.answers
+new-over-requires g c =
+    subst (λ h. Holds c.args.file.now.java.now (g.O.Oracle.tells c.args.oracle.now) h) (sym c.replace-own_held.ensures.value)
+    (subst (λ (t : Tree). Holds t (g.O.Oracle.tells c.args.oracle.now) c.args.held.now) (sym c.requires.file.java_is) c.requires.right.answers)
 
 pub new-calls-requires-clause-keeps : goal.new-calls-requires-clause-keeps
 new-calls-requires-clause-keeps g c =
-    subst (λ o. KeepsOver c.new-over.result.file.now (g.O.Oracle.tells o) c.args.types.now.variables) (sym c.new-over.ensures.inner)
-    (subst (λ (t : Tree). KeepsOver t (g.O.Oracle.tells c.args.oracle.now) c.args.types.now.variables) (sym (c.new-over.ensures.file ∙ c.requires.file.java_is)) c.requires.right.types)
+    subst (λ o. KeepsOver c.new-over.result.file.now (g.O.Oracle.tells o) c.replace-own_types.result.variables) (sym c.new-over.ensures.inner)
+    (subst (λ (t : Tree). KeepsOver t (g.O.Oracle.tells c.args.oracle.now) c.replace-own_types.result.variables) (sym (c.new-over.ensures.file ∙ c.requires.file.java_is))
+    (subst (λ types. KeepsOver (file_seen c.args.file.now).tree (g.O.Oracle.tells c.args.oracle.now) types.variables) (sym c.replace-own_types.ensures.value) c.requires.right.types))
 
 pub new-calls-requires-clause-of_tree : goal.new-calls-requires-clause-of_tree
 new-calls-requires-clause-of_tree g c = ap (λ (t : Tree). length t.nodes) (sym (c.new-over.ensures.file ∙ c.requires.file.java_is))
@@ -42,7 +45,8 @@ returns-clause-asks g c = λ meant is.
     ∙ same_in_file c.one_expression.ensures c.trees_tell_expressions.ensures c.trees_tell_patterns.ensures (java_replies view.path.now file) file spelled.0 meant (spelled.1.source ∙ sym is.source) spelled.1.spelled is.spelled in
     let m = rule_in_file (java_replies view.path.now file) file meant in
     let begun = ap (λ o. o.inner.now) c.new-calls.ensures.oracle ∙ c.new-over.ensures.inner in
-    let place = c.parts_of-parts.ensures.same_oracle ∙ ap (λ k. k.reference) spelled.2.same_kept ∙ ap (λ o. o.inner.ghost_name) c.new-calls.ensures.oracle ∙ c.new-over.ensures.held in
+    let place = c.give_back-inner.ensures.same_oracle ∙ ap (λ k. k.reference) spelled.2.same_kept ∙ ap (λ o. o.inner.ghost_name) c.new-calls.ensures.oracle ∙ c.new-over.ensures.held in
+    let now = c.give_back-inner.ensures.oracle in
     let same : after.oracle.inner.now ≡ c.oracle-1.given.0 = search rules in
     subst (λ o. Asks m (g.O.Oracle.tells c.args.oracle.now) (g.O.Oracle.tells o) c.rule_result-came_to.result) same
     (subst (λ o. Asks m (g.O.Oracle.tells o) (g.O.Oracle.tells after.oracle.inner.now) c.rule_result-came_to.result) begun
@@ -52,7 +56,8 @@ pub returns-clause-kept : goal.returns-clause-kept
 returns-clause-kept g c =
     let spelled = c.rule_result-came_to.ensures.asks in
     let begun = ap (λ o. o.inner.now) c.new-calls.ensures.oracle ∙ c.new-over.ensures.inner in
-    let place = c.parts_of-parts.ensures.same_oracle ∙ ap (λ k. k.reference) spelled.2.same_kept ∙ ap (λ o. o.inner.ghost_name) c.new-calls.ensures.oracle ∙ c.new-over.ensures.held in
+    let place = c.give_back-inner.ensures.same_oracle ∙ ap (λ k. k.reference) spelled.2.same_kept ∙ ap (λ o. o.inner.ghost_name) c.new-calls.ensures.oracle ∙ c.new-over.ensures.held in
+    let now = c.give_back-inner.ensures.oracle in
     let same : c.rule_result-came_to.new.calls.oracle.inner.now ≡ c.oracle-1.given.0 = search rules in
     ap (λ o. (g.O.Oracle.tells o).kept) (sym same) ∙ ap (λ k. k.kept) spelled.2.same_kept ∙ ap (λ o. (g.O.Oracle.tells o).kept) begun
 
@@ -60,17 +65,15 @@ pub returns-clause-right : goal.returns-clause-right
 returns-clause-right g c =
     let tree = (file_seen c.args.file.now).tree in
     let after = c.rule_result-came_to.new.calls in
+    let back = c.give_back-inner in
     let spelled = c.rule_result-came_to.ensures.asks in
     let file : after.oracle.file.now ≡ tree = ap (λ k. k.own.tree) spelled.2.same_kept ∙ ap (λ o. o.file.now) c.new-calls.ensures.oracle ∙ c.new-over.ensures.file ∙ c.requires.file.java_is in
-    let place = c.parts_of-parts.ensures.same_oracle ∙ ap (λ k. k.reference) spelled.2.same_kept ∙ ap (λ o. o.inner.ghost_name) c.new-calls.ensures.oracle ∙ c.new-over.ensures.held in
-    let table = c.parts_of-parts.ensures.same_held ∙ ap (λ k. k.own.held) spelled.2.same_kept ∙ ap (λ o. o.held.ghost_name) c.new-calls.ensures.oracle ∙ c.new-over.ensures.same_table in
-    let found = c.parts_of-parts.ensures.same_types ∙ ap (λ k. k.own.types) spelled.2.same_kept ∙ c.new-calls.ensures.same_table in
+    let place = back.ensures.same_oracle ∙ ap (λ k. k.reference) spelled.2.same_kept ∙ ap (λ o. o.inner.ghost_name) c.new-calls.ensures.oracle ∙ c.new-over.ensures.held in
+    let now = back.ensures.oracle in
     let same : after.oracle.inner.now ≡ c.oracle-1.given.0 = search rules in
-    let same_held : after.oracle.held.now ≡ c.held-1.given.0 = search rules in
-    let same_types : after.types.now ≡ c.types-1.given.0 = search rules in
-    subst (λ o. AreRight tree (g.O.Oracle.tells o) c.held-1.given.0 c.types-1.given.0.variables) same
-    (subst (λ h. AreRight tree (g.O.Oracle.tells after.oracle.inner.now) h c.types-1.given.0.variables) same_held
-    (subst (λ types. AreRight tree (g.O.Oracle.tells after.oracle.inner.now) after.oracle.held.now types.variables) same_types (record {
+    subst (λ o. AreRight tree (g.O.Oracle.tells o) back.new.held back.new.types.variables) same
+    (subst (λ h. AreRight tree (g.O.Oracle.tells after.oracle.inner.now) h back.new.types.variables) (sym back.ensures.held)
+    (subst (λ types. AreRight tree (g.O.Oracle.tells after.oracle.inner.now) after.oracle.held.now types.variables) (sym back.ensures.types) (record {
       answers = subst (λ (t : Tree). Holds t (g.O.Oracle.tells after.oracle.inner.now) after.oracle.held.now) file after.oracle.holds;
       types = subst (λ (t : Tree). KeepsOver t (g.O.Oracle.tells after.oracle.inner.now) after.types.now.variables) file after.keeps;
     })))
