@@ -277,11 +277,17 @@ module _ (P : Kind) (closed : IsClosed P) where
       unfolding fold_tree fold_trees
 
       kept_tree : (t : Tree) → IsTrue (calls_only may t) → IsKept (of_tree around reply t)
-      kept_tree (tree.Node construct parts) only = kept_by construct (first_holds _ _ only) (fold_trees (by around reply) parts) (kept_trees parts (second_holds _ _ only))
+      kept_tree (tree.Node construct parts) only =
+          let stands = first_holds (may_stand may construct) (list_all (λ part. part) (fold_trees (calls_by may) parts)) only in
+          let below = second_holds (may_stand may construct) (list_all (λ part. part) (fold_trees (calls_by may) parts)) only in
+          kept_by construct stands (fold_trees (by around reply) parts) (kept_trees parts below)
 
       kept_trees : (ts : Trees) → IsTrue (list_all (λ part. part) (fold_trees (calls_by may) ts)) → Each IsKept (fold_trees (by around reply) ts)
       kept_trees NoMore only = tt
-      kept_trees (More t more) only = (kept_tree t (first_holds _ _ only), kept_trees more (second_holds _ _ only))
+      kept_trees (More t more) only =
+          let first = first_holds (fold_tree (calls_by may) t) (list_all (λ part. part) (fold_trees (calls_by may) more)) only in
+          let others = second_holds (fold_tree (calls_by may) t) (list_all (λ part. part) (fold_trees (calls_by may) more)) only in
+          (kept_tree t first, kept_trees more others)
 
     pub kept_denotes : (e : Expr) → IsTrue (calls_only may (tree_of e)) → (c : Context) (v : Variables) → P _ (denotes around reply e c v)
     kept_denotes e only c v = subst (λ (d : Denotation). P _ (d c v)) (sym (denotes_tree around reply e)) (kept_tree (tree_of e) only c v)
