@@ -17,7 +17,7 @@ use Rattle.pj_table.specs.ClassWorld.{folders_world}
 use Rattle.pj_table.specs.Telling.{tells_of}
 use Rattle.pj_workers.specs.Cold.{AreRowsOf, World}
 use Rattle.pj_workers.specs.FileMeaning.{file_meaning}
-use Rattle.pj_workers.specs.NoFunctions.{no_functions}
+use Rattle.pj_workers.specs.JavaReplies.{java_replies}
 use Rattle.pj_workers.specs.Results.{IsResultAt}
 use Rattle.pj_workers.specs.Rules.{AreRulesOf, IsRuleOf, Rule}
 use Rattle.pj_workers.specs.declared.result.FileResult.{FileResult}
@@ -42,8 +42,8 @@ abbrev pub rows_found : List (Bytes × FileResult) → List (Bytes × FileRows)
 rows_found found = map (λ (of_file : Bytes × FileResult). (of_file.0, of_file.1.rows)) found
 
 -- what came of files over an oracle are their rows in its world
-rows_over : {K : Type 0} (t : Told K) (world : World) (all : List Rule) (files : Files) (found : List (Bytes × FileResult)) → IsTrue t.is_told → AreOne t.world world → AllZip (IsResultAt t no_functions all) files found
-    → AllZip (AreRowsOf no_functions world all) files (rows_found found)
+rows_over : {K : Type 0} (t : Told K) (world : World) (all : List Rule) (files : Files) (found : List (Bytes × FileResult)) → IsTrue t.is_told → AreOne t.world world → AllZip (IsResultAt t java_replies all) files found
+    → AllZip (AreRowsOf java_replies world all) files (rows_found found)
 rows_over t world all [] [] told one h = tt
 rows_over t world all [] (x ∷ xs) told one h = absurd h
 rows_over t world all (f ∷ fs) [] told one h = absurd h
@@ -51,14 +51,14 @@ rows_over t world all (f ∷ fs) (x ∷ xs) told one h = (
   record {
     path = h.0.path;
     names = name_set x.1.names;
-    comes = held-means t.world world (file_meaning no_functions f.0 f.1 all) x.1.rows (name_set x.1.names) one (h.0.result.rows.held told);
+    comes = held-means t.world world (file_meaning java_replies f.0 f.1 all) x.1.rows (name_set x.1.names) one (h.0.result.rows.held told);
   },
   rows_over t world all fs xs told one h.1,
 )
 
 -- over a door that tells its folders they are the rows in the world of these
 pub rows_over_door : {K : Type 0} (folders : Option (List Files)) (kept : K) (asked : NameSet) (faults : ℕ) (t : Told K) (set : EffectiveRules) (files : Files) (r : Result (List (Bytes × FileResult)) AskFault)
-    → t ≡ tells_of kept folders asked faults → IfOk r (λ found. (all : List Rule) → AreRulesOf set all → AllZip (IsResultAt t no_functions all) files found)
+    → t ≡ tells_of kept folders asked faults → IfOk r (λ found. (all : List Rule) → AreRulesOf set all → AllZip (IsResultAt t java_replies all) files found)
     → IfSome folders (λ held. IfOk r (λ found. AreRows (folders_world held).answer set files (rows_found found)))
 rows_over_door None kept asked faults t set files r tells is = tt
 rows_over_door (Some held) kept asked faults t set files (Ok found) tells is =

@@ -4,14 +4,14 @@ use Rattle.std.specs.List.Sorted.{IsStrictlySortedBy}
 use Rattle.pj_outside.specs.Files.{Bytes}
 use Rattle.pj_sources.specs.Paths.{byte_order}
 use Rattle.pj_workers.specs.Laws.{ColdIsInOrder}
-use Rattle.pj_workers.specs.NoFunctions.{no_functions}
+use Rattle.pj_workers.specs.JavaReplies.{java_replies}
 use Rattle.pj_check.specs.Cold.{world_of}
 use Rattle.pj_check.specs.Laws.{ReportIsInOrder}
 
 pub report_in_order : ColdIsInOrder → ReportIsInOrder
 report_in_order cold words held classes run is =
     let of = is.reported in
-    let both = cold no_functions (world_of classes run.settings.classes) run.sources of.rules run.rules.unusable run.report of.cold in (
+    let both = cold java_replies (world_of classes run.settings.classes) run.sources of.rules run.rules.unusable run.report of.cold in (
       subst (λ (paths : List Bytes). IsStrictlySortedBy byte_order paths) (sym (both.0 ∙ is.read.within.paths_are)) is.has_rules.has_sources.listed.paths.ascending,
       both.1,
     )

@@ -18,7 +18,7 @@ use Rattle.pj_sources.specs.Reading.{AreRead}
 use Rattle.pj_sources.specs.declared.listing.Listing.{Listing}
 use Rattle.pj_workers.specs.Cold.{AreRowsOf, World}
 use Rattle.pj_workers.specs.Laws.{AreAlike, ListsAreTexts, OneCold}
-use Rattle.pj_workers.specs.NoFunctions.{no_functions}
+use Rattle.pj_workers.specs.JavaReplies.{java_replies}
 use Rattle.pj_workers.specs.Rules.{IsRuleOf, Rule}
 use Rattle.pj_check.specs.Cold.{IsColdOf, world_of}
 use Rattle.pj_check.specs.Run.{IsRun, Run}
@@ -35,7 +35,7 @@ alike marker (r ∷ rs) (x ∷ xs) [] h k = absurd k
 alike marker (r ∷ rs) (x ∷ xs) (y ∷ ys) h k = ((h.0.source ∙ sym k.0.source, h.0.spelled, k.0.spelled), alike marker rs xs ys h.1 k.1)
 
 module _ (world : World) (texts : ListsAreTexts) (xs ys : List Rule) (are : AreAlike xs ys) where
-  other_rows : (files : Files) (rows : List (Bytes × FileRows)) → AllZip (AreRowsOf no_functions world xs) files rows → AllZip (AreRowsOf no_functions world ys) files rows
+  other_rows : (files : Files) (rows : List (Bytes × FileRows)) → AllZip (AreRowsOf java_replies world xs) files rows → AllZip (AreRowsOf java_replies world ys) files rows
   other_rows [] [] h = tt
   other_rows [] (r ∷ rs) h = absurd h
   other_rows (f ∷ fs) [] h = absurd h
@@ -43,7 +43,7 @@ module _ (world : World) (texts : ListsAreTexts) (xs ys : List Rule) (are : AreA
     record {
       path = h.0.path;
       names = h.0.names;
-      comes = subst (λ (m : Asking FileRows). Means (whole world) m (Gives r.1 h.0.names)) (texts no_functions f.0 f.1 xs ys are) h.0.comes;
+      comes = subst (λ (m : Asking FileRows). Means (whole world) m (Gives r.1 h.0.names)) (texts java_replies f.0 f.1 xs ys are) h.0.comes;
     },
     other_rows fs rs h.1,
   )
@@ -54,7 +54,7 @@ one_report texts one world sources set a b x y =
     let cold = x.cold in
     let rows : map (λ (rule : Rule). rule.source.texts.row) x.rules ≡ map (λ (rule : Rule). rule.source.texts.row) y.rules =
     sym (rows_are set.marker set.rules x.rules x.are_rules) ∙ rows_are set.marker set.rules y.rules y.are_rules in
-    one no_functions world sources y.rules set.unusable a b
+    one java_replies world sources y.rules set.unusable a b
     (record {
       rules_are = cold.rules_are ∙ rows;
       files_are = other_rows world texts x.rules y.rules (alike set.marker set.rules x.rules y.rules x.are_rules y.are_rules) sources a.files cold.files_are;

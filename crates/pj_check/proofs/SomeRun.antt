@@ -21,11 +21,14 @@ use Rattle.pj_sources.specs.Reading.{AreRead, IsRefusedBehind}
 use Rattle.pj_sources.specs.declared.listing.Listing.{Listing}
 use Rattle.pj_sources.specs.declared.refused.ReadRefused.{ReadRefused}
 use Rattle.pj_sources.specs.declared.refused.ReadRefused.TheVariants as unread
-use Rattle.pj_workers.specs.Laws.{SomeCold}
-use Rattle.pj_workers.specs.NoFunctions.{no_functions}
+use Rattle.pj_workers.specs.Calls.{RuleCallsOnly, asks_nothing}
+use Rattle.pj_workers.specs.Cold.{FileSettles, SourceSettles, World}
+use Rattle.pj_workers.specs.Laws.{SettleByReplies, SettleWithoutTypes, SettledCold}
+use Rattle.pj_workers.specs.JavaReplies.{java_replies}
 use Rattle.pj_workers.specs.Rules.{IsRuleOf, Rule, source_of}
+use Rattle.pj_xexpressions.specs.declared.pmd_function.PmdFunction.{PmdFunction}
 use Rattle.pj_check.specs.Cold.{world_of}
-use Rattle.pj_check.specs.Laws.{RunOrRefusal, SomeReport}
+use Rattle.pj_check.specs.Laws.{RunOrRefusal, RunOrRefusalWithoutTypes, RunSettles, SetSettlesByReplies, SetSettlesWithoutTypes, SomeReport}
 use Rattle.pj_check.specs.Limits.{limit_of}
 use Rattle.pj_check.specs.Refused.{IsRefused, bad_rules, nothing_there, source_missing, too_many_bytes, too_many_rules, too_many_sources, usage}
 use Rattle.pj_check.specs.Run.{HasRules, HasSources, IsRun, Run}
@@ -42,11 +45,26 @@ spelled marker (rule ∷ rules) h =
       (record { source = refl; spelled = record { query = h.0.spell.query_spelled; suppression = h.0.spell.suppression_spelled } }, are),
     )
 
-pub some_report : RulesAreSound → SomeCold → SomeReport
-some_report sound cold files paths minimum marker set effective world held =
+pub some_report : RulesAreSound → SettledCold → SomeReport
+some_report sound cold files paths minimum marker set effective world held settle =
     let (all, are) = spelled set.marker set.rules (sound files paths minimum marker set effective) in
-    let (report, is) = cold no_functions (λ path file function at arguments. tt) held all set.unusable in
-    (report, record { rules = all; are_rules = are; cold = is world })
+    let (report, is) = cold java_replies world held all set.unusable (settle all are) in
+    (report, record { rules = all; are_rules = are; cold = is })
+
+sources_settle : SettleByReplies → (may : PmdFunction → Bool) (world : World) (rules : List Rule) → AllByRecursion (RuleCallsOnly may) rules → (sources : Files) → AllByRecursion (SourceSettles may java_replies world) sources
+    → AllByRecursion (FileSettles java_replies world rules) sources
+sources_settle by_replies may world rules only [] settle = tt
+sources_settle by_replies may world rules only (source ∷ sources) settle = (by_replies java_replies may world source.0 source.1 rules only settle.0, sources_settle by_replies may world rules only sources settle.1)
+
+pub set_settles : SettleByReplies → SetSettlesByReplies
+set_settles by_replies may world sources set only settle rules are = sources_settle by_replies may world rules (only rules are) sources settle
+
+without_types : SettleWithoutTypes → (world : World) (rules : List Rule) → AllByRecursion (RuleCallsOnly asks_nothing) rules → (sources : Files) → AllByRecursion (FileSettles java_replies world rules) sources
+without_types settle world rules only [] = tt
+without_types settle world rules only (source ∷ sources) = (settle world source.0 source.1 rules only, without_types settle world rules only sources)
+
+pub set_settles_without_types : SettleWithoutTypes → SetSettlesWithoutTypes
+set_settles_without_types settle world sources set only rules are = without_types settle world rules (only rules are) sources
 
 -- ---- a run, or why there is none
 
@@ -65,7 +83,7 @@ has_cause files before path refused (IsRefusedBehind.missing at) = tt
 has_cause files before path refused (IsRefusedBehind.too_long bytes at more) = tt
 has_cause files before path refused (IsRefusedBehind.too_much bytes at fits more) = tt
 
-module _ (listings : SomeListing) (readings : SomeOutcome) (reports : SomeReport) (loads : RulesOrFirstFault) (words : List Bytes) (held : Files) (classes : ClassFolders) where
+module _ (listings : SomeListing) (readings : SomeOutcome) (reports : SomeReport) (loads : RulesOrFirstFault) (words : List Bytes) (held : Files) (classes : ClassFolders) (settles : RunSettles words held classes) where
   module _ (settings : Settings) (listing : Listing) (rules : EffectiveRules) (has : HasRules words held settings listing rules) where
     unreadable : (refused : ReadRefused) → sources.IsRefused held listing.paths refused → HasCause refused → Ends words held classes
     unreadable (unread.Missing path) is cause = inr (outcome.Missing path, source_missing settings listing rules has is)
@@ -75,7 +93,7 @@ module _ (listings : SomeListing) (readings : SomeOutcome) (reports : SomeReport
 
     made : (read : Files) → AreRead held listing.paths read → Ends words held classes
     made read are =
-        let (report, is) = reports held settings.rulesets settings.minimum settings.marker rules has.loaded (world_of classes settings.classes) read in
+        let (report, is) = reports held settings.rulesets settings.minimum settings.marker rules has.loaded (world_of classes settings.classes) read (settles settings listing rules read has are) in
         inl (record { settings = settings; listing = listing; rules = rules; sources = read; report = report }, record { has_rules = has; read = are; reported = is })
 
     of_rules : Ends words held classes
@@ -120,4 +138,7 @@ module _ (listings : SomeListing) (readings : SomeOutcome) (reports : SomeReport
   of_words (Ok settings) is = of_items settings is (first_missing held settings.dirs) refl
 
 pub run_or_refusal : SomeListing → SomeOutcome → SomeReport → RulesOrFirstFault → RunOrRefusal
-run_or_refusal listings readings reports loads words held classes = of_words listings readings reports loads words held classes (job words) refl
+run_or_refusal listings readings reports loads words held classes settles = of_words listings readings reports loads words held classes settles (job words) refl
+
+pub run_or_refusal_without_types : SetSettlesWithoutTypes → RunOrRefusal → RunOrRefusalWithoutTypes
+run_or_refusal_without_types settle ends words held classes only = ends words held classes (λ settings listing rules sources has read. settle (world_of classes settings.classes) sources rules (only settings listing rules has))

@@ -1,5 +1,5 @@
 -- What follows from the definitions.
-use Rattle.std.specs.Prelude.{◌≡◌, ◌⊎◌, ℕ, List, map}
+use Rattle.std.specs.Prelude.{◌≡◌, ◌⊎◌, ℕ, Bool, List, map}
 use Rattle.std.specs.List.{AllByRecursion}
 use Rattle.std.specs.List.Sorted.{IsStrictlySortedBy}
 use Rattle.pj_outside.specs.Doors.{ClassFolders}
@@ -8,12 +8,19 @@ use Rattle.pj_reports.specs.declared.report.Report.{Report}
 use Rattle.pj_reports.specs.declared.rows.FileRows.{FileRows}
 use Rattle.pj_rule_sets.specs.Rules.{EffectiveRules}
 use Rattle.pj_rules.specs.Load.{IsEffective}
+use Rattle.pj_settings.specs.declared.settings.Settings.{Settings}
 use Rattle.pj_sources.specs.Paths.{byte_order}
-use Rattle.pj_workers.specs.Cold.{World}
+use Rattle.pj_sources.specs.Reading.{AreRead}
+use Rattle.pj_sources.specs.declared.listing.Listing.{Listing}
+use Rattle.pj_workers.specs.Calls.{RuleCallsOnly, asks_nothing}
+use Rattle.pj_workers.specs.Cold.{FileSettles, SourceSettles, World}
+use Rattle.pj_workers.specs.JavaReplies.{java_replies}
 use Rattle.pj_workers.specs.Laws.{AreInOrder}
-use Rattle.pj_check.specs.Cold.{IsColdOf}
+use Rattle.pj_workers.specs.Rules.{AreRulesOf, Rule}
+use Rattle.pj_xexpressions.specs.declared.pmd_function.PmdFunction.{PmdFunction}
+use Rattle.pj_check.specs.Cold.{IsColdOf, world_of}
 use Rattle.pj_check.specs.Refused.{IsRefused}
-use Rattle.pj_check.specs.Run.{IsRun, Run}
+use Rattle.pj_check.specs.Run.{HasRules, IsRun, Run}
 use Rattle.pj_check.specs.declared.outcome.Outcome.{Outcome}
 
 -- Words and files that have a run have no cause of refusal. So a run over a tree that tells its files comes to its report, or the tree,
@@ -34,11 +41,37 @@ abbrev pub ReportIsInOrder : Type 0
 ReportIsInOrder = (words : List Bytes) (held : Files) (classes : ClassFolders) (run : Run) → IsRun words held classes run
     → IsStrictlySortedBy byte_order (map (λ (of_file : Bytes × FileRows). of_file.0) run.report.files) × AllByRecursion (λ (of_file : Bytes × FileRows). AreInOrder of_file.1) run.report.files
 
--- The rules that rulesets come to have a cold report of every list of sources, in every world of classes.
+-- What a set of rules means at each source comes to something over a world of classes.
+abbrev pub SetSettles : World → Files → EffectiveRules → Type 0
+SetSettles world sources set = (rules : List Rule) → AreRulesOf set rules → AllByRecursion (FileSettles java_replies world rules) sources
+
+-- The rules of a set call only such functions of PMD.
+abbrev pub SetCallsOnly : (PmdFunction → Bool) → EffectiveRules → Type 0
+SetCallsOnly may set = (rules : List Rule) → AreRulesOf set rules → AllByRecursion (RuleCallsOnly may) rules
+
+-- Where what these functions reply in each source comes to something, what the rules mean does.
+abbrev pub SetSettlesByReplies : Type 0
+SetSettlesByReplies = (may : PmdFunction → Bool) (world : World) (sources : Files) (set : EffectiveRules) → SetCallsOnly may set → AllByRecursion (SourceSettles may java_replies world) sources → SetSettles world sources set
+
+-- So it is with rules that do not look at types: what they mean comes to something in every world.
+abbrev pub SetSettlesWithoutTypes : Type 0
+SetSettlesWithoutTypes = (world : World) (sources : Files) (set : EffectiveRules) → SetCallsOnly asks_nothing set → SetSettles world sources set
+
+-- The rules that rulesets come to have a cold report of every list of sources, in every world of classes over which what they mean comes to something.
 abbrev pub SomeReport : Type 0
 SomeReport = (files : Files) (paths : List Bytes) (minimum : ℕ) (marker : Bytes) (set : EffectiveRules) → IsEffective files paths minimum marker set → (world : World) (sources : Files)
-    → (report : Report) × IsColdOf world sources set report
+    → SetSettles world sources set → (report : Report) × IsColdOf world sources set report
 
--- Words, files and class folders have a run or a cause of refusal.
+-- So it is with the rules and the sources to which words and files come, over the class folders of the words.
+abbrev pub RunSettles : List Bytes → Files → ClassFolders → Type 0
+RunSettles words held classes = (settings : Settings) (listing : Listing) (rules : EffectiveRules) (sources : Files) → HasRules words held settings listing rules → AreRead held listing.paths sources
+    → SetSettles (world_of classes settings.classes) sources rules
+
+-- Words, files and class folders have a run or a cause of refusal, if what the rules mean comes to something.
 abbrev pub RunOrRefusal : Type 0
-RunOrRefusal = (words : List Bytes) (held : Files) (classes : ClassFolders) → ((run : Run) × IsRun words held classes run) ⊎ ((outcome : Outcome) × IsRefused words held outcome)
+RunOrRefusal = (words : List Bytes) (held : Files) (classes : ClassFolders) → RunSettles words held classes → ((run : Run) × IsRun words held classes run) ⊎ ((outcome : Outcome) × IsRefused words held outcome)
+
+-- So they have a run or a cause of refusal, whatever the class folders, if the rules that they name do not look at types.
+abbrev pub RunOrRefusalWithoutTypes : Type 0
+RunOrRefusalWithoutTypes = (words : List Bytes) (held : Files) (classes : ClassFolders) → ((settings : Settings) (listing : Listing) (rules : EffectiveRules) → HasRules words held settings listing rules → SetCallsOnly asks_nothing rules)
+    → ((run : Run) × IsRun words held classes run) ⊎ ((outcome : Outcome) × IsRefused words held outcome)

@@ -23,7 +23,7 @@ use Rattle.pj_sources.specs.declared.refused.ListRefused.TheVariants as unlisted
 use Rattle.pj_sources.specs.declared.refused.ReadRefused.{ReadRefused}
 use Rattle.pj_sources.specs.declared.refused.ReadRefused.TheVariants as unread
 use Rattle.pj_workers.specs.Cold.{AreRowsOf, World}
-use Rattle.pj_workers.specs.NoFunctions.{no_functions}
+use Rattle.pj_workers.specs.JavaReplies.{java_replies}
 use Rattle.pj_workers.specs.Rules.{AreRulesOf, Rule}
 use Rattle.pj_workers.specs.declared.work.Work.{Work}
 use Rattle.pj_check.specs.Formats.{report_text}
@@ -164,7 +164,7 @@ module _ {A : Type 0} where
 
 -- the rows of files in a world, of the rules of the set
 abbrev pub AreRows : World → EffectiveRules → Files → List (Bytes × FileRows) → Type 0
-AreRows world set files rows = (rules : List Rule) → AreRulesOf set rules → AllZip (AreRowsOf no_functions world rules) files rows
+AreRows world set files rows = (rules : List Rule) → AreRulesOf set rules → AllZip (AreRowsOf java_replies world rules) files rows
 
 -- the report of a run as it is to be put, with the work so far
 pub record IsMade (words : List Bytes) (held : Files) (classes : ClassFolders) (before after : Work) (written : Written) : Type 0 where

@@ -1,11 +1,12 @@
 //! Laws of the definitions, each the contract of a function that does nothing.
-ghost use Rattle.pj_check.specs.Laws.{OneRefusal, OneRun, ReportIsInOrder, RunIsNotRefused, RunOrRefusal, SomeReport};
+ghost use Rattle.pj_check.specs.Laws.{OneRefusal, OneRun, ReportIsInOrder, RunIsNotRefused, RunOrRefusal, RunOrRefusalWithoutTypes, SetSettlesByReplies, SetSettlesWithoutTypes, SomeReport};
 
 use pj_rule_laws::rules_or_first_fault;
 use pj_rules::{one_first_fault, one_set, rules_are_sound, rules_or_fault};
 use pj_sources::{one_listing, one_reading};
 use pj_workers::{
-    cold_reports_are_in_order, one_cold_report, rules_are_their_texts, some_cold_report,
+    cold_reports_are_in_order, one_cold_report, rules_are_their_texts, settled_cold_report,
+    what_rules_mean_settles,
 };
 
 /// Words and files that have a run are not refused.
@@ -48,15 +49,24 @@ pub fn reports_are_in_order()
     cold_reports_are_in_order();
 }
 
-/// The rules that rulesets come to have a cold report of every list of sources.
+/// The rules that rulesets come to have a cold report of every list of sources, where what they mean comes to something.
 pub fn rules_have_reports()
     ensures { SomeReport }
 {
     rules_are_sound();
-    some_cold_report();
+    settled_cold_report();
 }
 
-/// Words, files and class folders have a run or a cause of refusal.
+/// What the rules of a set mean at sources comes to something over a world of classes, if what the functions of PMD that they call reply in these sources does: so
+/// it is over every world of rules that call none of `typeIs`, `typeIsExactly` and `hasAnnotation`.
+pub fn what_sets_mean_settles()
+    ensures replies { SetSettlesByReplies }
+    ensures without_types { SetSettlesWithoutTypes }
+{
+    what_rules_mean_settles();
+}
+
+/// Words, files and class folders have a run or a cause of refusal, if what the rules mean comes to something.
 pub fn some_run_or_refusal()
     ensures { RunOrRefusal }
 {
@@ -64,4 +74,12 @@ pub fn some_run_or_refusal()
     one_reading();
     rules_have_reports();
     rules_or_first_fault();
+}
+
+/// Words and files have a run or a cause of refusal over all class folders, if none of the rules that they name calls `typeIs`, `typeIsExactly` or `hasAnnotation`.
+pub fn some_run_or_refusal_without_types()
+    ensures { RunOrRefusalWithoutTypes }
+{
+    what_sets_mean_settles();
+    some_run_or_refusal();
 }

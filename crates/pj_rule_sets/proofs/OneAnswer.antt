@@ -27,7 +27,7 @@ use Rattle.pj_xexpressions.specs.declared.expr.Expr.{Expr}
 abbrev TokensAreOne : Type 0
 TokensAreOne = (text : List ℕ) (xs ys : List Lexed) (e f : End) → Tokens (size text) text xs e → Tokens (size text) text ys f → (xs ≡ ys) × (e ≡ f)
 
--- a text has one first call of a function of PMD, or none
+-- a text has one first call of a function that has no answer yet, or none
 one_call : TokensAreOne → (text : List ℕ) (a b : Option (List ℕ × ℕ)) → HasFirstCall text a → HasFirstCall text b → a ≡ b
 one_call one_tokens text a b x y = sym x.first ∙ ap first_call (one_tokens text x.tokens y.tokens x.end y.end x.read y.read).0 ∙ y.first
 

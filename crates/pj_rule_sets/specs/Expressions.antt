@@ -39,7 +39,7 @@ abbrev pub patterns_of : RuleTexts → Expr → Option Expr → List Pattern
 patterns_of texts query suppression = property_patterns texts ++ (patterns_in (variables_of texts) query
     ++ (patterns_in_some (variables_of texts) suppression ++ whole_of (suppressing_regex_of texts)))
 
--- The text spells the expression, with these variables, and calls no function of PMD.
+-- The text spells the expression, with these variables, and calls no function that has no answer yet.
 pub record IsSpelledBy (names : List Text) (text : Text) (expr : Expr) : Type 0 where
   pub spells : Spells names (chars text) (tree_of expr)
   pub no_calls : CallsNone (chars text)

@@ -33,7 +33,7 @@ abbrev pub IfNoPattern : PatternFault → Type 0 → Type 0
 IfNoPattern (patterns.Refused text) fact = fact
 IfNoPattern patterns.Memory fact = ⊤
 
--- The first call of a function of PMD in the text, in characters, as a fault: there is no such function, as long as there are no types. Want of
+-- The first call in the text, in characters, of a function that has no answer yet, as a fault: it is as if there were no such function. Want of
 -- memory has no cause in the text.
 abbrev pub IsCallFault : List ℕ → XSyntax → Type 0
 IsCallFault text (UnknownFunction name from) = HasFirstCall text (Some (name, from))
@@ -41,7 +41,7 @@ IsCallFault text refusal.Memory = ⊤
 IsCallFault text _ = ⊥
 
 -- The fault of a text as an expression with these variables: its first fault, or where it has none and spells an expression the first call of a
--- function of PMD in it. So a fault of the expression goes before each call, also one that stands before the fault.
+-- function in it that has no answer yet. So a fault of the expression goes before each call, also one that stands before the fault.
 pub data IsTextFault (names : List Text) (text : Text) : XSyntax → Type 0 where
   of_expression : {fault : XSyntax} → syntax.IsFault names (chars text) fault → IsTextFault names text fault
   of_call : (expr : Expr) {name : Text} {from : ℕ} → Spells names (chars text) (tree_of expr) → HasFirstCall (chars text) (Some (name, from)) →

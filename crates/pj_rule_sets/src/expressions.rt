@@ -44,7 +44,7 @@ fn names_of(alloc: Global, variables: &[(Text, Sequence<'static>)]) -> Result<Na
     Ok(names)
 }
 
-/// The expression that a text spells, where it calls no function of PMD. A fault of the expression goes before each call.
+/// The expression that a text spells, where it calls no function that has no answer yet. A fault of the expression goes before each call.
 fn parsed(
     alloc: Global,
     parser: &Parser,

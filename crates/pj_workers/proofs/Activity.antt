@@ -11,28 +11,28 @@ use Rattle.pj_reports.specs.declared.ruled.Ruled.TheVariants.{Spots}
 use Rattle.pj_rule_sets.specs.Active.{are_active}
 use Rattle.pj_rule_sets.specs.Rules.{EffectiveRule}
 use Rattle.pj_workers.specs.FileMeaning.{Bytes, rule_at}
-use Rattle.pj_workers.specs.NoFunctions.{always_false, no_functions}
+use Rattle.pj_workers.specs.JavaReplies.{java_replies}
 use Rattle.pj_workers.specs.Results.{RestsOn}
 use Rattle.pj_workers.specs.RuleMeaning.{rule_in_file}
 use Rattle.pj_workers.specs.Rules.{IsRuleOf, Rule, is_active}
 use Rattle.pj_workers.specs.Views.{if_active}
 
-module _ (file : JavaFile) (rule : Rule) where
-  pub active_asks : {K : Type 0} {t u : Told K} {r : Result Ruled AskFault} (b : Bool) → b ≡ true → Asks (rule_in_file always_false file rule) t u r → Asks (if_active b file rule) t u r
-  active_asks {t = t} {u = u} {r = r} b is asks = subst (λ a. Asks (if_active a file rule) t u r) (sym is) asks
+module _ (path : Bytes) (file : JavaFile) (rule : Rule) where
+  pub active_asks : {K : Type 0} {t u : Told K} {r : Result Ruled AskFault} (b : Bool) → b ≡ true → Asks (rule_in_file (java_replies path file) file rule) t u r → Asks (if_active b path file rule) t u r
+  active_asks {t = t} {u = u} {r = r} b is asks = subst (λ a. Asks (if_active a path file rule) t u r) (sym is) asks
 
-  pub inactive_asks : {K : Type 0} {t : Told K} {r : Result Ruled AskFault} (b : Bool) → b ≡ false → r ≡ Ok (Spots []) → Asks (if_active b file rule) t t r
-  inactive_asks {t = t} {r = r} b is nothing = subst (λ a. Asks (if_active a file rule) t t r) (sym is) (asks-return nothing)
+  pub inactive_asks : {K : Type 0} {t : Told K} {r : Result Ruled AskFault} (b : Bool) → b ≡ false → r ≡ Ok (Spots []) → Asks (if_active b path file rule) t t r
+  inactive_asks {t = t} {r = r} b is nothing = subst (λ a. Asks (if_active a path file rule) t t r) (sym is) (asks-return nothing)
 
 -- Where it is known of a path whether the rule is active, it means what it means at a file of this path.
 module _ (marker path : Bytes) (file : JavaFile) (effective : EffectiveRule) (rule : Rule) (b : Bool) (is : IsRuleOf marker effective rule) (known : b ≡ are_active effective.exclude effective.include path) where
-  activity_known : if_active b file rule ≡ rule_at no_functions path (Ok file) rule
-  activity_known = ap (λ a. if_active a file rule) (known ∙ sym (ap (λ s. is_active s path) is.source))
+  activity_known : if_active b path file rule ≡ rule_at java_replies path (Ok file) rule
+  activity_known = ap (λ a. if_active a path file rule) (known ∙ sym (ap (λ s. is_active s path) is.source))
 
-  pub known_asks : {K : Type 0} {t u : Told K} {r : Result Ruled AskFault} → Asks (if_active b file rule) t u r → Asks (rule_at no_functions path (Ok file) rule) t u r
+  pub known_asks : {K : Type 0} {t u : Told K} {r : Result Ruled AskFault} → Asks (if_active b path file rule) t u r → Asks (rule_at java_replies path (Ok file) rule) t u r
   known_asks {t = t} {u = u} {r = r} asks = subst (λ (m : Asking Ruled). Asks m t u r) activity_known asks
 
-  pub known_rests : {K : Type 0} {t : Told K} {v : Ruled} {names : List Name} → RestsOn t (if_active b file rule) v names → RestsOn t (rule_at no_functions path (Ok file) rule) v names
+  pub known_rests : {K : Type 0} {t : Told K} {v : Ruled} {names : List Name} → RestsOn t (if_active b path file rule) v names → RestsOn t (rule_at java_replies path (Ok file) rule) v names
   known_rests {t = t} {v = v} {names = names} rests = subst (λ (m : Asking Ruled). RestsOn t m v names) activity_known rests
 
 -- the member of a list that stands where another one does

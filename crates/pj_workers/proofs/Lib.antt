@@ -1,7 +1,8 @@
 pub mod FileLaws
 pub mod RuleLaws
 pub mod ColdLaws
-pub mod Plain
+pub mod Closed
+pub mod Settled
 pub mod SomeCold
 pub mod OrderLaws
 pub mod CodeLaws
@@ -13,7 +14,8 @@ pub mod TextLaws
 pub mod Variables
 pub mod Nodes
 pub mod Finding
-pub mod Unasked
+pub mod Replying
+pub mod Holding
 pub mod Evaluating
 pub mod Kept
 pub mod Resting

@@ -3,7 +3,7 @@ use Rattle.std.proofs.Common.{◌≡◌, ◌≤◌, ◌∙◌, ◌++◌, ℕ, Li
 use Rattle.std.specs.Prelude.{IsTrue}
 use Rattle.std.specs.Cmp.Lexicographic.{slice_cmp}
 use Rattle.std.specs.FinSet as set
-use Rattle.std.specs.List.{AllByRecursion, AllZip}
+use Rattle.std.specs.List.{AllZip}
 use Rattle.std.specs.List.Sorted.{IsStrictlySortedBy}
 use Rattle.std.specs.Ordering.{nat_cmp}
 use Rattle.pj_findings.specs.declared.run.RuleRun.{RuleRun}
@@ -74,8 +74,3 @@ all_before t u meaning [] [] told world h = tt
 all_before t u meaning [] (x ∷ xs) told world h = absurd h
 all_before t u meaning (r ∷ rs) [] told world h = absurd h
 all_before t u meaning (r ∷ rs) (x ∷ xs) told world h = (rests_before t u (meaning r) x.rows x.names told world h.0, all_before t u meaning rs xs told world h.1)
-
--- where no rule asked a name, there is none
-pub none_together : (runs : List RuleRun) → AllByRecursion (λ run. run.names ≡ []) runs → all_names runs ≡ []
-none_together [] h = refl
-none_together (x ∷ xs) h = λ i. h.0 i ++ none_together xs h.1 i

@@ -35,7 +35,7 @@ use Rattle.pj_rule_sets.specs.Rules.{EffectiveRule, EffectiveRules}
 use Rattle.pj_suppress.specs.Marks as marks
 use Rattle.pj_workers.specs.FileMeaning.{Bytes, file_at, file_meaning, head_of, rule_at, rule_meaning}
 use Rattle.pj_workers.specs.Marked.{is_marked}
-use Rattle.pj_workers.specs.NoFunctions.{no_functions}
+use Rattle.pj_workers.specs.JavaReplies.{java_replies}
 use Rattle.pj_workers.specs.Results.{IsResultAt, IsResultOf, RestsOn, came_to, rules_in}
 use Rattle.pj_workers.specs.Rules.{AreRulesOf, IsRuleOf, Rule}
 use Rattle.pj_workers.specs.Views.{AreRunsOf, AsksOf, IsErrorOf, IsOfOneFile, all_names, rows_by}
@@ -44,8 +44,7 @@ use Rattle.pj_workers.specs.declared.result.FileRuns.{FileRuns}
 use Rattle.pj_workers.specs.declared.view.FileView.{FileView}
 use Rattle.pj_workers.proofs.FileLaws.{one_error}
 use Rattle.pj_workers.proofs.MarkLaws.{marks_are_one}
-use Rattle.pj_workers.proofs.Resting.{all_before, none_together, rests_before, together_held}
-use Rattle.pj_workers.proofs.Unasked.{no_names}
+use Rattle.pj_workers.proofs.Resting.{all_before, rests_before, together_held}
 
 -- ---- with a tree
 
@@ -55,11 +54,12 @@ marked_rules set marker rules meant is marked are =
     subst (λ (m : Bytes). AllZip (IsRuleOf m) rules meant) (sym marked) (subst (λ (l : List EffectiveRule). AllZip (IsRuleOf set.marker) l meant) (sym is) are)
 
 -- a view of a file that was parsed
-pub is_of_one : (source : SourceText) (parsed : Parsed) (view : FileView) → view.facts.now ≡ facts_of source (file_parsed parsed) → view.tree.now ≡ parsed.tree → parsed.tree.text ≡ source.text
+pub is_of_one : (source : SourceText) (parsed : Parsed) (view : FileView) → view.facts.now ≡ facts_of source (file_parsed parsed) → view.tree.now ≡ parsed.tree → view.java.now ≡ parsed.tree → parsed.tree.text ≡ source.text
     → ((line : ℕ) → list_any (λ other. other == line) view.marked.now ≡ marks.is_marked source parsed.tokens view.marker.now line) → AllByRecursion (λ (token : Token). IsUtf8 token.text.now) parsed.tokens
     → IsNonDecreasing view.marked.now → IsOfOneFile view
-is_of_one source parsed view facts tree text marked utf8 up = record {
+is_of_one source parsed view facts tree java text marked utf8 up = record {
   tree_is = tree ∙ ap (λ (f : FileFacts). f.file.tree) (sym facts);
+  java_is = java ∙ ap (λ (f : FileFacts). f.file.tree) (sym facts);
   text_is = ap (λ (f : FileFacts). f.file.tree.text) facts ∙ text ∙ ap (λ (f : FileFacts). f.source.text) (sym facts);
   marked_are = λ line. marked line
       ∙ sym (marks_are_one (java_file source (file_parsed parsed)) parsed.tokens view.marker.now line refl utf8)
@@ -78,12 +78,12 @@ java_file_is source parsed facts is pool =
 module _ {K : Type 0} (set : EffectiveRules) (path : Bytes) (t : Told K) where
   error_asks : (fault : FileFault) (found : FileRuns) → IsErrorOf (Fault fault) found → AsksOf set path (Err fault) t t (Ok found)
   error_asks fault found is = λ meant are.
-      subst (λ (m : Asking FileRows). Asks m t t (Ok (rows_by found))) (sym (one_error no_functions path meant fault)) (asks-return (λ i. Ok (merge (is.0 i) (came_to (is.1 i)))))
+      subst (λ (m : Asking FileRows). Asks m t t (Ok (rows_by found))) (sym (one_error java_replies path meant fault)) (asks-return (λ i. Ok (merge (is.0 i) (came_to (is.1 i)))))
 
   error_runs : (fault : FileFault) (found : FileRuns) → IsErrorOf (Fault fault) found → AreRunsOf set path (Err fault) t found
   error_runs fault found is = record {
     head = is.0;
-    runs = λ meant are. subst (λ (runs : List RuleRun). AllZip (λ rule run. RestsOn t (rule_at no_functions path (Err fault) rule) run.rows run.names) [] runs) (sym is.1) tt;
+    runs = λ meant are. subst (λ (runs : List RuleRun). AllZip (λ rule run. RestsOn t (rule_at java_replies path (Err fault) rule) run.rows run.names) [] runs) (sym is.1) tt;
   }
 
   module _ (bytes : Bytes) (one : (o : Result JavaFile FileFault) → IsJavaFile bytes o → o ≡ outcome_of bytes) where
@@ -95,10 +95,6 @@ module _ {K : Type 0} (set : EffectiveRules) (path : Bytes) (t : Told K) where
     refused_runs (Fault fault) found is error = subst (λ (o : Result JavaFile FileFault). AreRunsOf set path o t found) (one (Err fault) is) (error_runs fault found error)
     refused_runs Memory found is error = absurd error
 
-pub no_run : (refused : FileRefused) (found : FileRuns) → IsErrorOf refused found → AllByRecursion (λ (run : RuleRun). run.names ≡ []) found.runs
-no_run (Fault fault) found error = subst (λ (runs : List RuleRun). AllByRecursion (λ (run : RuleRun). run.names ≡ []) runs) (sym error.1) tt
-no_run Memory found error = absurd error
-
 -- ---- the file's result
 
 none_beside : {X Y : Type 0} (R : X → Y → Type 0) (ys : List Y) → AllZip R [] ys → ys ≡ []
@@ -106,40 +102,36 @@ none_beside R [] h = refl
 none_beside R (y ∷ ys) h = absurd h
 
 file_held : {K : Type 0} (set : EffectiveRules) (path : Bytes) (o : Result JavaFile FileFault) (t : Told K) (found : FileRuns) (meant : List Rule) → AreRunsOf set path o t found → AreRulesOf set meant → IsTrue t.is_told
-    → IsHeld t.world (file_at no_functions path o meant) (rows_by found) (name_set (all_names found.runs))
+    → IsHeld t.world (file_at java_replies path o meant) (rows_by found) (name_set (all_names found.runs))
 file_held set path (Ok file) t found meant runs are told =
-    subst (λ (h : Head). IsHeld t.world (file_at no_functions path (Ok file) meant) (merge h (came_to found.runs)) (name_set (all_names found.runs))) (sym runs.head)
-    (together_held t (rule_at no_functions path (Ok file)) (λ results. merge (head_of (Ok file)) results) meant found.runs (runs.runs meant are) told)
+    subst (λ (h : Head). IsHeld t.world (file_at java_replies path (Ok file) meant) (merge h (came_to found.runs)) (name_set (all_names found.runs))) (sym runs.head)
+    (together_held t (rule_at java_replies path (Ok file)) (λ results. merge (head_of (Ok file)) results) meant found.runs (runs.runs meant are) told)
 file_held set path (Err fault) t found meant runs are told =
-    let none : found.runs ≡ [] = none_beside (λ rule run. RestsOn t (rule_at no_functions path (Err fault) rule) run.rows run.names) found.runs (runs.runs meant are) in
-    subst (λ (m : Asking FileRows). IsHeld t.world m (rows_by found) (name_set (all_names found.runs))) (sym (one_error no_functions path meant fault)) (record {
+    let none : found.runs ≡ [] = none_beside (λ rule run. RestsOn t (rule_at java_replies path (Err fault) rule) run.rows run.names) found.runs (runs.runs meant are) in
+    subst (λ (m : Asking FileRows). IsHeld t.world m (rows_by found) (name_set (all_names found.runs))) (sym (one_error java_replies path meant fault)) (record {
       value_is = λ d far. ap (λ (h : Head). merge h (came_to found.runs)) (sym runs.head);
       names_are = λ d far. ap (λ (runs : List RuleRun). name_set (all_names runs)) (sym none);
     })
 
 pub result_is : {K : Type 0} (set : EffectiveRules) (path bytes : Bytes) (t : Told K) (runs : FileRuns) (made : FileResult) (meant : List Rule) → AreRunsOf set path (outcome_of bytes) t runs → AreRulesOf set meant
-    → made.rows ≡ rows_by runs → made.runs ≡ runs.runs → IsStrictlySortedBy (slice_cmp nat_cmp) made.names → name_set made.names ≡ with_names sets.empty (all_names runs.runs) → IsResultOf t no_functions path bytes meant made
+    → made.rows ≡ rows_by runs → made.runs ≡ runs.runs → IsStrictlySortedBy (slice_cmp nat_cmp) made.names → name_set made.names ≡ with_names sets.empty (all_names runs.runs) → IsResultOf t java_replies path bytes meant made
 result_is set path bytes t runs made meant are of rows own up together = record {
   rows = record {
     ascending = up;
-    held = λ told. subst (λ (s : NameSet). IsHeld t.world (file_at no_functions path (outcome_of bytes) meant) made.rows s) (sym (with_names-empty (all_names runs.runs)) ∙ sym together)
-        (subst (λ (r : FileRows). IsHeld t.world (file_at no_functions path (outcome_of bytes) meant) r (name_set (all_names runs.runs))) (sym rows) (file_held set path (outcome_of bytes) t runs meant are of told));
+    held = λ told. subst (λ (s : NameSet). IsHeld t.world (file_at java_replies path (outcome_of bytes) meant) made.rows s) (sym (with_names-empty (all_names runs.runs)) ∙ sym together)
+        (subst (λ (r : FileRows). IsHeld t.world (file_at java_replies path (outcome_of bytes) meant) r (name_set (all_names runs.runs))) (sym rows) (file_held set path (outcome_of bytes) t runs meant are of told));
   };
-  runs = subst (λ (rs : List RuleRun). AllZip (λ rule run. RestsOn t (rule_at no_functions path (outcome_of bytes) rule) run.rows run.names) (rules_in (outcome_of bytes) meant) rs) (sym own) (are.runs meant of);
+  runs = subst (λ (rs : List RuleRun). AllZip (λ rule run. RestsOn t (rule_at java_replies path (outcome_of bytes) rule) run.rows run.names) (rules_in (outcome_of bytes) meant) rs) (sym own) (are.runs meant of);
   merged = rows ∙ (λ i. merge (are.head i) (came_to (sym own i)));
 }
 
--- no names, where no rule asks any
-pub no_names_together : (names : List Name) (runs : List RuleRun) → name_set names ≡ with_names sets.empty (all_names runs) → AllByRecursion (λ (run : RuleRun). run.names ≡ []) runs → names ≡ []
-no_names_together names runs together none = no_names names (together ∙ ap (λ (l : List Name). with_names sets.empty l) (none_together runs none) ∙ with_names-empty [])
-
 -- what an oracle tells later of a file, it told before
-pub result_before : {K : Type 0} (t u : Told K) (meant : List Rule) (file : Bytes × Bytes) (found : Bytes × FileResult) → u.is_told ≡ t.is_told → u.world ≡ t.world → IsResultAt u no_functions meant file found → IsResultAt t no_functions meant file found
+pub result_before : {K : Type 0} (t u : Told K) (meant : List Rule) (file : Bytes × Bytes) (found : Bytes × FileResult) → u.is_told ≡ t.is_told → u.world ≡ t.world → IsResultAt u java_replies meant file found → IsResultAt t java_replies meant file found
 result_before t u meant file found told world at = record {
   path = at.path;
   result = record {
-    rows = rests_before t u (file_meaning no_functions file.0 file.1 meant) found.1.rows found.1.names told world at.result.rows;
-    runs = all_before t u (rule_meaning no_functions file.0 file.1) (rules_in (outcome_of file.1) meant) found.1.runs told world at.result.runs;
+    rows = rests_before t u (file_meaning java_replies file.0 file.1 meant) found.1.rows found.1.names told world at.result.rows;
+    runs = all_before t u (rule_meaning java_replies file.0 file.1) (rules_in (outcome_of file.1) meant) found.1.runs told world at.result.runs;
     merged = at.result.merged;
   };
 }

@@ -1,7 +1,7 @@
 -- Meanings one after the other, as a loop works them out.
 use Rattle.std.proofs.Common.{◌≡◌, ◌≤◌, ◌<◌, ◌+◌, ◌∙◌, ◌++◌, ℕ, zero, suc, List, [], ◌∷◌, Result, Ok, Err, add-one, ap, arith, drop, get_or, length, refl, subst, sym, take}
 use Rattle.std.proofs.Math.Seq.{drop-nil}
-use Rattle.std.specs.List.{AllByRecursion, AllZip}
+use Rattle.std.specs.List.{AllZip}
 use Rattle.pj_names.specs.Asking.{Asking, bind, each}
 use Rattle.pj_names.specs.Told.{Asks, Told}
 use Rattle.pj_names.specs.declared.oracle.AskFault.{AskFault}
@@ -10,10 +10,6 @@ use Rattle.pj_names.proofs.AskingLaws.{ComesTo, asks-refused, asks-return, asks-
 use Rattle.pj_names.proofs.MeaningLaws.{each-gather, gather}
 
 -- ---- lists
-
-pub all_last : {X : Type 0} (P : X → Type 0) (xs : List X) (x : X) → AllByRecursion P xs → P x → AllByRecursion P (xs ++ x ∷ [])
-all_last P [] x h k = (k, tt)
-all_last P (y ∷ ys) x h k = (h.0, all_last P ys x h.1 k)
 
 pub zip_last : {X Y : Type 0} (R : X → Y → Type 0) (xs : List X) (ys : List Y) (x : X) (y : Y) → AllZip R xs ys → R x y → AllZip R (xs ++ x ∷ []) (ys ++ y ∷ [])
 zip_last R [] [] x y h k = (k, tt)

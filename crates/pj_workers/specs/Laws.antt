@@ -24,14 +24,17 @@ use Rattle.pj_reports.specs.declared.ruled.Ruled.{Ruled}
 use Rattle.pj_reports.specs.declared.ruled.Ruled.TheVariants.{Spots, Message}
 use Rattle.pj_tree.specs.declared.node.Node.{Node}
 use Rattle.pj_xaxes.specs.Order.{has_item}
+use Rattle.pj_xexpressions.specs.declared.pmd_function.PmdFunction.{PmdFunction}
 use Rattle.pj_workers.specs.Plain.{RepliesPlain}
 use Rattle.pj_xvalue.specs.Items.{ItemValue, Element}
 use Rattle.pj_xvalue.specs.declared.fault.XCode.{XCode}
 use Rattle.pj_names.specs.declared.rule_row.ConfigError.{ConfigError}
-use Rattle.pj_workers.specs.Cold.{IsCold, World}
+use Rattle.pj_workers.specs.Calls.{RuleCallsOnly, asks_nothing}
+use Rattle.pj_workers.specs.Cold.{FileSettles, IsCold, SourceSettles, World}
 use Rattle.pj_workers.specs.Faults.{fault_message}
 use Rattle.pj_workers.specs.FileFacts.{place_of}
 use Rattle.pj_workers.specs.FileMeaning.{Bytes, Replies, file_meaning, nothing, rule_meaning}
+use Rattle.pj_workers.specs.JavaReplies.{java_replies}
 use Rattle.pj_workers.specs.Marked.{is_marked}
 use Rattle.pj_workers.specs.RuleFacts.{IsFirstCode, IsUncovered, items_in, reason_in}
 use Rattle.pj_workers.specs.RuleMeaning.{Reply, rule_in_file}
@@ -55,10 +58,29 @@ abbrev pub OneCold : Type 0
 OneCold = (replies : Replies) (world : World) (files : Files) (rules : List Rule) (unusable : List ConfigError) (r s : Report)
     → IsCold replies world files rules unusable r → IsCold replies world files rules unusable s → r ≡ s
 
--- Where the functions of PMD reply without asking for a class, rules have a cold report of files, and it is the same over every world.
+-- Where the functions of PMD that rules call reply without asking for a class, the rules have a cold report of files, and it is the same over every world.
 abbrev pub SomeCold : Type 0
-SomeCold = (replies : Replies) → ((path : Bytes) (file : JavaFile) → RepliesPlain (replies path file)) → (files : Files) (rules : List Rule) (unusable : List ConfigError)
+SomeCold = (replies : Replies) (may : PmdFunction → Bool) → ((path : Bytes) (file : JavaFile) → RepliesPlain may (replies path file))
+    → (files : Files) (rules : List Rule) (unusable : List ConfigError) → AllByRecursion (RuleCallsOnly may) rules
     → (report : Report) × ((world : World) → IsCold replies world files rules unusable report)
+
+-- Where what rules mean at each file comes to something over a world, they have a cold report of the files over it.
+abbrev pub SettledCold : Type 0
+SettledCold = (replies : Replies) (world : World) (files : Files) (rules : List Rule) (unusable : List ConfigError) → AllByRecursion (FileSettles replies world rules) files
+    → (report : Report) × IsCold replies world files rules unusable report
+
+-- What rules mean at a file comes to something over a world, if what the functions of PMD that they call reply there does.
+abbrev pub SettleByReplies : Type 0
+SettleByReplies = (replies : Replies) (may : PmdFunction → Bool) (world : World) (path bytes : Bytes) (rules : List Rule) → AllByRecursion (RuleCallsOnly may) rules
+    → SourceSettles may replies world (path, bytes) → FileSettles replies world rules (path, bytes)
+
+-- All functions of PMD but three ask for no class in a Java file.
+abbrev pub OnlyTypesAsk : Type 0
+OnlyTypesAsk = (path : Bytes) (file : JavaFile) → RepliesPlain asks_nothing (java_replies path file)
+
+-- So rules that call none of these three come to something at every file, over every world.
+abbrev pub SettleWithoutTypes : Type 0
+SettleWithoutTypes = (world : World) (path bytes : Bytes) (rules : List Rule) → AllByRecursion (RuleCallsOnly asks_nothing) rules → FileSettles java_replies world rules (path, bytes)
 
 -- A finding stands where its node does.
 abbrev pub StandsAtNode : JavaFile → Spot → Type 0

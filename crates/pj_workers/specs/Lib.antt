@@ -6,7 +6,8 @@ pub mod Reasons
 pub mod RuleMeaning
 pub mod Faults
 pub mod FileMeaning
-pub mod NoFunctions
+pub mod JavaReplies
+pub mod Calls
 pub mod Results
 pub mod Cold
 pub mod RuleFacts

@@ -1,5 +1,5 @@
 -- Meanings that ask for nothing.
-use Rattle.std.specs.Prelude.{⊤, List, Option}
+use Rattle.std.specs.Prelude.{⊤, Bool, IsTrue, List, Option}
 use Rattle.pj_names.specs.Asking.{Asking, Return, Ask, Unbounded}
 use Rattle.pj_tree.specs.declared.node.Node.{Node}
 use Rattle.pj_xexpressions.specs.declared.pmd_function.PmdFunction.{PmdFunction}
@@ -12,6 +12,6 @@ IsPlain (Return value) = ⊤
 IsPlain (Ask name rest) = ⊥
 IsPlain (Unbounded recursion) = ⊥
 
--- The functions of PMD reply so, whatever they are called with.
-abbrev pub RepliesPlain : Reply → Type 0
-RepliesPlain reply = (function : PmdFunction) (at : Option Node) (arguments : List (List ItemValue)) → IsPlain (reply function at arguments)
+-- Such functions of PMD reply so, whatever they are called with.
+abbrev pub RepliesPlain : (PmdFunction → Bool) → Reply → Type 0
+RepliesPlain may reply = (function : PmdFunction) → IsTrue (may function) → (at : Option Node) (arguments : List (List ItemValue)) → IsPlain (reply function at arguments)

@@ -3,6 +3,10 @@ use Rattle.std.specs.Prelude.{◌≡◌, ◌==◌, ℕ, Bool, List, [], Some, Re
 use Rattle.std.specs.List.{AllZip, list_any}
 use Rattle.std.specs.List.Sorted.{IsNonDecreasing}
 use Rattle.std.specs.Option.{option_map}
+use Rattle.pj_exprtypes.specs.Table.{KeepsOver}
+use Rattle.pj_exprtypes.specs.declared.held.HeldVariable.{HeldVariable}
+use Rattle.pj_file_oracle.specs.Held.{Holds}
+use Rattle.pj_file_oracle.specs.declared.held.Held.{Held}
 use Rattle.pj_findings.specs.Merged.{merge}
 use Rattle.pj_findings.specs.declared.run.RuleRun.{RuleRun}
 use Rattle.pj_names.specs.Asking.{Asking}
@@ -21,12 +25,13 @@ use Rattle.pj_rule_sets.specs.Expressions.{HasPatterns, variables_of}
 use Rattle.pj_rule_sets.specs.declared.expressions.RuleExpressions.{RuleExpressions}
 use Rattle.pj_rule_sets.specs.declared.spelled.Spelled.{Spelled}
 use Rattle.pj_rule_sets.specs.Rules.{EffectiveRule, EffectiveRules, texts_of}
+use Rattle.pj_tree.specs.Tree.{Tree}
 use Rattle.pj_tree.specs.declared.node.Node.{Node}
 use Rattle.pj_xsteps.specs.Means.{Means, give, ◌>>=◌}
 use Rattle.pj_workers.specs.Faults.{fault_message}
 use Rattle.pj_workers.specs.FileMeaning.{Bytes, file_at, head_of, nothing, rule_at}
 use Rattle.pj_workers.specs.Marked.{is_marked}
-use Rattle.pj_workers.specs.NoFunctions.{always_false, no_functions}
+use Rattle.pj_workers.specs.JavaReplies.{java_replies}
 use Rattle.pj_workers.specs.Results.{RestsOn, came_to, rules_in}
 use Rattle.pj_workers.specs.RuleMeaning.{Reply, extent_at, found_of, reason_at, rule_in_file}
 use Rattle.pj_workers.specs.Rules.{AreRulesOf, Rule, source_of}
@@ -43,6 +48,7 @@ file_seen view = java_file view.facts.now.source view.facts.now.file
 -- All that the view has is of one file, and its lines are those that comments with the marker mark.
 pub record IsOfOneFile (view : FileView) : Type 0 where
   pub tree_is : view.tree.now ≡ view.facts.now.file.tree
+  pub java_is : view.java.now ≡ view.facts.now.file.tree
   pub text_is : view.facts.now.file.tree.text ≡ view.facts.now.source.text
   pub marked_are : (line : ℕ) → list_any (λ other. other == line) view.marked.now ≡ is_marked (file_seen view) view.marker.now line
   pub ascending : IsNonDecreasing view.marked.now
@@ -61,9 +67,14 @@ pub record HasItsPatterns (effective : EffectiveRule) (kept : RuleExpressions) :
   pub query : HasPatterns (variables_of (texts_of effective)) kept.query
   pub suppression : (spelled : Spelled) → kept.suppression ≡ Some spelled → HasPatterns (variables_of (texts_of effective)) spelled
 
--- what a rule means in a file for whose path it is active, or is not
-abbrev pub if_active : Bool → JavaFile → Rule → Asking Ruled
-if_active active file rule = if active then rule_in_file always_false file rule else nothing
+-- what a rule means in a file of a path for which it is active, or is not
+abbrev pub if_active : Bool → Bytes → JavaFile → Rule → Asking Ruled
+if_active active path file rule = if active then rule_in_file (java_replies path file) file rule else nothing
+
+-- What is held of a file is right over an oracle: what its classes answered, and the types of its variables.
+pub record AreRight {K : Type 0} (tree : Tree) (told : Told K) (held : Held) (types : List HeldVariable) : Type 0 where
+  pub answers : Holds tree told held
+  pub types : KeepsOver tree told types
 
 -- what a rule finds at one node
 abbrev pub found_there : Reply → JavaFile → Rule → Node → Means Spot
@@ -77,12 +88,12 @@ rows_by found = merge found.head (came_to found.runs)
 
 -- It asks what the rules of the set mean together at a file with this outcome.
 abbrev pub AsksOf : {K : Type 0} → EffectiveRules → Bytes → Result JavaFile FileFault → Told K → Told K → Result FileRuns AskFault → Type 0
-AsksOf set path outcome old new result = (rules : List Rule) → AreRulesOf set rules → Asks (file_at no_functions path outcome rules) old new (seen rows_by result)
+AsksOf set path outcome old new result = (rules : List Rule) → AreRulesOf set rules → Asks (file_at java_replies path outcome rules) old new (seen rows_by result)
 
 -- What is said of a file with this outcome, and what the rules of the set come to in it.
 pub record AreRunsOf {K : Type 0} (set : EffectiveRules) (path : Bytes) (outcome : Result JavaFile FileFault) (told : Told K) (found : FileRuns) : Type 0 where
   pub head : found.head ≡ head_of outcome
-  pub runs : (rules : List Rule) → AreRulesOf set rules → AllZip (λ rule run. RestsOn told (rule_at no_functions path outcome rule) run.rows run.names) (rules_in outcome rules) found.runs
+  pub runs : (rules : List Rule) → AreRulesOf set rules → AllZip (λ rule run. RestsOn told (rule_at java_replies path outcome rule) run.rows run.names) (rules_in outcome rules) found.runs
 
 -- Of a file that was refused is said why, and no rule comes to anything.
 abbrev pub IsErrorOf : FileRefused → FileRuns → Type 0

@@ -1,12 +1,12 @@
 //! The analysis of a file, and of files one after the other.
 ghost use Rattle.std.specs.Prelude.{◌≡◌, ◌++◌, ◌∷◌, [], List, IfOk, OnOk, OnErr, map};
-ghost use Rattle.std.specs.List.{AllByRecursion, AllZip};
+ghost use Rattle.std.specs.List.{AllZip};
 ghost use Rattle.pj_grammar.specs.Java17.{java_17_forms};
 ghost use Rattle.pj_names.specs.Asking.{each};
 ghost use Rattle.pj_names.specs.Told.{Asks, seen};
 ghost use Rattle.pj_peg_grammar.specs.Form.{forms_of};
 ghost use Rattle.pj_workers.specs.FileMeaning.{file_meaning};
-ghost use Rattle.pj_workers.specs.NoFunctions.{no_functions};
+ghost use Rattle.pj_workers.specs.JavaReplies.{java_replies};
 ghost use Rattle.pj_workers.specs.Results.{IsResultAt, IsResultOf};
 ghost use Rattle.pj_workers.specs.Rules.{AreRulesOf, Rule as MeantRule};
 
@@ -32,9 +32,8 @@ fn analyse_by<O: Oracle>(
 ) -> Result<FileResult, AskFault>
     requires grammar { forms_of grammar.now ≡ java_17_forms }
     ensures asks { (meant : List MeantRule) → AreRulesOf rules.now meant
-        → Asks (file_meaning no_functions path.now bytes.now meant) (O.tells oracle.old) (O.tells oracle.new) (seen (λ found. found.rows) result) }
-    ensures found { IfOk result (λ found. (meant : List MeantRule) → AreRulesOf rules.now meant → IsResultOf (O.tells oracle.old) no_functions path.now bytes.now meant found) }
-    ensures names { IfOk result (λ found. found.names ≡ []) }
+        → Asks (file_meaning java_replies path.now bytes.now meant) (O.tells oracle.old) (O.tells oracle.new) (seen (λ found. found.rows) result) }
+    ensures found { IfOk result (λ found. (meant : List MeantRule) → AreRulesOf rules.now meant → IsResultOf (O.tells oracle.old) java_replies path.now bytes.now meant found) }
 {
     let runs = bytes_runs(alloc, grammar, path, bytes, rules, oracle)?;
     Ok(result_of(alloc, runs)?)
@@ -43,7 +42,8 @@ fn analyse_by<O: Oracle>(
 /// What the rules of a set find in a file of this path and these bytes. The path is put behind those that were analysed. Memory is wanted
 /// for a file of more than 4,294,967,294 bytes, too. After a refusal `work` is as it was.
 ///
-/// The functions of PMD are not there yet, so that no class is asked for.
+/// The classes of the file answer by their declarations. Each of them, and each type of a variable, is found once for all rules, and yet each rule asks the names of
+/// its own.
 pub fn analyse_file<O: Oracle>(
     alloc: Global,
     oracle: &mut O,
@@ -54,10 +54,9 @@ pub fn analyse_file<O: Oracle>(
 ) -> Result<FileResult, AskFault>
     // The rows are the meaning of the file, by the rules that the texts of the set spell, and just its names are asked.
     ensures asks { (meant : List MeantRule) → AreRulesOf rules.now meant
-        → Asks (file_meaning no_functions path.now bytes.now meant) (O.tells oracle.old) (O.tells oracle.new) (seen (λ found. found.rows) result) }
+        → Asks (file_meaning java_replies path.now bytes.now meant) (O.tells oracle.old) (O.tells oracle.new) (seen (λ found. found.rows) result) }
     // The names of the file and of each rule are those on which its rows and the rule's rest.
-    ensures found { IfOk result (λ found. (meant : List MeantRule) → AreRulesOf rules.now meant → IsResultOf (O.tells oracle.old) no_functions path.now bytes.now meant found) }
-    ensures names { IfOk result (λ found. found.names ≡ []) }
+    ensures found { IfOk result (λ found. (meant : List MeantRule) → AreRulesOf rules.now meant → IsResultOf (O.tells oracle.old) java_replies path.now bytes.now meant found) }
     ensures analysed { OnOk result (work.new.analysed ≡ work.old.analysed ++ path.now ∷ []) }
     ensures reused { work.new.reused ≡ work.old.reused }
     ensures skipped { work.new.skipped ≡ work.old.skipped }
@@ -79,9 +78,8 @@ fn analyse_next<O: Oracle>(
 ) -> Result<(Text, FileResult), AskFault>
     requires grammar { forms_of grammar.now ≡ java_17_forms }
     ensures asks { (meant : List MeantRule) → AreRulesOf rules.now meant
-        → Asks (file_meaning no_functions file.now.0 file.now.1 meant) (O.tells oracle.old) (O.tells oracle.new) (seen (λ found. found.1.rows) result) }
-    ensures found { IfOk result (λ found. (meant : List MeantRule) → AreRulesOf rules.now meant → IsResultAt (O.tells oracle.old) no_functions meant file.now found) }
-    ensures names { IfOk result (λ found. found.1.names ≡ []) }
+        → Asks (file_meaning java_replies file.now.0 file.now.1 meant) (O.tells oracle.old) (O.tells oracle.new) (seen (λ found. found.1.rows) result) }
+    ensures found { IfOk result (λ found. (meant : List MeantRule) → AreRulesOf rules.now meant → IsResultAt (O.tells oracle.old) java_replies meant file.now found) }
 {
     let found = analyse_by(alloc, grammar, oracle, &file.0, &file.1, rules)?;
     let path = file.0.copied()?;
@@ -96,9 +94,8 @@ fn analyse_each<O: Oracle>(
     rules: &RuleSet,
 ) -> Result<PathResults, AskFault>
     ensures asks { (meant : List MeantRule) → AreRulesOf rules.now meant
-        → Asks (each (λ file. file_meaning no_functions file.0 file.1 meant) files.now) (O.tells oracle.old) (O.tells oracle.new) (seen (λ found. map (λ of_file. of_file.1.rows) found) result) }
-    ensures found { IfOk result (λ found. (meant : List MeantRule) → AreRulesOf rules.now meant → AllZip (IsResultAt (O.tells oracle.old) no_functions meant) files.now found) }
-    ensures names { IfOk result (λ found. AllByRecursion (λ of_file. of_file.1.names ≡ []) found) }
+        → Asks (each (λ file. file_meaning java_replies file.0 file.1 meant) files.now) (O.tells oracle.old) (O.tells oracle.new) (seen (λ found. map (λ of_file. of_file.1.rows) found) result) }
+    ensures found { IfOk result (λ found. (meant : List MeantRule) → AreRulesOf rules.now meant → AllZip (IsResultAt (O.tells oracle.old) java_replies meant) files.now found) }
 {
     let grammar = java_17(alloc)?;
     let mut found = PathResults::new(alloc);
@@ -130,9 +127,8 @@ pub fn analyse_files<O: Oracle>(
     work: &mut Work,
 ) -> Result<PathResults, AskFault>
     ensures asks { (meant : List MeantRule) → AreRulesOf rules.now meant
-        → Asks (each (λ file. file_meaning no_functions file.0 file.1 meant) files.now) (O.tells oracle.old) (O.tells oracle.new) (seen (λ found. map (λ of_file. of_file.1.rows) found) result) }
-    ensures found { IfOk result (λ found. (meant : List MeantRule) → AreRulesOf rules.now meant → AllZip (IsResultAt (O.tells oracle.old) no_functions meant) files.now found) }
-    ensures names { IfOk result (λ found. AllByRecursion (λ of_file. of_file.1.names ≡ []) found) }
+        → Asks (each (λ file. file_meaning java_replies file.0 file.1 meant) files.now) (O.tells oracle.old) (O.tells oracle.new) (seen (λ found. map (λ of_file. of_file.1.rows) found) result) }
+    ensures found { IfOk result (λ found. (meant : List MeantRule) → AreRulesOf rules.now meant → AllZip (IsResultAt (O.tells oracle.old) java_replies meant) files.now found) }
     ensures analysed { OnOk result (work.new.analysed ≡ work.old.analysed ++ map (λ file. file.0) files.now) }
     ensures reused { work.new.reused ≡ work.old.reused }
     ensures skipped { work.new.skipped ≡ work.old.skipped }

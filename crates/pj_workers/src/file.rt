@@ -1,5 +1,5 @@
 //! What the rules of a set find in a file.
-ghost use Rattle.std.specs.Prelude.{◌≡◌, [], Ok, IfOk};
+ghost use Rattle.std.specs.Prelude.{◌≡◌, Ok, IfOk};
 ghost use Rattle.std.specs.List.{AllByRecursion};
 ghost use Rattle.std.specs.Str.{IsUtf8};
 ghost use Rattle.pj_grammar.specs.Java17.{java_17_forms};
@@ -17,9 +17,11 @@ use crate::runs::rule_runs;
 use crate::view::FileView;
 use pj_attrs::{Facts, tokens_are_in_order};
 use pj_base::{Bytes, NoMemory, Text};
+use pj_declared::Declarations;
 use pj_findings::RuleRuns;
 use pj_lex::Token;
 use pj_names::{AskFault, Oracle};
+use pj_outer_names::File;
 use pj_parse::{FileFault, FileRefused, Parsed, file_has_one_outcome, parse_file_by, read_file};
 use pj_peg::WellFormed;
 use pj_reports::Head;
@@ -39,7 +41,6 @@ fn package_head(alloc: Global, name: &str) -> Result<Head, NoMemory>
 /// What is said of a file of which this is seen, and what the rules come to in it.
 fn view_runs<O: Oracle>(
     file: &FileView<'_>,
-    path: &Text,
     rules: &RuleSet,
     name: &str,
     oracle: &mut O,
@@ -47,13 +48,11 @@ fn view_runs<O: Oracle>(
     requires file { IsOfOneFile file.now }
     requires marker { file.now.marker.now ≡ rules.now.marker }
     requires name { name.now ≡ package_name (file_seen file.now).tree }
-    ensures asks { AsksOf rules.now path.now (Ok (file_seen file.now)) (O.tells oracle.old) (O.tells oracle.new) result }
-    ensures runs { IfOk result (AreRunsOf rules.now path.now (Ok (file_seen file.now)) (O.tells oracle.old)) }
-    ensures idle { oracle.new ≡ oracle.old }
-    ensures none_asked { IfOk result (λ found. AllByRecursion (λ run. run.names ≡ []) found.runs) }
+    ensures asks { AsksOf rules.now file.now.path.now (Ok (file_seen file.now)) (O.tells oracle.old) (O.tells oracle.new) result }
+    ensures runs { IfOk result (AreRunsOf rules.now file.now.path.now (Ok (file_seen file.now)) (O.tells oracle.old)) }
 {
     let head = package_head(file.alloc, name)?;
-    let runs = rule_runs(file, rules.rules().as_slice(), path, oracle)?;
+    let runs = rule_runs(file, rules.rules().as_slice(), oracle)?;
     Ok(FileRuns { head, runs })
 }
 
@@ -88,23 +87,25 @@ fn parsed_runs<O: Oracle>(
     requires pool_texts { IsPoolOf parsed.now.tree parsed.now.pool }
     ensures asks { AsksOf rules.now path.now (Ok (java_file_seen source.now parsed.now)) (O.tells oracle.old) (O.tells oracle.new) result }
     ensures runs { IfOk result (AreRunsOf rules.now path.now (Ok (java_file_seen source.now parsed.now)) (O.tells oracle.old)) }
-    ensures idle { oracle.new ≡ oracle.old }
-    ensures none_asked { IfOk result (λ found. AllByRecursion (λ run. run.names ≡ []) found.runs) }
 {
     tokens_are_in_order(source.text(), parsed);
     tokens_are_texts(parsed.tokens.as_slice());
     let symbols = Symbols::of(alloc, &parsed.tree)?;
+    let declarations = Declarations::of(alloc, &parsed.tree)?;
+    let java = File::new(alloc, &parsed.tree, &symbols, &declarations)?;
     let facts = Facts::new(source, parsed, &symbols);
     let marker = rules.marker();
     let marked = marks(alloc, source, &parsed.tokens, marker)?;
     let file = FileView {
         alloc,
+        path,
         tree: &parsed.tree,
+        java: &java,
         facts: &facts,
         marker,
         marked: &marked,
     };
-    view_runs(&file, path, rules, symbols.package_name(), oracle)
+    view_runs(&file, rules, symbols.package_name(), oracle)
 }
 
 /// What is said of a file with this fault: no rule comes to anything.
@@ -143,8 +144,6 @@ pub fn bytes_runs<O: Oracle>(
     requires { forms_of grammar.now ≡ java_17_forms }
     ensures asks { AsksOf rules.now path.now (outcome_of bytes.now) (O.tells oracle.old) (O.tells oracle.new) result }
     ensures runs { IfOk result (AreRunsOf rules.now path.now (outcome_of bytes.now) (O.tells oracle.old)) }
-    ensures idle { oracle.new ≡ oracle.old }
-    ensures none_asked { IfOk result (λ found. AllByRecursion (λ run. run.names ≡ []) found.runs) }
 {
     file_has_one_outcome();
     if bytes.len() > MOST_BYTES {

@@ -1,7 +1,7 @@
 //! Laws of the definitions, each the contract of a call that does nothing.
 ghost use Rattle.std.specs.Prelude.{List};
 ghost use Rattle.pj_workers.specs.Rules.{AreRulesOf, Rule};
-ghost use Rattle.pj_workers.specs.Laws.{ColdIsInOrder, ErrorsTellCodes, FilesAreInOrder, FilesAreTheirRules, FindingsAreDenoted, FindingsHaveRules, FoundAreDenoted, InactiveIsNothing, ListsAreTexts, MarksAreOne, MessagesTellCodes, NamesAreTheirRules, NoTreeIsOneError, OneCold, RuleAscends, RulesAreTexts, SomeCold, SpotsAreNodes, SpotsHaveReasons};
+ghost use Rattle.pj_workers.specs.Laws.{ColdIsInOrder, ErrorsTellCodes, FilesAreInOrder, FilesAreTheirRules, FindingsAreDenoted, FindingsHaveRules, FoundAreDenoted, InactiveIsNothing, ListsAreTexts, MarksAreOne, MessagesTellCodes, NamesAreTheirRules, NoTreeIsOneError, OneCold, OnlyTypesAsk, RuleAscends, RulesAreTexts, SettleByReplies, SettleWithoutTypes, SettledCold, SomeCold, SpotsAreNodes, SpotsHaveReasons};
 
 use pj_findings::{errors_are_the_rules, findings_are_the_rules, nodes_are_the_items};
 use pj_rule_sets::RuleSet;
@@ -74,9 +74,22 @@ pub fn one_cold_report()
     ensures { OneCold }
 {}
 
-/// Rules have a cold report of files where the functions of PMD ask for no class, and it is the same over every world.
+/// Rules have a cold report of files where the functions of PMD that they call ask for no class, and it is the same over every world.
 pub fn some_cold_report()
     ensures { SomeCold }
+{}
+
+/// Rules have a cold report of files where what they mean at each of them comes to something.
+pub fn settled_cold_report()
+    ensures { SettledCold }
+{}
+
+/// What rules mean at a file comes to something over a world of classes, if what `typeIs`, `typeIsExactly` and `hasAnnotation` reply there does: all other functions
+/// of PMD ask for no class. So rules that call none of these three come to something over every world.
+pub fn what_rules_mean_settles()
+    ensures replies { SettleByReplies }
+    ensures only_types { OnlyTypesAsk }
+    ensures without_types { SettleWithoutTypes }
 {}
 
 /// What rules mean is determined by their texts, the path patterns of their rulesets and the marker: so rules with one key mean

@@ -9,7 +9,6 @@ mod fault;
 mod file;
 mod laws;
 mod names;
-mod no_functions;
 mod result;
 mod runs;
 mod view;
@@ -21,7 +20,7 @@ pub use laws::{
     cold_reports_are_in_order, files_are_their_rules, files_without_tree_have_one_error,
     findings_are_denoted, inactive_rules_mean_nothing, marked_lines_are_those_of_tokens,
     one_cold_report, rules_are_their_texts, rules_find_nodes, rules_find_what_they_denote,
-    sets_have_rules, some_cold_report,
+    sets_have_rules, settled_cold_report, some_cold_report, what_rules_mean_settles,
 };
 pub use result::{FileResult, PathResults};
 pub use work::Work;

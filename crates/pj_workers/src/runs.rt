@@ -1,45 +1,75 @@
 //! What the rules of a set come to in a file that has a tree, each with the classes on which that rests.
-ghost use Rattle.std.specs.Prelude.{◌≡◌, [], List, Ok, IfOk, map};
-ghost use Rattle.std.specs.List.{AllByRecursion, AllZip};
+ghost use Rattle.std.specs.Prelude.{◌≡◌, List, Ok, IfOk};
+ghost use Rattle.std.specs.List.{AllZip};
 ghost use Rattle.pj_names.specs.Asking.{each};
 ghost use Rattle.pj_names.specs.Noting.{Notes};
-ghost use Rattle.pj_names.specs.Told.{Asks, Told, seen};
+ghost use Rattle.pj_names.specs.Told.{Asks, seen};
 ghost use Rattle.pj_workers.specs.FileMeaning.{rule_at};
-ghost use Rattle.pj_workers.specs.NoFunctions.{always_false, no_functions};
+ghost use Rattle.pj_workers.specs.JavaReplies.{java_replies};
 ghost use Rattle.pj_workers.specs.Results.{RestsOn, came_to};
 ghost use Rattle.pj_workers.specs.RuleMeaning.{rule_in_file};
 ghost use Rattle.pj_workers.specs.Rules.{IsRuleOf, Rule as MeantRule};
-ghost use Rattle.pj_workers.specs.Views.{IsOfOneFile, file_seen, if_active};
+ghost use Rattle.pj_workers.specs.Views.{AreRight, IsOfOneFile, file_seen, if_active};
 
 use crate::analysis::rule_result;
-use crate::no_functions::NoFunctions;
 use crate::view::FileView;
-use pj_base::Text;
+use pj_exprtypes::Typed;
+use pj_file_oracle::{FileOracle, Held};
 use pj_findings::{RuleRun, RuleRuns};
+use pj_javafuncs::JavaCalls;
 use pj_names::{AskFault, ClassNameSet, Oracle, Recorder};
 use pj_reports::{Ruled, Spots};
 use pj_rule_sets::{Rule, which_are_active};
 use pj_xlaws::trees_tell_expressions;
 use pj_xparse::one_expression;
 use pj_xpatterns::trees_tell_patterns;
+use pj_xvalue::Attributes;
+use std::mem::{replace, swap};
 
-/// What an active rule comes to in a file. As long as there are no functions of PMD, the oracle is not asked.
+/// The oracle beneath that of functions that are called no more. What they hold of the file is put in the place of these tables.
+fn give_back<'a, 'f, O: Oracle, A: Attributes>(
+    calls: JavaCalls<'a, 'f, O, A>,
+    held: &mut Held,
+    types: &mut Typed,
+) -> &'a mut O
+    ensures same_oracle { result.ghost_name ≡ calls.entry.oracle.inner.ghost_name }
+    ensures oracle { result.now ≡ calls.entry.oracle.inner.now }
+    ensures held { held.new ≡ calls.entry.oracle.held.now }
+    ensures types { types.new ≡ calls.entry.types.now }
+{
+    let over = calls.oracle;
+    let last_held = over.held;
+    let last_types = calls.types;
+    swap(last_held, held);
+    swap(last_types, types);
+    over.inner
+}
+
+/// What an active rule comes to in a file, with what is held of the file.
 fn active_result<'t, O: Oracle>(
     file: &'t FileView<'t>,
     rule: &'t Rule,
-    _oracle: &mut O,
+    oracle: &mut O,
+    held: &mut Held,
+    types: &mut Typed,
 ) -> Result<Ruled, AskFault>
     requires file { IsOfOneFile file.now }
-    ensures asks { (meant : MeantRule) → IsRuleOf file.now.marker.now rule.now meant → Asks (rule_in_file always_false (file_seen file.now) meant) (O.tells _oracle.old) (O.tells _oracle.new) result }
-    ensures idle { _oracle.new ≡ _oracle.old }
+    requires right { AreRight (file_seen file.now).tree (O.tells oracle.old) held.old types.old.variables }
+    ensures asks { (meant : MeantRule) → IsRuleOf file.now.marker.now rule.now meant
+        → Asks (rule_in_file (java_replies file.now.path.now (file_seen file.now)) (file_seen file.now) meant) (O.tells oracle.old) (O.tells oracle.new) result }
+    ensures kept { (O.tells oracle.new).kept ≡ (O.tells oracle.old).kept }
+    ensures right { AreRight (file_seen file.now).tree (O.tells oracle.new) held.new types.new.variables }
 {
     one_expression();
     trees_tell_expressions();
     trees_tell_patterns();
-    let mut calls = NoFunctions {
-        nodes: file.tree.len(),
-    };
-    rule_result(file, rule, &mut calls)
+    let mut own_held = replace(held, Held::new(file.alloc));
+    let mut own_types = replace(types, Typed::new(file.alloc));
+    let over = FileOracle::new(file.alloc, file.java, oracle, &mut own_held);
+    let mut calls = JavaCalls::new(over, &mut own_types, file.facts, file.path);
+    let came_to = rule_result(file, rule, &mut calls);
+    let _inner = give_back(calls, held, types);
+    came_to
 }
 
 /// What a rule comes to in a file: nothing where it is not active.
@@ -48,13 +78,18 @@ fn result_if_active<'t, O: Oracle>(
     rule: &'t Rule,
     is_active: bool,
     oracle: &mut O,
+    held: &mut Held,
+    types: &mut Typed,
 ) -> Result<Ruled, AskFault>
     requires file { IsOfOneFile file.now }
-    ensures asks { (meant : MeantRule) → IsRuleOf file.now.marker.now rule.now meant → Asks (if_active is_active (file_seen file.now) meant) (O.tells oracle.old) (O.tells oracle.new) result }
-    ensures idle { oracle.new ≡ oracle.old }
+    requires right { AreRight (file_seen file.now).tree (O.tells oracle.old) held.old types.old.variables }
+    ensures asks { (meant : MeantRule) → IsRuleOf file.now.marker.now rule.now meant
+        → Asks (if_active is_active file.now.path.now (file_seen file.now) meant) (O.tells oracle.old) (O.tells oracle.new) result }
+    ensures kept { (O.tells oracle.new).kept ≡ (O.tells oracle.old).kept }
+    ensures right { AreRight (file_seen file.now).tree (O.tells oracle.new) held.new types.new.variables }
 {
     if is_active {
-        return active_result(file, rule, oracle);
+        return active_result(file, rule, oracle, held, types);
     }
     Ok(Ruled::Spots(Spots::new(file.alloc)))
 }
@@ -65,20 +100,23 @@ fn noted_result<'t, O: Oracle>(
     rule: &'t Rule,
     is_active: bool,
     oracle: &mut O,
+    held: &mut Held,
+    types: &mut Typed,
     noted: &mut ClassNameSet,
 ) -> Result<Ruled, AskFault>
     requires file { IsOfOneFile file.now }
-    ensures asks { (meant : MeantRule) → IsRuleOf file.now.marker.now rule.now meant → Asks (if_active is_active (file_seen file.now) meant) (O.tells oracle.old) (O.tells oracle.new) result }
+    requires right { AreRight (file_seen file.now).tree (O.tells oracle.old) held.old types.old.variables }
+    ensures asks { (meant : MeantRule) → IsRuleOf file.now.marker.now rule.now meant
+        → Asks (if_active is_active file.now.path.now (file_seen file.now) meant) (O.tells oracle.old) (O.tells oracle.new) result }
     ensures notes { (meant : MeantRule) → IsRuleOf file.now.marker.now rule.now meant
-        → Notes (if_active is_active (file_seen file.now) meant) (O.tells oracle.old).is_told (O.tells oracle.old).world noted.old noted.new result }
-    ensures idle { oracle.new ≡ oracle.old }
-    ensures none_noted { noted.new ≡ noted.old }
+        → Notes (if_active is_active file.now.path.now (file_seen file.now) meant) (O.tells oracle.old).is_told (O.tells oracle.old).world noted.old noted.new result }
+    ensures right { AreRight (file_seen file.now).tree (O.tells oracle.new) held.new types.new.variables }
 {
     let mut recorder = Recorder {
         inner: &mut *oracle,
         noted: &mut *noted,
     };
-    result_if_active(file, rule, is_active, &mut recorder)
+    result_if_active(file, rule, is_active, &mut recorder, held, types)
 }
 
 /// What a rule comes to in a file, with the names that it asks.
@@ -87,41 +125,61 @@ fn rule_run<'t, O: Oracle>(
     rule: &'t Rule,
     is_active: bool,
     oracle: &mut O,
+    held: &mut Held,
+    types: &mut Typed,
 ) -> Result<RuleRun, AskFault>
     requires file { IsOfOneFile file.now }
+    requires right { AreRight (file_seen file.now).tree (O.tells oracle.old) held.old types.old.variables }
     ensures asks { (meant : MeantRule) → IsRuleOf file.now.marker.now rule.now meant
-        → Asks (if_active is_active (file_seen file.now) meant) (O.tells oracle.old) (O.tells oracle.new) (seen (λ run. run.rows) result) }
+        → Asks (if_active is_active file.now.path.now (file_seen file.now) meant) (O.tells oracle.old) (O.tells oracle.new) (seen (λ run. run.rows) result) }
     ensures rests { IfOk result (λ run. (meant : MeantRule) → IsRuleOf file.now.marker.now rule.now meant
-        → RestsOn (O.tells oracle.old) (if_active is_active (file_seen file.now) meant) run.rows run.names) }
-    ensures idle { oracle.new ≡ oracle.old }
-    ensures none_asked { IfOk result (λ run. run.names ≡ []) }
+        → RestsOn (O.tells oracle.old) (if_active is_active file.now.path.now (file_seen file.now) meant) run.rows run.names) }
+    ensures right { AreRight (file_seen file.now).tree (O.tells oracle.new) held.new types.new.variables }
 {
     let mut noted = ClassNameSet::new(file.alloc);
-    let rows = noted_result(file, rule, is_active, oracle, &mut noted)?;
+    let rows = noted_result(file, rule, is_active, oracle, held, types, &mut noted)?;
     let names = noted.names(file.alloc)?;
     Ok(RuleRun { rows, names })
 }
 
-/// What the rules come to in a file of the path, one after the other.
+/// What the rules come to in a file, one after the other, with what is held of the file.
+fn runs_with<'t, O: Oracle>(
+    file: &'t FileView<'t>,
+    rules: &'t [Rule],
+    oracle: &mut O,
+    held: &mut Held,
+    types: &mut Typed,
+) -> Result<RuleRuns, AskFault>
+    requires file { IsOfOneFile file.now }
+    requires right { AreRight (file_seen file.now).tree (O.tells oracle.old) held.old types.old.variables }
+    ensures asks { (meant : List MeantRule) → AllZip (IsRuleOf file.now.marker.now) rules.now meant
+        → Asks (each (rule_at java_replies file.now.path.now (Ok (file_seen file.now))) meant) (O.tells oracle.old) (O.tells oracle.new) (seen came_to result) }
+    ensures rest { IfOk result (λ runs. (meant : List MeantRule) → AllZip (IsRuleOf file.now.marker.now) rules.now meant
+        → AllZip (λ rule run. RestsOn (O.tells oracle.old) (rule_at java_replies file.now.path.now (Ok (file_seen file.now)) rule) run.rows run.names) meant runs) }
+{
+    let active = which_are_active(file.alloc, rules, file.path.as_str())?;
+    let mut runs = RuleRuns::new(file.alloc);
+    for (number, rule) in rules.iter().enumerate() {
+        let is_active = active.as_slice()[number];
+        let of_rule = rule_run(file, rule, is_active, oracle, held, types)?;
+        runs.push(of_rule)?;
+    }
+    Ok(runs)
+}
+
+/// What the rules come to in a file, one after the other. What is found of the file's classes and variables serves all of them.
 pub fn rule_runs<'t, O: Oracle>(
     file: &'t FileView<'t>,
     rules: &'t [Rule],
-    path: &Text,
     oracle: &mut O,
 ) -> Result<RuleRuns, AskFault>
     requires file { IsOfOneFile file.now }
     ensures asks { (meant : List MeantRule) → AllZip (IsRuleOf file.now.marker.now) rules.now meant
-        → Asks (each (rule_at no_functions path.now (Ok (file_seen file.now))) meant) (O.tells oracle.old) (O.tells oracle.new) (seen came_to result) }
+        → Asks (each (rule_at java_replies file.now.path.now (Ok (file_seen file.now))) meant) (O.tells oracle.old) (O.tells oracle.new) (seen came_to result) }
     ensures rest { IfOk result (λ runs. (meant : List MeantRule) → AllZip (IsRuleOf file.now.marker.now) rules.now meant
-        → AllZip (λ rule run. RestsOn (O.tells oracle.old) (rule_at no_functions path.now (Ok (file_seen file.now)) rule) run.rows run.names) meant runs) }
-    ensures idle { oracle.new ≡ oracle.old }
-    ensures none_asked { IfOk result (λ runs. AllByRecursion (λ run. run.names ≡ []) runs) }
+        → AllZip (λ rule run. RestsOn (O.tells oracle.old) (rule_at java_replies file.now.path.now (Ok (file_seen file.now)) rule) run.rows run.names) meant runs) }
 {
-    let active = which_are_active(file.alloc, rules, path.as_str())?;
-    let mut runs = RuleRuns::new(file.alloc);
-    for (number, rule) in rules.iter().enumerate() {
-        let of_rule = rule_run(file, rule, active.as_slice()[number], oracle)?;
-        runs.push(of_rule)?;
-    }
-    Ok(runs)
+    let mut held = Held::new(file.alloc);
+    let mut types = Typed::new(file.alloc);
+    runs_with(file, rules, oracle, &mut held, &mut types)
 }

@@ -19,7 +19,7 @@ use sources::Sources;
 use std::process::ExitCode;
 
 /// The files of whole runs.
-static RUNS: [&str; 9] = [
+static RUNS: [&str; 10] = [
     "queries.rows",
     "rulesets.rows",
     "paths.rows",
@@ -28,6 +28,7 @@ static RUNS: [&str; 9] = [
     "refusals.rows",
     "calls.rows",
     "classes.rows",
+    "functions.rows",
     "work.rows",
 ];
 

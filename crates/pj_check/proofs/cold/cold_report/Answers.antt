@@ -7,7 +7,7 @@ use Rattle.pj_reports.specs.declared.report.Report.{Report}
 use Rattle.pj_reports.specs.declared.rows.FileRows.{FileRows}
 use Rattle.pj_table.specs.ClassWorld.{folders_world}
 use Rattle.pj_workers.specs.Cold.{AreRowsOf}
-use Rattle.pj_workers.specs.NoFunctions.{no_functions}
+use Rattle.pj_workers.specs.JavaReplies.{java_replies}
 use Rattle.pj_check.specs.Cold.{IsColdOf}
 use Rattle.pj_check.specs.Steps.{AreRows, CountsDoorFaults}
 use Rattle.pj_check.proofs.Ending.{result_on}
@@ -35,8 +35,8 @@ returns-in-Ok-clause-cold g c =
       are_rules = are;
       cold = record {
         rules_are = c.in-Ok.ensures.rules ∙ rows_are set.marker set.rules all are;
-        files_are = subst (λ (found : List (Bytes × FileRows)). AllZip (AreRowsOf no_functions (folders_world folders).answer all) c.args.sources.now found) (sym c.in-Ok.ensures.files)
-            (subst (λ (sources : Files). AllZip (AreRowsOf no_functions (folders_world folders).answer all) sources files) c.as_slice.ensures (rows all are));
+        files_are = subst (λ (found : List (Bytes × FileRows)). AllZip (AreRowsOf java_replies (folders_world folders).answer all) c.args.sources.now found) (sym c.in-Ok.ensures.files)
+            (subst (λ (sources : Files). AllZip (AreRowsOf java_replies (folders_world folders).answer all) sources files) c.as_slice.ensures (rows all are));
         errors_are = c.in-Ok.ensures.errors;
       };
     })

@@ -12,12 +12,18 @@ use Rattle.pj_workers.proofs.file.parsed_runs.Goals as goal
 pub returns-in_err-symbols-clause-asks : goal.returns-in_err-symbols-clause-asks
 returns-in_err-symbols-clause-asks g c = λ meant are. asks-stop (search rules)
 
+pub returns-in_err-declarations-clause-asks : goal.returns-in_err-declarations-clause-asks
+returns-in_err-declarations-clause-asks g c = λ meant are. asks-stop (search rules)
+
+pub returns-in_err-java-clause-asks : goal.returns-in_err-java-clause-asks
+returns-in_err-java-clause-asks g c = λ meant are. asks-stop (search rules)
+
 pub returns-in_err-marked-clause-asks : goal.returns-in_err-marked-clause-asks
 returns-in_err-marked-clause-asks g c = λ meant are. asks-stop (search rules)
 
 pub view_runs-requires-clause-file : goal.view_runs-requires-clause-file
 view_runs-requires-clause-file g c =
-    is_of_one c.args.source.now c.args.parsed.now _ c.new-facts.ensures refl c.requires.text c.in_ok-marked.ensures.lines
+    is_of_one c.args.source.now c.args.parsed.now _ c.new-facts.ensures refl c.in_ok-java.ensures c.requires.text c.in_ok-marked.ensures.lines
     (subst (λ (tokens : List Token). AllByRecursion (λ (token : Token). IsUtf8 token.text.now) tokens) c.as_slice.ensures c.tokens_are_texts.ensures) c.in_ok-marked.ensures.ascending
 
 pub returns-clause-asks : goal.returns-clause-asks

@@ -1,11 +1,9 @@
-use Rattle.std.proofs.Common.{◌∙◌, [], Ok, rules, subst}
+use Rattle.std.proofs.Common.{Ok, rules, subst}
 use Rattle.pj_names.specs.ClassName.{NameSet}
 use Rattle.pj_names.specs.Noting.{Notes}
 use Rattle.pj_names.proofs.Held.{asks-late}
-use Rattle.pj_names.proofs.NameLists.{with_names-empty}
 use Rattle.pj_workers.specs.Views.{file_seen, if_active}
 use Rattle.pj_workers.proofs.Resting.{rests_noted}
-use Rattle.pj_workers.proofs.Unasked.{no_names}
 use Rattle.pj_workers.proofs.runs.rule_run.Goals as goal
 
 pub returns-in_err-rows-clause-asks : goal.returns-in_err-rows-clause-asks
@@ -21,11 +19,8 @@ returns-clause-asks g c = λ meant is. c.in_ok-rows.ensures.asks meant is
 
 pub returns-clause-rests : goal.returns-clause-rests
 returns-clause-rests g c = λ meant is.
-    let m = if_active c.args.is_active (file_seen c.args.file.now) meant in
+    let m = if_active c.args.is_active c.args.file.now.path.now (file_seen c.args.file.now) meant in
     let t = g.O.Oracle.tells c.args.oracle.now in
     rests_noted m t (g.O.Oracle.tells c.noted_result.new.oracle) c.in_ok-rows.rows c.noted_result.new.noted c.in_ok-names.names (c.in_ok-rows.ensures.asks meant is)
     (subst (λ (s : NameSet). Notes m t.is_told t.world s c.noted_result.new.noted (Ok c.in_ok-rows.rows)) c.new-noted.ensures (c.in_ok-rows.ensures.notes meant is))
     c.in_ok-names.ensures.ascending c.in_ok-names.ensures.members
-
-pub returns-clause-none_asked : goal.returns-clause-none_asked
-returns-clause-none_asked g c = no_names c.in_ok-names.names (c.in_ok-names.ensures.members ∙ c.in_ok-rows.ensures.none_noted ∙ c.new-noted.ensures ∙ with_names-empty [])

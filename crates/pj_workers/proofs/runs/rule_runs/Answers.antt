@@ -1,102 +1,21 @@
-use Rattle.std.proofs.Common.{◌≡◌, ◌≤◌, ◌++◌, ◌∙◌, List, [], ◌∷◌, Ok, add-one, ap, arith, false, length, map, refl, rules, subst, sym, take}
-use Rattle.std.proofs.lemmas.List.{map-append, take_all}
-use Rattle.std.specs.List.{AllByRecursion}
-use Rattle.pj_findings.specs.declared.run.RuleRun.{RuleRun}
-use Rattle.pj_names.proofs.AskingLaws.{asks-stop}
-use Rattle.pj_rule_sets.specs.Active.{is_active}
-use Rattle.pj_rule_sets.specs.Rules.{EffectiveRule}
-use Rattle.pj_workers.specs.FileMeaning.{rule_at}
-use Rattle.pj_workers.specs.NoFunctions.{no_functions}
-use Rattle.pj_workers.specs.Results.{RestsOn, came_to}
-use Rattle.pj_workers.specs.Rules.{IsRuleOf, Rule}
+use Rattle.std.proofs.Common.{List, subst, sym}
+use Rattle.std.proofs.lemmas.List.Elements.{All-nil}
+use Rattle.std.specs.List.{All, AllByRecursion}
+use Rattle.pj_exprtypes.specs.Table.{Holds}
+use Rattle.pj_exprtypes.specs.declared.held.HeldVariable.{HeldVariable}
+use Rattle.pj_file_oracle.specs.FileAnswer.{file_answer}
+use Rattle.pj_file_oracle.specs.Held.{IsHeldAnswer}
+use Rattle.pj_file_oracle.specs.declared.held.HeldAnswer.{HeldAnswer}
+use Rattle.pj_names.specs.ClassName.{Name}
+use Rattle.pj_names.specs.Expand.{world_by}
 use Rattle.pj_workers.specs.Views.{file_seen}
-use Rattle.pj_workers.proofs.Activity.{active_at, known_asks, known_rests}
-use Rattle.pj_workers.proofs.Resting.{AreRested, rests_before}
-use Rattle.pj_workers.proofs.Running.{all_last, beside, turn_begin, turn_ends, turn_refused, turn_stops, turn_then, zip_last, zip_length}
 use Rattle.pj_workers.proofs.runs.rule_runs.Goals as goal
 
-pub returns-in_err-active-clause-asks : goal.returns-in_err-active-clause-asks
-returns-in_err-active-clause-asks g c = λ meant are. asks-stop (search rules)
-
-pub loop-number-init : goal.loop-number-init
-loop-number-init g c =
-    let meaning = rule_at no_functions c.args.path.now (Ok (file_seen c.args.file.now)) in
+pub runs_with-requires-clause-right : goal.runs_with-requires-clause-right
+runs_with-requires-clause-right g c =
+    let tree = (file_seen c.args.file.now).tree in
     let t = g.O.Oracle.tells c.args.oracle.now in
     record {
-      asks = λ meant are. turn_begin meaning meant t (came_to c.new-runs.result) (ap came_to c.new-runs.ensures);
-      rest = λ meant are. subst (λ (runs : List RuleRun). AreRested t meaning [] runs) (sym c.new-runs.ensures) tt;
-      idle = refl;
-      none_asked = subst (λ (runs : List RuleRun). AllByRecursion (λ (run : RuleRun). run.names ≡ []) runs) (sym c.new-runs.ensures) tt;
+      answers = subst (λ (entries : List (Name × HeldAnswer)). AllByRecursion (λ (entry : Name × HeldAnswer). IsHeldAnswer t (file_answer tree entry.0) entry.1) entries) (sym c.new-held.ensures) tt;
+      types = λ is. subst (λ (types : List HeldVariable). All (Holds tree (λ depth. world_by (file_answer tree) depth (t.world depth))) types) (sym c.new-types.ensures) (All-nil (Holds tree (λ depth. world_by (file_answer tree) depth (t.world depth))));
     }
-
-pub loop-number-preserved : goal.loop-number-preserved
-loop-number-preserved g c =
-    let meaning = rule_at no_functions c.args.path.now (Ok (file_seen c.args.file.now)) in
-    let R = IsRuleOf c.args.file.now.marker.now in
-    let t = g.O.Oracle.tells c.args.oracle.now in
-    let u = g.O.Oracle.tells c.loop-number.oracle in
-    let v = g.O.Oracle.tells c.rule_run.new.oracle in
-    let i = c.loop-number.number in
-    let rule = c.index-rules-number.result in
-    let run = c.in_ok-of_rule.of_rule in
-    let kept = c.loop-number.invariant in
-    let each : c.as_slice.result.now ≡ map (λ (r : EffectiveRule). is_active r c.args.path.now) c.args.rules.now = search rules in
-    let known = active_at c.args.path.now c.args.rules.now c.as_slice.result.now i rule false each c.loop-number-test.true c.index-rules-number.is in
-    let grown : c.loop-number.runs ++ run ∷ [] ≡ c.push.new.self = search rules in
-    let come : came_to c.loop-number.runs ++ run.rows ∷ [] ≡ came_to c.push.new.self = sym (map-append (λ (r : RuleRun). r.rows) c.loop-number.runs (run ∷ [])) ∙ ap came_to grown in
-    record {
-      asks = λ meant are.
-          let next = beside R c.args.rules.now meant i rule are c.loop-number-test.true c.index-rules-number.is in
-          turn_then meaning meant t (came_to c.loop-number.runs) (came_to c.push.new.self) i next.0 run.rows u v next.2 (kept.asks meant are)
-          (known_asks c.args.file.now.marker.now c.args.path.now (file_seen c.args.file.now) rule next.0 _ next.1 known (c.in_ok-of_rule.ensures.asks next.0 next.1)) come;
-      rest = λ meant are.
-          let next = beside R c.args.rules.now meant i rule are c.loop-number-test.true c.index-rules-number.is in
-          let same = ap g.O.Oracle.tells kept.idle in
-          let one : RestsOn t (meaning next.0) run.rows run.names = rests_before t u (meaning next.0) run.rows run.names (ap (λ w. w.is_told) same) (ap (λ w. w.world) same)
-          (known_rests c.args.file.now.marker.now c.args.path.now (file_seen c.args.file.now) rule next.0 _ next.1 known (c.in_ok-of_rule.ensures.rests next.0 next.1)) in
-          rw (add-one) (subst (λ (rs : List Rule). AreRested t meaning rs c.push.new.self) (sym next.2.taken)
-          (subst (λ (runs : List RuleRun). AreRested t meaning (take i meant ++ next.0 ∷ []) runs) grown
-          (zip_last (λ rule run. RestsOn t (meaning rule) run.rows run.names) (take i meant) c.loop-number.runs next.0 run (kept.rest meant are) one)));
-      idle = c.rule_run.ensures.idle ∙ kept.idle;
-      none_asked = subst (λ (runs : List RuleRun). AllByRecursion (λ (run : RuleRun). run.names ≡ []) runs) grown (all_last (λ (run : RuleRun). run.names ≡ []) c.loop-number.runs run kept.none_asked c.in_ok-of_rule.ensures.none_asked);
-    }
-
-pub returns-in_err-of_rule-clause-asks : goal.returns-in_err-of_rule-clause-asks
-returns-in_err-of_rule-clause-asks g c = λ meant are.
-    let meaning = rule_at no_functions c.args.path.now (Ok (file_seen c.args.file.now)) in
-    let t = g.O.Oracle.tells c.args.oracle.now in
-    let i = c.loop-number.number in
-    let each : c.as_slice.result.now ≡ map (λ (r : EffectiveRule). is_active r c.args.path.now) c.args.rules.now = search rules in
-    let known = active_at c.args.path.now c.args.rules.now c.as_slice.result.now i c.index-rules-number.result false each c.loop-number-test.true c.index-rules-number.is in
-    let next = beside (IsRuleOf c.args.file.now.marker.now) c.args.rules.now meant i c.index-rules-number.result are c.loop-number-test.true c.index-rules-number.is in
-    turn_refused meaning meant t (came_to c.loop-number.runs) i next.0 c.in_err-of_rule.field-0.0 (g.O.Oracle.tells c.loop-number.oracle) (g.O.Oracle.tells c.rule_run.new.oracle) _ next.2
-    (c.loop-number.invariant.asks meant are)
-    (known_asks c.args.file.now.marker.now c.args.path.now (file_seen c.args.file.now) c.index-rules-number.result next.0 _ next.1 known (c.in_err-of_rule.ensures.asks next.0 next.1)) (search rules)
-
-pub returns-in_err-push-clause-asks : goal.returns-in_err-push-clause-asks
-returns-in_err-push-clause-asks g c = λ meant are.
-    let meaning = rule_at no_functions c.args.path.now (Ok (file_seen c.args.file.now)) in
-    let t = g.O.Oracle.tells c.args.oracle.now in
-    let i = c.loop-number.number in
-    let each : c.as_slice.result.now ≡ map (λ (r : EffectiveRule). is_active r c.args.path.now) c.args.rules.now = search rules in
-    let known = active_at c.args.path.now c.args.rules.now c.as_slice.result.now i c.index-rules-number.result false each c.loop-number-test.true c.index-rules-number.is in
-    let next = beside (IsRuleOf c.args.file.now.marker.now) c.args.rules.now meant i c.index-rules-number.result are c.loop-number-test.true c.index-rules-number.is in
-    turn_stops meaning meant t (came_to c.loop-number.runs) i next.0 c.in_ok-of_rule.of_rule.rows (g.O.Oracle.tells c.loop-number.oracle) (g.O.Oracle.tells c.rule_run.new.oracle) _ next.2
-    (c.loop-number.invariant.asks meant are)
-    (known_asks c.args.file.now.marker.now c.args.path.now (file_seen c.args.file.now) c.index-rules-number.result next.0 _ next.1 known (c.in_ok-of_rule.ensures.asks next.0 next.1)) (search rules)
-
-pub returns-clause-asks : goal.returns-clause-asks
-returns-clause-asks g c = λ meant are.
-    let meaning = rule_at no_functions c.args.path.now (Ok (file_seen c.args.file.now)) in
-    let far : length c.args.rules.now ≤ c.loop-number.number = omega (arith, c.loop-number-test.false) in
-    let long = zip_length (IsRuleOf c.args.file.now.marker.now) c.args.rules.now meant are in
-    turn_ends meaning meant (g.O.Oracle.tells c.args.oracle.now) (came_to c.loop-number.runs) c.loop-number.number (g.O.Oracle.tells c.loop-number.oracle) _
-    (omega (arith, far, long)) (c.loop-number.invariant.asks meant are) refl
-
-pub returns-clause-rest : goal.returns-clause-rest
-returns-clause-rest g c = λ meant are.
-    let meaning = rule_at no_functions c.args.path.now (Ok (file_seen c.args.file.now)) in
-    let far : length c.args.rules.now ≤ c.loop-number.number = omega (arith, c.loop-number-test.false) in
-    let long = zip_length (IsRuleOf c.args.file.now.marker.now) c.args.rules.now meant are in
-    subst (λ (rs : List Rule). AreRested (g.O.Oracle.tells c.args.oracle.now) meaning rs c.loop-number.runs) (take_all c.loop-number.number meant (omega (arith, far, long)))
-    (c.loop-number.invariant.rest meant are)
