@@ -43,8 +43,9 @@ module _ (world : World) where
       let one = steady m first.0 first.1 first.2 in
       let two = steady (k v) (next v).0 (next v).1 (next v).2 in
       settles_by (bind m k) w (names_of l world m ++ names_of n world (k v)) (l + n) (λ depth far.
-          let near : l ≤ depth = omega (arith, far) in
-          let close : n ≤ depth = omega (arith, far) in
-          (value_of-bind depth world m k ∙ ap (λ x. value_of depth world (k x)) (one depth near).0 ∙ (two depth close).0,
-          ap (λ l. name_set l) (names_of-bind depth world m k ∙ ap (λ x. names_of depth world m ++ names_of depth world (k x)) (one depth near).0)
-          ∙ name_set-append (names_of depth world m) (names_of depth world (k v)) (names_of l world m) (names_of n world (k v)) (one depth near).1 (two depth close).1))
+      let near : l ≤ depth = omega (arith, far) in
+      let close : n ≤ depth = omega (arith, far) in (
+        value_of-bind depth world m k ∙ ap (λ x. value_of depth world (k x)) (one depth near).0 ∙ (two depth close).0,
+        ap (λ l. name_set l) (names_of-bind depth world m k ∙ ap (λ x. names_of depth world m ++ names_of depth world (k x)) (one depth near).0)
+            ∙ name_set-append (names_of depth world m) (names_of depth world (k v)) (names_of l world m) (names_of n world (k v)) (one depth near).1 (two depth close).1,
+      ))

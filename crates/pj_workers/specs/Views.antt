@@ -72,9 +72,9 @@ abbrev pub if_active : Bool → Bytes → JavaFile → Rule → Asking Ruled
 if_active active path file rule = if active then rule_in_file (java_replies path file) file rule else nothing
 
 -- What is held of a file is right over an oracle: what its classes answered, and the types of its variables.
-pub record AreRight {K : Type 0} (tree : Tree) (told : Told K) (held : Held) (types : List HeldVariable) : Type 0 where
+pub record AreRight {K : Type 0} (tree : Tree) (told : Told K) (held : Held) (variables : List HeldVariable) : Type 0 where
   pub answers : Holds tree told held
-  pub types : KeepsOver tree told types
+  pub types : KeepsOver tree told variables
 
 -- what a rule finds at one node
 abbrev pub found_there : Reply → JavaFile → Rule → Node → Means Spot

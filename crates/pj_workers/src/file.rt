@@ -39,9 +39,9 @@ fn package_head(alloc: Global, name: &str) -> Result<Head, NoMemory>
 }
 
 /// What is said of a file of which this is seen, and what the rules come to in it.
-fn view_runs<O: Oracle>(
-    file: &FileView<'_>,
-    rules: &RuleSet,
+fn view_runs<'t, O: Oracle>(
+    file: &'t FileView<'t>,
+    rules: &'t RuleSet,
     name: &str,
     oracle: &mut O,
 ) -> Result<FileRuns, AskFault>
@@ -73,12 +73,12 @@ fn tokens_are_texts(tokens: &[Token<'_>])
 }
 
 /// The same of a file that was parsed.
-fn parsed_runs<O: Oracle>(
+fn parsed_runs<'t, O: Oracle>(
     alloc: Global,
-    path: &Text,
-    source: &Source,
-    parsed: &Parsed<'_>,
-    rules: &RuleSet,
+    path: &'t Text,
+    source: &'t Source,
+    parsed: &'t Parsed<'t>,
+    rules: &'t RuleSet,
     oracle: &mut O,
 ) -> Result<FileRuns, AskFault>
     requires parses { Parses source.now.text (Ok (file_parsed parsed.now)) }

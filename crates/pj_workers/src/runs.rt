@@ -1,11 +1,12 @@
 //! What the rules of a set come to in a file that has a tree, each with the classes on which that rests.
-ghost use Rattle.std.specs.Prelude.{◌≡◌, List, Ok, IfOk};
+ghost use Rattle.std.specs.Prelude.{◌≡◌, List, Ok, IfOk, length};
 ghost use Rattle.std.specs.List.{AllZip};
+ghost use Rattle.pj_javafuncs.specs.Facts.{facts as known};
 ghost use Rattle.pj_names.specs.Asking.{each};
 ghost use Rattle.pj_names.specs.Noting.{Notes};
 ghost use Rattle.pj_names.specs.Told.{Asks, seen};
 ghost use Rattle.pj_workers.specs.FileMeaning.{rule_at};
-ghost use Rattle.pj_workers.specs.JavaReplies.{java_replies};
+ghost use Rattle.pj_workers.specs.JavaReplies.{java_replies, known_in};
 ghost use Rattle.pj_workers.specs.Results.{RestsOn, came_to};
 ghost use Rattle.pj_workers.specs.RuleMeaning.{rule_in_file};
 ghost use Rattle.pj_workers.specs.Rules.{IsRuleOf, Rule as MeantRule};
@@ -45,15 +46,19 @@ fn give_back<'a, 'f, O: Oracle, A: Attributes>(
     over.inner
 }
 
-/// What an active rule comes to in a file, with what is held of the file.
-fn active_result<'t, O: Oracle>(
+/// What an active rule comes to in a file, with the facts of the file and what is held of it.
+fn active_result<'t, O: Oracle, A: Attributes>(
     file: &'t FileView<'t>,
+    facts: &'t A,
     rule: &'t Rule,
     oracle: &mut O,
     held: &mut Held,
     types: &mut Typed,
 ) -> Result<Ruled, AskFault>
     requires file { IsOfOneFile file.now }
+    requires nodes { A.nodes facts.now ≡ length (file_seen file.now).tree.nodes }
+    requires text { A.text_length facts.now ≡ length (file_seen file.now).tree.text }
+    requires known { known (A.attribute_of facts.now) (A.names_of facts.now) (A.modifiers_of facts.now) (A.place_of facts.now) file.now.path.now ≡ known_in file.now.path.now (file_seen file.now) }
     requires right { AreRight (file_seen file.now).tree (O.tells oracle.old) held.old types.old.variables }
     ensures asks { (meant : MeantRule) → IsRuleOf file.now.marker.now rule.now meant
         → Asks (rule_in_file (java_replies file.now.path.now (file_seen file.now)) (file_seen file.now) meant) (O.tells oracle.old) (O.tells oracle.new) result }
@@ -66,7 +71,7 @@ fn active_result<'t, O: Oracle>(
     let mut own_held = replace(held, Held::new(file.alloc));
     let mut own_types = replace(types, Typed::new(file.alloc));
     let over = FileOracle::new(file.alloc, file.java, oracle, &mut own_held);
-    let mut calls = JavaCalls::new(over, &mut own_types, file.facts, file.path);
+    let mut calls = JavaCalls::new(over, &mut own_types, facts, file.path);
     let came_to = rule_result(file, rule, &mut calls);
     let _inner = give_back(calls, held, types);
     came_to
@@ -89,7 +94,7 @@ fn result_if_active<'t, O: Oracle>(
     ensures right { AreRight (file_seen file.now).tree (O.tells oracle.new) held.new types.new.variables }
 {
     if is_active {
-        return active_result(file, rule, oracle, held, types);
+        return active_result(file, file.facts, rule, oracle, held, types);
     }
     Ok(Ruled::Spots(Spots::new(file.alloc)))
 }

@@ -1,6 +1,7 @@
 use Rattle.std.proofs.Common.{◌≡◌, ◌∙◌, ap, length, rules, subst, sym}
 use Rattle.pj_exprtypes.specs.Table.{KeepsOver}
 use Rattle.pj_file_oracle.specs.Held.{Holds}
+use Rattle.pj_javafuncs.specs.Facts.{facts as known}
 use Rattle.pj_names.specs.Asking.{Asking}
 use Rattle.pj_names.specs.Told.{Asks}
 use Rattle.pj_reports.specs.declared.ruled.Ruled.{Ruled}
@@ -24,10 +25,10 @@ new-calls-requires-clause-keeps g c =
     (subst (λ types. KeepsOver (file_seen c.args.file.now).tree (g.O.Oracle.tells c.args.oracle.now) types.variables) (sym c.replace-own_types.ensures.value) c.requires.right.types))
 
 pub new-calls-requires-clause-of_tree : goal.new-calls-requires-clause-of_tree
-new-calls-requires-clause-of_tree g c = ap (λ (t : Tree). length t.nodes) (sym (c.new-over.ensures.file ∙ c.requires.file.java_is))
+new-calls-requires-clause-of_tree g c = c.requires.nodes ∙ ap (λ (t : Tree). length t.nodes) (sym (c.new-over.ensures.file ∙ c.requires.file.java_is))
 
 pub new-calls-requires-clause-text : goal.new-calls-requires-clause-text
-new-calls-requires-clause-text g c = ap length (sym c.requires.file.text_is) ∙ ap (λ (t : Tree). length t.text) (sym (c.new-over.ensures.file ∙ c.requires.file.java_is))
+new-calls-requires-clause-text g c = c.requires.text ∙ ap (λ (t : Tree). length t.text) (sym (c.new-over.ensures.file ∙ c.requires.file.java_is))
 
 pub rule_result-came_to-requires-clause-nodes : goal.rule_result-came_to-requires-clause-nodes
 rule_result-came_to-requires-clause-nodes g c = ap (λ o. length o.file.now.nodes) c.new-calls.ensures.oracle ∙ ap (λ (t : Tree). length t.nodes) (c.new-over.ensures.file ∙ c.requires.file.java_is)
@@ -40,7 +41,11 @@ returns-clause-asks g c = λ meant is.
     let after = c.rule_result-came_to.new.calls in
     let spelled = c.rule_result-came_to.ensures.asks in
     let tree = ap (λ o. o.file.now) c.new-calls.ensures.oracle ∙ c.new-over.ensures.file ∙ c.requires.file.java_is in
-    let replies = replies_seen view before.facts.now before.path.now before.oracle.file.now c.new-calls.ensures.facts c.new-calls.ensures.path tree in
+    let same_facts = c.new-calls.ensures.facts in
+    let same_known = λ i. known (g.A.Attributes.attribute_of (same_facts i)) (g.A.Attributes.names_of (same_facts i)) (g.A.Attributes.modifiers_of (same_facts i)) (g.A.Attributes.place_of (same_facts i)) (c.new-calls.ensures.path i) in
+    let first : known (g.A.Attributes.attribute_of before.facts.now) (g.A.Attributes.names_of before.facts.now) (g.A.Attributes.modifiers_of before.facts.now) (g.A.Attributes.place_of before.facts.now) before.path.now
+    ≡ known (g.A.Attributes.attribute_of c.args.facts.now) (g.A.Attributes.names_of c.args.facts.now) (g.A.Attributes.modifiers_of c.args.facts.now) (g.A.Attributes.place_of c.args.facts.now) view.path.now = same_known in
+    let replies = replies_seen view _ before.oracle.file.now (first ∙ c.requires.known) tree in
     let alike = ap (λ (r : Reply). rule_in_file r file spelled.0) replies
     ∙ same_in_file c.one_expression.ensures c.trees_tell_expressions.ensures c.trees_tell_patterns.ensures (java_replies view.path.now file) file spelled.0 meant (spelled.1.source ∙ sym is.source) spelled.1.spelled is.spelled in
     let m = rule_in_file (java_replies view.path.now file) file meant in
