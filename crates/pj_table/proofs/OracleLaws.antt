@@ -24,9 +24,9 @@ use Rattle.pj_outside.specs.Doors.{count_and, found_at}
 use Rattle.pj_outside.specs.Faults.{next_count}
 use Rattle.pj_outside.specs.declared.refused.Reading.{Reading}
 use Rattle.pj_classfile.specs.ClassOf.{AnswerOf}
-use Rattle.pj_classfile.proofs.OneLaws.{answer_there, one_answer}
+use Rattle.pj_classfile.proofs.OneLaws.{only_answer}
 use Rattle.pj_table.specs.Worlds.{World, IsAnswer, CountsFaults}
-use Rattle.pj_table.specs.ClassWorld.{answer_of_reading, worlds_of}
+use Rattle.pj_table.specs.ClassWorld.{worlds_of}
 use Rattle.pj_table.specs.Held.{AreHeldAnswers, IsHeldAnswer}
 use Rattle.pj_table.specs.Telling.{tells_of}
 use Rattle.pj_table.proofs.Readings.{is_answer}
@@ -35,9 +35,8 @@ use Rattle.pj_table.proofs.Readings.{is_answer}
 
 -- where the folders are told the answer is the one that the oracle's world has
 pub told_answer : (world : World) (name : Name) (answer : Answer) → IsAnswer world name answer → IsTrue (is_some world) → answer ≡ (worlds_of world 0).answer name
-unfolding answer_of_reading
 told_answer None name answer is told = absurd (cc)
-told_answer (Some folders) name answer is told = let there = answer_there name (found_at folders name 4194304) in one_answer name (found_at folders name 4194304) answer there.0 is there.1
+told_answer (Some folders) name answer is told = only_answer name (found_at folders name 4194304) answer is
 
 one_world : (world : World) (depth : ℕ) → worlds_of world depth ≡ worlds_of world 0
 one_world None depth = refl
