@@ -42,7 +42,7 @@ spelled marker [] h = ([], tt)
 spelled marker (rule ∷ rules) h =
     let (all, are) = spelled marker rules h.1 in (
       record { source = source_of marker rule; query = h.0.query; suppression = h.0.suppression } ∷ all,
-      (record { source = refl; spelled = record { query = h.0.spell.query_spelled; suppression = h.0.spell.suppression_spelled } }, are),
+      (record { source = refl; spelled = h.0.spell }, are),
     )
 
 pub some_report : RulesAreSound → SettledCold → SomeReport

@@ -30,7 +30,7 @@ use Rattle.pj_xvalue.specs.Items.{ItemValue, Document, String, is_node}
 use Rattle.pj_xvalue.specs.declared.fault.XCode.{XCode}
 use Rattle.pj_xvalue.specs.declared.fault.XCode.TheVariants.{XPTY0004, XPTY0019, XPTY0020}
 use Rattle.pj_workers.specs.Calls.{calls_by, calls_only, may_stand}
-use Rattle.pj_workers.specs.RuleMeaning.{Reply}
+use Rattle.pj_xlaws.specs.Laws.{Reply}
 use Rattle.pj_xlaws.proofs.DenotedTrees.{by, denotes_tree, nothing, of_tree}
 
 -- a kind of meanings

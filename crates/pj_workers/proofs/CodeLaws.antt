@@ -13,10 +13,11 @@ use Rattle.pj_xsteps.specs.Means.{Means, after, give, judged, ◌>>=◌}
 use Rattle.pj_xvalue.specs.Items.{ItemValue}
 use Rattle.pj_xvalue.specs.declared.fault.XCode.{XCode}
 use Rattle.pj_workers.specs.Cold.{World}
-use Rattle.pj_workers.specs.FileMeaning.{Bytes}
+use Rattle.pj_outside.specs.Files.{Bytes}
 use Rattle.pj_workers.specs.Laws.{MessagesTellCodes}
 use Rattle.pj_workers.specs.RuleFacts.{IsFirstCode, IsFirstOfReasons, items_in, reason_in}
-use Rattle.pj_workers.specs.RuleMeaning.{Reply, extent_at, found, found_at, found_of, items, reason_at, result_of}
+use Rattle.pj_xlaws.specs.Laws.{Reply}
+use Rattle.pj_workers.specs.RuleMeaning.{extent_at, found, found_at, found_of, items, reason_at, result_of}
 use Rattle.pj_workers.specs.Rules.{Rule}
 use Rattle.pj_workers.proofs.RuleLaws.{result_value, then_value}
 

@@ -4,12 +4,12 @@ use Rattle.std.specs.List.{AllZip}
 use Rattle.pj_names.specs.ClassName.{NameSet}
 use Rattle.pj_names.specs.Meaning.{Gives, Means, Source}
 use Rattle.pj_names.specs.Asking.{Asking}
-use Rattle.pj_outside.specs.Files.{Files}
+use Rattle.pj_outside.specs.Files.{Bytes, Files}
 use Rattle.pj_reports.specs.declared.report.Report.{Report}
 use Rattle.pj_reports.specs.declared.rows.FileRows.{FileRows}
 use Rattle.pj_names.specs.declared.rule_row.ConfigError.{ConfigError}
 use Rattle.pj_workers.specs.Cold.{AreRowsOf, IsCold, World}
-use Rattle.pj_workers.specs.FileMeaning.{Bytes, Replies}
+use Rattle.pj_workers.specs.FileMeaning.{Replies}
 use Rattle.pj_workers.specs.Rules.{Rule}
 
 one_value : {A : Type 0} (v w : A) (m n : NameSet) → Gives v m ≡ Gives w n → v ≡ w

@@ -10,7 +10,8 @@ use Rattle.pj_reports.specs.declared.ruled.Ruled.{Ruled}
 use Rattle.pj_reports.specs.declared.ruled.Ruled.TheVariants.{Spots, Message}
 use Rattle.pj_reports.specs.declared.ruled.Spot.{Spot}
 use Rattle.pj_tree.specs.declared.node.Node.{Node}
-use Rattle.pj_workers.specs.FileMeaning.{Bytes, Replies, nothing, rule_at, rule_meaning}
+use Rattle.pj_outside.specs.Files.{Bytes}
+use Rattle.pj_workers.specs.FileMeaning.{Replies, nothing, rule_at, rule_meaning}
 use Rattle.pj_workers.specs.Laws.{ErrorsTellCodes, FilesAreTheirRules, FindingsAreDenoted, FoundAreDenoted, IsAnalysed, MessagesTellCodes, is_finding}
 use Rattle.pj_workers.specs.RuleMeaning.{rule_in_file}
 use Rattle.pj_workers.specs.Rules.{Rule}

@@ -23,7 +23,8 @@ use Rattle.pj_xvalue.specs.declared.fault.XCode.{XCode}
 use Rattle.pj_xvalue.specs.declared.fault.XFault.{XFault}
 use Rattle.pj_xvalue.specs.declared.fault.XFault.TheVariants.{Ask, Code}
 use Rattle.pj_workers.specs.Reasons.{xpath_reason}
-use Rattle.pj_workers.specs.RuleMeaning.{Reply, found_at, value_of}
+use Rattle.pj_xlaws.specs.Laws.{Reply}
+use Rattle.pj_workers.specs.RuleMeaning.{found_at, value_of}
 use Rattle.pj_workers.specs.Rules.{Rule}
 use Rattle.pj_workers.specs.Views.{file_seen, rule_seen}
 use Rattle.pj_workers.specs.declared.view.RuleView.{RuleView}

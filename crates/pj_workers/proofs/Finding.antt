@@ -6,7 +6,8 @@ use Rattle.pj_parse.specs.JavaFile.{JavaFile}
 use Rattle.pj_tree.specs.declared.node.Node.{Node}
 use Rattle.pj_xsteps.specs.Means.{Means, give, ◌>>=◌}
 use Rattle.pj_xsteps.proofs.SequenceLaws.{then-assoc, then-give}
-use Rattle.pj_workers.specs.RuleMeaning.{Reply, found_at, found_of, reason_at, extent_at}
+use Rattle.pj_xlaws.specs.Laws.{Reply}
+use Rattle.pj_workers.specs.RuleMeaning.{found_at, found_of, reason_at, extent_at}
 use Rattle.pj_workers.specs.Rules.{Rule}
 use Rattle.pj_workers.specs.Views.{found_there}
 

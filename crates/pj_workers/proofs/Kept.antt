@@ -23,7 +23,7 @@ both_spelled texts (Some text) (Some s) h = h.parsed.spells
 pub kept_rule : (marker : Text) (effective : EffectiveRule) (kept : RuleExpressions) → AreOf (texts_of effective) kept → IsRuleOf marker effective (with_expressions marker effective kept)
 kept_rule marker effective kept h = record {
   source = refl;
-  spelled = record { query = h.query.parsed.spells; suppression = both_spelled (texts_of effective) (suppression_of (texts_of effective)) kept.suppression h.suppression };
+  spelled = record { query_spelled = h.query.parsed.spells; suppression_spelled = both_spelled (texts_of effective) (suppression_of (texts_of effective)) kept.suppression h.suppression };
 }
 
 both_patterns : (texts : RuleTexts) (o : Option Text) (kept : Option Spelled) → Both o kept (IsKept texts) → (s : Spelled) → kept ≡ Some s → HasPatterns (variables_of texts) s

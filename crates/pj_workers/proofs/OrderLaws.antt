@@ -10,7 +10,7 @@ use Rattle.pj_names.specs.Asking.{Asking, Return, bind, each, names_of, value_of
 use Rattle.pj_names.specs.ClassName.{NameSet}
 use Rattle.pj_names.specs.Meaning.{Done, Gives, Means, outcome_of as outcome_in, whole}
 use Rattle.pj_names.proofs.MeaningLaws.{names_of-bind, over-whole, value_of-bind}
-use Rattle.pj_outside.specs.Files.{Files}
+use Rattle.pj_outside.specs.Files.{Bytes, Files}
 use Rattle.pj_parse.specs.FileOutcome.{outcome_of}
 use Rattle.pj_parse.specs.JavaFile.{JavaFile}
 use Rattle.pj_parse.specs.declared.file_fault.FileFault.{FileFault}
@@ -26,9 +26,10 @@ use Rattle.pj_xvalue.specs.Items.{ItemValue, Element}
 use Rattle.pj_xvalue.specs.declared.fault.XCode.{XCode}
 use Rattle.pj_workers.specs.Cold.{AreRowsOf, World}
 use Rattle.pj_workers.specs.Faults.{fault_message}
-use Rattle.pj_workers.specs.FileMeaning.{Bytes, Replies, file_at, file_meaning, head_of, rule_at, rule_meaning}
+use Rattle.pj_workers.specs.FileMeaning.{Replies, file_at, file_meaning, head_of, rule_at, rule_meaning}
 use Rattle.pj_workers.specs.Laws.{AreInOrder, AreOfRule, ColdIsInOrder, FilesAreInOrder, FilesAreTheirRules, FindingsHaveRules, FoundAreDenoted, NamesAreTheirRules}
-use Rattle.pj_workers.specs.RuleMeaning.{Reply, found_at, items, result_of}
+use Rattle.pj_xlaws.specs.Laws.{Reply}
+use Rattle.pj_workers.specs.RuleMeaning.{found_at, items, result_of}
 use Rattle.pj_workers.specs.Rules.{Rule}
 use Rattle.pj_workers.proofs.RuleLaws.{AreAt, at_nodes, at_outcome, result_value, then_value}
 

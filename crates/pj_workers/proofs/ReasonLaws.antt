@@ -19,7 +19,8 @@ use Rattle.pj_workers.specs.Cold.{World}
 use Rattle.pj_workers.specs.Laws.{HasItsReason, SpotsHaveReasons}
 use Rattle.pj_workers.specs.Reasons.{plain_reason_of, xpath_reason}
 use Rattle.pj_workers.specs.RuleFacts.{IsFalseAt, IsUncovered, items_in, reason_in, value_at}
-use Rattle.pj_workers.specs.RuleMeaning.{Reply, extent_at, found, found_at, found_of, items, reason_after, reason_at, result_of, value_of as denoted_by}
+use Rattle.pj_xlaws.specs.Laws.{Reply}
+use Rattle.pj_workers.specs.RuleMeaning.{extent_at, found, found_at, found_of, items, reason_after, reason_at, result_of, value_of as denoted_by}
 use Rattle.pj_workers.specs.Rules.{Rule}
 use Rattle.pj_workers.proofs.RuleLaws.{result_value, then_value}
 

@@ -11,7 +11,7 @@ use Rattle.pj_names.specs.Told.{Asks, Told}
 use Rattle.pj_names.specs.declared.oracle.AskFault.{AskFault}
 use Rattle.pj_tree.specs.Tree.{Tree}
 use Rattle.pj_workers.specs.JavaReplies.{java_replies, known_in}
-use Rattle.pj_workers.specs.RuleMeaning.{Reply}
+use Rattle.pj_xlaws.specs.Laws.{Reply}
 use Rattle.pj_workers.specs.Views.{file_seen}
 use Rattle.pj_workers.specs.declared.view.FileView.{FileView}
 

@@ -33,7 +33,8 @@ use Rattle.pj_parse.specs.declared.parsing.Parsed.{Parsed}
 use Rattle.pj_reports.specs.declared.rows.FileRows.{FileRows}
 use Rattle.pj_rule_sets.specs.Rules.{EffectiveRule, EffectiveRules}
 use Rattle.pj_suppress.specs.Marks as marks
-use Rattle.pj_workers.specs.FileMeaning.{Bytes, file_at, file_meaning, head_of, rule_at, rule_meaning}
+use Rattle.pj_outside.specs.Files.{Bytes}
+use Rattle.pj_workers.specs.FileMeaning.{file_at, file_meaning, head_of, rule_at, rule_meaning}
 use Rattle.pj_workers.specs.Marked.{is_marked}
 use Rattle.pj_workers.specs.JavaReplies.{java_replies}
 use Rattle.pj_workers.specs.Results.{IsResultAt, IsResultOf, RestsOn, came_to, rules_in}

@@ -19,9 +19,11 @@ use Rattle.pj_xsteps.specs.Means.{Means, after, give, judged, ◌>>=◌}
 use Rattle.pj_xvalue.specs.Items.{ItemValue}
 use Rattle.pj_xvalue.specs.declared.fault.XCode.{XCode}
 use Rattle.pj_workers.specs.Cold.{World}
-use Rattle.pj_workers.specs.FileMeaning.{Bytes, Replies, nothing, rule_at, rule_meaning}
+use Rattle.pj_outside.specs.Files.{Bytes}
+use Rattle.pj_workers.specs.FileMeaning.{Replies, nothing, rule_at, rule_meaning}
 use Rattle.pj_workers.specs.Laws.{StandsAtNode}
-use Rattle.pj_workers.specs.RuleMeaning.{Reply, found, found_at, found_of, items, reason_at, result_of, rule_in_file, extent_at}
+use Rattle.pj_xlaws.specs.Laws.{Reply}
+use Rattle.pj_workers.specs.RuleMeaning.{found, found_at, found_of, items, reason_at, result_of, rule_in_file, extent_at}
 use Rattle.pj_workers.specs.Rules.{Rule, is_active}
 
 -- what a sequence comes to, by what its first part comes to

@@ -10,7 +10,7 @@ use Rattle.pj_names.specs.ClassName.{name_set}
 use Rattle.pj_names.specs.Expand.{expand}
 use Rattle.pj_names.specs.Meaning.{Gives, Means, outcome_of, over, whole}
 use Rattle.pj_names.specs.declared.rule_row.ConfigError.{ConfigError}
-use Rattle.pj_outside.specs.Files.{Files}
+use Rattle.pj_outside.specs.Files.{Bytes, Files}
 use Rattle.pj_parse.specs.FileOutcome.{outcome_of as outcome_at}
 use Rattle.pj_parse.specs.JavaFile.{JavaFile}
 use Rattle.pj_parse.specs.declared.file_fault.FileFault.{FileFault}
@@ -30,12 +30,13 @@ use Rattle.pj_xsteps.specs.Context.{at}
 use Rattle.pj_workers.specs.Calls.{RuleCallsOnly, asks_nothing, calls_only}
 use Rattle.pj_workers.specs.Cold.{AreRowsOf, FileSettles, IsCold, Settles, World}
 use Rattle.pj_workers.specs.FileFacts.{around_file}
-use Rattle.pj_workers.specs.FileMeaning.{Bytes, Replies, file_meaning, head_of, nothing, rule_at}
+use Rattle.pj_workers.specs.FileMeaning.{Replies, file_meaning, head_of, nothing, rule_at}
 use Rattle.pj_workers.specs.JavaReplies.{java_replies}
 use Rattle.pj_workers.specs.Laws.{OnlyTypesAsk, SettleByReplies, SettleWithoutTypes, SomeCold}
 use Rattle.pj_workers.specs.Plain.{IsPlain, RepliesPlain}
 use Rattle.pj_workers.specs.Reasons.{plain_reason_of, xpath_reason}
-use Rattle.pj_workers.specs.RuleMeaning.{Reply, covers, extent_at, found, found_at, found_of, items, reason_after, reason_at, result_of, rule_in_file, value_of}
+use Rattle.pj_xlaws.specs.Laws.{Reply}
+use Rattle.pj_workers.specs.RuleMeaning.{covers, extent_at, found, found_at, found_of, items, reason_after, reason_at, result_of, rule_in_file, value_of}
 use Rattle.pj_workers.specs.Rules.{Rule, is_active, patterns_of}
 use Rattle.pj_workers.proofs.Closed.{IsClosed, Kind, given, kept_bind, kept_denotes, kept_each, kept_if, kept_judged, kept_next}
 use Rattle.pj_workers.proofs.Settled.{settled_bind, settled_return}

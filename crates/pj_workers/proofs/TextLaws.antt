@@ -20,10 +20,12 @@ use Rattle.pj_xvalue.specs.Items.{ItemValue, Document, Element}
 use Rattle.pj_xexpressions.specs.declared.expr.Expr.{Expr}
 use Rattle.pj_workers.specs.FileFacts.{around_file}
 use Rattle.pj_findings.specs.Merged.{merge}
-use Rattle.pj_workers.specs.FileMeaning.{Bytes, Replies, file_meaning, head_of, nothing, rule_at, rule_meaning}
+use Rattle.pj_outside.specs.Files.{Bytes}
+use Rattle.pj_workers.specs.FileMeaning.{Replies, file_meaning, head_of, nothing, rule_at, rule_meaning}
 use Rattle.pj_workers.specs.Laws.{AreAlike, RulesAreTexts}
 use Rattle.pj_workers.specs.Reasons.{plain_reason_of, xpath_reason}
-use Rattle.pj_workers.specs.RuleMeaning.{Reply, found_at, found_of, reason_after, result_of, rule_in_file, extent_at, value_of}
+use Rattle.pj_xlaws.specs.Laws.{Reply}
+use Rattle.pj_workers.specs.RuleMeaning.{found_at, found_of, reason_after, result_of, rule_in_file, extent_at, value_of}
 use Rattle.pj_rule_sets.specs.Expressions.{Both, IsSpelledBy, names_of, variables_of}
 use Rattle.pj_rule_sets.specs.Patterns.{suppression_of}
 use Rattle.pj_workers.specs.Rules.{IsSpelled, Rule, Source, is_active, patterns_of}
@@ -86,8 +88,8 @@ one_source : OneExpression → DenotesByTree → PatternsByTree → (reply : Rep
     → IsSpelled (rule_of s p c) → IsSpelled (rule_of s q d) → rule_in_file reply file (rule_of s p c) ≡ rule_in_file reply file (rule_of s q d)
 one_source one denotes_alike patterns_alike reply file s p q c d h k =
     rules_in_file denotes_alike patterns_alike reply file s p q c d
-    (one (names_of s.texts) (chars s.texts.xpath) (tree_of p) (tree_of q) h.query.spells k.query.spells)
-    (same_trees one (names_of s.texts) (suppression_of s.texts) c d h.suppression k.suppression)
+    (one (names_of s.texts) (chars s.texts.xpath) (tree_of p) (tree_of q) h.query_spelled.spells k.query_spelled.spells)
+    (same_trees one (names_of s.texts) (suppression_of s.texts) c d h.suppression_spelled k.suppression_spelled)
 
 pub same_in_file : OneExpression → DenotesByTree → PatternsByTree → (reply : Reply) (file : JavaFile) (a b : Rule)
     → a.source ≡ b.source → IsSpelled a → IsSpelled b → rule_in_file reply file a ≡ rule_in_file reply file b

@@ -5,15 +5,15 @@ use Rattle.pj_names.specs.Asking.{Asking}
 use Rattle.pj_names.specs.declared.answer.Answer.{Answer}
 use Rattle.pj_names.specs.ClassName.{Name, NameSet}
 use Rattle.pj_names.specs.Meaning.{Gives, Means, whole}
-use Rattle.pj_outside.specs.Files.{Files}
+use Rattle.pj_outside.specs.Files.{Bytes, Files}
 use Rattle.pj_parse.specs.FileOutcome.{outcome_of}
 use Rattle.pj_parse.specs.JavaFile.{JavaFile}
 use Rattle.pj_reports.specs.declared.report.Report.{Report}
 use Rattle.pj_reports.specs.declared.rows.FileRows.{FileRows}
 use Rattle.pj_names.specs.declared.rule_row.ConfigError.{ConfigError}
 use Rattle.pj_tree.specs.declared.node.Node.{Node}
-use Rattle.pj_workers.specs.FileMeaning.{Bytes, Replies, file_meaning}
-use Rattle.pj_workers.specs.RuleMeaning.{Reply}
+use Rattle.pj_workers.specs.FileMeaning.{Replies, file_meaning}
+use Rattle.pj_xlaws.specs.Laws.{Reply}
 use Rattle.pj_workers.specs.Rules.{Rule}
 use Rattle.pj_xexpressions.specs.declared.pmd_function.PmdFunction.{PmdFunction}
 use Rattle.pj_xvalue.specs.Items.{ItemValue}

@@ -1,6 +1,6 @@
 -- What rules mean at a file: the head of the file with the meaning of each rule, one after the other, merged by node and rule. Each
 -- part is a function of the path, the bytes and one rule, so that what is kept of one rule in one file can be used again.
-use Rattle.std.specs.Prelude.{ℕ, List, [], Result, Ok, Err, if◌then◌else◌}
+use Rattle.std.specs.Prelude.{List, [], Result, Ok, Err, if◌then◌else◌}
 use Rattle.pj_findings.specs.Merged.{merge}
 use Rattle.pj_reports.specs.declared.ruled.Head.{Head}
 use Rattle.pj_reports.specs.declared.ruled.Head.TheVariants.{Package, Message}
@@ -13,11 +13,9 @@ use Rattle.pj_parse.specs.declared.file_fault.FileFault.{FileFault}
 use Rattle.pj_reports.specs.declared.rows.FileRows.{FileRows}
 use Rattle.pj_symbols.specs.Names.{package_name}
 use Rattle.pj_workers.specs.Faults.{fault_message}
-use Rattle.pj_workers.specs.RuleMeaning.{Reply, rule_in_file}
+use Rattle.pj_xlaws.specs.Laws.{Reply}
+use Rattle.pj_workers.specs.RuleMeaning.{rule_in_file}
 use Rattle.pj_workers.specs.Rules.{Rule, is_active}
-
-abbrev pub Bytes : Type 0
-Bytes = List ℕ
 
 -- what the functions of PMD reply in a file of a path
 abbrev pub Replies : Type 0

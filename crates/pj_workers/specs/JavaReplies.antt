@@ -7,7 +7,8 @@ use Rattle.pj_javafuncs.specs.Replies.{reply}
 use Rattle.pj_names.specs.Expand.{expand}
 use Rattle.pj_parse.specs.JavaFile.{JavaFile}
 use Rattle.pj_workers.specs.FileFacts.{attribute_of, facts, place_of}
-use Rattle.pj_workers.specs.FileMeaning.{Bytes, Replies}
+use Rattle.pj_outside.specs.Files.{Bytes}
+use Rattle.pj_workers.specs.FileMeaning.{Replies}
 
 -- what they know of a file of a path besides its tree
 abbrev pub known_in : Bytes → JavaFile → Facts

@@ -13,7 +13,7 @@ use Rattle.pj_findings.specs.Extents.{extent_of}
 use Rattle.pj_findings.specs.Messages.{rule_message}
 use Rattle.pj_reports.specs.declared.ruled.Spot.{Spot}
 use Rattle.pj_names.specs.Asking.{Return, names_of, value_of}
-use Rattle.pj_outside.specs.Files.{Files}
+use Rattle.pj_outside.specs.Files.{Bytes, Files}
 use Rattle.pj_parse.specs.FileOutcome.{outcome_of}
 use Rattle.pj_parse.specs.JavaFile.{JavaFile}
 use Rattle.pj_parse.specs.declared.file_fault.FileFault.{FileFault}
@@ -33,11 +33,12 @@ use Rattle.pj_workers.specs.Calls.{RuleCallsOnly, asks_nothing}
 use Rattle.pj_workers.specs.Cold.{FileSettles, IsCold, SourceSettles, World}
 use Rattle.pj_workers.specs.Faults.{fault_message}
 use Rattle.pj_workers.specs.FileFacts.{place_of}
-use Rattle.pj_workers.specs.FileMeaning.{Bytes, Replies, file_meaning, nothing, rule_meaning}
+use Rattle.pj_workers.specs.FileMeaning.{Replies, file_meaning, nothing, rule_meaning}
 use Rattle.pj_workers.specs.JavaReplies.{java_replies}
 use Rattle.pj_workers.specs.Marked.{is_marked}
 use Rattle.pj_workers.specs.RuleFacts.{IsFirstCode, IsUncovered, items_in, reason_in}
-use Rattle.pj_workers.specs.RuleMeaning.{Reply, rule_in_file}
+use Rattle.pj_xlaws.specs.Laws.{Reply}
+use Rattle.pj_workers.specs.RuleMeaning.{rule_in_file}
 use Rattle.pj_workers.specs.Rules.{IsSpelled, Rule, is_active}
 
 -- A rule that is not active for a path means nothing there, and asks nothing.

@@ -4,7 +4,7 @@ use Rattle.pj_names.specs.Asking.{Asking, Return, Ask, Unbounded}
 use Rattle.pj_tree.specs.declared.node.Node.{Node}
 use Rattle.pj_xexpressions.specs.declared.pmd_function.PmdFunction.{PmdFunction}
 use Rattle.pj_xvalue.specs.Items.{ItemValue}
-use Rattle.pj_workers.specs.RuleMeaning.{Reply}
+use Rattle.pj_xlaws.specs.Laws.{Reply}
 
 -- The meaning is a value: it asks for no class, and goes into no recursion that nothing bounds.
 abbrev pub IsPlain : {A : Type 0} → Asking A → Type 0

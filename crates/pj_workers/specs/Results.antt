@@ -14,7 +14,8 @@ use Rattle.pj_parse.specs.FileOutcome.{outcome_of}
 use Rattle.pj_parse.specs.JavaFile.{JavaFile}
 use Rattle.pj_parse.specs.declared.file_fault.FileFault.{FileFault}
 use Rattle.pj_reports.specs.declared.ruled.Ruled.{Ruled}
-use Rattle.pj_workers.specs.FileMeaning.{Bytes, Replies, file_meaning, head_of, rule_meaning}
+use Rattle.pj_outside.specs.Files.{Bytes}
+use Rattle.pj_workers.specs.FileMeaning.{Replies, file_meaning, head_of, rule_meaning}
 use Rattle.pj_workers.specs.Rules.{Rule}
 use Rattle.pj_workers.specs.declared.result.FileResult.{FileResult}
 

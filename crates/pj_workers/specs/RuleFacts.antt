@@ -12,7 +12,8 @@ use Rattle.pj_xvalue.specs.Items.{ItemValue, Element}
 use Rattle.pj_xvalue.specs.declared.fault.XCode.{XCode}
 use Rattle.pj_workers.specs.Cold.{World}
 use Rattle.pj_workers.specs.Reasons.{plain_reason_of}
-use Rattle.pj_workers.specs.RuleMeaning.{Reply, extent_at, items, reason_at, value_of as denoted_by}
+use Rattle.pj_xlaws.specs.Laws.{Reply}
+use Rattle.pj_workers.specs.RuleMeaning.{extent_at, items, reason_at, value_of as denoted_by}
 use Rattle.pj_workers.specs.Rules.{Rule}
 
 module _ (depth : ℕ) (world : World) (reply : Reply) (file : JavaFile) (rule : Rule) where

@@ -21,14 +21,9 @@ use Rattle.pj_xvalue.specs.Boolean.{effective_boolean}
 use Rattle.pj_xvalue.specs.Items.{ItemValue, Document, Element}
 use Rattle.pj_xexpressions.specs.declared.expr.Expr.{Expr}
 use Rattle.pj_xvalue.specs.declared.fault.XCode.{XCode}
-use Rattle.pj_xexpressions.specs.declared.pmd_function.PmdFunction.{PmdFunction}
 use Rattle.pj_workers.specs.FileFacts.{around_file, place_of}
 use Rattle.pj_workers.specs.Reasons.{plain_reason_of, xpath_reason}
 use Rattle.pj_workers.specs.Rules.{Rule, patterns_of}
-
--- what the functions of PMD reply
-abbrev pub Reply : Type 0
-Reply = PmdFunction → Option Node → List (List ItemValue) → Means (List ItemValue)
 
 -- a finding at a node that stands there
 abbrev pub found_of : Node → Extent → Option Reason → Spot

@@ -1,8 +1,7 @@
 -- What a rule means by its texts.
 use Rattle.std.specs.Prelude.{◌≡◌, Bool, List, Option}
 use Rattle.std.specs.List.{AllZip}
-use Rattle.pj_rule_sets.specs.Expressions.{Both, IsSpelledBy, names_of, variables_of}
-use Rattle.pj_rule_sets.specs.Patterns.{suppression_of}
+use Rattle.pj_rule_sets.specs.Expressions.{Spell, variables_of}
 use Rattle.pj_rule_sets.specs.Active.{are_active}
 use Rattle.pj_rule_sets.specs.Rules.{EffectiveRule, EffectiveRules, texts_of}
 use Rattle.pj_rule_texts.specs.Values.{Text}
@@ -32,9 +31,8 @@ pub record Rule : Type 0 where
 -- ---- expressions
 
 -- The expressions of the rule are those that its texts spell.
-pub record IsSpelled (rule : Rule) : Type 0 where
-  pub query : IsSpelledBy (names_of rule.source.texts) rule.source.texts.xpath rule.query
-  pub suppression : Both (suppression_of rule.source.texts) rule.suppression (IsSpelledBy (names_of rule.source.texts))
+abbrev pub IsSpelled : Rule → Type 0
+IsSpelled rule = Spell rule.source.texts rule.query rule.suppression
 
 -- the patterns of an expression of the rule
 abbrev pub patterns_of : Rule → Expr → List Pattern

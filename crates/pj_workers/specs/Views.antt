@@ -29,11 +29,13 @@ use Rattle.pj_tree.specs.Tree.{Tree}
 use Rattle.pj_tree.specs.declared.node.Node.{Node}
 use Rattle.pj_xsteps.specs.Means.{Means, give, ◌>>=◌}
 use Rattle.pj_workers.specs.Faults.{fault_message}
-use Rattle.pj_workers.specs.FileMeaning.{Bytes, file_at, head_of, nothing, rule_at}
+use Rattle.pj_outside.specs.Files.{Bytes}
+use Rattle.pj_workers.specs.FileMeaning.{file_at, head_of, nothing, rule_at}
 use Rattle.pj_workers.specs.Marked.{is_marked}
 use Rattle.pj_workers.specs.JavaReplies.{java_replies}
 use Rattle.pj_workers.specs.Results.{RestsOn, came_to, rules_in}
-use Rattle.pj_workers.specs.RuleMeaning.{Reply, extent_at, found_of, reason_at, rule_in_file}
+use Rattle.pj_xlaws.specs.Laws.{Reply}
+use Rattle.pj_workers.specs.RuleMeaning.{extent_at, found_of, reason_at, rule_in_file}
 use Rattle.pj_workers.specs.Rules.{AreRulesOf, Rule, source_of}
 use Rattle.pj_workers.specs.declared.result.FileRuns.{FileRuns}
 use Rattle.pj_workers.specs.declared.view.FileView.{FileView}

@@ -1,7 +1,8 @@
 use Rattle.std.proofs.Common.{◌≡◌, ◌++◌, ◌∙◌, List, [], ◌∷◌, add-one, ap, arith, map, refl, rules, subst, sym, take}
 use Rattle.std.proofs.lemmas.List.{map-append, take_all}
 use Rattle.std.specs.List.{AllZip}
-use Rattle.pj_workers.specs.FileMeaning.{Bytes, file_meaning}
+use Rattle.pj_outside.specs.Files.{Bytes}
+use Rattle.pj_workers.specs.FileMeaning.{file_meaning}
 use Rattle.pj_workers.specs.JavaReplies.{java_replies}
 use Rattle.pj_workers.specs.Results.{IsResultAt}
 use Rattle.pj_workers.specs.declared.result.FileResult.{FileResult}

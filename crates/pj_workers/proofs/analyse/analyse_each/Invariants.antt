@@ -1,6 +1,7 @@
 use Rattle.std.proofs.Common.{◌≡◌, List, [], map, take}
 use Rattle.std.specs.List.{AllByRecursion, AllZip}
-use Rattle.pj_workers.specs.FileMeaning.{Bytes, file_meaning}
+use Rattle.pj_outside.specs.Files.{Bytes}
+use Rattle.pj_workers.specs.FileMeaning.{file_meaning}
 use Rattle.pj_workers.specs.JavaReplies.{java_replies}
 use Rattle.pj_workers.specs.Results.{IsResultAt}
 use Rattle.pj_workers.specs.Rules.{AreRulesOf, Rule}

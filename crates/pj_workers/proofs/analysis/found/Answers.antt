@@ -8,7 +8,8 @@ use Rattle.pj_tree.specs.declared.node.Node.{Node}
 use Rattle.pj_xsteps.specs.Means.{Means, after, judged, ◌>>=◌}
 use Rattle.pj_xvalue.specs.Items.{ItemValue, values_of}
 use Rattle.pj_xvalue.specs.Replies.{outcome}
-use Rattle.pj_workers.specs.RuleMeaning.{Reply, found_at, items}
+use Rattle.pj_xlaws.specs.Laws.{Reply}
+use Rattle.pj_workers.specs.RuleMeaning.{found_at, items}
 use Rattle.pj_workers.specs.Views.{file_seen, rule_seen}
 use Rattle.pj_workers.proofs.Evaluating.{nodes_by, refused}
 use Rattle.pj_workers.proofs.Nodes.{nodes_inside}

@@ -6,7 +6,8 @@ use Rattle.pj_names.specs.Told.{Asks}
 use Rattle.pj_tree.specs.declared.node.Node.{Node}
 use Rattle.pj_xsteps.specs.Means.{Means, after}
 use Rattle.pj_xvalue.specs.Replies.{outcome}
-use Rattle.pj_workers.specs.RuleMeaning.{Reply, found_at}
+use Rattle.pj_xlaws.specs.Laws.{Reply}
+use Rattle.pj_workers.specs.RuleMeaning.{found_at}
 use Rattle.pj_workers.specs.Views.{file_seen, found_there, rule_seen}
 use Rattle.pj_workers.proofs.Evaluating.{refused}
 use Rattle.pj_workers.proofs.Finding.{found_begin, found_behind, found_turn}

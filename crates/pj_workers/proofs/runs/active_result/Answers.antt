@@ -7,7 +7,8 @@ use Rattle.pj_names.specs.Told.{Asks}
 use Rattle.pj_reports.specs.declared.ruled.Ruled.{Ruled}
 use Rattle.pj_tree.specs.Tree.{Tree}
 use Rattle.pj_workers.specs.JavaReplies.{java_replies}
-use Rattle.pj_workers.specs.RuleMeaning.{Reply, rule_in_file}
+use Rattle.pj_xlaws.specs.Laws.{Reply}
+use Rattle.pj_workers.specs.RuleMeaning.{rule_in_file}
 use Rattle.pj_workers.specs.Views.{AreRight, file_seen}
 use Rattle.pj_workers.proofs.Replying.{asks-under, replies_seen}
 use Rattle.pj_workers.proofs.TextLaws.{same_in_file}
