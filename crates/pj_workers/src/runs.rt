@@ -12,7 +12,7 @@ ghost use Rattle.pj_workers.specs.RuleMeaning.{rule_in_file};
 ghost use Rattle.pj_workers.specs.Rules.{IsRuleOf, Rule as MeantRule};
 ghost use Rattle.pj_workers.specs.Views.{AreRight, IsOfOneFile, file_seen, if_active};
 
-use crate::analysis::rule_result;
+use crate::file_rule::{FileRule, result_by};
 use crate::view::FileView;
 use pj_exprtypes::Typed;
 use pj_file_oracle::{FileOracle, Held};
@@ -72,7 +72,8 @@ fn active_result<'t, O: Oracle, A: Attributes>(
     let mut own_types = replace(types, Typed::new(file.alloc));
     let over = FileOracle::new(file.alloc, file.java, oracle, &mut own_held);
     let mut calls = JavaCalls::new(over, &mut own_types, facts, file.path);
-    let came_to = rule_result(file, rule, &mut calls);
+    let in_file = FileRule { file, rule };
+    let came_to = result_by(&in_file, &mut calls);
     let _inner = give_back(calls, held, types);
     came_to
 }
