@@ -42,9 +42,9 @@ returns-clause-asks g c = λ meant is.
     let spelled = c.result_by-came_to.ensures.asks in
     let tree = ap (λ o. o.file.now) c.new-calls.ensures.oracle ∙ c.new-over.ensures.file ∙ c.requires.file.java_is in
     let same_facts = c.new-calls.ensures.facts in
-    let same_known = λ i. known (g.A.Attributes.attribute_of (same_facts i)) (g.A.Attributes.names_of (same_facts i)) (g.A.Attributes.modifiers_of (same_facts i)) (g.A.Attributes.place_of (same_facts i)) (c.new-calls.ensures.path i) in
     let first : known (g.A.Attributes.attribute_of before.facts.now) (g.A.Attributes.names_of before.facts.now) (g.A.Attributes.modifiers_of before.facts.now) (g.A.Attributes.place_of before.facts.now) before.path.now
-    ≡ known (g.A.Attributes.attribute_of c.args.facts.now) (g.A.Attributes.names_of c.args.facts.now) (g.A.Attributes.modifiers_of c.args.facts.now) (g.A.Attributes.place_of c.args.facts.now) view.path.now = same_known in
+    ≡ known (g.A.Attributes.attribute_of c.args.facts.now) (g.A.Attributes.names_of c.args.facts.now) (g.A.Attributes.modifiers_of c.args.facts.now) (g.A.Attributes.place_of c.args.facts.now) view.path.now
+    = λ i. known (g.A.Attributes.attribute_of (same_facts i)) (g.A.Attributes.names_of (same_facts i)) (g.A.Attributes.modifiers_of (same_facts i)) (g.A.Attributes.place_of (same_facts i)) (c.new-calls.ensures.path i) in
     let replies = replies_seen view _ before.oracle.file.now (first ∙ c.requires.known) tree in
     let of = spelled.1 in
     let alike = of.2 ∙ ap (λ (r : Reply). rule_in_file r file of.0) replies
