@@ -179,6 +179,17 @@ pub told-refused : {K B : Type 0} (t : Tree) (var : Node → Asking JavaType) (l
     → Asks (told_by_operands t (typed t var left) n) a b (Err e) → r ≡ Err e → AsksPart (typed t var (left + 1) n) a b r
 told-refused t var left n {a = a} h is = part-lift (typed t var (left + 1) n) (told_by_operands t (typed t var left) n) (λ told. told-first a.world t var left n) (part-err h is)
 
+-- the same, counted from a depth that is some
+pub told-asked-at : {K B : Type 0} (t : Tree) (var : Node → Asking JavaType) (left : ℕ) (n : Node) {a b : Told K} {v : Typing} (r : B) → 0 < left
+    → Asks (told_by_operands t (typed t var (left - 1)) n) a b (Ok v) → AsksPart (typed t var left n) a b (Ok r)
+told-asked-at t var left n {a = a} {b = b} r some h =
+    let more : left - 1 + 1 ≡ left = omega (arith, some) in subst (λ (k : ℕ). AsksPart (typed t var k n) a b (Ok r)) more (told-asked t var (left - 1) n r h)
+
+pub told-refused-at : {K B : Type 0} (t : Tree) (var : Node → Asking JavaType) (left : ℕ) (n : Node) {a b : Told K} {e : AskFault} {r : Result B AskFault} → 0 < left
+    → Asks (told_by_operands t (typed t var (left - 1)) n) a b (Err e) → r ≡ Err e → AsksPart (typed t var left n) a b r
+told-refused-at t var left n {a = a} {b = b} {r = r} some h is =
+    let more : left - 1 + 1 ≡ left = omega (arith, some) in subst (λ (k : ℕ). AsksPart (typed t var k n) a b r) more (told-refused t var (left - 1) n h is)
+
 -- the arguments are parts, where that comes to candidates
 arguments-parts : (w : Worlds) (t : Tree) (var : Node → Asking JavaType) (left : ℕ) (n : Node) (candidates : Candidates) (found : Typing) → found ≡ OfCall candidates
     → ((d : ℕ) → longest ≤ d → found ≡ value_of d (w d).answer (told_by_operands t (typed t var left) n)) → All (λ m. IsPartOf w (typed t var left m) (typed t var (left + 1) n)) (arguments_of t n)
@@ -199,6 +210,13 @@ adds-arguments t is_told w before left n candidates found nodes old new is comes
   are_due = visits-due t is_told w (typed t (earlier t before) (left + 1) n) before left nodes inside
       (λ told. subst (λ ns. All (λ m. IsPartOf w (typed t (earlier t before) left m) (typed t (earlier t before) (left + 1) n)) ns) (sym same) (arguments-parts w t (earlier t before) left n candidates found is (comes told)));
 }
+
+pub adds-arguments-at : (t : Tree) (is_told : Bool) (w : Worlds) (before left : ℕ) (n : Node) (candidates : Candidates) (found : Typing) (nodes : List Node) (old new : List Pending) → 0 < left → found ≡ OfCall candidates
+    → (IsTrue is_told → (d : ℕ) → longest ≤ d → found ≡ value_of d (w d).answer (told_by_operands t (typed t (earlier t before) (left - 1)) n))
+    → nodes ≡ arguments_of t n → All (λ (m : Node). m.0 < length t.nodes) nodes → new ≡ old ++ visits before (left - 1) nodes → AddsParts t is_told w (typed t (earlier t before) left n) old new
+adds-arguments-at t is_told w before left n candidates found nodes old new some is comes same inside puts =
+    let more : left - 1 + 1 ≡ left = omega (arith, some) in
+    subst (λ (k : ℕ). AddsParts t is_told w (typed t (earlier t before) k n) old new) more (adds-arguments t is_told w before (left - 1) n candidates found nodes old new is comes same inside puts)
 
 -- a call whose arguments are to be looked at
 pub adds-pass : (t : Tree) (is_told : Bool) (w : Worlds) (before left : ℕ) (n : Node) (old new : List Pending) → n.0 < length t.nodes → new ≡ old ++ pending.Pass before left n ∷ []
@@ -223,6 +241,11 @@ adds-both t is_told w whole old middle new first second = record {
 pub none-left : {X : Type 0} (xs : List X) → (length xs == 0) ≡ true → xs ≡ []
 none-left [] is = refl
 none-left (x ∷ xs) is = absurd (let none : length (x ∷ xs) ≡ 0 = eqb-true (length (x ∷ xs)) 0 is in omega (arith, none))
+
+-- what follows of what holds
+pub on-map : {A E : Type 0} {P Q : Type 0} (r : Result A E) → (P → Q) → OnOk r P → OnOk r Q
+on-map (Ok v) next p = next p
+on-map (Err e) next p = tt
 
 -- what holds anyway
 pub on-ok : {A E : Type 0} {P : Type 0} (r : Result A E) → P → OnOk r P
