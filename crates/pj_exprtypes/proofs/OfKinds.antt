@@ -15,7 +15,7 @@ use Rattle.pj_operators.specs.declared.operators.Infix.{Infix}
 use Rattle.pj_operators.specs.declared.operators.Infix.TheVariants as i
 use Rattle.pj_operators.specs.declared.operators.Unary.{Unary}
 use Rattle.pj_operators.specs.declared.operators.Unary.TheVariants as u
-use Rattle.pj_operators.specs.Operators.{infix_of, infix_type, unary_of}
+use Rattle.pj_operators.specs.Operators.{infix_of, unary_of}
 use Rattle.pj_receivers.specs.Elements.{element_of}
 use Rattle.pj_receivers.specs.Fields.{field_of}
 use Rattle.pj_calls.specs.Nodes.{arguments_of, before_dot, functions_of, receiver_by}
