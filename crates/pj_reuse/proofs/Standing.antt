@@ -67,7 +67,7 @@ put_by k x q xs more Equal e rest =
     absorbed (is_at (byte_order q) x) (has_key xs q) ∙ (λ i. sym same i || (is_at (byte_order q) x || has_key xs q))
 put_by k x q xs more Greater e rest = ap (λ (b : Bool). is_at (byte_order q) x || b) rest ∙ swapped (is_at (byte_order q) x) (is_at (byte_order q) k) (has_key xs q)
 
-has_put : (held : List Key) (k q : Key) → has_key (insert_key byte_order held k) q ≡ (is_at (byte_order q) k || has_key held q)
+pub has_put : (held : List Key) (k q : Key) → has_key (insert_key byte_order held k) q ≡ (is_at (byte_order q) k || has_key held q)
 has_put [] k q = refl
 has_put (x ∷ xs) k q = put_by k x q xs (insert_key byte_order xs k) (byte_order k x) refl (has_put xs k q)
 
