@@ -1,2 +1,10 @@
+pub mod Sets
+pub mod Lists
 pub mod Among
 pub mod Right
+pub mod Named
+pub mod Left
+pub mod Merged
+pub mod Served
+pub mod Looked
+pub mod Fits
