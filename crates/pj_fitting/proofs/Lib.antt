@@ -8,3 +8,6 @@ pub mod Merged
 pub mod Served
 pub mod Looked
 pub mod Fits
+pub mod Unserved
+pub mod Sorted
+pub mod OneLeft

@@ -1,6 +1,6 @@
 //! Laws of caches that are right, each the contract of a call that does nothing.
-ghost use Rattle.std.specs.Prelude.{◌≡◌, ℕ, List, IsTrue, Option, Some, map, slice_get};
-ghost use Rattle.std.specs.List.{All, Contains};
+ghost use Rattle.std.specs.Prelude.{◌≡◌, ℕ, List, [], IsTrue, Option, Some, true, not, filter, map, slice_get};
+ghost use Rattle.std.specs.List.{All, Contains, list_all};
 ghost use Rattle.pj_names.specs.declared.answer.Answer.{Answer};
 ghost use Rattle.pj_names.specs.ClassName.{Name, NameSet, name_set};
 ghost use Rattle.pj_names.specs.Asking.{Return, bind, each, value_of};
@@ -13,9 +13,9 @@ ghost use Rattle.pj_cache.specs.declared.cache.Entry.{Entry};
 ghost use Rattle.pj_cache.specs.declared.cache.Cache.{Cache};
 ghost use Rattle.pj_cache_format.specs.Decoded.{text_two};
 ghost use Rattle.pj_cache_format.specs.Fitting.{FitsFields};
-ghost use Rattle.pj_reuse.specs.Serving.{served, stands};
+ghost use Rattle.pj_reuse.specs.Serving.{is_served, served, stands};
 ghost use Rattle.pj_fitting.specs.Right.{Key, RulesAt, Files, ComesTo, ComeTo, IsRight, IsRightCache};
-ghost use Rattle.pj_fitting.specs.Left.{File, IsLeftCache, IsLeftEntry, IsServedBy, IsSaid, rows_at};
+ghost use Rattle.pj_fitting.specs.Left.{File, IsLeftCache, IsLeftEntry, IsServedBy, IsSaid, kept, missing, rows_at};
 ghost use Rattle.pj_fitting.specs.Looked.{Looked};
 ghost use Rattle.pj_fitting.specs.Fits.{CacheFits, IsFound};
 
@@ -59,8 +59,20 @@ pub fn left_entries_say_what_rules_mean<R, Rows>()
         (Gives (merge e.head (map (rows_at (files.rules file.0 file.1) e.results) held)) names) }
 {}
 
+/// There is at most one cache that a run leaves.
+pub fn one_left_cache<R>()
+    ensures { (files : Files R) (world : Name → Answer) (found : Cache) (held : List R) (list : List File) (first second : Cache)
+        → IsLeftCache files world found held list first → IsLeftCache files world found held list second → first ≡ second }
+{}
+
 /// There is at most one set of names for which a run asks.
 pub fn one_looked<R>()
     ensures { (files : Files R) (found : Cache) (world : Name → Answer) (held : List R) (list : List File) (first second : NameSet)
         → Looked files found world held list first → Looked files found world held list second → first ≡ second }
+{}
+
+/// New results are made for just the keys of active rules that are not served, and so for none where each of them is served.
+pub fn results_are_made_where_none_serve()
+    ensures keys { (answers : List (Name × Answer)) (world : Name → Answer) (keys : List Key) (old : List CachedResult) → missing (kept answers world keys old) keys ≡ filter (λ key. not (is_served answers world old key)) keys }
+    ensures none { (answers : List (Name × Answer)) (world : Name → Answer) (keys : List Key) (old : List CachedResult) → list_all (is_served answers world old) keys ≡ true → missing (kept answers world keys old) keys ≡ [] }
 {}
