@@ -18,7 +18,7 @@ use Rattle.pj_cache.specs.declared.cache.CachedResult.{CachedResult}
 use Rattle.pj_cache.specs.declared.cache.Entry.{Entry}
 use Rattle.pj_cache.specs.declared.cache.Cache.{Cache}
 use Rattle.pj_reuse.specs.Serving.{has_key, has_one, is_served, keys_of, stands}
-use Rattle.pj_fitting.specs.Right.{Key, RulesAt, Files, ComesTo, ComeTo, IsRight, IsRightEntry, IsRightCache}
+use Rattle.pj_fitting.specs.Right.{Key, RulesAt, Files, ComesTo, ComeTo, IsRight, IsRightEntry, IsRightCache, rules_at}
 use Rattle.pj_fitting.specs.Left.{File, active_keys, of_bytes, entry_at, results_of, serves, kept, has_result, missing, row_of, IsNew, IsNewOfSome, HasNew, AreLeft, AreLeftBy, IsLeftEntry, IsLeftCache}
 use Rattle.pj_fitting.proofs.Sets.{or_true, same_name}
 use Rattle.pj_fitting.proofs.Among.{both_true}
@@ -30,15 +30,15 @@ use Rattle.pj_fitting.proofs.Lists.{all_map, all_both, all_joined, all_filter, a
 
 module _ {R : Type 0} (files : Files R) (answers : List (Name × Answer)) (file : File) where
   abbrev RightHere : List CachedResult → Type 0
-  RightHere results = AllByRecursion (IsRight (files.rules file.0 file.1) answers) results
+  RightHere results = AllByRecursion (IsRight (rules_at files file.0 file.1) answers) results
 
-  moved_right : (e : Entry) → e.path ≡ file.0 → e.bytes ≡ file.1 → AllByRecursion (IsRight (files.rules e.path e.bytes) answers) e.results → RightHere e.results
+  moved_right : (e : Entry) → e.path ≡ file.0 → e.bytes ≡ file.1 → AllByRecursion (IsRight (rules_at files e.path e.bytes) answers) e.results → RightHere e.results
   moved_right e p b all =
-      subst (λ (path : List ℕ). AllByRecursion (IsRight (files.rules path file.1) answers) e.results) p
-      (subst (λ (bytes : List ℕ). AllByRecursion (IsRight (files.rules e.path bytes) answers) e.results) b all)
+      subst (λ (path : List ℕ). AllByRecursion (IsRight (rules_at files path file.1) answers) e.results) p
+      (subst (λ (bytes : List ℕ). AllByRecursion (IsRight (rules_at files e.path bytes) answers) e.results) b all)
 
   same_bytes : (e : Entry) (t : Bool) → pointwise nat_eq e.bytes file.1 ≡ t → e.path ≡ file.0 → IsRightEntry files answers e → RightHere (results_of (cond t (Some e) None))
-  same_bytes e true is p right = moved_right e p ((bytes_decides e.bytes file.1).0 is) (recursion_from_All (IsRight (files.rules e.path e.bytes) answers) e.results right.1)
+  same_bytes e true is p right = moved_right e p ((bytes_decides e.bytes file.1).0 is) (recursion_from_All (IsRight (rules_at files e.path e.bytes) answers) e.results right.1)
   same_bytes e false is p right = tt
 
   same_path : (e : Entry) (es : List Entry) (t : Bool) → pointwise nat_eq e.path file.0 ≡ t → IsRightEntry files answers e → RightHere (results_of (of_bytes (first_named (λ (x : Entry). x.path) es file.0) file.1))
@@ -104,9 +104,9 @@ module _ {R : Type 0} (rules : RulesAt R) (world : Name → Answer) where
 -- ---- the cache
 
 module _ {R : Type 0} (files : Files R) (world : Name → Answer) (found : Cache) (held : List R) where
-  pub entry_now : (file : File) (e : Entry) → IsRightCache files found → IsLeftEntry files world found held file e → AllByRecursion (ComesNow (files.rules file.0 file.1) world) e.results
+  pub entry_now : (file : File) (e : Entry) → IsRightCache files found → IsLeftEntry files world found held file e → AllByRecursion (ComesNow (rules_at files file.0 file.1) world) e.results
   entry_now file e right left =
-      let rules : RulesAt R = files.rules file.0 file.1 in
+      let rules : RulesAt R = rules_at files file.0 file.1 in
       let old : List CachedResult = results_of (entry_at found file) in
       left_now rules world (files.head file.1) found.answers old (active_keys rules held) e.results
       (right_at files found.answers file found.entries (recursion_from_All (IsRightEntry files found.answers) found.entries right)) left.results
@@ -116,12 +116,12 @@ module _ {R : Type 0} (files : Files R) (world : Name → Answer) (found : Cache
 
   entry_right : (later : List (Name × Answer)) (file : File) (e : Entry) → IsRightCache files found → IsLeftEntry files world found held file e → AllByRecursion (Named later) e.results → IsRightEntry files later e
   entry_right later file e right left named =
-      let rules : RulesAt R = files.rules file.0 file.1 in
+      let rules : RulesAt R = rules_at files file.0 file.1 in
       let here : AllByRecursion (IsRight rules later) e.results = all_both (ComesNow rules world) (Named later) (IsRight rules later) e.results (λ r comes names. right_from rules later world r comes names) (entry_now file e right left) named in
-      let there : AllByRecursion (IsRight (files.rules e.path e.bytes) later) e.results =
-      subst (λ (path : List ℕ). AllByRecursion (IsRight (files.rules path e.bytes) later) e.results) (sym left.path)
-      (subst (λ (bytes : List ℕ). AllByRecursion (IsRight (files.rules file.0 bytes) later) e.results) (sym left.bytes) here) in
-      (left.head ∙ ap files.head (sym left.bytes), All-from_recursion (IsRight (files.rules e.path e.bytes) later) e.results there)
+      let there : AllByRecursion (IsRight (rules_at files e.path e.bytes) later) e.results =
+      subst (λ (path : List ℕ). AllByRecursion (IsRight (rules_at files path e.bytes) later) e.results) (sym left.path)
+      (subst (λ (bytes : List ℕ). AllByRecursion (IsRight (rules_at files file.0 bytes) later) e.results) (sym left.bytes) here) in
+      (left.head ∙ ap files.head (sym left.bytes), All-from_recursion (IsRight (rules_at files e.path e.bytes) later) e.results there)
 
   each_right : (later : List (Name × Answer)) (list : List File) (es : List Entry) → IsRightCache files found → AllZip (IsLeftEntry files world found held) list es → AllByRecursion (λ (e : Entry). AllByRecursion (Named later) e.results) es
       → AllByRecursion (IsRightEntry files later) es

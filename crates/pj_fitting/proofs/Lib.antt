@@ -11,3 +11,4 @@ pub mod Fits
 pub mod Unserved
 pub mod Sorted
 pub mod OneLeft
+pub mod Again

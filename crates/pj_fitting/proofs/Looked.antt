@@ -7,7 +7,7 @@ use Rattle.pj_names.specs.Meaning.{Gives, Means, whole}
 use Rattle.pj_names.proofs.MeaningLaws.{means-one}
 use Rattle.pj_reports.specs.declared.ruled.Ruled.{Ruled}
 use Rattle.pj_cache.specs.declared.cache.Cache.{Cache}
-use Rattle.pj_fitting.specs.Right.{RulesAt, Files, Together}
+use Rattle.pj_fitting.specs.Right.{RulesAt, Files, Together, rules_at}
 use Rattle.pj_fitting.specs.Left.{File}
 use Rattle.pj_fitting.specs.Looked.{AsksFor, AskFor, analysed, is_reusable, LookedFile, Looked, told}
 
@@ -28,7 +28,7 @@ module _ {R : Type 0} (files : Files R) (found : Cache) (world : Name → Answer
   one_file : (file : File) (s t : NameSet) → LookedFile files found world held file s → LookedFile files found world held file t → s ≡ t
   one_file file s t first second =
       let names : NameSet = told files found world held file in
-      let asked = one_asked (files.rules file.0 file.1) world (analysed files found world held file (is_reusable files found world held file)) first.asked second.asked first.comes second.comes in
+      let asked = one_asked (rules_at files file.0 file.1) world (analysed files found world held file (is_reusable files found world held file)) first.asked second.asked first.comes second.comes in
       first.all ∙ (λ i. set.union names (asked i)) ∙ sym second.all
 
   pub one_looked : (list : List File) (s t : NameSet) → Looked files found world held list s → Looked files found world held list t → s ≡ t

@@ -23,7 +23,7 @@ use Rattle.pj_cache.specs.declared.cache.CachedResult.{CachedResult}
 use Rattle.pj_cache.specs.declared.cache.Entry.{Entry}
 use Rattle.pj_cache.specs.declared.cache.Cache.{Cache}
 use Rattle.pj_reuse.specs.Serving.{has_key, keys_of}
-use Rattle.pj_fitting.specs.Right.{Key, RulesAt, Files, ComesTo, ComeTo, IsRightCache, nothing}
+use Rattle.pj_fitting.specs.Right.{Key, RulesAt, Files, ComesTo, ComeTo, IsRightCache, nothing, rules_at}
 use Rattle.pj_fitting.specs.Left.{File, active_keys, entry_at, has_result, results_of, row_of, rows_at, AreLeftBy, IsLeftEntry}
 use Rattle.pj_fitting.proofs.Sets.{same_name, set_of_both}
 use Rattle.pj_fitting.proofs.Right.{every_rule}
@@ -193,7 +193,7 @@ module _ {R : Type 0} (rules : RulesAt R) (world : Name → Answer) where
 
 module _ {R : Type 0} (files : Files R) (world : Name → Answer) (found : Cache) (held : List R) (file : File) (e : Entry) where
   abbrev here : RulesAt R
-  here = files.rules file.0 file.1
+  here = rules_at files file.0 file.1
 
   said_at : (h : Head) → files.head file.1 ≡ h → IsRightCache files found → IsLeftEntry files world found held file e → AreLeftBy h here world found.answers (results_of (entry_at found file)) (active_keys here held) e.results
       → AllByRecursion (λ (rule : R). Comes (whole world) (here.meaning rule) (rows_at here e.results rule)) held

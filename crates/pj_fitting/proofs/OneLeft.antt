@@ -21,7 +21,7 @@ use Rattle.pj_cache.specs.declared.cache.Cache.{Cache}
 use Rattle.pj_cache_format.specs.FormatTwo.{keys_of, names_of}
 use Rattle.pj_cache_format.specs.Ordered.{AreResultsInOrder, IsEntryInOrder, IsInOrder}
 use Rattle.pj_cache_format.proofs.Split.{answers_sorted}
-use Rattle.pj_fitting.specs.Right.{Key, RulesAt, Files}
+use Rattle.pj_fitting.specs.Right.{Key, RulesAt, Files, rules_at}
 use Rattle.pj_fitting.specs.Left.{File, active_keys, entry_at, results_of, kept, missing, IsNew, IsNewOfSome, HasNew, AreLeft, AreLeftBy, IsLeftEntry, IsLeftCache}
 use Rattle.pj_fitting.proofs.Lists.{all_map, all_both}
 use Rattle.pj_fitting.proofs.Sorted.{IsIn, IsAscending, all_sorted, contained, first_key, in_at, names_of_results, none_sorted, results_ascend, same_lists, same_names}
@@ -83,7 +83,7 @@ module _ {R : Type 0} (files : Files R) (world : Name → Answer) (found : Cache
 
   one_entry : (file : File) (a b : Entry) → IsLeftEntry files world found held file a → IsLeftEntry files world found held file b → EntryInOrder a → EntryInOrder b → a ≡ b
   one_entry file a b x y p q =
-      let rules : RulesAt R = files.rules file.0 file.1 in
+      let rules : RulesAt R = rules_at files file.0 file.1 in
       let results : a.results ≡ b.results = one_list rules world (files.head file.1) found.answers (results_of (entry_at found file)) (active_keys rules held) a.results b.results x.results y.results
       (p.0, p.1, p.2, p.3, subst (λ (h : Head). AreResultsInOrder p.0 p.1 h a.results) x.head p.4)
       (q.0, q.1, q.2, q.3, subst (λ (h : Head). AreResultsInOrder q.0 q.1 h b.results) y.head q.4) in

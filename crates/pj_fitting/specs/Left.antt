@@ -16,7 +16,7 @@ use Rattle.pj_cache.specs.declared.cache.Entry.{Entry}
 use Rattle.pj_cache.specs.declared.cache.Cache.{Cache}
 use Rattle.pj_cache_format.specs.Ordered.{IsInOrder}
 use Rattle.pj_reuse.specs.Serving.{has_key, has_one, keys_of, stands}
-use Rattle.pj_fitting.specs.Right.{Key, RulesAt, Files}
+use Rattle.pj_fitting.specs.Right.{Key, RulesAt, Files, rules_at}
 
 -- ---- a file and its entry
 
@@ -112,7 +112,7 @@ pub record IsLeftEntry {R : Type 0} (files : Files R) (world : Name → Answer) 
   pub path : e.path ≡ file.0
   pub bytes : e.bytes ≡ file.1
   pub head : e.head ≡ files.head file.1
-  pub results : AreLeftBy (files.head file.1) (files.rules file.0 file.1) world found.answers (results_of (entry_at found file)) (active_keys (files.rules file.0 file.1) held) e.results
+  pub results : AreLeftBy (files.head file.1) (rules_at files file.0 file.1) world found.answers (results_of (entry_at found file)) (active_keys (rules_at files file.0 file.1) held) e.results
 
 -- The cache that it leaves: an entry for each file, with the world's answers for the names of the results, in the order of the format.
 pub record IsLeftCache {R : Type 0} (files : Files R) (world : Name → Answer) (found : Cache) (held : List R) (list : List File) (c : Cache) : Type 0 where

@@ -11,7 +11,7 @@ use Rattle.pj_reports.specs.declared.ruled.Ruled.{Ruled}
 use Rattle.pj_cache.specs.declared.cache.Entry.{Entry}
 use Rattle.pj_cache.specs.declared.cache.Cache.{Cache}
 use Rattle.pj_reuse.specs.Serving.{is_served, looked_in}
-use Rattle.pj_fitting.specs.Right.{Key, RulesAt, Files, Together}
+use Rattle.pj_fitting.specs.Right.{Key, RulesAt, Files, Together, rules_at}
 use Rattle.pj_fitting.specs.Left.{File, active_keys, entry_at, results_of}
 
 -- whether a cache serves the rules of a key at a file, in a world
@@ -33,7 +33,7 @@ is_there (Some e) = true
 -- Whether a file is used again as it is: the cache has an entry of its path and bytes, which says that there is no tree, or each rule
 -- that is active there is served.
 abbrev pub is_reusable : {R : Type 0} → Files R → Cache → (Name → Answer) → List R → File → Bool
-is_reusable files found world held file = has_no_tree (entry_at found file) || (is_there (entry_at found file) && list_all (is_served_at found world file) (active_keys (files.rules file.0 file.1) held))
+is_reusable files found world held file = has_no_tree (entry_at found file) || (is_there (entry_at found file) && list_all (is_served_at found world file) (active_keys (rules_at files file.0 file.1) held))
 
 -- ---- names
 
@@ -54,17 +54,17 @@ unserved rules found world file held = filter (λ rule. rules.is_active rule && 
 -- the rules that are looked at in a file: none where it is used again as it is
 abbrev pub analysed : {R : Type 0} → Files R → Cache → (Name → Answer) → List R → File → Bool → List R
 analysed files found world held file true = []
-analysed files found world held file false = unserved (files.rules file.0 file.1) found world file held
+analysed files found world held file false = unserved (rules_at files file.0 file.1) found world file held
 
 -- the names that are asked for to tell which results stand: of each result for the key of an active rule, those up to the first one
 -- whose answer is another
 abbrev pub told : {R : Type 0} → Files R → Cache → (Name → Answer) → List R → File → NameSet
-told files found world held file = name_set (looked_in found.answers world (results_of (entry_at found file)) (active_keys (files.rules file.0 file.1) held))
+told files found world held file = name_set (looked_in found.answers world (results_of (entry_at found file)) (active_keys (rules_at files file.0 file.1) held))
 
 -- A run asks for just these names at a file: those by which it tells what is served, and those for which the other rules ask.
 pub record LookedFile {R : Type 0} (files : Files R) (found : Cache) (world : Name → Answer) (held : List R) (file : File) (names : NameSet) : Type 0 where
   pub asked : NameSet
-  pub comes : AskFor (files.rules file.0 file.1) world (analysed files found world held file (is_reusable files found world held file)) asked
+  pub comes : AskFor (rules_at files file.0 file.1) world (analysed files found world held file (is_reusable files found world held file)) asked
   pub all : names ≡ set.union (told files found world held file) asked
 
 -- at all files

@@ -35,11 +35,26 @@ pub record RulesAt (R : Type 0) : Type 0 where
   pub one_meaning : (a b : R) → key a ≡ key b → meaning a ≡ meaning b
   pub inactive_is_nothing : (a : R) → is_active a ≡ false → meaning a ≡ nothing
 
--- What files are: the head of some bytes, and the rules at a path with some bytes.
+-- What files are: the head of some bytes, and all rules that can be written, with their keys, the paths for which they are active, and what
+-- they mean at a path with some bytes.
 pub record Files (R : Type 0) : Type 0 where
   pub head : List ℕ → Head
-  pub rules : List ℕ → List ℕ → RulesAt R
-  pub no_tree_is_nothing : (path bytes message : List ℕ) (a : R) → head bytes ≡ heads.Message message → (rules path bytes).meaning a ≡ nothing
+  pub key : R → Key
+  pub is_active : List ℕ → R → Bool
+  pub meaning : List ℕ → List ℕ → R → Asking Ruled
+  pub one_meaning : (path bytes : List ℕ) (a b : R) → key a ≡ key b → meaning path bytes a ≡ meaning path bytes b
+  pub inactive_is_nothing : (path bytes : List ℕ) (a : R) → is_active path a ≡ false → meaning path bytes a ≡ nothing
+  pub no_tree_is_nothing : (path bytes message : List ℕ) (a : R) → head bytes ≡ heads.Message message → meaning path bytes a ≡ nothing
+
+-- the rules at a file
+abbrev pub rules_at : {R : Type 0} → Files R → List ℕ → List ℕ → RulesAt R
+rules_at files path bytes = record {
+  key = files.key;
+  is_active = files.is_active path;
+  meaning = files.meaning path bytes;
+  one_meaning = files.one_meaning path bytes;
+  inactive_is_nothing = files.inactive_is_nothing path bytes;
+}
 
 -- ---- results
 
@@ -74,7 +89,7 @@ IsRight rules answers r = ComeTo rules (answers_of answers r) r.group (name_set 
 
 -- an entry is right: it has the head of its bytes, and each of its results is right
 abbrev pub IsRightEntry : {R : Type 0} → Files R → List (Name × Answer) → Entry → Type 0
-IsRightEntry files answers e = (e.head ≡ files.head e.bytes) × All (IsRight (files.rules e.path e.bytes) answers) e.results
+IsRightEntry files answers e = (e.head ≡ files.head e.bytes) × All (IsRight (rules_at files e.path e.bytes) answers) e.results
 
 -- each entry of a cache is
 abbrev pub IsRightCache : {R : Type 0} → Files R → Cache → Type 0

@@ -14,9 +14,9 @@ ghost use Rattle.pj_cache.specs.declared.cache.Cache.{Cache};
 ghost use Rattle.pj_cache_format.specs.Decoded.{text_two};
 ghost use Rattle.pj_cache_format.specs.Fitting.{FitsFields};
 ghost use Rattle.pj_reuse.specs.Serving.{is_served, served, stands};
-ghost use Rattle.pj_fitting.specs.Right.{Key, RulesAt, Files, ComesTo, ComeTo, IsRight, IsRightCache};
+ghost use Rattle.pj_fitting.specs.Right.{Key, RulesAt, Files, ComesTo, ComeTo, IsRight, IsRightCache, rules_at};
 ghost use Rattle.pj_fitting.specs.Left.{File, IsLeftCache, IsLeftEntry, IsServedBy, IsSaid, kept, missing, rows_at};
-ghost use Rattle.pj_fitting.specs.Looked.{Looked};
+ghost use Rattle.pj_fitting.specs.Looked.{Looked, is_reusable};
 ghost use Rattle.pj_fitting.specs.Fits.{CacheFits, IsFound};
 
 /// The rules of a right result that stands in a world, each of its answers being the world's, come to its rows there, and together ask
@@ -52,17 +52,23 @@ pub fn left_caches_fit<R>()
 /// of the rules, one after the other and merged in any way, is what the rules mean together.
 pub fn left_entries_say_what_rules_mean<R, Rows>()
     ensures each_rule { (files : Files R) (world : Name → Answer) (found : Cache) (held : List R) (file : File) (e : Entry)
-        → IsRightCache files found → IsLeftEntry files world found held file e → All (IsSaid (files.rules file.0 file.1) world e.results) held }
+        → IsRightCache files found → IsLeftEntry files world found held file e → All (IsSaid (rules_at files file.0 file.1) world e.results) held }
     ensures merged { (files : Files R) (world : Name → Answer) (found : Cache) (held : List R) (file : File) (e : Entry) (merge : Head → List Ruled → Rows)
         → IsRightCache files found → IsLeftEntry files world found held file e
-        → (names : NameSet) × Means (whole world) (bind (each (files.rules file.0 file.1).meaning held) (λ results. Return (merge (files.head file.1) results)))
-        (Gives (merge e.head (map (rows_at (files.rules file.0 file.1) e.results) held)) names) }
+        → (names : NameSet) × Means (whole world) (bind (each (rules_at files file.0 file.1).meaning held) (λ results. Return (merge (files.head file.1) results)))
+        (Gives (merge e.head (map (rows_at (rules_at files file.0 file.1) e.results) held)) names) }
 {}
 
 /// There is at most one cache that a run leaves.
 pub fn one_left_cache<R>()
     ensures { (files : Files R) (world : Name → Answer) (found : Cache) (held : List R) (list : List File) (first second : Cache)
         → IsLeftCache files world found held list first → IsLeftCache files world found held list second → first ≡ second }
+{}
+
+/// Over what a run left, with the same rules, files and classes, each file is used again as it is, and the same is left again.
+pub fn second_runs_reuse_all<R>()
+    ensures { (files : Files R) (world : Name → Answer) (found : Cache) (held : List R) (c : Cache) (list : List File)
+        → IsLeftCache files world found held list c → All (λ file. is_reusable files c world held file ≡ true) list × IsLeftCache files world c held list c }
 {}
 
 /// There is at most one set of names for which a run asks.
