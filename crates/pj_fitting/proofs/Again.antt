@@ -1,6 +1,6 @@
 -- A run over what it left changes nothing.
 use Rattle.std.proofs.Common.{◌≡◌, ℕ, Bool, true, false, not, cond, ◌&&◌, ◌||◌, inl, inr, List, [], ◌∷◌, map, Option, Some, None, refl, sym, ap, subst, ◌∙◌}
-use Rattle.std.specs.Prelude.{IsTrue, nat_eq, ◌⊎◌}
+use Rattle.std.specs.Prelude.{nat_eq, ◌⊎◌}
 use Rattle.std.specs.Cmp.Lexicographic.{bytes_decides, nat_list_cmp_total, pointwise}
 use Rattle.std.specs.Cmp.{tied_itself}
 use Rattle.std.specs.List.{All, AllByRecursion, AllZip, Contains, filter, list_all, list_any}

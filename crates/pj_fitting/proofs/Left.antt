@@ -1,30 +1,26 @@
 -- What a run leaves is right, and says what its rules come to.
-use Rattle.std.proofs.Common.{◌≡◌, ℕ, Bool, true, false, not, cond, ◌&&◌, ◌||◌, inl, inr, List, [], ◌∷◌, map, Option, Some, None, refl, sym, ap, subst, ◌∙◌}
+use Rattle.std.proofs.Common.{◌≡◌, ℕ, Bool, true, false, not, cond, ◌||◌, inl, inr, List, [], ◌∷◌, map, Some, None, refl, sym, ap, subst, ◌∙◌}
 use Rattle.std.specs.Prelude.{IsTrue, nat_eq, ◌⊎◌}
 use Rattle.std.specs.Cmp.Lexicographic.{bytes_decides, pointwise}
-use Rattle.std.specs.List.{All, AllByRecursion, AllZip, Contains, filter, flat_map, list_any}
-use Rattle.std.specs.BTreeMap.{is_at}
+use Rattle.std.specs.List.{AllByRecursion, AllZip, Contains, filter}
 use Rattle.std.proofs.lemmas.List.Elements.{All-from_recursion, recursion_from_All, All-contains}
 use Rattle.pj_names.specs.declared.answer.Answer.{Answer}
-use Rattle.pj_names.specs.ClassName.{Name, NameSet, name_set}
-use Rattle.pj_names.specs.Asking.{Asking}
-use Rattle.pj_names.specs.Meaning.{Source, Gives, Means, found_in, whole}
+use Rattle.pj_names.specs.ClassName.{Name, name_set}
+use Rattle.pj_names.specs.Meaning.{found_in, whole}
 use Rattle.pj_reports.specs.declared.ruled.Head.{Head}
 use Rattle.pj_reports.specs.declared.ruled.Head.TheVariants as heads
 use Rattle.pj_cache.specs.Found.{first_named}
-use Rattle.pj_cache.specs.Places.{byte_order}
 use Rattle.pj_cache.specs.declared.cache.KeyRows.{KeyRows}
 use Rattle.pj_cache.specs.declared.cache.CachedResult.{CachedResult}
 use Rattle.pj_cache.specs.declared.cache.Entry.{Entry}
 use Rattle.pj_cache.specs.declared.cache.Cache.{Cache}
-use Rattle.pj_reuse.specs.Serving.{has_key, has_one, is_served, keys_of, stands}
-use Rattle.pj_fitting.specs.Right.{Key, RulesAt, Files, ComesTo, ComeTo, IsRight, IsRightEntry, IsRightCache, rules_at}
-use Rattle.pj_fitting.specs.Left.{File, active_keys, of_bytes, entry_at, results_of, serves, kept, has_result, missing, row_of, IsNew, IsNewOfSome, HasNew, AreLeft, AreLeftBy, IsLeftEntry, IsLeftCache}
-use Rattle.pj_fitting.proofs.Sets.{or_true, same_name}
+use Rattle.pj_reuse.specs.Serving.{has_key, has_one, keys_of, stands}
+use Rattle.pj_fitting.specs.Right.{Key, RulesAt, Files, ComeTo, IsRight, IsRightEntry, IsRightCache, rules_at}
+use Rattle.pj_fitting.specs.Left.{File, active_keys, of_bytes, entry_at, results_of, serves, kept, has_result, missing, IsNewOfSome, HasNew, AreLeft, AreLeftBy, IsLeftEntry, IsLeftCache}
 use Rattle.pj_fitting.proofs.Among.{both_true}
 use Rattle.pj_fitting.proofs.Right.{comes_now, new_comes, right_from}
 use Rattle.pj_fitting.proofs.Named.{itself, worlds_names}
-use Rattle.pj_fitting.proofs.Lists.{all_map, all_both, all_joined, all_filter, any_among, any_filter, member_passes}
+use Rattle.pj_fitting.proofs.Lists.{all_map, all_both, all_filter, any_among, member_passes}
 
 -- ---- old results
 

@@ -3,13 +3,13 @@ use Rattle.std.proofs.Common.{◌≡◌, List, [], ◌∷◌, sym, ◌∙◌}
 use Rattle.std.specs.FinSet as set
 use Rattle.pj_names.specs.declared.answer.Answer.{Answer}
 use Rattle.pj_names.specs.ClassName.{Name, NameSet}
-use Rattle.pj_names.specs.Meaning.{Gives, Means, whole}
+use Rattle.pj_names.specs.Meaning.{Gives, whole}
 use Rattle.pj_names.proofs.MeaningLaws.{means-one}
 use Rattle.pj_reports.specs.declared.ruled.Ruled.{Ruled}
 use Rattle.pj_cache.specs.declared.cache.Cache.{Cache}
-use Rattle.pj_fitting.specs.Right.{RulesAt, Files, Together, rules_at}
+use Rattle.pj_fitting.specs.Right.{RulesAt, Files, rules_at}
 use Rattle.pj_fitting.specs.Left.{File}
-use Rattle.pj_fitting.specs.Looked.{AsksFor, AskFor, analysed, is_reusable, LookedFile, Looked, told}
+use Rattle.pj_fitting.specs.Looked.{AskFor, analysed, is_reusable, LookedFile, Looked, told}
 
 same_names : (v w : Ruled) (s t : NameSet) → Gives v s ≡ Gives w t → s ≡ t
 same_names v w s t e = cc

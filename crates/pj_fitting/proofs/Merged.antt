@@ -1,11 +1,10 @@
 -- What results say of rules, one after the other.
-use Rattle.std.proofs.Common.{◌≡◌, ℕ, zero, suc, ◌+◌, ◌≤◌, Bool, true, false, cond, ◌||◌, List, [], ◌∷◌, ◌++◌, map, Some, refl, sym, ap, subst, ◌∙◌, arith}
-use Rattle.std.specs.Prelude.{IsTrue, nat_eq}
+use Rattle.std.proofs.Common.{◌≡◌, ◌+◌, Bool, true, false, cond, ◌||◌, List, [], ◌∷◌, ◌++◌, map, Some, refl, sym, ap, subst, ◌∙◌, arith}
+use Rattle.std.specs.Prelude.{nat_eq}
 use Rattle.std.specs.Cmp.Lexicographic.{bytes_decides, pointwise}
-use Rattle.std.specs.List.{AllByRecursion, filter, flat_map, list_any}
+use Rattle.std.specs.List.{AllByRecursion, filter, flat_map}
 use Rattle.std.specs.BTreeMap.{is_at}
 use Rattle.std.specs.FinSet as set
-use Rattle.std.proofs.lemmas.List.Elements.{recursion_from_All}
 use Rattle.std.proofs.lemmas.List.Concat.{flat_map-cons}
 use Rattle.pj_names.specs.declared.answer.Answer.{Answer}
 use Rattle.pj_names.specs.ClassName.{Name, NameSet, name_set}
@@ -24,7 +23,7 @@ use Rattle.pj_cache.specs.declared.cache.Entry.{Entry}
 use Rattle.pj_cache.specs.declared.cache.Cache.{Cache}
 use Rattle.pj_reuse.specs.Serving.{has_key, keys_of}
 use Rattle.pj_fitting.specs.Right.{Key, RulesAt, Files, ComesTo, ComeTo, IsRightCache, nothing, rules_at}
-use Rattle.pj_fitting.specs.Left.{File, active_keys, entry_at, has_result, results_of, row_of, rows_at, AreLeftBy, IsLeftEntry}
+use Rattle.pj_fitting.specs.Left.{File, active_keys, entry_at, has_result, results_of, rows_at, AreLeftBy, IsLeftEntry}
 use Rattle.pj_fitting.proofs.Sets.{same_name, set_of_both}
 use Rattle.pj_fitting.proofs.Right.{every_rule}
 use Rattle.pj_fitting.proofs.Lists.{all_map, all_joined}

@@ -1,5 +1,5 @@
 -- In a cache in order with a world's answers, each name of a result has the world's answer.
-use Rattle.std.proofs.Common.{◌≡◌, ℕ, Bool, true, false, cond, ◌||◌, List, [], ◌∷◌, ◌++◌, map, Option, Some, refl, sym, ap, subst, ◌∙◌}
+use Rattle.std.proofs.Common.{◌≡◌, Bool, true, false, cond, ◌||◌, List, [], ◌∷◌, ◌++◌, map, Some, refl, sym, ap, subst, ◌∙◌}
 use Rattle.std.specs.Prelude.{nat_eq}
 use Rattle.std.specs.List.{AllByRecursion, flat_map}
 use Rattle.std.specs.Cmp.{tied_itself}
@@ -14,9 +14,7 @@ use Rattle.pj_names.specs.Meaning.{found_in}
 use Rattle.pj_cache.specs.Places.{byte_order}
 use Rattle.pj_cache.specs.declared.cache.CachedResult.{CachedResult}
 use Rattle.pj_cache.specs.declared.cache.Entry.{Entry}
-use Rattle.pj_cache.specs.declared.cache.Cache.{Cache}
 use Rattle.pj_cache_format.specs.FormatTwo.{names_of, results_of, with_more}
-use Rattle.pj_cache_format.specs.Ordered.{IsInOrder}
 use Rattle.pj_reuse.specs.Serving.{has_key}
 use Rattle.pj_reuse.proofs.Standing.{has_put}
 use Rattle.pj_fitting.proofs.Sets.{or_true, same_name}

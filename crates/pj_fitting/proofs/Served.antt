@@ -1,18 +1,18 @@
 -- What is served in a world is what rules come to there.
-use Rattle.std.proofs.Common.{◌≡◌, ℕ, zero, suc, ◌+◌, ◌-◌, ◌≤◌, Bool, true, false, cond, ◌&&◌, List, [], ◌∷◌, Option, Some, None, refl, sym, ap, subst, ◌∙◌, arith}
-use Rattle.std.specs.Prelude.{IsTrue, slice_get}
-use Rattle.std.specs.List.{All, AllByRecursion, Contains, filter, flat_map, list_any}
+use Rattle.std.proofs.Common.{◌≡◌, ℕ, suc, ◌-◌, ◌≤◌, Bool, true, false, cond, List, [], ◌∷◌, Some, refl, sym, ap, subst, ◌∙◌, arith}
+use Rattle.std.specs.Prelude.{slice_get}
+use Rattle.std.specs.List.{All, AllByRecursion, Contains, filter, flat_map}
 use Rattle.std.proofs.lemmas.List.Elements.{All-from_recursion, recursion_from_All, All-contains}
 use Rattle.pj_names.specs.declared.answer.Answer.{Answer}
 use Rattle.pj_names.specs.ClassName.{Name}
 use Rattle.pj_names.specs.Asking.{value_of}
 use Rattle.pj_cache.specs.declared.cache.CachedResult.{CachedResult}
-use Rattle.pj_reuse.specs.Serving.{has_key, is_served, keys_of, places_from, served, served_in, stands}
+use Rattle.pj_reuse.specs.Serving.{has_key, is_served, keys_of, places_from, served, stands}
 use Rattle.pj_reuse.proofs.Standing.{places_served}
 use Rattle.pj_fitting.specs.Right.{Key, RulesAt, IsRight}
-use Rattle.pj_fitting.specs.Left.{has_result, IsServedBy}
+use Rattle.pj_fitting.specs.Left.{IsServedBy}
 use Rattle.pj_fitting.proofs.Lists.{all_map, any_filter}
-use Rattle.pj_fitting.proofs.Left.{ComesNow, stand_now}
+use Rattle.pj_fitting.proofs.Left.{stand_now}
 use Rattle.pj_fitting.proofs.Merged.{FoundNow, row_now, rule_now}
 
 -- A place that is given is that of a key that passes.

@@ -1,7 +1,7 @@
 -- Lists in strict order by byte strings: those with the same members are the same.
 use Rattle.std.proofs.Common.{◌≡◌, ℕ, zero, suc, ◌<◌, Bool, true, false, cond, ltb, ltb-true, eqb, ◌||◌, inl, inr, List, [], ◌∷◌, length, map, get_or, Option, Some, None, refl, sym, ap, subst, ◌∙◌, arith}
-use Rattle.std.specs.Prelude.{IsTrue, ◌⊎◌, slice_get}
-use Rattle.std.specs.List.{All, AllByRecursion, Contains, list_any}
+use Rattle.std.specs.Prelude.{◌⊎◌, slice_get}
+use Rattle.std.specs.List.{AllByRecursion, Contains}
 use Rattle.std.specs.List.Sorted.{IsStrictlySortedBy}
 use Rattle.std.specs.BTreeMap.{is_at}
 use Rattle.std.specs.BTreeSet.{insert_key}
@@ -18,7 +18,7 @@ use Rattle.pj_names.specs.ClassName.{Name, name_set}
 use Rattle.pj_cache.specs.Places.{byte_order, member_at, place_in}
 use Rattle.pj_cache.specs.declared.cache.KeyRows.{KeyRows}
 use Rattle.pj_cache.specs.declared.cache.CachedResult.{CachedResult}
-use Rattle.pj_cache_format.specs.FormatTwo.{first_of, has, is_key_place, is_name_place, with_more, with_places}
+use Rattle.pj_cache_format.specs.FormatTwo.{first_of, is_key_place, with_more, with_places}
 use Rattle.pj_cache_format.specs.Judges.{is_behind}
 use Rattle.pj_cache_format.specs.Ordered.{IsKeyInOrder, IsNameInOrder, IsResultInOrder, places_of, result_step}
 use Rattle.pj_reuse.specs.Serving.{has_key}

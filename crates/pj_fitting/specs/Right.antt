@@ -1,5 +1,5 @@
 -- Which caches are right: over its own answers each result is what its rules come to.
-use Rattle.std.specs.Prelude.{◌≡◌, ℕ, Bool, false, List, [], ◌∷◌, Some, None, if◌then◌else◌}
+use Rattle.std.specs.Prelude.{◌≡◌, ℕ, Bool, false, List, [], ◌∷◌, None, if◌then◌else◌}
 use Rattle.std.specs.List.{All}
 use Rattle.std.specs.FinSet as set
 use Rattle.pj_names.specs.declared.answer.Answer.{Answer}

@@ -1,4 +1,4 @@
-use Rattle.std.proofs.Common.{◌≡◌, ◌<◌, List, ℕ, length, get_or, sym, ap, subst, ◌∙◌}
+use Rattle.std.proofs.Common.{◌≡◌, ◌<◌, List, length, get_or, sym, ap, subst, ◌∙◌}
 use Rattle.std.specs.List.{HoldsAt}
 use Rattle.pj_rule_sets.specs.Rules.{EffectiveRule}
 use Rattle.pj_rule_texts.specs.Values.{Text}
