@@ -12,3 +12,4 @@ pub mod Unserved
 pub mod Sorted
 pub mod OneLeft
 pub mod Again
+pub mod Enough

@@ -1,5 +1,5 @@
 -- Which files are used again as they are, and which classes a run asks for.
-use Rattle.std.specs.Prelude.{◌≡◌, Bool, false, true, ◌||◌, ◌&&◌, List, [], ◌∷◌, not, filter, Option, Some, None}
+use Rattle.std.specs.Prelude.{◌≡◌, IsTrue, Bool, false, true, ◌||◌, ◌&&◌, List, [], ◌∷◌, not, filter, Option, Some, None}
 use Rattle.std.specs.List.{list_all}
 use Rattle.std.specs.FinSet as set
 use Rattle.pj_names.specs.declared.answer.Answer.{Answer}
@@ -71,3 +71,8 @@ pub record LookedFile {R : Type 0} (files : Files R) (found : Cache) (world : Na
 abbrev pub Looked : {R : Type 0} → Files R → Cache → (Name → Answer) → List R → List File → NameSet → Type 0
 Looked files found world held [] names = names ≡ set.empty
 Looked files found world held (file ∷ rest) names = Together (LookedFile files found world held file) (Looked files found world held rest) names
+
+-- What a rule asks for in a world is within a set of names.
+abbrev pub AsksWithin : {R : Type 0} → RulesAt R → (Name → Answer) → NameSet → R → Type 0
+AsksWithin rules world names rule =
+    (rows : Ruled) (own : NameSet) → Means (whole world) (rules.meaning rule) (Gives rows own) → (name : Name) → IsTrue (set.contains own name) → IsTrue (set.contains names name)

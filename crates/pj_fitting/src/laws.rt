@@ -16,7 +16,7 @@ ghost use Rattle.pj_cache_format.specs.Fitting.{FitsFields};
 ghost use Rattle.pj_reuse.specs.Serving.{is_served, served, stands};
 ghost use Rattle.pj_fitting.specs.Right.{Key, RulesAt, Files, ComesTo, ComeTo, IsRight, IsRightCache, rules_at};
 ghost use Rattle.pj_fitting.specs.Left.{File, IsLeftCache, IsLeftEntry, IsServedBy, IsSaid, kept, missing, rows_at};
-ghost use Rattle.pj_fitting.specs.Looked.{Looked, is_reusable};
+ghost use Rattle.pj_fitting.specs.Looked.{AsksWithin, Looked, LookedFile, is_reusable};
 ghost use Rattle.pj_fitting.specs.Fits.{CacheFits, IsFound};
 
 /// The rules of a right result that stands in a world, each of its answers being the world's, come to its rows there, and together ask
@@ -69,6 +69,12 @@ pub fn one_left_cache<R>()
 pub fn second_runs_reuse_all<R>()
     ensures { (files : Files R) (world : Name → Answer) (found : Cache) (held : List R) (c : Cache) (list : List File)
         → IsLeftCache files world found held list c → All (λ file. is_reusable files c world held file ≡ true) list × IsLeftCache files world c held list c }
+{}
+
+/// Where what was found is right, the names that a run asks for at a file are enough: what each of its rules asks for there is among them.
+pub fn looked_names_are_enough<R>()
+    ensures { (files : Files R) (world : Name → Answer) (found : Cache) (held : List R) (file : File) (names : NameSet)
+        → IsRightCache files found → LookedFile files found world held file names → All (AsksWithin (rules_at files file.0 file.1) world names) held }
 {}
 
 /// There is at most one set of names for which a run asks.
