@@ -11,7 +11,7 @@ use Rattle.pj_attrs.specs.FileFacts.{FileFacts, facts_of}
 use Rattle.pj_findings.specs.Merged.{merge}
 use Rattle.pj_findings.specs.declared.run.RuleRun.{RuleRun}
 use Rattle.pj_names.specs.Asking.{Asking}
-use Rattle.pj_names.specs.ClassName.{Name, NameSet, name_set}
+use Rattle.pj_names.specs.ClassName.{NameSet, name_set}
 use Rattle.pj_names.specs.Held.{IsHeld}
 use Rattle.pj_names.specs.Told.{Asks, Told, with_names}
 use Rattle.pj_names.proofs.AskingLaws.{asks-return}

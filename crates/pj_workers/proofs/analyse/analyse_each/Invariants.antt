@@ -1,5 +1,5 @@
-use Rattle.std.proofs.Common.{◌≡◌, List, [], map, take}
-use Rattle.std.specs.List.{AllByRecursion, AllZip}
+use Rattle.std.proofs.Common.{List, map, take}
+use Rattle.std.specs.List.{AllZip}
 use Rattle.pj_workers.specs.FileMeaning.{Bytes, file_meaning}
 use Rattle.pj_workers.specs.JavaReplies.{java_replies}
 use Rattle.pj_workers.specs.Results.{IsResultAt}
