@@ -1,7 +1,7 @@
 -- The names that a run asks for are enough for what its rules mean.
 use Rattle.std.proofs.Common.{◌≡◌, Bool, true, false, not, cond, ◌&&◌, ◌||◌, ℕ, inl, inr, List, [], ◌∷◌, ◌++◌, map, Option, Some, None, refl, sym, ap, subst, ◌∙◌, arith}
 use Rattle.std.specs.Prelude.{IsTrue, nat_eq, ◌⊎◌}
-use Rattle.std.specs.List.{AllByRecursion, filter, flat_map, list_all, list_any}
+use Rattle.std.specs.List.{AllByRecursion, filter, list_all}
 use Rattle.std.specs.BTreeMap.{is_at}
 use Rattle.std.specs.FinSet as set
 use Rattle.std.specs.FinSet.{contains-empty, contains-from_list}
@@ -28,7 +28,7 @@ use Rattle.pj_reuse.specs.Serving.{has_key, has_one, is_kept, is_served, keys_of
 use Rattle.pj_reuse.proofs.Standing.{has_itself, meets}
 use Rattle.pj_fitting.specs.Right.{Key, RulesAt, Files, ComesTo, ComeTo, IsRight, IsRightCache, IsRightEntry, nothing, rules_at}
 use Rattle.pj_fitting.specs.Left.{File, active_keys, entry_at, of_bytes, results_of}
-use Rattle.pj_fitting.specs.Looked.{AskFor, AsksWithin, LookedFile, analysed, has_no_tree, is_reusable, is_served_at, is_there, told, unserved}
+use Rattle.pj_fitting.specs.Looked.{AskFor, AsksWithin, LookedFile, analysed, has_no_tree, is_reusable, is_served_at, is_there, told}
 use Rattle.pj_fitting.proofs.Sets.{in_first, in_rest, or_true, same_name}
 use Rattle.pj_fitting.proofs.Among.{both_true}
 use Rattle.pj_fitting.proofs.Right.{comes_now, every_rule}

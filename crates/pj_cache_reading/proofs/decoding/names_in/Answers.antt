@@ -1,4 +1,4 @@
-use Rattle.std.proofs.Common.{◌≡◌, List, ℕ, map, subst}
+use Rattle.std.proofs.Common.{◌≡◌, List, ℕ, subst}
 use Rattle.std.specs.Prelude.{IfOk}
 use Rattle.pj_cache_reading.proofs.Same.{names_seen}
 use Rattle.pj_cache_reading.proofs.decoding.names_in.Goals as goal
