@@ -1,7 +1,7 @@
 -- Places of members in lists in strict order.
-use Rattle.std.proofs.Common.{◌≡◌, ℕ, zero, suc, ◌+◌, ◌<◌, ◌≤◌, Bool, true, false, cond, List, [], ◌∷◌, length, map, get_or, refl, sym, ap, ◌∙◌, arith}
+use Rattle.std.proofs.Common.{◌≡◌, ℕ, zero, suc, ◌+◌, ◌<◌, ◌≤◌, Bool, true, false, cond, ltb, ltb-true, ltb-false, List, [], ◌∷◌, length, map, get_or, refl, sym, ap, ◌∙◌, arith}
 use Rattle.std.specs.List.{AllByRecursion}
-use Rattle.std.specs.List.Sorted.{IsStrictlySortedBy}
+use Rattle.std.specs.List.Sorted.{IsStrictlySortedBy, IsPartitionedBy, IsPartitionPoint}
 use Rattle.std.specs.declared.cmp.Ordering.{Ordering}
 use Rattle.std.specs.declared.cmp.Ordering.TheVariants.{Less, Equal, Greater}
 use Rattle.std.specs.Ordering.{is_lt}
@@ -75,3 +75,56 @@ above_named f xs x i y lt is e =
 
 pub within_named : {A : Type 0} (f : A → List ℕ) (xs : List A) (x : List ℕ) → place_in (map f xs) x ≤ length xs
 within_named f xs x = omega (arith, place_within (map f xs) x, length-map xs f)
+
+-- What a bisection finds.
+
+default_same : {A : Type 0} (xs : List A) (i : ℕ) (d e : A) → i < length xs → get_or xs i d ≡ get_or xs i e
+default_same [] i d e lt = absurd (omega (arith, lt))
+default_same (x ∷ xs) zero d e lt = refl
+default_same (x ∷ xs) (suc i) d e lt = default_same xs i d e (omega (arith, lt))
+
+-- whether a member is below a byte string
+abbrev pub is_under : {A : Type 0} → (A → List ℕ) → List ℕ → A → Bool
+is_under f x y = is_lt (byte_order (f y) x)
+
+under_place : {A : Type 0} (f : A → List ℕ) (xs : List A) (x : List ℕ) (i : ℕ) (d : A) → IsStrictlySortedBy byte_order (map f xs) → i < length xs → is_under f x (get_or xs i d) ≡ true → i + 1 ≤ place_in (map f xs) x
+under_place f xs x i d s lt e = below_named f xs x i (get_or xs i d) s lt (default_same xs i d (get_or xs i d) lt) e
+
+over_place : {A : Type 0} (f : A → List ℕ) (xs : List A) (x : List ℕ) (i : ℕ) (d : A) → i < length xs → is_under f x (get_or xs i d) ≡ false → place_in (map f xs) x ≤ i
+over_place f xs x i d lt e = above_named f xs x i (get_or xs i d) lt (default_same xs i d (get_or xs i d) lt) e
+
+parted_by : (b : Bool) → (b ≡ false → ⊥) → b ≡ true
+parted_by true h = refl
+parted_by false h = absurd (h refl)
+
+-- the members below a byte string stand in front
+pub parted : {A : Type 0} (f : A → List ℕ) (xs : List A) (x : List ℕ) → IsStrictlySortedBy byte_order (map f xs) → IsPartitionedBy (is_under f x) xs
+parted f xs x s i j d le lt e =
+    let far = under_place f xs x j d s lt e in
+    parted_by (is_under f x (get_or xs i d)) (λ not_under. omega (arith, far, le, over_place f xs x i d (omega (arith, le, lt)) not_under))
+
+-- the members before a point are below, so the place is not before it
+point_below : {A : Type 0} (f : A → List ℕ) (xs : List A) (x : List ℕ) (i : ℕ) (d : A) → IsStrictlySortedBy byte_order (map f xs) → i ≤ length xs → ((k : ℕ) (e : A) → 0 ≤ k → k < i → is_under f x (get_or xs k e) ≡ true) → i ≤ place_in (map f xs) x
+point_below f xs x zero d s within below = omega arith
+point_below f xs x (suc i) d s within below = omega (arith, under_place f xs x i d s (omega (arith, within)) (below i d (omega arith) (omega arith)))
+
+-- the member at a point is not below, so the place is not behind it
+point_above : {A : Type 0} (f : A → List ℕ) (xs : List A) (x : List ℕ) (i : ℕ) (d : A) → ((k : ℕ) (e : A) → i ≤ k → k < length xs → is_under f x (get_or xs k e) ≡ false) → (b : Bool) → ltb i (length xs) ≡ b → place_in (map f xs) x ≤ i
+point_above f xs x i d above true is = over_place f xs x i d (ltb-true i (length xs) is) (above i d (omega arith) (ltb-true i (length xs) is))
+point_above f xs x i d above false is = omega (arith, within_named f xs x, ltb-false i (length xs) is)
+
+point_there : {A : Type 0} (f : A → List ℕ) (xs : List A) (x : List ℕ) (i : ℕ) (d : A) → IsStrictlySortedBy byte_order (map f xs) → i ≤ length xs → IsPartitionPoint (λ y. is_under f x y ≡ true) (λ y. is_under f x y ≡ false) xs i → i ≡ place_in (map f xs) x
+point_there f xs x i d s within point =
+    let before : i ≤ place_in (map f xs) x = point_below f xs x i d s within point.0 in
+    let behind : place_in (map f xs) x ≤ i = point_above f xs x i d point.1 (ltb i (length xs)) refl in
+    omega (arith, before, behind)
+
+-- the point between the members below and the others is the place
+pub point_place : {A : Type 0} (f : A → List ℕ) (xs : List A) (x : List ℕ) (i : ℕ) → IsStrictlySortedBy byte_order (map f xs) → i ≤ length xs → IsPartitionPoint (λ y. is_under f x y ≡ true) (λ y. is_under f x y ≡ false) xs i → i ≡ place_in (map f xs) x
+point_place f [] x i s within point = omega (arith, within)
+point_place f (y ∷ ys) x i s within point = point_there f (y ∷ ys) x i y s within point
+
+-- byte strings are named by themselves
+pub named_alone : (xs : List (List ℕ)) → map (λ (x : List ℕ). x) xs ≡ xs
+named_alone [] = refl
+named_alone (x ∷ xs) = ap (λ (l : List (List ℕ)). x ∷ l) (named_alone xs)

@@ -3,8 +3,9 @@ ghost use Rattle.std.specs.Prelude.{◌≡◌, []};
 
 use crate::key::Key;
 use crate::old::OldCache;
+use crate::shared_name::SharedNames;
 use pj_base::{Bytes, ListOf, Text};
-use pj_names::{Answers, ClassNames};
+use pj_names::Answers;
 use pj_reports::{Head, Ruled};
 use std::alloc::Global;
 
@@ -26,7 +27,7 @@ pub struct CachedResult {
     /// The rows of each key.
     pub group: Group,
     /// The names of the classes, in the order of their bytes.
-    pub names: ClassNames,
+    pub names: SharedNames,
 }
 
 /// The results of a file, in the order of their first keys.

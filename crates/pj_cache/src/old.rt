@@ -1,6 +1,7 @@
 //! The cache of format 1: files with the results of a whole list of rules.
+use crate::shared_name::SharedNames;
 use pj_base::{Bytes, ListOf, Text};
-use pj_names::{Answers, ClassNames};
+use pj_names::Answers;
 use pj_reports::FileRows;
 
 /// A file, and what all rules of a list found in it.
@@ -11,7 +12,7 @@ pub struct OldEntry {
     /// Its bytes.
     pub bytes: Bytes,
     /// The names of the classes that were asked for, in the order of their bytes.
-    pub names: ClassNames,
+    pub names: SharedNames,
     /// The rows of the file.
     pub rows: FileRows,
 }

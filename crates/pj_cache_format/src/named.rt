@@ -5,8 +5,7 @@ ghost use Rattle.pj_cache.specs.Places.{byte_order};
 ghost use Rattle.pj_cache_format.specs.FormatTwo.{with_more, keys_of, names_of};
 
 use pj_base::{Copied, NoMemory};
-use pj_cache::{CachedResult, Entry, Key, KeyRows};
-use pj_names::ClassName;
+use pj_cache::{CachedResult, Entry, Key, KeyRows, SharedName};
 use std::alloc::Global;
 use std::collections::BTreeSet;
 
@@ -55,7 +54,7 @@ pub fn keys_of(alloc: Global, entries: &[Entry]) -> Result<Vec<Key>, NoMemory>
 }
 
 /// Puts names to others.
-fn note_classes(held: &mut BTreeSet<ClassName>, names: &[ClassName]) -> Result<(), NoMemory>
+fn note_classes(held: &mut BTreeSet<SharedName>, names: &[SharedName]) -> Result<(), NoMemory>
     ensures { OnOk result (held.new.keys ≡ with_more held.old.keys names.now) }
 {
     for name in names {
@@ -65,7 +64,7 @@ fn note_classes(held: &mut BTreeSet<ClassName>, names: &[ClassName]) -> Result<(
 }
 
 /// Puts the names of results to others.
-fn note_names(held: &mut BTreeSet<ClassName>, results: &[CachedResult]) -> Result<(), NoMemory>
+fn note_names(held: &mut BTreeSet<SharedName>, results: &[CachedResult]) -> Result<(), NoMemory>
     ensures { OnOk result (held.new.keys ≡ with_more held.old.keys (flat_map (λ r. r.names) results.now)) }
 {
     for result in results {
@@ -75,7 +74,7 @@ fn note_names(held: &mut BTreeSet<ClassName>, results: &[CachedResult]) -> Resul
 }
 
 /// The members of a set in their order.
-fn listed_names(alloc: Global, held: &BTreeSet<ClassName>) -> Result<Vec<ClassName>, NoMemory>
+fn listed_names(alloc: Global, held: &BTreeSet<SharedName>) -> Result<Vec<SharedName>, NoMemory>
     ensures keys { IfOk result (λ list. list.items ≡ held.now.keys) }
 {
     let mut list = Vec::new(alloc);
@@ -86,7 +85,7 @@ fn listed_names(alloc: Global, held: &BTreeSet<ClassName>) -> Result<Vec<ClassNa
 }
 
 /// The classes that entries name, in the order of their bytes, each once.
-pub fn names_of(alloc: Global, entries: &[Entry]) -> Result<Vec<ClassName>, NoMemory>
+pub fn names_of(alloc: Global, entries: &[Entry]) -> Result<Vec<SharedName>, NoMemory>
     ensures { IfOk result (λ names. names.items ≡ names_of entries.now) }
 {
     let mut held = BTreeSet::new(alloc);

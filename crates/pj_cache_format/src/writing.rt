@@ -12,52 +12,12 @@ ghost use Rattle.pj_cache_format.specs.TextTwo.{place_text, reason_byte, spot_te
 use crate::named::keys_of;
 use crate::put::{put_answers, put_bytes, put_count, put_number, put_text};
 use pj_base::NoMemory;
-use pj_cache::{Cache, CachedResult, Entry, Key, KeyRows};
+use pj_cache::{Cache, CachedResult, Entry, Key, KeyRows, SharedName, place_of_key, place_of_name};
 use pj_names::{Answer, ClassName};
 use pj_reports::{Head, Reason, Ruled, Spot};
 use pj_tree::Place;
 use std::alloc::Global;
 use std::sync::Arc;
-
-/// The place of a key: the number of keys below it.
-fn place_of_key(keys: &[Key], key: &Key) -> usize
-    requires { IsStrictlySortedBy byte_order keys.now }
-    ensures { result ≡ place_in keys.now key.now }
-{
-    let mut low = 0;
-    let mut high = keys.len();
-    'search: while low < high {
-        let middle = low + (high - low) / 2;
-        let member = &keys[middle];
-        let is_below = member.cmp(key).is_lt();
-        if is_below {
-            low = middle + 1;
-        } else {
-            high = middle;
-        }
-    }
-    low
-}
-
-/// The place of a name: the number of names below it.
-fn place_of_name(answers: &[(ClassName, Arc<Answer>)], name: &ClassName) -> usize
-    requires { IsStrictlySortedBy byte_order (map (λ a. a.0) answers.now) }
-    ensures { result ≡ place_in (map (λ a. a.0) answers.now) name.now }
-{
-    let mut low = 0;
-    let mut high = answers.len();
-    'search: while low < high {
-        let middle = low + (high - low) / 2;
-        let pair = &answers[middle];
-        let is_below = pair.0.cmp(name).is_lt();
-        if is_below {
-            low = middle + 1;
-        } else {
-            high = middle;
-        }
-    }
-    low
-}
 
 /// The byte of a reason.
 fn reason_byte(reason: Option<Reason>) -> u8
@@ -139,7 +99,7 @@ fn put_key_places(out: &mut Vec<u8>, keys: &[Key], group: &[KeyRows]) -> Result<
 fn put_name_places(
     out: &mut Vec<u8>,
     answers: &[(ClassName, Arc<Answer>)],
-    names: &[ClassName],
+    names: &[SharedName],
 ) -> Result<(), NoMemory>
     requires { IsStrictlySortedBy byte_order (map (λ a. a.0) answers.now) }
     ensures put { OnOk result (out.new.items ≡ out.old.items ++ counted (λ n. number (place_in (map (λ a. a.0) answers.now) n)) names.now) }
@@ -147,7 +107,7 @@ fn put_name_places(
 {
     put_count(out, names.len())?;
     for name in names {
-        put_count(out, place_of_name(answers, name))?;
+        put_count(out, place_of_name(answers, name.as_name()))?;
     }
     Ok(())
 }

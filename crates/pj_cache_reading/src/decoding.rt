@@ -1,21 +1,21 @@
 //! Reading a cache.
-ghost use Rattle.std.specs.Prelude.{◌≡◌, ◌≤◌, ◌↔◌, length, map, take, Some, None, IfOk, IsTrue};
+ghost use Rattle.std.specs.Prelude.{◌≡◌, ◌≤◌, ◌↔◌, ◌&&◌, length, map, take, Some, None, IfOk, IsTrue};
 ghost use Rattle.std.specs.Option.{option_copied};
 ghost use Rattle.pj_format.specs.Format.{first, whole};
 ghost use Rattle.pj_format.specs.Fields.{Gives, several_from};
 ghost use Rattle.pj_cache_format.specs.Judges.{is_language};
-ghost use Rattle.pj_cache_format.specs.FormatTwo.{key, key_list, is_same_list, are_named, cache};
+ghost use Rattle.pj_cache_format.specs.FormatTwo.{key, key_list, keys_of, names_of, is_same_list, cache};
 ghost use Rattle.pj_cache_format.specs.Decoded.{IsDecoded, magic, content_of, seal_of, stored};
 ghost use Rattle.pj_cache_reading.specs.Spelled.{IsSpelled};
 
 use crate::answers::answers_of;
 use crate::entries::entries_of;
 use crate::fields::{is_behind, is_same, or_memory, wrong};
-use pj_base::{Bytes, NoMemory};
-use pj_cache::{Cache, Entry, Key};
+use pj_base::{Bytes, Copied, NoMemory};
+use pj_cache::{Cache, Entry, Key, SharedName};
 use pj_cache_format::{CacheFault, CacheRefused, Digest32, digest_of, keys_of, names_of};
 use pj_format::{Refused, run_of, sized_of, u32_of};
-use pj_names::{Answer, ClassName};
+use pj_names::{Answer, Answers, ClassName};
 use std::alloc::Global;
 use std::sync::Arc;
 
@@ -77,39 +77,42 @@ fn is_language(bytes: &[u8]) -> bool
     is_same(bytes, b"java-17")
 }
 
-/// Whether the names of answers are these.
-fn is_names(answers: &[(ClassName, Arc<Answer>)], names: &[ClassName]) -> bool
-    ensures { result ≡ is_same_list (map (λ a. a.0) answers.now) names.now }
+/// The names of answers, each to be shared.
+fn names_shared(
+    alloc: Global,
+    answers: &[(ClassName, Arc<Answer>)],
+) -> Result<Vec<SharedName>, NoMemory>
+    ensures { IfOk result (λ names. names.items ≡ map (λ a. a.0) answers.now) }
 {
-    if answers.len() != names.len() {
-        return false;
+    let mut names = Vec::new(alloc);
+    for pair in answers {
+        names.push(SharedName::new(alloc, pair.0.copied()?)?)?;
     }
-    for i in 0..names.len() {
-        let pair = &answers[i];
-        let name = &names[i];
-        let is_same = pair.0 == *name;
-        if !is_same {
-            return false;
-        }
-    }
-    true
+    Ok(names)
 }
 
-/// Whether each key and each answer is named by some result.
+/// The names of answers, each to be shared.
+fn names_in(alloc: Global, answers: &Answers) -> Result<Vec<SharedName>, NoMemory>
+    ensures { IfOk result (λ names. names.items ≡ map (λ a. a.0) answers.now) }
+{
+    names_shared(alloc, answers.as_slice())
+}
+
+/// Whether each key and each name is that of some result.
 fn are_named(
     alloc: Global,
     keys: &[Key],
-    answers: &[(ClassName, Arc<Answer>)],
+    names: &[SharedName],
     entries: &[Entry],
 ) -> Result<bool, NoMemory>
-    ensures { IfOk result (λ named. named ≡ are_named keys.now (map (λ a. (a.0, a.1.value)) answers.now) entries.now) }
+    ensures { IfOk result (λ named. named ≡ (is_same_list keys.now (keys_of entries.now) && is_same_list names.now (names_of entries.now))) }
 {
     let named = keys_of(alloc, entries)?;
     if keys != named.as_slice() {
         return Ok(false);
     }
     let named = names_of(alloc, entries)?;
-    Ok(is_names(answers, &named))
+    Ok(names == named.as_slice())
 }
 
 /// A cache of format 2, behind the number of the format.
@@ -124,8 +127,9 @@ fn cache_of(alloc: Global, bytes: &[u8], at: u32) -> Result<(Cache, u32), Refuse
     }
     let (keys, behind) = keys_read(alloc, bytes, behind)?;
     let (answers, behind) = answers_of(alloc, bytes, behind)?;
-    let (entries, end) = entries_of(alloc, &keys, &answers, bytes, behind)?;
-    match are_named(alloc, &keys, answers.as_slice(), entries.as_slice()) {
+    let names = or_memory(names_in(alloc, &answers))?;
+    let (entries, end) = entries_of(alloc, &keys, &names, bytes, behind)?;
+    match are_named(alloc, &keys, &names, entries.as_slice()) {
         Ok(true) => Ok((Cache { answers, entries }, end)),
         Ok(false) => Err(wrong(end)),
         Err(_) => Err(Refused::Memory),

@@ -1,5 +1,5 @@
 //! Reading entries.
-ghost use Rattle.std.specs.Prelude.{◌≡◌, ◌≤◌, length, map, Some, None, []};
+ghost use Rattle.std.specs.Prelude.{◌≡◌, ◌≤◌, length, Some, None, []};
 ghost use Rattle.std.specs.Option.{option_copied};
 ghost use Rattle.pj_format.specs.Format.{first};
 ghost use Rattle.pj_format.specs.Fields.{Gives, several_from};
@@ -9,12 +9,10 @@ ghost use Rattle.pj_cache_format.specs.FormatTwo.{is_head_tag, head, head_messag
 use crate::fields::{bytes_of, is_behind, is_text, made_text, text_of, wrong};
 use crate::results::several_results_of;
 use pj_base::Text;
-use pj_cache::{Entries, Entry, Key, Results};
+use pj_cache::{Entries, Entry, Key, Results, SharedName};
 use pj_format::{Refused, sized_of, u8_of, u32_of};
-use pj_names::{Answer, Answers, ClassName};
 use pj_reports::Head;
 use std::alloc::Global;
-use std::sync::Arc;
 
 /// Whether bytes are a path behind another one.
 pub(crate) fn is_path_behind(before: Option<&[u8]>, bytes: &[u8]) -> bool
@@ -73,19 +71,19 @@ fn is_result_count(head: &Head, count: u32) -> bool
 fn results_of(
     alloc: Global,
     keys: &[Key],
-    answers: &[(ClassName, Arc<Answer>)],
+    names: &[SharedName],
     head: &Head,
     bytes: &[u8],
     at: u32,
 ) -> Result<(Results, u32), Refused>
     requires { length bytes.now ≤ 4294967294 }
-    ensures { Gives (λ x. x) result (first (result_list keys.now (map (λ a. a.0) answers.now) head.now) bytes.now at) }
+    ensures { Gives (λ x. x) result (first (result_list keys.now names.now head.now) bytes.now at) }
 {
     let (count, behind) = u32_of(bytes, at)?;
     if !is_result_count(head, count) {
         return Err(wrong(at));
     }
-    let (list, end) = several_results_of(alloc, keys, answers, bytes, count, behind)?;
+    let (list, end) = several_results_of(alloc, keys, names, bytes, count, behind)?;
     Ok((Results::from_vec(list), end))
 }
 
@@ -94,13 +92,13 @@ fn results_of(
 fn entry_of<'b>(
     alloc: Global,
     keys: &[Key],
-    answers: &[(ClassName, Arc<Answer>)],
+    names: &[SharedName],
     before: Option<&[u8]>,
     bytes: &'b [u8],
     at: u32,
 ) -> Result<((Entry, &'b [u8]), u32), Refused>
     requires { length bytes.now ≤ 4294967294 }
-    ensures { Gives (λ x. ((x.0.0, Some x.0.1.now), x.1)) result (first (entry keys.now (map (λ a. a.0) answers.now) (option_copied before.entry)) bytes.now at) }
+    ensures { Gives (λ x. ((x.0.0, Some x.0.1.now), x.1)) result (first (entry keys.now names.now (option_copied before.entry)) bytes.now at) }
 {
     let (found, behind) = sized_of(bytes, at)?;
     if !is_path_behind(before, found) {
@@ -109,7 +107,7 @@ fn entry_of<'b>(
     let path = made_text(alloc, found)?;
     let (content, behind) = bytes_of(alloc, bytes, behind)?;
     let (head, behind) = head_of(alloc, bytes, behind)?;
-    let (results, end) = results_of(alloc, keys, answers, &head, bytes, behind)?;
+    let (results, end) = results_of(alloc, keys, names, &head, bytes, behind)?;
     Ok((
         (
             Entry {
@@ -128,19 +126,19 @@ fn entry_of<'b>(
 fn several_entries_of(
     alloc: Global,
     keys: &[Key],
-    answers: &[(ClassName, Arc<Answer>)],
+    names: &[SharedName],
     bytes: &[u8],
     count: u32,
     at: u32,
 ) -> Result<(Vec<Entry>, u32), Refused>
     requires { length bytes.now ≤ 4294967294 }
-    ensures { Gives (λ x. (x.0.items, x.1)) result (first (several_from (entry keys.now (map (λ a. a.0) answers.now)) count None) bytes.now at) }
+    ensures { Gives (λ x. (x.0.items, x.1)) result (first (several_from (entry keys.now names.now) count None) bytes.now at) }
 {
     let mut list = Vec::new(alloc);
     let mut before = None;
     let mut place = at;
     for _ in 0..count {
-        let ((item, found), behind) = entry_of(alloc, keys, answers, before, bytes, place)?;
+        let ((item, found), behind) = entry_of(alloc, keys, names, before, bytes, place)?;
         list.push(item)?;
         before = Some(found);
         place = behind;
@@ -148,33 +146,19 @@ fn several_entries_of(
     Ok((list, place))
 }
 
-/// The entries by strictly ascending path, behind their number, with the names of these pairs.
+/// The entries by strictly ascending path, behind their number, with places among these names.
 #[tactic(auto, using(pj_format::proofs::Laws::reads), unfolding(pj_cache_format::specs::FormatTwo::entry_list))]
-fn entries_among(
-    alloc: Global,
-    keys: &[Key],
-    answers: &[(ClassName, Arc<Answer>)],
-    bytes: &[u8],
-    at: u32,
-) -> Result<(Entries, u32), Refused>
-    requires { length bytes.now ≤ 4294967294 }
-    ensures { Gives (λ x. x) result (first (entry_list keys.now (map (λ a. a.0) answers.now)) bytes.now at) }
-{
-    let (count, behind) = u32_of(bytes, at)?;
-    let (list, end) = several_entries_of(alloc, keys, answers, bytes, count, behind)?;
-    Ok((Entries::from_vec(list), end))
-}
-
-/// The entries by strictly ascending path, behind their number.
 pub(crate) fn entries_of(
     alloc: Global,
     keys: &[Key],
-    answers: &Answers,
+    names: &[SharedName],
     bytes: &[u8],
     at: u32,
 ) -> Result<(Entries, u32), Refused>
     requires { length bytes.now ≤ 4294967294 }
-    ensures { Gives (λ x. x) result (first (entry_list keys.now (map (λ a. a.0) answers.now)) bytes.now at) }
+    ensures { Gives (λ x. x) result (first (entry_list keys.now names.now) bytes.now at) }
 {
-    entries_among(alloc, keys, answers.as_slice(), bytes, at)
+    let (count, behind) = u32_of(bytes, at)?;
+    let (list, end) = several_entries_of(alloc, keys, names, bytes, count, behind)?;
+    Ok((Entries::from_vec(list), end))
 }

@@ -1,5 +1,5 @@
 //! Reading results: rows of keys, with the classes that were asked for.
-ghost use Rattle.std.specs.Prelude.{◌≡◌, ◌≤◌, ◌<◌, length, map, Some, None, IfOk, OnOk, []};
+ghost use Rattle.std.specs.Prelude.{◌≡◌, ◌≤◌, ◌<◌, length, Some, None, IfOk, OnOk, []};
 ghost use Rattle.std.specs.List.{All};
 ghost use Rattle.pj_format.specs.Format.{first};
 ghost use Rattle.pj_format.specs.Fields.{Gives, several_from, each};
@@ -9,12 +9,10 @@ ghost use Rattle.pj_cache_format.specs.FormatTwo.{is_key_place, key_place, key_p
 use crate::fields::{is_number_behind, or_memory, wrong};
 use crate::rows::rows_of;
 use pj_base::{Copied, NoMemory};
-use pj_cache::{CachedResult, Group, Key, KeyRows};
+use pj_cache::{CachedResult, Group, Key, KeyRows, SharedName, SharedNames};
 use pj_format::{Refused, u32_of};
-use pj_names::{Answer, ClassName, ClassNames};
 use std::alloc::Global;
 use std::collections::BTreeSet;
-use std::sync::Arc;
 
 /// Whether it is one of so many keys, behind the one before, which no earlier result of the entry has.
 fn is_key_place(count: usize, used: &BTreeSet<u32>, before: Option<u32>, place: u32) -> bool
@@ -98,48 +96,47 @@ fn is_name_place(count: usize, before: Option<u32>, place: u32) -> bool
 }
 
 /// The name at a place.
-fn name_in(answers: &[(ClassName, Arc<Answer>)], place: u32) -> Result<ClassName, NoMemory>
-    requires { place < length answers.now }
-    ensures { IfOk result (λ name. name ≡ member_at (map (λ a. a.0) answers.now) place) }
+fn name_in(names: &[SharedName], place: u32) -> Result<SharedName, NoMemory>
+    requires { place < length names.now }
+    ensures { IfOk result (λ name. name ≡ member_at names.now place) }
 {
-    let pair = &answers[place as usize];
-    pair.0.copied()
+    names[place as usize].copied()
 }
 
 /// A name by its place, and the place.
 #[tactic(auto, using(pj_format::proofs::Laws::reads, crate::proofs::Texts::lengths), unfolding(pj_cache_format::specs::FormatTwo::name_at))]
 fn name_of(
-    answers: &[(ClassName, Arc<Answer>)],
+    names: &[SharedName],
     before: Option<u32>,
     bytes: &[u8],
     at: u32,
-) -> Result<((ClassName, u32), u32), Refused>
+) -> Result<((SharedName, u32), u32), Refused>
     requires { length bytes.now ≤ 4294967294 }
-    ensures { Gives (λ x. ((x.0.0, Some x.0.1), x.1)) result (first (name_at (map (λ a. a.0) answers.now) before) bytes.now at) }
+    ensures { Gives (λ x. ((x.0.0, Some x.0.1), x.1)) result (first (name_at names.now before) bytes.now at) }
 {
     let (place, behind) = u32_of(bytes, at)?;
-    if !is_name_place(answers.len(), before, place) {
+    if !is_name_place(names.len(), before, place) {
         return Err(wrong(at));
     }
-    Ok(((or_memory(name_in(answers, place))?, place), behind))
+    Ok(((or_memory(name_in(names, place))?, place), behind))
 }
 
 /// So many names by their strictly ascending places.
 fn several_names_of(
     alloc: Global,
-    answers: &[(ClassName, Arc<Answer>)],
+    names: &[SharedName],
     bytes: &[u8],
     count: u32,
     at: u32,
-) -> Result<(Vec<ClassName>, u32), Refused>
+) -> Result<(Vec<SharedName>, u32), Refused>
     requires { length bytes.now ≤ 4294967294 }
-    ensures { Gives (λ x. (x.0.items, x.1)) result (first (several_from (name_at (map (λ a. a.0) answers.now)) count None) bytes.now at) }
+    ensures { Gives (λ x. (x.0.items, x.1)) result (first (several_from (name_at names.now) count None) bytes.now at) }
 {
     let mut list = Vec::new(alloc);
     let mut before = None;
     let mut place = at;
     for _ in 0..count {
-        let ((item, found), behind) = name_of(answers, before, bytes, place)?;
+        let ((item, found), behind) = name_of(names, before, bytes, place)?;
         list.push(item)?;
         before = Some(found);
         place = behind;
@@ -151,16 +148,16 @@ fn several_names_of(
 #[tactic(auto, using(pj_format::proofs::Laws::reads), unfolding(pj_cache_format::specs::FormatTwo::name_list))]
 pub(crate) fn names_of(
     alloc: Global,
-    answers: &[(ClassName, Arc<Answer>)],
+    names: &[SharedName],
     bytes: &[u8],
     at: u32,
-) -> Result<(ClassNames, u32), Refused>
+) -> Result<(SharedNames, u32), Refused>
     requires { length bytes.now ≤ 4294967294 }
-    ensures { Gives (λ x. x) result (first (name_list (map (λ a. a.0) answers.now)) bytes.now at) }
+    ensures { Gives (λ x. x) result (first (name_list names.now) bytes.now at) }
 {
     let (count, behind) = u32_of(bytes, at)?;
-    let (list, end) = several_names_of(alloc, answers, bytes, count, behind)?;
-    Ok((ClassNames::from_vec(list), end))
+    let (list, end) = several_names_of(alloc, names, bytes, count, behind)?;
+    Ok((SharedNames::from_vec(list), end))
 }
 
 /// The key at a place.
@@ -227,22 +224,28 @@ fn use_places(used: &mut BTreeSet<u32>, places: &[u32]) -> Result<(), NoMemory>
 fn result_of(
     alloc: Global,
     keys: &[Key],
-    answers: &[(ClassName, Arc<Answer>)],
+    names: &[SharedName],
     before: Option<u32>,
     used: &mut BTreeSet<u32>,
     bytes: &[u8],
     at: u32,
 ) -> Result<((CachedResult, Option<u32>), u32), Refused>
     requires { length bytes.now ≤ 4294967294 }
-    ensures { Gives (λ x. ((x.0.0, (x.0.1, used.new.keys)), x.1)) result (first (result_format keys.now (map (λ a. a.0) answers.now) (before, used.old.keys)) bytes.now at) }
+    ensures { Gives (λ x. ((x.0.0, (x.0.1, used.new.keys)), x.1)) result (first (result_format keys.now names.now (before, used.old.keys)) bytes.now at) }
 {
     let (places, behind) = key_places_of(alloc, keys.len(), used, before, bytes, at)?;
-    let (names, behind) = names_of(alloc, answers, bytes, behind)?;
+    let (asked, behind) = names_of(alloc, names, bytes, behind)?;
     let (group, end) = group_of(alloc, keys, &places, bytes, behind)?;
     or_memory(use_places(used, &places))?;
     let group = Group::from_vec(group);
     Ok((
-        (CachedResult { group, names }, places.first().copied()),
+        (
+            CachedResult {
+                group,
+                names: asked,
+            },
+            places.first().copied(),
+        ),
         end,
     ))
 }
@@ -251,13 +254,13 @@ fn result_of(
 pub(crate) fn several_results_of(
     alloc: Global,
     keys: &[Key],
-    answers: &[(ClassName, Arc<Answer>)],
+    names: &[SharedName],
     bytes: &[u8],
     count: u32,
     at: u32,
 ) -> Result<(Vec<CachedResult>, u32), Refused>
     requires { length bytes.now ≤ 4294967294 }
-    ensures { Gives (λ x. (x.0.items, x.1)) result (first (several_from (result_format keys.now (map (λ a. a.0) answers.now)) count (None, [])) bytes.now at) }
+    ensures { Gives (λ x. (x.0.items, x.1)) result (first (several_from (result_format keys.now names.now) count (None, [])) bytes.now at) }
 {
     let mut list = Vec::new(alloc);
     let mut used = BTreeSet::new(alloc);
@@ -265,7 +268,7 @@ pub(crate) fn several_results_of(
     let mut place = at;
     for _ in 0..count {
         let ((item, first), behind) = result_of(
-            alloc, keys, answers, before, &mut used, bytes, place,
+            alloc, keys, names, before, &mut used, bytes, place,
         )?;
         list.push(item)?;
         before = first;

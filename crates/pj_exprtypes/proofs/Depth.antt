@@ -3,10 +3,13 @@ use Rattle.std.proofs.Common.{◌≡◌, ◌<◌, ◌≤◌, ◌+◌, ◌-◌, �
 use Rattle.std.proofs.lemmas.Bool.{eqb-true}
 use Rattle.std.proofs.lemmas.List.{length-map}
 use Rattle.std.proofs.lemmas.Option.{slice_get_past}
-use Rattle.std.specs.Prelude.{slice_index_or}
+use Rattle.std.specs.Prelude.{find, slice_index_or, if◌then◌else◌}
 use Rattle.std.specs.List.{enumerate_from}
-use Rattle.std.specs.Option.{IsSomeAnd, option_map}
+use Rattle.std.specs.Option.{IsSomeAnd, option_and_then, option_map}
 use Rattle.pj_tree.specs.Tree.{IsSyntaxTree, Tree, children_of, is_parent, kind_of, node_numbered, parent_of, parents}
+use Rattle.pj_tree.specs.Children.{child_of, first_in}
+use Rattle.pj_tree.specs.Kinds.{is_kind}
+use Rattle.pj_written.specs.Words.{children_or}
 use Rattle.pj_tree.specs.declared.kind.Kind.{Kind}
 use Rattle.pj_tree.specs.declared.kind.Kind.TheVariants as k
 use Rattle.pj_tree.specs.declared.node.Node.{Node}
@@ -17,9 +20,11 @@ use Rattle.pj_operators.specs.declared.operators.Infix.TheVariants as i
 use Rattle.pj_operators.specs.declared.operators.Unary.{Unary}
 use Rattle.pj_operators.specs.declared.operators.Unary.TheVariants as u
 use Rattle.pj_operators.specs.Operators.{infix_of, unary_of}
-use Rattle.pj_exprtypes.specs.Operands.{but_first, first_only, infix_operands, operands, operands_by, unary_operands}
-use Rattle.pj_exprtypes.specs.Typing.{final_type}
-use Rattle.pj_exprtypes.specs.TypeOf.{deep, earlier, made_type, type_of, type_with, typed, whole_type}
+use Rattle.pj_exprtypes.specs.Operands.{but_first, first_only, if_some, infix_operands, operands, operands_by, unary_operands}
+use Rattle.pj_calls.specs.Nodes.{arguments_of, functions_of, unless_arguments}
+use Rattle.pj_calls.specs.Results.{chosen_result}
+use Rattle.pj_exprtypes.specs.Typing.{Typing, Known, OfVar, OfCall}
+use Rattle.pj_exprtypes.specs.TypeOf.{deep, earlier, final_type, made_type, type_of, type_with, typed, whole_type}
 use Rattle.pj_exprtypes.proofs.Steps.{typed-some}
 
 -- ---- children
@@ -78,6 +83,14 @@ unary-after n (Some u.Not) ms after = tt
 unary-after n (Some u.Step) ms after = first-only-after n ms after
 unary-after n (Some u.Sign) ms after = first-only-after n ms after
 
+unless-after : (n : ℕ) (b : Bool) (m : Node) → n < m.0 → AreAfter n (if_some (if b then None else Some m))
+unless-after n true m after = tt
+unless-after n false m after = (after, tt)
+
+dot-after : (t : Tree) (n : ℕ) (ms : List Node) → AreAfter n ms → AreAfter n (if_some (option_and_then (unless_arguments t) (first_in ms)))
+dot-after t n [] after = tt
+dot-after t n (m ∷ ms) after = unless-after n (is_kind t k.ArgumentList m) m after.0
+
 operands-after : (t : Tree) → IsSyntaxTree t → (n : Node) (kind : Option Kind) → AreAfter n.0 (operands_by t n kind)
 operands-after t tree n (Some k.InfixExpression) = infix-after n.0 (infix_of t n) (children_of t n) (children-after t tree n)
 operands-after t tree n (Some k.UnaryExpression) = unary-after n.0 (unary_of t n) (children_of t n) (children-after t tree n)
@@ -85,7 +98,33 @@ operands-after t tree n (Some k.ConditionalExpression) = but-first-after n.0 (ch
 operands-after t tree n (Some k.FieldAccess) = first-only-after n.0 (children_of t n) (children-after t tree n)
 operands-after t tree n (Some k.AssignmentExpression) = first-only-after n.0 (children_of t n) (children-after t tree n)
 operands-after t tree n (Some k.ArrayAccess) = first-only-after n.0 (children_of t n) (children-after t tree n)
+operands-after t tree n (Some k.MethodCall) = dot-after t n.0 (children_of t n) (children-after t tree n)
 operands-after t tree n other = tt
+
+-- ---- and so are the arguments of a call
+
+later : (n m : ℕ) (ms : List Node) → n < m → AreAfter m ms → AreAfter n ms
+later n m [] less after = tt
+later n m (x ∷ xs) less after = (omega (arith, less, after.0), later n m xs less after.1)
+
+abbrev IsAfter : ℕ → Option Node → Type 0
+IsAfter n None = Unit {0}
+IsAfter n (Some m) = n < m.0
+
+picked-after : (n : ℕ) (b : Bool) (m : Node) (o : Option Node) → n < m.0 → IsAfter n o → IsAfter n (cond b (Some m) o)
+picked-after n true m o first rest = first
+picked-after n false m o first rest = rest
+
+found-after : (n : ℕ) (p : Node → Bool) (ms : List Node) → AreAfter n ms → IsAfter n (find p ms)
+found-after n p [] after = tt
+found-after n p (m ∷ ms) after = picked-after n (p m) m (find p ms) after.0 (found-after n p ms after.1)
+
+below-after : (t : Tree) → IsSyntaxTree t → (n : ℕ) (o : Option Node) → IsAfter n o → AreAfter n (children_or t o)
+below-after t tree n None after = tt
+below-after t tree n (Some m) after = later n m.0 (children_of t m) after (children-after t tree m)
+
+arguments-after : (t : Tree) → IsSyntaxTree t → (n : Node) → AreAfter n.0 (arguments_of t n)
+arguments-after t tree n = below-after t tree n.0 (child_of t n k.ArgumentList) (found-after n.0 (is_kind t k.ArgumentList) (children_of t n) (children-after t tree n))
 
 -- ---- types by those of the nodes below
 
@@ -94,8 +133,16 @@ module _ (t : Tree) (tree : IsSyntaxTree t) (var f g : Node → Asking JavaType)
   each-alike [] after = refl
   each-alike (m ∷ ms) after = λ j. bind (alike m after.0 j) (λ value. bind (each-alike ms after.1 j) (λ values. Return (value ∷ values)))
 
+  final-alike : (found : Typing) → final_type t var f n found ≡ final_type t var g n found
+  final-alike (Known ty) = refl
+  final-alike (OfVar id) = refl
+  final-alike (OfCall candidates) =
+      ap (λ (m : Asking (List JavaType)). bind m (λ types. chosen_result candidates types (functions_of t n))) (each-alike (arguments_of t n) (arguments-after t tree n))
+
   whole-alike : whole_type t var f n ≡ whole_type t var g n
-  whole-alike = ap (λ (m : Asking (List JavaType)). bind m (λ types. made_type t var n types)) (each-alike (operands t n) (operands-after t tree n (kind_of t n)))
+  whole-alike =
+      ap (λ (m : Asking (List JavaType)). bind m (λ types. made_type t var f n types)) (each-alike (operands t n) (operands-after t tree n (kind_of t n)))
+      ∙ (λ j. bind (each g (operands t n)) (λ types. bind (type_with t n (kind_of t n) types) (λ found. final-alike found j)))
 
 -- ---- counting further changes nothing
 
@@ -103,8 +150,8 @@ no-kind : (t : Tree) (n : Node) → length t.nodes ≤ n.0 → kind_of t n ≡ N
 no-kind t n past = ap (option_map (λ x. x.kind)) (slice_get_past t.nodes n.0 past)
 
 -- past the last node there is no type
-abbrev whole-by : Tree → (Node → Asking JavaType) → (Node → Asking JavaType) → Node → Option Kind → Asking JavaType
-whole-by t var f n kind = bind (each f (operands_by t n kind)) (λ types. bind (type_with t n kind types) (λ found. final_type var found))
+abbrev pub whole-by : Tree → (Node → Asking JavaType) → (Node → Asking JavaType) → Node → Option Kind → Asking JavaType
+whole-by t var f n kind = bind (each f (operands_by t n kind)) (λ types. bind (type_with t n kind types) (λ found. final_type t var f n found))
 
 whole-none : (t : Tree) (var f : Node → Asking JavaType) (n : Node) → length t.nodes ≤ n.0 → whole_type t var f n ≡ Return Unknown
 whole-none t var f n past = ap (whole-by t var f n) (no-kind t n past)

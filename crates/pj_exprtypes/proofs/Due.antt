@@ -17,8 +17,13 @@ use Rattle.pj_exprtypes.specs.Operands.{operands, var_operands}
 use Rattle.pj_exprtypes.specs.Order.{AddsParts, IsDue, visits}
 use Rattle.pj_exprtypes.specs.Parts.{AsksPart, IsPartOf}
 use Rattle.pj_exprtypes.specs.Declarations.{var_with}
-use Rattle.pj_exprtypes.specs.TypeOf.{deep, earlier, made_type, type_of, type_with, typed, var_of}
-use Rattle.pj_exprtypes.specs.Typing.{Typing, OfVar, final_type}
+use Rattle.pj_names.proofs.MeaningLaws.{bind-bind}
+use Rattle.pj_calls.specs.Candidates.{Candidates}
+use Rattle.pj_calls.specs.Nodes.{arguments_of, functions_of}
+use Rattle.pj_calls.specs.Results.{chosen_result}
+use Rattle.pj_exprtypes.specs.Calls.{passed_type}
+use Rattle.pj_exprtypes.specs.TypeOf.{deep, earlier, final_type, made_type, told_by_operands, type_of, type_with, typed, var_of, whole_type}
+use Rattle.pj_exprtypes.specs.Typing.{Typing, OfVar, OfCall}
 use Rattle.pj_exprtypes.proofs.Parts.{part-err, part-first, part-lift, part-next, part-ok, part-second, part-self, part-trans}
 use Rattle.pj_exprtypes.proofs.Steps.{earlier-some, earlier-var, typed-some}
 
@@ -38,13 +43,13 @@ part-each-first w f xs k = All-weaker (λ x. IsPartOf w (f x) (each f xs)) (λ x
 
 -- the types of the operands of a node
 operands-parts : (w : Worlds) (t : Tree) (var : Node → Asking JavaType) (left : ℕ) (n : Node) → All (λ m. IsPartOf w (typed t var left m) (typed t var (left + 1) n)) (operands t n)
-operands-parts w t var left n = subst (λ whole. All (λ m. IsPartOf w (typed t var left m) whole) (operands t n)) (sym step) (part-each-first w (typed t var left) (operands t n) (λ types. made_type t var n types))
+operands-parts w t var left n = subst (λ whole. All (λ m. IsPartOf w (typed t var left m) whole) (operands t n)) (sym step) (part-each-first w (typed t var left) (operands t n) (λ types. made_type t var (typed t var left) n types))
   where
     less : left + 1 - 1 ≡ left
     less = omega arith
 
-    step : typed t var (left + 1) n ≡ bind (each (typed t var left) (operands t n)) (λ types. made_type t var n types)
-    step = typed-some t var (left + 1) n (omega arith) ∙ ap (λ (k : ℕ). bind (each (typed t var k) (operands t n)) (λ types. made_type t var n types)) less
+    step : typed t var (left + 1) n ≡ whole_type t var (typed t var left) n
+    step = typed-some t var (left + 1) n (omega arith) ∙ ap (λ (k : ℕ). whole_type t var (typed t var k) n) less
 
 -- what the type of a variable that is declared by `var` is made of
 var-operands-parts : (w : Worlds) (t : Tree) (id : Node) → All (λ m. IsPartOf w (typed t (earlier t id.0) (deep t) m) (var_of t id)) (var_operands t id)
@@ -53,18 +58,18 @@ var-operands-parts w t id =
     (part-each-first w (typed t (earlier t id.0) (deep t)) (var_operands t id) (λ types. var_with t id types))
 
 -- a node without operands
-leaf-step : (t : Tree) (var : Node → Asking JavaType) (left : ℕ) (n : Node) → operands t n ≡ [] → typed t var (left + 1) n ≡ bind (type_with t n (kind_of t n) []) (λ found. final_type var found)
-leaf-step t var left n none = typed-some t var (left + 1) n (omega arith) ∙ ap (λ (ns : List Node). bind (each (typed t var (left + 1 - 1)) ns) (λ types. made_type t var n types)) none
+leaf-step : (t : Tree) (var : Node → Asking JavaType) (left : ℕ) (n : Node) → operands t n ≡ [] → typed t var (left + 1) n ≡ bind (type_with t n (kind_of t n) []) (λ found. final_type t var (typed t var (left + 1 - 1)) n found)
+leaf-step t var left n none = typed-some t var (left + 1) n (omega arith) ∙ ap (λ (ns : List Node). bind (each (typed t var (left + 1 - 1)) ns) (λ types. made_type t var (typed t var (left + 1 - 1)) n types)) none
 
 leaf-first : (w : Worlds) (t : Tree) (var : Node → Asking JavaType) (left : ℕ) (n : Node) → operands t n ≡ [] → IsPartOf w (type_with t n (kind_of t n) []) (typed t var (left + 1) n)
 leaf-first w t var left n none =
-    subst (λ whole. IsPartOf w (type_with t n (kind_of t n) []) whole) (sym (leaf-step t var left n none)) (part-first w (type_with t n (kind_of t n) []) (λ found. final_type var found))
+    subst (λ whole. IsPartOf w (type_with t n (kind_of t n) []) whole) (sym (leaf-step t var left n none)) (part-first w (type_with t n (kind_of t n) []) (λ found. final_type t var (typed t var (left + 1 - 1)) n found))
 
 -- its type is that of a variable before a number
 pub leaf-variable : (w : Worlds) (t : Tree) (before left : ℕ) (n id : Node) (found : Typing) → operands t n ≡ [] → id.0 < before → found ≡ OfVar id
     → ((d : ℕ) → longest ≤ d → found ≡ value_of d (w d).answer (type_with t n (kind_of t n) [])) → IsPartOf w (var_of t id) (typed t (earlier t before) (left + 1) n)
 leaf-variable w t before left n id found none less is comes =
-    let next = λ (found : Typing). final_type (earlier t before) found in
+    let next = λ (found : Typing). final_type t (earlier t before) (typed t (earlier t before) (left + 1 - 1)) n found in
     let at : IsPartOf w (earlier t before id) (bind (type_with t n (kind_of t n) []) next) = part-next w (type_with t n (kind_of t n) []) next (OfVar id) (λ d far. sym is ∙ comes d far) in
     subst (λ whole. IsPartOf w (var_of t id) whole) (sym (leaf-step t (earlier t before) left n none))
     (subst (λ part. IsPartOf w part (bind (type_with t n (kind_of t n) []) next)) (earlier-some t before id less) at)
@@ -151,10 +156,96 @@ pub due-whole : (t : Tree) (is_told : Bool) (w : Worlds) (count : ℕ) (n : Node
 due-whole t is_told w count n is inside =
     record { inside = inside; part = λ told. subst (λ (k : ℕ). IsPartOf w (typed t (earlier t k) (k + 1) n) (type_of t n)) (sym is) (part-self w (type_of t n)) }
 
+-- ---- the arguments of a call
+
+-- the type is made of what tells it by the types of the operands
+told-step : (t : Tree) (var : Node → Asking JavaType) (left : ℕ) (n : Node) → typed t var (left + 1) n ≡ bind (told_by_operands t (typed t var left) n) (λ found. final_type t var (typed t var left) n found)
+told-step t var left n =
+    let less : left + 1 - 1 ≡ left = omega arith in
+    typed-some t var (left + 1) n (omega arith) ∙ ap (λ (k : ℕ). whole_type t var (typed t var k) n) less
+    ∙ sym (bind-bind (each (typed t var left) (operands t n)) (λ types. type_with t n (kind_of t n) types) (λ found. final_type t var (typed t var left) n found))
+
+told-first : (w : Worlds) (t : Tree) (var : Node → Asking JavaType) (left : ℕ) (n : Node) → IsPartOf w (told_by_operands t (typed t var left) n) (typed t var (left + 1) n)
+told-first w t var left n =
+    subst (λ whole. IsPartOf w (told_by_operands t (typed t var left) n) whole) (sym (told-step t var left n))
+    (part-first w (told_by_operands t (typed t var left) n) (λ found. final_type t var (typed t var left) n found))
+
+-- what asks what tells the type asks a part
+pub told-asked : {K B : Type 0} (t : Tree) (var : Node → Asking JavaType) (left : ℕ) (n : Node) {a b : Told K} {v : Typing} (r : B)
+    → Asks (told_by_operands t (typed t var left) n) a b (Ok v) → AsksPart (typed t var (left + 1) n) a b (Ok r)
+told-asked t var left n {a = a} r h = part-lift (typed t var (left + 1) n) (told_by_operands t (typed t var left) n) (λ told. told-first a.world t var left n) (part-ok r h)
+
+pub told-refused : {K B : Type 0} (t : Tree) (var : Node → Asking JavaType) (left : ℕ) (n : Node) {a b : Told K} {e : AskFault} {r : Result B AskFault}
+    → Asks (told_by_operands t (typed t var left) n) a b (Err e) → r ≡ Err e → AsksPart (typed t var (left + 1) n) a b r
+told-refused t var left n {a = a} h is = part-lift (typed t var (left + 1) n) (told_by_operands t (typed t var left) n) (λ told. told-first a.world t var left n) (part-err h is)
+
+-- the same, counted from a depth that is some
+pub told-asked-at : {K B : Type 0} (t : Tree) (var : Node → Asking JavaType) (left : ℕ) (n : Node) {a b : Told K} {v : Typing} (r : B) → 0 < left
+    → Asks (told_by_operands t (typed t var (left - 1)) n) a b (Ok v) → AsksPart (typed t var left n) a b (Ok r)
+told-asked-at t var left n {a = a} {b = b} r some h =
+    let more : left - 1 + 1 ≡ left = omega (arith, some) in subst (λ (k : ℕ). AsksPart (typed t var k n) a b (Ok r)) more (told-asked t var (left - 1) n r h)
+
+pub told-refused-at : {K B : Type 0} (t : Tree) (var : Node → Asking JavaType) (left : ℕ) (n : Node) {a b : Told K} {e : AskFault} {r : Result B AskFault} → 0 < left
+    → Asks (told_by_operands t (typed t var (left - 1)) n) a b (Err e) → r ≡ Err e → AsksPart (typed t var left n) a b r
+told-refused-at t var left n {a = a} {b = b} {r = r} some h is =
+    let more : left - 1 + 1 ≡ left = omega (arith, some) in subst (λ (k : ℕ). AsksPart (typed t var k n) a b r) more (told-refused t var (left - 1) n h is)
+
+-- the arguments are parts, where that comes to candidates
+arguments-parts : (w : Worlds) (t : Tree) (var : Node → Asking JavaType) (left : ℕ) (n : Node) (candidates : Candidates) (found : Typing) → found ≡ OfCall candidates
+    → ((d : ℕ) → longest ≤ d → found ≡ value_of d (w d).answer (told_by_operands t (typed t var left) n)) → All (λ m. IsPartOf w (typed t var left m) (typed t var (left + 1) n)) (arguments_of t n)
+arguments-parts w t var left n candidates found is comes =
+    let f = typed t var left in
+    let next = λ (found : Typing). final_type t var f n found in
+    let at : IsPartOf w (passed_type t f n candidates) (bind (told_by_operands t f n) next) = part-next w (told_by_operands t f n) next (OfCall candidates) (λ d far. sym is ∙ comes d far) in
+    subst (λ whole. All (λ m. IsPartOf w (f m) whole) (arguments_of t n)) (sym (told-step t var left n))
+    (All-weaker (λ m. IsPartOf w (f m) (passed_type t f n candidates)) (λ m. IsPartOf w (f m) (bind (told_by_operands t f n) next)) (λ m part. part-trans part at) (arguments_of t n)
+    (part-each-first w f (arguments_of t n) (λ types. chosen_result candidates types (functions_of t n))))
+
+pub adds-arguments : (t : Tree) (is_told : Bool) (w : Worlds) (before left : ℕ) (n : Node) (candidates : Candidates) (found : Typing) (nodes : List Node) (old new : List Pending) → found ≡ OfCall candidates
+    → (IsTrue is_told → (d : ℕ) → longest ≤ d → found ≡ value_of d (w d).answer (told_by_operands t (typed t (earlier t before) left) n))
+    → nodes ≡ arguments_of t n → All (λ (m : Node). m.0 < length t.nodes) nodes → new ≡ old ++ visits before left nodes → AddsParts t is_told w (typed t (earlier t before) (left + 1) n) old new
+adds-arguments t is_told w before left n candidates found nodes old new is comes same inside puts = record {
+  more = visits before left nodes;
+  puts = puts;
+  are_due = visits-due t is_told w (typed t (earlier t before) (left + 1) n) before left nodes inside
+      (λ told. subst (λ ns. All (λ m. IsPartOf w (typed t (earlier t before) left m) (typed t (earlier t before) (left + 1) n)) ns) (sym same) (arguments-parts w t (earlier t before) left n candidates found is (comes told)));
+}
+
+pub adds-arguments-at : (t : Tree) (is_told : Bool) (w : Worlds) (before left : ℕ) (n : Node) (candidates : Candidates) (found : Typing) (nodes : List Node) (old new : List Pending) → 0 < left → found ≡ OfCall candidates
+    → (IsTrue is_told → (d : ℕ) → longest ≤ d → found ≡ value_of d (w d).answer (told_by_operands t (typed t (earlier t before) (left - 1)) n))
+    → nodes ≡ arguments_of t n → All (λ (m : Node). m.0 < length t.nodes) nodes → new ≡ old ++ visits before (left - 1) nodes → AddsParts t is_told w (typed t (earlier t before) left n) old new
+adds-arguments-at t is_told w before left n candidates found nodes old new some is comes same inside puts =
+    let more : left - 1 + 1 ≡ left = omega (arith, some) in
+    subst (λ (k : ℕ). AddsParts t is_told w (typed t (earlier t before) k n) old new) more (adds-arguments t is_told w before (left - 1) n candidates found nodes old new is comes same inside puts)
+
+-- a call whose arguments are to be looked at
+pub adds-pass : (t : Tree) (is_told : Bool) (w : Worlds) (before left : ℕ) (n : Node) (old new : List Pending) → n.0 < length t.nodes → new ≡ old ++ pending.Pass before left n ∷ []
+    → AddsParts t is_told w (typed t (earlier t before) left n) old new
+adds-pass t is_told w before left n old new inside puts = record {
+  more = pending.Pass before left n ∷ [];
+  puts = puts;
+  are_due = All-cons (IsDue t is_told w (typed t (earlier t before) left n)) (pending.Pass before left n) [] (record { inside = inside; part = λ told. part-self w (typed t (earlier t before) left n) })
+      (All-nil (IsDue t is_told w (typed t (earlier t before) left n)));
+}
+
+-- what is put behind what was put
+pub adds-both : (t : Tree) (is_told : Bool) (w : Worlds) (whole : Asking JavaType) (old middle new : List Pending) → AddsParts t is_told w whole old middle → AddsParts t is_told w whole middle new
+    → AddsParts t is_told w whole old new
+adds-both t is_told w whole old middle new first second = record {
+  more = first.more ++ second.more;
+  puts = second.puts ∙ ap (λ l. l ++ second.more) first.puts ∙ append_assoc old first.more second.more;
+  are_due = All-append (IsDue t is_told w whole) first.more second.more first.are_due second.are_due;
+}
+
 -- a list of no members
 pub none-left : {X : Type 0} (xs : List X) → (length xs == 0) ≡ true → xs ≡ []
 none-left [] is = refl
 none-left (x ∷ xs) is = absurd (let none : length (x ∷ xs) ≡ 0 = eqb-true (length (x ∷ xs)) 0 is in omega (arith, none))
+
+-- what follows of what holds
+pub on-map : {A E : Type 0} {P Q : Type 0} (r : Result A E) → (P → Q) → OnOk r P → OnOk r Q
+on-map (Ok v) next p = next p
+on-map (Err e) next p = tt
 
 -- what holds anyway
 pub on-ok : {A E : Type 0} {P : Type 0} (r : Result A E) → P → OnOk r P

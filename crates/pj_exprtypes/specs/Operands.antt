@@ -1,4 +1,5 @@
--- The operands of expressions: the nodes whose types the type of a node is made of, in the order in which they are typed (JLS 15.7). Those whose types change nothing are left out.
+-- The operands of expressions: the nodes whose types the type of a node is made of, in the order in which they are typed (JLS 15.7). Those whose types change nothing are left out. The arguments of a
+-- call are typed behind its operands (`Calls`).
 use Rattle.std.specs.Prelude.{Option, None, Some, List, [], ◌∷◌}
 use Rattle.pj_tree.specs.Tree.{Tree, children_of, kind_of}
 use Rattle.pj_tree.specs.Children.{second_child}
@@ -11,6 +12,7 @@ use Rattle.pj_operators.specs.declared.operators.Unary.{Unary}
 use Rattle.pj_operators.specs.declared.operators.Unary.TheVariants as u
 use Rattle.pj_operators.specs.Operators.{infix_of, unary_of}
 use Rattle.pj_leaf_types.specs.Variables.{initializer_of, statement_of}
+use Rattle.pj_calls.specs.Nodes.{before_dot}
 
 -- ---- some of a list
 
@@ -45,7 +47,7 @@ unary_operands (Some u.Step) children = first_only children
 unary_operands (Some u.Sign) children = first_only children
 
 module _ (t : Tree) where
-  -- Of a conditional expression the condition is left out, of an assignment what is assigned, of an array access the index.
+  -- Of a conditional expression the condition is left out, of an assignment what is assigned, of an array access the index. That of a method call is its receiver, where it has one.
   abbrev pub operands_by : Node → Option Kind → List Node
   operands_by n (Some k.InfixExpression) = infix_operands (infix_of t n) (children_of t n)
   operands_by n (Some k.UnaryExpression) = unary_operands (unary_of t n) (children_of t n)
@@ -53,6 +55,7 @@ module _ (t : Tree) where
   operands_by n (Some k.FieldAccess) = first_only (children_of t n)
   operands_by n (Some k.AssignmentExpression) = first_only (children_of t n)
   operands_by n (Some k.ArrayAccess) = first_only (children_of t n)
+  operands_by n (Some k.MethodCall) = if_some (before_dot t n)
   operands_by n other = []
 
   abbrev pub operands : Node → List Node

@@ -15,11 +15,13 @@ use Rattle.pj_exprtypes.specs.TypeOf.{earlier, typed, var_of}
 abbrev pub node_of : Pending → Node
 node_of (pending.Visit before left n) = n
 node_of (pending.Find id) = id
+node_of (pending.Pass before left n) = n
 
 -- the meaning that is looked at, or asked
 abbrev pub asked_by : Tree → Pending → Asking JavaType
 asked_by t (pending.Visit before left n) = typed t (earlier t before) left n
 asked_by t (pending.Find id) = var_of t id
+asked_by t (pending.Pass before left n) = typed t (earlier t before) left n
 
 -- It is of a node of the tree, and asks nothing that a meaning does not ask, where the worlds are told.
 pub record IsDue (t : Tree) (is_told : Bool) (worlds : Worlds) (whole : Asking JavaType) (p : Pending) : Type 0 where

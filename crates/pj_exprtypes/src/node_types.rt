@@ -74,7 +74,7 @@ pub(crate) fn node_type<O: Oracle>(
 }
 
 /// The type of a node of the file (JLS 15): of an expression, of a variable, and of the declaration of a class or of variables. Every other node, and what is not
-/// known, is `Unknown`; a method call is.
+/// known, is `Unknown`.
 ///
 /// It asks the oracle beneath for what the classes of the file need that the type is made of, and for the other classes. After a refusal none but these was
 /// asked. The oracle of the file stays as it is. What is held is right before and after, also after a refusal.

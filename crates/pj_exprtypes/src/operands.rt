@@ -7,6 +7,7 @@ ghost use Rattle.pj_tree.specs.declared.node.Node.{Node};
 ghost use Rattle.pj_exprtypes.specs.Operands.{but_first, first_only, if_some, infix_operands, operands, source_of, unary_operands, var_operands};
 
 use pj_base::{ListOf, NoMemory};
+use pj_calls::receiver_of;
 use pj_leaf_types::{initializer_of, statement_of};
 use pj_operators::{Infix, Unary, infix_of, unary_of};
 use pj_tree::{Children, Kind, Node, SyntaxTree, first_child, second_child};
@@ -112,6 +113,7 @@ fn listed_operands(alloc: Global, tree: &SyntaxTree<'_>, n: Node) -> Result<Node
         Kind::FieldAccess | Kind::AssignmentExpression | Kind::ArrayAccess => {
             first_operand(alloc, tree, n)
         }
+        Kind::MethodCall => if_some(alloc, receiver_of(tree, n)),
         _ => Ok(Nodes::new(alloc)),
     }
 }

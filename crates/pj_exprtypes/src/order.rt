@@ -1,22 +1,24 @@
 //! Which variables that are declared by `var` are typed before a node: those that its type is made of, the earliest first. So a chain of them, each of the one before,
 //! costs no stack.
 
-ghost use Rattle.std.specs.Prelude.{◌≡◌, ◌<◌, ◌++◌, ◌+◌, ℕ, [], Bool, length, IfOk, IfSome, IsTrue, OnOk};
+ghost use Rattle.std.specs.Prelude.{◌≡◌, ◌<◌, ◌≤◌, ◌++◌, ◌+◌, ℕ, [], Bool, length, IfOk, IfSome, IsTrue, OnOk};
+ghost use Rattle.pj_names.specs.Told.{Asks, seen};
 ghost use Rattle.pj_names.specs.Told.{Worlds};
 ghost use Rattle.pj_exprtypes.specs.Operands.{operands};
 ghost use Rattle.pj_exprtypes.specs.Order.{AddsParts, asked_by, node_of, visits};
 ghost use Rattle.pj_exprtypes.specs.Parts.{AsksPart};
 ghost use Rattle.pj_exprtypes.specs.Seen.{IsVarInside, seen_typing};
 ghost use Rattle.pj_exprtypes.specs.Table.{Keeps};
-ghost use Rattle.pj_exprtypes.specs.TypeOf.{earlier, type_of, typed, var_of};
+ghost use Rattle.pj_exprtypes.specs.TypeOf.{earlier, told_by_operands, type_of, typed, var_of};
 ghost use Rattle.pj_exprtypes.specs.Typing.{OfVar};
 
+use crate::found::Found;
 use crate::held::Typed;
 use crate::operands::{Nodes, operands, var_operands};
-use crate::type_or_var::TypeOrVar;
-use crate::typing::var_once;
+use crate::typing::{types_of, var_once};
 use crate::variables::type_with;
 use pj_base::{ListOf, NoMemory};
+use pj_calls::arguments_of;
 use pj_leaf_types::{first_name, is_var_name};
 use pj_names::{AskFault, Oracle, Recorder, TyList};
 use pj_outer_names::File;
@@ -30,6 +32,8 @@ enum Pending {
     Visit { before: u32, left: u32, n: Node },
     /// A variable is to be found. Those that its type is made of are held.
     Find { id: Node },
+    /// The variables that the types of the arguments of a call are made of are to be found. Those that the type of its receiver is made of are held.
+    Pass { before: u32, left: u32, n: Node },
 }
 
 /// What is still to do, the next one last.
@@ -100,21 +104,21 @@ fn may_be_open(file: &File<'_>, types: &Typed, before: u32, n: Node) -> bool
 }
 
 /// The variable that is told, where it is declared by `var` before a number and is not held.
-fn open_among(tree: &SyntaxTree<'_>, types: &Typed, before: u32, found: TypeOrVar) -> Option<Node>
+fn open_among(tree: &SyntaxTree<'_>, types: &Typed, before: u32, found: Found) -> Option<Node>
     requires inside { IsVarInside (length tree.now.nodes) found }
     ensures value { IfSome result (λ id. seen_typing found ≡ OfVar id) }
     ensures inside { IfSome result (λ id. id.0 < length tree.now.nodes) }
     ensures earlier { IfSome result (λ id. id.0 < before) }
 {
     match found {
-        TypeOrVar::Var(id) => {
+        Found::Var(id) => {
             if is_open(tree, types, before, id) {
                 Some(id)
             } else {
                 None
             }
         }
-        TypeOrVar::Type(_) => None,
+        Found::Type(_) | Found::Call(_) => None,
     }
 }
 
@@ -148,8 +152,51 @@ fn visit_leaf<O: Oracle>(
     }
 }
 
-/// Visits a node: its operands are to be visited, and where it has none, the variable is to be found whose type it has.
-fn visit<O: Oracle>(
+/// Whether a variable that is declared by `var` before a number and is not held may be among the nodes from one to another, as far as the file alone tells.
+fn has_open(file: &File<'_>, types: &Typed, before: u32, from: u32, end: u32) -> bool {
+    let count = file.tree().len();
+    for n in from..end {
+        if n < count && may_be_open(file, types, before, Node(n)) {
+            return true;
+        }
+    }
+    false
+}
+
+/// The same of the arguments of a call.
+fn passes_open(file: &File<'_>, types: &Typed, before: u32, n: Node) -> bool
+    requires inside { n.0 < length file.now.nodes }
+{
+    let tree = file.tree();
+    if tree.kind(n) != Kind::MethodCall {
+        return false;
+    }
+    match child_of(tree, n, Kind::ArgumentList) {
+        Some(list) => has_open(file, types, before, list.0, tree.subtree_end(list).0),
+        None => false,
+    }
+}
+
+/// Where the arguments of a call may be made of variables that are not held, they are to be looked at behind its receiver. Most are not.
+fn put_pass(
+    file: &File<'_>,
+    types: &Typed,
+    all: &mut AllPending,
+    before: u32,
+    left: u32,
+    n: Node,
+) -> Result<(), NoMemory>
+    requires inside { n.0 < length file.now.nodes }
+    ensures { (is_told : Bool) (worlds : Worlds) → OnOk result (AddsParts file.now is_told worlds (typed file.now (earlier file.now before) left n) all.old all.new) }
+{
+    if !passes_open(file, types, before, n) {
+        return Ok(());
+    }
+    all.push(Pending::Pass { before, left, n })
+}
+
+/// Visits the operands of a node, and where it has none, the variable is to be found whose type it has.
+fn visit_operands<O: Oracle>(
     alloc: Global,
     file: &File<'_>,
     oracle: &mut O,
@@ -172,6 +219,79 @@ fn visit<O: Oracle>(
     }
     put_visits(all, before, left - 1, nodes)?;
     Ok(())
+}
+
+/// Visits a node: its operands are to be visited, and behind them its arguments.
+fn visit<O: Oracle>(
+    alloc: Global,
+    file: &File<'_>,
+    oracle: &mut O,
+    types: &Typed,
+    all: &mut AllPending,
+    before: u32,
+    left: u32,
+    n: Node,
+) -> Result<(), AskFault>
+    requires inside { n.0 < length file.now.nodes }
+    ensures due { OnOk result (AddsParts file.now (O.tells oracle.old).is_told (O.tells oracle.old).world (typed file.now (earlier file.now before) left n) all.old all.new) }
+    ensures asks { AsksPart (typed file.now (earlier file.now before) left n) (O.tells oracle.old) (O.tells oracle.new) result }
+{
+    put_pass(file, types, all, before, left, n)?;
+    visit_operands(alloc, file, oracle, types, all, before, left, n)
+}
+
+/// Visits the arguments of a call, where it has a candidate: the types of its receiver and of the candidates are told by what is held.
+fn pass<'r, O: Oracle>(
+    alloc: Global,
+    file: &File<'_>,
+    oracle: &mut Recorder<'r, O>,
+    types: &mut Typed,
+    all: &mut AllPending,
+    before: u32,
+    left: u32,
+    n: Node,
+) -> Result<(), AskFault>
+    requires inside { n.0 < length file.now.nodes }
+    requires keeps { Keeps file.now (⟦<Recorder<'r, O> as Oracle>⟧.tells oracle.old) types.old.variables }
+    ensures due { OnOk result (AddsParts file.now (⟦<Recorder<'r, O> as Oracle>⟧.tells oracle.old).is_told (⟦<Recorder<'r, O> as Oracle>⟧.tells oracle.old).world (typed file.now (earlier file.now before) left n) all.old all.new) }
+    ensures asks { AsksPart (typed file.now (earlier file.now before) left n) (⟦<Recorder<'r, O> as Oracle>⟧.tells oracle.old) (⟦<Recorder<'r, O> as Oracle>⟧.tells oracle.new) result }
+    ensures keeps { Keeps file.now (⟦<Recorder<'r, O> as Oracle>⟧.tells oracle.new) types.new.variables }
+{
+    // No node lies so deep. Of several calls in a row, most arguments are held by now.
+    if left == 0 || left > 2000001 || !passes_open(file, types, before, n) {
+        return Ok(());
+    }
+    let found = told_by_operands(alloc, file, oracle, types, before, left - 1, n)?;
+    match found {
+        Found::Call(_) => {
+            let nodes = arguments_of(alloc, file.tree(), n)?;
+            put_visits(all, before, left - 1, nodes)?;
+            Ok(())
+        }
+        Found::Type(_) | Found::Var(_) => Ok(()),
+    }
+}
+
+/// What tells the type of a node by the types of its operands.
+#[tactic(auto, using(pj_names::proofs::AskingLaws::asking_steps))]
+fn told_by_operands<'r, O: Oracle>(
+    alloc: Global,
+    file: &File<'_>,
+    oracle: &mut Recorder<'r, O>,
+    types: &mut Typed,
+    before: u32,
+    left: u32,
+    n: Node,
+) -> Result<Found, AskFault>
+    requires inside { n.0 < length file.now.nodes }
+    requires left { left ≤ 2000001 }
+    requires keeps { Keeps file.now (⟦<Recorder<'r, O> as Oracle>⟧.tells oracle.old) types.old.variables }
+    ensures asks { Asks (told_by_operands file.now (typed file.now (earlier file.now before) left) n) (⟦<Recorder<'r, O> as Oracle>⟧.tells oracle.old) (⟦<Recorder<'r, O> as Oracle>⟧.tells oracle.new) (seen seen_typing result) }
+    ensures keeps { Keeps file.now (⟦<Recorder<'r, O> as Oracle>⟧.tells oracle.new) types.new.variables }
+{
+    let nodes = operands(alloc, file.tree(), n)?;
+    let operand_types = types_of(alloc, file, oracle, types, before, left, nodes.as_slice())?;
+    type_with(alloc, file, oracle, n, operand_types)
 }
 
 /// Finds and holds a variable.
@@ -208,6 +328,9 @@ fn do_one<'r, O: Oracle>(
 {
     match next {
         Pending::Find { id } => find(alloc, file, oracle, types, id),
+        Pending::Pass { before, left, n } => {
+            pass(alloc, file, oracle, types, all, before, left, n)
+        }
         Pending::Visit { before, left, n } => {
             visit(alloc, file, oracle, types, all, before, left, n)
         }

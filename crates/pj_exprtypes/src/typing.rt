@@ -11,15 +11,17 @@ ghost use Rattle.pj_names.specs.JavaType.{java_type, type_list};
 ghost use Rattle.pj_names.specs.Noting.{Notes};
 ghost use Rattle.pj_names.specs.Told.{Asks, seen};
 ghost use Rattle.pj_tree.specs.declared.node.Node.{Node};
+ghost use Rattle.pj_calls.specs.Seen.{candidates_view};
+ghost use Rattle.pj_exprtypes.specs.Calls.{passed_type};
 ghost use Rattle.pj_exprtypes.specs.Seen.{IsVarInside, seen_typing};
 ghost use Rattle.pj_exprtypes.specs.Table.{Keeps};
-ghost use Rattle.pj_exprtypes.specs.TypeOf.{earlier, typed, var_of};
-ghost use Rattle.pj_exprtypes.specs.Typing.{final_type};
+ghost use Rattle.pj_exprtypes.specs.TypeOf.{earlier, final_type, typed, var_of};
 
+use crate::found::Found;
 use crate::held::{Typed, held, remember};
 use crate::operands::{operands, var_operands};
-use crate::type_or_var::TypeOrVar;
 use crate::variables::{type_with, var_with};
+use pj_calls::{Candidates, arguments_of, chosen_result, functions_of};
 use pj_names::{AskFault, ClassNameSet, ClassNames, Oracle, Recorder, Ty, TyList};
 use pj_outer_names::File;
 use pj_tree::Node;
@@ -57,13 +59,13 @@ pub(crate) fn typed<'r, O: Oracle>(
         nodes.as_slice(),
     )?;
     let found = type_with(alloc, file, oracle, n, operand_types)?;
-    final_type(alloc, file, oracle, types, before, found)
+    final_type(alloc, file, oracle, types, before, left - 1, n, found)
 }
 
 /// The types of nodes, one after the other.
 #[cycle(typing)]
 #[tactic(auto, using(pj_names::proofs::AskingLaws::asking_loops))]
-fn types_of<'r, O: Oracle>(
+pub(crate) fn types_of<'r, O: Oracle>(
     alloc: Global,
     file: &File<'_>,
     oracle: &mut Recorder<'r, O>,
@@ -86,7 +88,7 @@ fn types_of<'r, O: Oracle>(
     Ok(found)
 }
 
-/// The type that is told, or that of a variable that is declared by `var`, where those before a number have one.
+/// The type that is told, or that of a variable that is declared by `var`, where those before a number have one, or that of a call by the types of its arguments.
 #[cycle(typing)]
 #[tactic(auto, using(crate::proofs::Steps::earlier_steps))]
 fn final_type<'r, O: Oracle>(
@@ -95,22 +97,54 @@ fn final_type<'r, O: Oracle>(
     oracle: &mut Recorder<'r, O>,
     types: &mut Typed,
     before: u32,
-    found: TypeOrVar,
+    left: u32,
+    n: Node,
+    found: Found,
 ) -> Result<Ty, AskFault>
     requires inside { IsVarInside (length file.now.nodes) found }
+    requires node { n.0 < length file.now.nodes }
+    requires left { left ≤ 2000001 }
     requires keeps { Keeps file.now (⟦<Recorder<'r, O> as Oracle>⟧.tells oracle.old) types.old.variables }
-    ensures asks { Asks (final_type (earlier file.now before) (seen_typing found)) (⟦<Recorder<'r, O> as Oracle>⟧.tells oracle.old) (⟦<Recorder<'r, O> as Oracle>⟧.tells oracle.new) (seen java_type result) }
+    ensures asks { Asks (final_type file.now (earlier file.now before) (typed file.now (earlier file.now before) left) n (seen_typing found)) (⟦<Recorder<'r, O> as Oracle>⟧.tells oracle.old) (⟦<Recorder<'r, O> as Oracle>⟧.tells oracle.new) (seen java_type result) }
     ensures keeps { Keeps file.now (⟦<Recorder<'r, O> as Oracle>⟧.tells oracle.new) types.new.variables }
 {
     match found {
-        TypeOrVar::Type(ty) => Ok(ty),
-        TypeOrVar::Var(id) => {
+        Found::Type(ty) => Ok(ty),
+        Found::Var(id) => {
             if id.0 >= before {
                 return Ok(Ty::Unknown);
             }
             var_once(alloc, file, oracle, types, id)
         }
+        Found::Call(candidates) => {
+            passed_type(alloc, file, oracle, types, before, left, n, candidates)
+        }
     }
+}
+
+/// The type of a call by the types of its arguments.
+#[cycle(typing)]
+#[tactic(auto, using(pj_names::proofs::AskingLaws::asking_steps))]
+fn passed_type<'r, O: Oracle>(
+    alloc: Global,
+    file: &File<'_>,
+    oracle: &mut Recorder<'r, O>,
+    types: &mut Typed,
+    before: u32,
+    left: u32,
+    n: Node,
+    candidates: Candidates,
+) -> Result<Ty, AskFault>
+    requires inside { n.0 < length file.now.nodes }
+    requires left { left ≤ 2000001 }
+    requires keeps { Keeps file.now (⟦<Recorder<'r, O> as Oracle>⟧.tells oracle.old) types.old.variables }
+    ensures asks { Asks (passed_type file.now (typed file.now (earlier file.now before) left) n (candidates_view candidates)) (⟦<Recorder<'r, O> as Oracle>⟧.tells oracle.old) (⟦<Recorder<'r, O> as Oracle>⟧.tells oracle.new) (seen java_type result) }
+    ensures keeps { Keeps file.now (⟦<Recorder<'r, O> as Oracle>⟧.tells oracle.new) types.new.variables }
+{
+    let nodes = arguments_of(alloc, file.tree(), n)?;
+    let arguments = types_of(alloc, file, oracle, types, before, left, nodes.as_slice())?;
+    let functions = functions_of(alloc, file.tree(), &nodes)?;
+    chosen_result(alloc, oracle, candidates, arguments, &functions)
 }
 
 /// The type of a variable that is declared by `var`, by those before it: it is held, or found and then held.

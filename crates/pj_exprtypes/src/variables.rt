@@ -1,10 +1,13 @@
 //! Variables by their declarations, and the names that mean them.
 
-ghost use Rattle.std.specs.Prelude.{◌<◌, Some, length, IfOk, IfSome};
+ghost use Rattle.std.specs.Prelude.{◌≡◌, ◌<◌, ℕ, Some, length, IfOk, IfSome};
 ghost use Rattle.pj_names.specs.JavaType.{java_type, type_list};
 ghost use Rattle.pj_names.specs.Told.{Asks, seen};
 ghost use Rattle.pj_scopes.specs.Seen.{IsInside, seen_variable};
 ghost use Rattle.pj_tree.specs.Tree.{kind_of};
+ghost use Rattle.pj_calls.specs.Seen.{seen_candidates};
+ghost use Rattle.pj_signatures.specs.Seen.{seen_option};
+ghost use Rattle.pj_exprtypes.specs.Calls as calls;
 ghost use Rattle.pj_exprtypes.specs.Declarations as declarations;
 ghost use Rattle.pj_exprtypes.specs.Expressions.{expression_with};
 ghost use Rattle.pj_exprtypes.specs.Names as names;
@@ -13,7 +16,8 @@ ghost use Rattle.pj_exprtypes.specs.TypeOf as types;
 ghost use Rattle.pj_exprtypes.specs.Typing.{known};
 
 use crate::expressions::{expression_with, only};
-use crate::type_or_var::TypeOrVar;
+use crate::found::Found;
+use pj_calls::{Candidates, candidates_of};
 use pj_leaf_types::{
     declared_by, declared_type, first_name, is_in_own_initializer, is_var, statement_of,
 };
@@ -33,17 +37,17 @@ fn variable_by<O: Oracle>(
     oracle: &mut O,
     id: Node,
     declaration: Node,
-) -> Result<TypeOrVar, AskFault>
+) -> Result<Found, AskFault>
     requires inside { id.0 < length file.now.nodes }
     requires declaration { declaration.0 < length file.now.nodes }
     ensures inside { IfOk result (IsVarInside (length file.now.nodes)) }
     ensures asks { Asks (declarations.variable_by file.now id (Some declaration)) (O.tells oracle.old) (O.tells oracle.new) (seen seen_typing result) }
 {
     if is_var(file.tree(), declaration) {
-        return Ok(TypeOrVar::Var(id));
+        return Ok(Found::Var(id));
     }
     let ty = declared_by(alloc, file, oracle, id, declaration)?;
-    Ok(TypeOrVar::Type(ty))
+    Ok(Found::Type(ty))
 }
 
 /// The variable of a name: one that is declared by `var`, or with the type that its declaration writes (JLS 8.3, 8.4.1, 14.4).
@@ -53,14 +57,14 @@ fn variable_type<O: Oracle>(
     file: &File<'_>,
     oracle: &mut O,
     id: Node,
-) -> Result<TypeOrVar, AskFault>
+) -> Result<Found, AskFault>
     requires inside { id.0 < length file.now.nodes }
     ensures inside { IfOk result (IsVarInside (length file.now.nodes)) }
     ensures asks { Asks (declarations.variable_type file.now id) (O.tells oracle.old) (O.tells oracle.new) (seen seen_typing result) }
 {
     match declaration_of(file.tree(), id) {
         Some(declaration) => variable_by(alloc, file, oracle, id, declaration),
-        None => Ok(TypeOrVar::Type(Ty::Unknown)),
+        None => Ok(Found::Type(Ty::Unknown)),
     }
 }
 
@@ -71,14 +75,14 @@ fn variable_or_unknown<O: Oracle>(
     file: &File<'_>,
     oracle: &mut O,
     id: Option<Node>,
-) -> Result<TypeOrVar, AskFault>
+) -> Result<Found, AskFault>
     requires inside { IfSome id (λ m. m.0 < length file.now.nodes) }
     ensures inside { IfOk result (IsVarInside (length file.now.nodes)) }
     ensures asks { Asks (declarations.variable_or_unknown file.now id) (O.tells oracle.old) (O.tells oracle.new) (seen seen_typing result) }
 {
     match id {
         Some(id) => variable_type(alloc, file, oracle, id),
-        None => Ok(TypeOrVar::Type(Ty::Unknown)),
+        None => Ok(Found::Type(Ty::Unknown)),
     }
 }
 
@@ -89,7 +93,7 @@ fn named_type<O: Oracle>(
     file: &File<'_>,
     oracle: &mut O,
     n: Node,
-) -> Result<TypeOrVar, AskFault>
+) -> Result<Found, AskFault>
     requires inside { n.0 < length file.now.nodes }
     ensures inside { IfOk result (IsVarInside (length file.now.nodes)) }
     ensures asks { Asks (declarations.named_type file.now n) (O.tells oracle.old) (O.tells oracle.new) (seen seen_typing result) }
@@ -105,7 +109,7 @@ fn declaration_type<O: Oracle>(
     file: &File<'_>,
     oracle: &mut O,
     n: Node,
-) -> Result<TypeOrVar, AskFault>
+) -> Result<Found, AskFault>
     requires inside { n.0 < length file.now.nodes }
     ensures inside { IfOk result (IsVarInside (length file.now.nodes)) }
     ensures asks { Asks (declarations.declaration_type file.now n) (O.tells oracle.old) (O.tells oracle.new) (seen seen_typing result) }
@@ -115,7 +119,7 @@ fn declaration_type<O: Oracle>(
         return variable_or_unknown(alloc, file, oracle, id);
     }
     let ty = declared_type(alloc, file, oracle, 0, n)?;
-    Ok(TypeOrVar::Type(ty))
+    Ok(Found::Type(ty))
 }
 
 /// What a name means at a place: in its own initializer a variable that is declared by `var` has no type (JLS 14.4.1).
@@ -126,18 +130,18 @@ fn meant_type<O: Oracle>(
     oracle: &mut O,
     place: Node,
     meant: Option<Variable>,
-) -> Result<TypeOrVar, AskFault>
+) -> Result<Found, AskFault>
     requires inside { place.0 < length file.now.nodes }
     requires meant { IfSome meant (IsInside (length file.now.nodes)) }
     ensures inside { IfOk result (IsVarInside (length file.now.nodes)) }
     ensures asks { Asks (names.meant_type file.now place (seen_variable meant)) (O.tells oracle.old) (O.tells oracle.new) (seen seen_typing result) }
 {
     match meant {
-        None => Ok(TypeOrVar::Type(Ty::Unknown)),
-        Some(Variable::Inherited(field)) => Ok(TypeOrVar::Type(field.ty)),
+        None => Ok(Found::Type(Ty::Unknown)),
+        Some(Variable::Inherited(field)) => Ok(Found::Type(field.ty)),
         Some(Variable::Declared(id)) => {
             if is_in_own_initializer(file.tree(), place, id) {
-                return Ok(TypeOrVar::Type(Ty::Unknown));
+                return Ok(Found::Type(Ty::Unknown));
             }
             variable_type(alloc, file, oracle, id)
         }
@@ -151,13 +155,50 @@ fn access_type<O: Oracle>(
     file: &File<'_>,
     oracle: &mut O,
     n: Node,
-) -> Result<TypeOrVar, AskFault>
+) -> Result<Found, AskFault>
     requires inside { n.0 < length file.now.nodes }
     ensures inside { IfOk result (IsVarInside (length file.now.nodes)) }
     ensures asks { Asks (names.access_type file.now n) (O.tells oracle.old) (O.tells oracle.new) (seen seen_typing result) }
 {
     let meant = variable_name(alloc, file, oracle, n, first_word(file.tree(), n))?;
     meant_type(alloc, file, oracle, n, meant)
+}
+
+/// The type of the receiver of a call, where there is one.
+fn receiver_in(operand_types: TyList) -> Option<Ty>
+    ensures { seen_option result ≡ calls.receiver_in (type_list operand_types) }
+{
+    let mut types = operand_types.into_vec();
+    types.reverse();
+    types.pop()
+}
+
+/// What candidates tell: where there are none, the type is not known.
+fn typing_of(found: Option<Candidates>) -> Found
+    ensures value { seen_typing result ≡ calls.typing_of (seen_candidates found) }
+    ensures inside { (count : ℕ) → IsVarInside count result }
+{
+    match found {
+        Some(candidates) => Found::Call(candidates),
+        None => Found::Type(Ty::Unknown),
+    }
+}
+
+/// The candidates of a method call by the type of its receiver (JLS 15.12.2.1).
+#[tactic(auto, using(pj_names::proofs::AskingLaws::asking_steps))]
+fn call_with<O: Oracle>(
+    alloc: Global,
+    file: &File<'_>,
+    oracle: &mut O,
+    n: Node,
+    operand_types: TyList,
+) -> Result<Found, AskFault>
+    requires inside { n.0 < length file.now.nodes }
+    ensures inside { IfOk result (IsVarInside (length file.now.nodes)) }
+    ensures asks { Asks (calls.call_with file.now n (type_list operand_types)) (O.tells oracle.old) (O.tells oracle.new) (seen seen_typing result) }
+{
+    let found = candidates_of(alloc, file, oracle, n, receiver_in(operand_types))?;
+    Ok(typing_of(found))
 }
 
 /// The type of a node that is no name and no declaration of variables.
@@ -168,13 +209,13 @@ fn known_type<O: Oracle>(
     oracle: &mut O,
     n: Node,
     operand_types: TyList,
-) -> Result<TypeOrVar, AskFault>
+) -> Result<Found, AskFault>
     requires inside { n.0 < length file.now.nodes }
     ensures inside { IfOk result (IsVarInside (length file.now.nodes)) }
     ensures asks { Asks (known (expression_with file.now n (kind_of file.now n) (type_list operand_types))) (O.tells oracle.old) (O.tells oracle.new) (seen seen_typing result) }
 {
     let ty = expression_with(alloc, file, oracle, n, operand_types)?;
-    Ok(TypeOrVar::Type(ty))
+    Ok(Found::Type(ty))
 }
 
 /// What tells the type of a node, by its kind and the types of its operands.
@@ -185,7 +226,7 @@ pub fn type_with<O: Oracle>(
     oracle: &mut O,
     n: Node,
     operand_types: TyList,
-) -> Result<TypeOrVar, AskFault>
+) -> Result<Found, AskFault>
     requires inside { n.0 < length file.now.nodes }
     ensures inside { IfOk result (IsVarInside (length file.now.nodes)) }
     ensures asks { Asks (types.type_with file.now n (kind_of file.now n) (type_list operand_types)) (O.tells oracle.old) (O.tells oracle.new) (seen seen_typing result) }
@@ -202,6 +243,7 @@ pub fn type_with<O: Oracle>(
         Kind::FieldDeclaration | Kind::LocalVariableDeclaration => {
             declaration_type(alloc, file, oracle, n)
         }
+        Kind::MethodCall => call_with(alloc, file, oracle, n, operand_types),
         _ => known_type(alloc, file, oracle, n, operand_types),
     }
 }

@@ -1,2 +1,15 @@
+pub mod Sets
+pub mod Lists
 pub mod Among
 pub mod Right
+pub mod Named
+pub mod Left
+pub mod Merged
+pub mod Served
+pub mod Looked
+pub mod Fits
+pub mod Unserved
+pub mod Sorted
+pub mod OneLeft
+pub mod Again
+pub mod Enough

@@ -1,85 +1,96 @@
 -- Which caches are right: over its own answers each result is what its rules come to.
-use Rattle.std.specs.Prelude.{◌≡◌, ◌⊎◌, ℕ, IsTrue, List, [], ◌∷◌, map, Some, None, if◌then◌else◌}
-use Rattle.std.specs.List.{All, Contains}
+use Rattle.std.specs.Prelude.{◌≡◌, ℕ, Bool, false, List, [], ◌∷◌, None, if◌then◌else◌}
+use Rattle.std.specs.List.{All}
 use Rattle.std.specs.FinSet as set
 use Rattle.pj_names.specs.declared.answer.Answer.{Answer}
-use Rattle.pj_names.specs.ClassName.{Name, name_set}
-use Rattle.pj_names.specs.Asking.{Asking, each}
-use Rattle.pj_names.specs.Meaning.{Source, Means, Gives, found_in, whole}
+use Rattle.pj_names.specs.ClassName.{Name, NameSet, name_set}
+use Rattle.pj_names.specs.Asking.{Asking, Return}
+use Rattle.pj_names.specs.Meaning.{Source, Means, Gives, found_in}
 use Rattle.pj_reports.specs.declared.ruled.Head.{Head}
+use Rattle.pj_reports.specs.declared.ruled.Head.TheVariants as heads
 use Rattle.pj_reports.specs.declared.ruled.Ruled.{Ruled}
+use Rattle.pj_reports.specs.declared.ruled.Ruled.TheVariants as ruled
 use Rattle.pj_cache.specs.declared.cache.KeyRows.{KeyRows}
 use Rattle.pj_cache.specs.declared.cache.CachedResult.{CachedResult}
 use Rattle.pj_cache.specs.declared.cache.Entry.{Entry}
 use Rattle.pj_cache.specs.declared.cache.Cache.{Cache}
-use Rattle.pj_cache_format.specs.Decoded.{IsStored}
-use Rattle.pj_reuse.specs.Serving.{stands}
 
 abbrev pub Key : Type 0
 Key = List ℕ
 
--- What rules are at one file: the key of each, and what it means there, apart from any source of answers. They are to be all rules,
--- and not those of one run: a result may have keys of rules that are gone.
+-- what comes of a rule that is not active, or where a file has no tree: nothing, and nothing is asked
+abbrev pub nothing : Asking Ruled
+nothing = Return (ruled.Spots [])
+
+-- ---- rules
+
+-- What rules are at one file. They are all rules that can be written, and not those of one run, since a cache has results of rules that
+-- are gone. The key of a rule settles what it means.
 pub record RulesAt (R : Type 0) : Type 0 where
   pub key : R → Key
+  -- whether it is active for the path of the file
+  pub is_active : R → Bool
+  -- what it means there, apart from any source of answers
   pub meaning : R → Asking Ruled
+  pub one_meaning : (a b : R) → key a ≡ key b → meaning a ≡ meaning b
+  pub inactive_is_nothing : (a : R) → is_active a ≡ false → meaning a ≡ nothing
 
--- rules of one key mean the same
-abbrev pub HaveOneMeaning : {R : Type 0} → RulesAt R → Type 0
-HaveOneMeaning {R} rules = (a b : R) → rules.key a ≡ rules.key b → rules.meaning a ≡ rules.meaning b
+-- What files are: the head of some bytes, and all rules that can be written, with their keys, the paths for which they are active, and what
+-- they mean at a path with some bytes.
+pub record Files (R : Type 0) : Type 0 where
+  pub head : List ℕ → Head
+  pub key : R → Key
+  pub is_active : List ℕ → R → Bool
+  pub meaning : List ℕ → List ℕ → R → Asking Ruled
+  pub one_meaning : (path bytes : List ℕ) (a b : R) → key a ≡ key b → meaning path bytes a ≡ meaning path bytes b
+  pub inactive_is_nothing : (path bytes : List ℕ) (a : R) → is_active path a ≡ false → meaning path bytes a ≡ nothing
+  pub no_tree_is_nothing : (path bytes message : List ℕ) (a : R) → head bytes ≡ heads.Message message → meaning path bytes a ≡ nothing
+
+-- the rules at a file
+abbrev pub rules_at : {R : Type 0} → Files R → List ℕ → List ℕ → RulesAt R
+rules_at files path bytes = record {
+  key = files.key;
+  is_active = files.is_active path;
+  meaning = files.meaning path bytes;
+  one_meaning = files.one_meaning path bytes;
+  inactive_is_nothing = files.inactive_is_nothing path bytes;
+}
+
+-- ---- results
 
 -- the answers of a result: those that the cache has for its names, and no others
 abbrev pub answers_of : List (Name × Answer) → CachedResult → Source
 answers_of answers r name = if set.contains (name_set r.names) name then found_in answers name else None
 
--- it takes for each key of a result a rule of that key
-abbrev pub AreRulesOf : {R : Type 0} → RulesAt R → (Key → R) → CachedResult → Type 0
-AreRulesOf rules choice r = All (λ (k : KeyRows). rules.key (choice k.key) ≡ k.key) r.group
-
--- what these rules mean, one after the other
-abbrev pub meaning_of : {R : Type 0} → RulesAt R → (Key → R) → CachedResult → Asking (List Ruled)
-meaning_of rules choice r = each (λ (k : KeyRows). rules.meaning (choice k.key)) r.group
-
--- over a source they come to the rows of the result, and together ask for just its names
-abbrev pub ComesTo : {R : Type 0} → RulesAt R → (Key → R) → Source → CachedResult → Type 0
-ComesTo rules choice source r = Means source (meaning_of rules choice r) (Gives (map (λ (k : KeyRows). k.rows) r.group) (name_set r.names))
-
--- A result is right: each of its keys is that of some rule, and so it comes to over its own answers, whichever rules of its keys are
--- taken.
-pub record IsRight {R : Type 0} (rules : RulesAt R) (answers : List (Name × Answer)) (r : CachedResult) : Type 0 where
-  pub known : All (λ (k : KeyRows). (rule : R) × (rules.key rule ≡ k.key)) r.group
-  pub comes : (choice : Key → R) → AreRulesOf rules choice r → ComesTo rules choice (answers_of answers r) r
-
--- What may be left: which of these a run has to keep, and which it has to make, is not said here.
-
--- the answers for these names are the world's
-abbrev pub AreOf : List (Name × Answer) → (Name → Answer) → List Name → Type 0
-AreOf answers world names = All (λ (name : Name). found_in answers name ≡ Some (world name)) names
-
--- A result is new: it is that of one rule, which comes to its rows in the world and asks for just its names.
-pub record IsNew {R : Type 0} (rules : RulesAt R) (world : Name → Answer) (r : CachedResult) : Type 0 where
+-- Over a source some rule of a key comes to the key's rows, and asks for just these names. So does then each rule of the key.
+pub record ComesTo {R : Type 0} (rules : RulesAt R) (source : Source) (k : KeyRows) (names : NameSet) : Type 0 where
   pub rule : R
-  pub rows : Ruled
-  pub group_is : r.group ≡ record { key = rules.key rule; rows = rows } ∷ []
-  pub comes : Means (whole world) (rules.meaning rule) (Gives rows (name_set r.names))
+  pub key_is : rules.key rule ≡ k.key
+  pub means : Means source (rules.meaning rule) (Gives k.rows names)
 
--- a result that may be left at a file in a world: one of the old results that stands there, unchanged, or a new one
-abbrev pub IsLeft : {R : Type 0} → RulesAt R → List (Name × Answer) → (Name → Answer) → List CachedResult → CachedResult → Type 0
-IsLeft rules answers world old r = (Contains old r × IsTrue (stands answers world r)) ⊎ IsNew rules world r
+-- Names together: those of a first key, and those of the others.
+pub record Together (First Others : NameSet → Type 0) (names : NameSet) : Type 0 where
+  pub own : NameSet
+  pub others : NameSet
+  pub first : First own
+  pub rest : Others others
+  pub all : names ≡ set.union own others
 
--- What files are: the head of some bytes, and the rules at a path with some bytes.
-pub record Files (R : Type 0) : Type 0 where
-  pub head : List ℕ → Head
-  pub rules : List ℕ → List ℕ → RulesAt R
+-- so it is for each of some keys, and together their rules ask for just these names
+abbrev pub ComeTo : {R : Type 0} → RulesAt R → Source → List KeyRows → NameSet → Type 0
+ComeTo rules source [] names = names ≡ set.empty
+ComeTo rules source (k ∷ ks) names = Together (ComesTo rules source k) (ComeTo rules source ks) names
+
+-- A result is right: over its own answers its rules come to its rows, and together they ask for all its names.
+abbrev pub IsRight : {R : Type 0} → RulesAt R → List (Name × Answer) → CachedResult → Type 0
+IsRight rules answers r = ComeTo rules (answers_of answers r) r.group (name_set r.names)
+
+-- ---- entries and caches
 
 -- an entry is right: it has the head of its bytes, and each of its results is right
 abbrev pub IsRightEntry : {R : Type 0} → Files R → List (Name × Answer) → Entry → Type 0
-IsRightEntry files answers e = (e.head ≡ files.head e.bytes) × All (IsRight (files.rules e.path e.bytes) answers) e.results
+IsRightEntry files answers e = (e.head ≡ files.head e.bytes) × All (IsRight (rules_at files e.path e.bytes) answers) e.results
 
 -- each entry of a cache is
 abbrev pub IsRightCache : {R : Type 0} → Files R → Cache → Type 0
 IsRightCache files c = All (IsRightEntry files c.answers) c.entries
-
--- bytes that a run may find: no cache, or one that is right
-abbrev pub Fits : {R : Type 0} → Files R → List ℕ → Type 0
-Fits files bytes = (c : Cache) → IsStored bytes c → IsRightCache files c

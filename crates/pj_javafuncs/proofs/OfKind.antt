@@ -11,11 +11,13 @@ use Rattle.pj_tree.specs.declared.node.Node.{Node}
 use Rattle.pj_xexpressions.specs.declared.pmd_function.PmdFunction.{PmdFunction}
 use Rattle.pj_xexpressions.specs.declared.pmd_function.PmdFunction.TheVariants as pmd
 use Rattle.pj_xvalue.specs.declared.fault.XCode.{XCode}
+use Rattle.pj_xvalue.specs.declared.fault.XFault.{XFault}
+use Rattle.pj_xvalue.specs.declared.fault.XFault.TheVariants as fault
 use Rattle.pj_xvalue.specs.Arguments.{IsGiven, Text}
 use Rattle.pj_xvalue.specs.Items.{Boolean, ItemValue, String, are_atomic}
-use Rattle.pj_xvalue.specs.Replies.{is_one_boolean, is_type_test, may_be, may_return}
+use Rattle.pj_xvalue.specs.Replies.{is_one_boolean, is_type_test, may_be, may_return, outcome}
 use Rattle.pj_javafuncs.specs.Facts.{Facts}
-use Rattle.pj_javafuncs.specs.Parts.{IsTestReply}
+use Rattle.pj_javafuncs.specs.Parts.{IsTestReply, IsTruthOrCode}
 use Rattle.pj_javafuncs.specs.ReplyKinds.{atomic_may_be, value_may_be}
 use Rattle.pj_javafuncs.specs.Replies.{first_of, reply, reply_to, text_of}
 
@@ -59,3 +61,14 @@ no-code known t ((String text ∷ []) ∷ []) code is = absurd (cc)
 no-code known t (argument ∷ []) code is = refl
 no-code known t (argument ∷ (other ∷ arguments)) code is = refl
 no-code known t [] code is = refl
+
+-- one boolean, or a code
+pub call-kind : (arguments : List (List ItemValue)) (r : Result (Result (List ItemValue) XCode) AskFault) → IsTruthOrCode r → IsTrue (may_return pmd.MatchesSig arguments r)
+call-kind arguments (Ok (Ok items)) is = a_boolean pmd.MatchesSig arguments items is
+call-kind arguments (Ok (Err code)) is = refl
+call-kind arguments (Err asked) is = refl
+
+-- a fault is none
+pub no-truth : {B : Type 0} (view : B → List ItemValue) (refused : XFault) → IsTruthOrCode (outcome view (Err refused))
+no-truth view (fault.Code code) = tt
+no-truth view (fault.Ask asked) = tt

@@ -1,5 +1,6 @@
 -- definitions
 pub mod Facts
+pub mod Called
 pub mod Replies
 -- what an implementation tells
 pub mod Telling

@@ -27,3 +27,9 @@ IsTruth (Err asked) = Unit {0}
 abbrev pub IsTestReply : Result Text XCode → Result (Result (List ItemValue) XCode) AskFault → Type 0
 IsTestReply (Ok text) given = IsTruth given
 IsTestReply (Err code) given = IsGiven (Err code) given
+
+-- one boolean, a code, or a refusal
+abbrev pub IsTruthOrCode : Result (Result (List ItemValue) XCode) AskFault → Type 0
+IsTruthOrCode (Ok (Ok items)) = IsTrue (is_one_boolean items)
+IsTruthOrCode (Ok (Err code)) = Unit {0}
+IsTruthOrCode (Err asked) = Unit {0}

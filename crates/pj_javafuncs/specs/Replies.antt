@@ -9,7 +9,7 @@ use Rattle.pj_xexpressions.specs.declared.pmd_function.PmdFunction.{PmdFunction}
 use Rattle.pj_xexpressions.specs.declared.pmd_function.PmdFunction.TheVariants as pmd
 use Rattle.pj_xvalue.specs.declared.fault.XCode.{XCode}
 use Rattle.pj_xvalue.specs.declared.fault.XCode.TheVariants.{XPTY0004}
-use Rattle.pj_xvalue.specs.Arguments.{Text, and_then, truth}
+use Rattle.pj_xvalue.specs.Arguments.{Text, truth}
 use Rattle.pj_xvalue.specs.Items.{ItemValue}
 use Rattle.pj_signature_patterns.specs.Reading.{pattern_in}
 use Rattle.pj_signature_patterns.specs.declared.pattern.SigPattern.{SigPattern}
@@ -20,6 +20,7 @@ use Rattle.pj_type_tests.specs.Names.{has_name}
 use Rattle.pj_type_tests.specs.Types.{type_is}
 use Rattle.pj_annotation_tests.specs.Annotations.{has_annotation}
 use Rattle.pj_exprtypes.specs.TypeOf.{type_of}
+use Rattle.pj_javafuncs.specs.Called.{call_test}
 use Rattle.pj_javafuncs.specs.Facts.{Facts}
 
 abbrev pub Reply : Type 0
@@ -61,11 +62,11 @@ abbrev pub annotation_test : Tree → Option Node → Text → Asking Bool
 annotation_test t None text = Return false
 annotation_test t (Some n) text = has_annotation t n text
 
--- `matchesSig(s)`: whether the method that the context node calls is as the pattern says. As long as no method is chosen for a call, it is not. `pattern_in` is the one pattern
--- that a text spells, by the law of `pj_signature_patterns` on them.
-abbrev pub call_reply : Option SigPattern → Result (List ItemValue) XCode
-call_reply None = Err XPTY0004
-call_reply (Some pattern) = truth false
+-- `matchesSig(s)`: whether the context node calls what the pattern says; a text that is none is XPTY0004, whatever the context node is. `pattern_in` is the one pattern that a text spells, by the law of
+-- `pj_signature_patterns` on them.
+abbrev pub call_reply : Tree → Option Node → Option SigPattern → Reply
+call_reply t at None = Return (Err XPTY0004)
+call_reply t at (Some pattern) = tested (call_test t at pattern)
 
 -- ---- all functions
 
@@ -83,7 +84,7 @@ module _ (known : Facts) (t : Tree) where
   reply_to pmd.TypeIs at argument = with_text (text_of argument) (λ text. tested (type_test t at text))
   reply_to pmd.TypeIsExactly at argument = with_text (text_of argument) (λ text. tested (exact_test t at text))
   reply_to pmd.HasAnnotation at argument = with_text (text_of argument) (λ text. tested (annotation_test t at text))
-  reply_to pmd.MatchesSig at argument = Return (and_then (text_of argument) (λ text. call_reply (pattern_in text)))
+  reply_to pmd.MatchesSig at argument = with_text (text_of argument) (λ text. call_reply t at (pattern_in text))
   reply_to pmd.NodeIs at argument = Return (kind_reply known.attribute_of known.names_of t at argument)
   reply_to pmd.Modifiers at argument = Return (Ok (modifiers_at (λ n. known.modifiers_of n true) t at))
   reply_to pmd.ExplicitModifiers at argument = Return (Ok (modifiers_at (λ n. known.modifiers_of n false) t at))

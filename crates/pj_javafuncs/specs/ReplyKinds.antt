@@ -15,6 +15,7 @@ use Rattle.pj_tree.specs.declared.node.Node.{Node}
 use Rattle.pj_xexpressions.specs.declared.pmd_function.PmdFunction.{PmdFunction}
 use Rattle.pj_xexpressions.specs.declared.pmd_function.PmdFunction.TheVariants as pmd
 use Rattle.pj_xvalue.specs.declared.fault.XCode.{XCode}
+use Rattle.pj_xvalue.specs.declared.fault.XCode.TheVariants.{XPTY0004}
 use Rattle.pj_xvalue.specs.declared.modifiers.Modifier.{Modifier}
 use Rattle.pj_xvalue.specs.declared.modifiers.Modifiers.{Modifiers}
 use Rattle.pj_xvalue.specs.Arguments.{Text, and_then, one, truth}
@@ -27,6 +28,7 @@ use Rattle.pj_signature_patterns.specs.declared.pattern.SigPattern.{SigPattern}
 use Rattle.pj_node_functions.specs.Arguments.{one_node}
 use Rattle.pj_node_functions.specs.Kinds.{node_is}
 use Rattle.pj_node_functions.specs.ModifierWords.{all_modifiers, modifiers_at, word_of, words_among, words_of}
+use Rattle.pj_javafuncs.specs.Called.{call_test}
 use Rattle.pj_javafuncs.specs.Facts.{Facts}
 use Rattle.pj_javafuncs.specs.Replies.{annotation_test, call_reply, exact_test, first_of, reply, tested, text_of, type_test, with_text}
 
@@ -44,14 +46,6 @@ numbers (Err code) number = tt
 truths : (text : Result Text XCode) (is : Text → Bool) → IsAtomic (and_then text (λ x. truth (is x)))
 truths (Ok text) is = refl
 truths (Err code) is = tt
-
-call : (pattern : Option SigPattern) → IsAtomic (call_reply pattern)
-call None = tt
-call (Some pattern) = refl
-
-calls : (text : Result Text XCode) → IsAtomic (and_then text (λ x. call_reply (pattern_in x)))
-calls (Ok text) = call (pattern_in text)
-calls (Err code) = tt
 
 words : (set : Modifiers) (modifiers : List Modifier) → IsTrue (are_atomic (words_among set modifiers))
 words set [] = refl
@@ -98,6 +92,14 @@ module _ (depth : ℕ) (world : Name → Answer) where
     type_may_be (argument ∷ (other ∷ arguments)) = by_text pmd.TypeIs (argument ∷ (other ∷ arguments)) (text_of known t argument) (λ x. type_test t at x) refl
     type_may_be [] = by_text pmd.TypeIs [] (text_of known t []) (λ x. type_test t at x) refl
 
+    call_may_be : (arguments : List (List ItemValue)) (pattern : Option SigPattern) → IsTrue (may_be pmd.MatchesSig arguments (value_of depth world (call_reply t at pattern)))
+    call_may_be arguments None = atomic_may_be pmd.MatchesSig arguments (Err XPTY0004) refl tt
+    call_may_be arguments (Some pattern) = test_may_be pmd.MatchesSig arguments [] (λ x. call_test t at pattern)
+
+    calls_may_be : (arguments : List (List ItemValue)) (text : Result Text XCode) → IsTrue (may_be pmd.MatchesSig arguments (value_of depth world (with_text text (λ x. call_reply t at (pattern_in x)))))
+    calls_may_be arguments (Ok text) = call_may_be arguments (pattern_in text)
+    calls_may_be arguments (Err code) = atomic_may_be pmd.MatchesSig arguments (Err code) refl tt
+
     pub value_may_be : (function : PmdFunction) (arguments : List (List ItemValue)) → IsTrue (may_be function arguments (value_of depth world (reply known t function at arguments)))
     value_may_be pmd.FileName arguments = refl
     value_may_be pmd.StartLine arguments = atomic_may_be pmd.StartLine arguments _ refl (numbers (one_node (first_of arguments)) _)
@@ -107,7 +109,7 @@ module _ (depth : ℕ) (world : Name → Answer) where
     value_may_be pmd.TypeIs arguments = type_may_be arguments
     value_may_be pmd.TypeIsExactly arguments = by_text pmd.TypeIsExactly arguments (text_of known t (first_of arguments)) (λ x. exact_test t at x) refl
     value_may_be pmd.HasAnnotation arguments = by_text pmd.HasAnnotation arguments (text_of known t (first_of arguments)) (λ x. annotation_test t at x) refl
-    value_may_be pmd.MatchesSig arguments = atomic_may_be pmd.MatchesSig arguments _ refl (calls (text_of known t (first_of arguments)))
+    value_may_be pmd.MatchesSig arguments = calls_may_be arguments (text_of known t (first_of arguments))
     value_may_be pmd.NodeIs arguments = atomic_may_be pmd.NodeIs arguments _ refl (truths (text_of known t (first_of arguments)) (λ x. node_is t at x))
     value_may_be pmd.Modifiers arguments = all_words (λ n. known.modifiers_of n true) t at
     value_may_be pmd.ExplicitModifiers arguments = all_words (λ n. known.modifiers_of n false) t at

@@ -3,17 +3,19 @@ ghost use Rattle.std.specs.Prelude.{◌≡◌, ◌<◌, [], List, IsTrue, length
 ghost use Rattle.std.specs.Option.{ForSome};
 ghost use Rattle.pj_names.specs.Told.{Asks};
 ghost use Rattle.pj_exprtypes.specs.Table.{KeepsOver};
+ghost use Rattle.pj_javafuncs.specs.Called.{call_test};
 ghost use Rattle.pj_javafuncs.specs.Facts.{facts};
-ghost use Rattle.pj_javafuncs.specs.Parts.{IsTestReply, IsTruth, test_by};
+ghost use Rattle.pj_javafuncs.specs.Parts.{IsTestReply, IsTruth, IsTruthOrCode, test_by};
 ghost use Rattle.pj_javafuncs.specs.Replies.{call_reply, first_of, reply, reply_to, tested, with_text};
 ghost use Rattle.pj_node_functions.specs.ModifierWords.{modifiers_at};
 ghost use Rattle.pj_node_functions.specs.Arguments.{text_argument};
 ghost use Rattle.pj_signature_patterns.specs.Reading.{pattern_in};
-ghost use Rattle.pj_xvalue.specs.Arguments.{IsGiven, and_then};
+ghost use Rattle.pj_xvalue.specs.Arguments.{IsGiven};
 ghost use Rattle.pj_xvalue.specs.Items.{ItemValue, values_of};
 ghost use Rattle.pj_xvalue.specs.OfTree.{ArgumentsOfTree, OfTree};
 ghost use Rattle.pj_xvalue.specs.Replies.{may_return, outcome};
 
+use crate::called::call_test;
 use crate::node_tests::{Test, test_by};
 use crate::setting::Setting;
 use pj_base::Text;
@@ -73,27 +75,83 @@ fn test_reply<'s, 'a, 'f, O: Oracle, A: Attributes>(
     }
 }
 
-/// Whether the method that the context node calls is as a text says: as long as no method is chosen for a call, it is not. XPTY0004 comes where the text is
-/// no signature pattern.
-fn called(alloc: Global, text: &Text) -> Result<Sequence<'static>, XFault>
-    ensures { IsGiven (call_reply (pattern_in text.now)) (outcome values_of result) }
+/// Whether the context node calls what a pattern says, as one boolean.
+#[tactic(auto, using(pj_names::proofs::AskingLaws::asking_steps))]
+fn call_tested<'a, 'f, O: Oracle>(
+    alloc: Global,
+    oracle: &mut FileOracle<'a, 'f, O>,
+    types: &mut Typed,
+    at: Option<Node>,
+    pattern: &SigPattern,
+) -> Result<Sequence<'static>, XFault>
+    requires inside { ForSome at (λ n. n.0 < length oracle.old.file.now.nodes) }
+    requires keeps { KeepsOver oracle.old.file.now (O.tells oracle.old.inner.now) types.old.variables }
+    ensures asks { Asks (tested (call_test oracle.old.file.now at pattern.now)) (⟦<FileOracle<'a, 'f, O> as Oracle>⟧.tells oracle.old) (⟦<FileOracle<'a, 'f, O> as Oracle>⟧.tells oracle.new) (outcome values_of result) }
+    ensures keeps { KeepsOver oracle.old.file.now (O.tells oracle.new.inner.now) types.new.variables }
+    ensures kind { IsTruthOrCode (outcome values_of result) }
 {
-    match SigPattern::parse(alloc, text.as_str())? {
-        Some(_) => Ok(boolean_singleton(alloc, false)?),
+    let is = call_test(alloc, oracle, types, at, pattern)?;
+    Ok(boolean_singleton(alloc, is)?)
+}
+
+/// The same for a pattern, where there is one: without one it is XPTY0004.
+fn call_reply<'a, 'f, O: Oracle>(
+    alloc: Global,
+    oracle: &mut FileOracle<'a, 'f, O>,
+    types: &mut Typed,
+    at: Option<Node>,
+    pattern: &Option<SigPattern>,
+) -> Result<Sequence<'static>, XFault>
+    requires inside { ForSome at (λ n. n.0 < length oracle.old.file.now.nodes) }
+    requires keeps { KeepsOver oracle.old.file.now (O.tells oracle.old.inner.now) types.old.variables }
+    ensures asks { Asks (call_reply oracle.old.file.now at pattern.now) (⟦<FileOracle<'a, 'f, O> as Oracle>⟧.tells oracle.old) (⟦<FileOracle<'a, 'f, O> as Oracle>⟧.tells oracle.new) (outcome values_of result) }
+    ensures keeps { KeepsOver oracle.old.file.now (O.tells oracle.new.inner.now) types.new.variables }
+    ensures kind { IsTruthOrCode (outcome values_of result) }
+{
+    match pattern {
+        Some(pattern) => call_tested(alloc, oracle, types, at, pattern),
         None => Err(XFault::Code(XCode::XPTY0004)),
     }
 }
 
+/// The same for the pattern that a text spells.
+fn called<'a, 'f, O: Oracle>(
+    alloc: Global,
+    oracle: &mut FileOracle<'a, 'f, O>,
+    types: &mut Typed,
+    at: Option<Node>,
+    text: &Text,
+) -> Result<Sequence<'static>, XFault>
+    requires inside { ForSome at (λ n. n.0 < length oracle.old.file.now.nodes) }
+    requires keeps { KeepsOver oracle.old.file.now (O.tells oracle.old.inner.now) types.old.variables }
+    ensures asks { Asks (call_reply oracle.old.file.now at (pattern_in text.now)) (⟦<FileOracle<'a, 'f, O> as Oracle>⟧.tells oracle.old) (⟦<FileOracle<'a, 'f, O> as Oracle>⟧.tells oracle.new) (outcome values_of result) }
+    ensures keeps { KeepsOver oracle.old.file.now (O.tells oracle.new.inner.now) types.new.variables }
+    ensures kind { IsTruthOrCode (outcome values_of result) }
+{
+    let pattern = SigPattern::parse(alloc, text.as_str())?;
+    call_reply(alloc, oracle, types, at, &pattern)
+}
+
 /// `matchesSig(s)`.
-fn signature_reply<'s, A: Attributes>(
+fn signature_reply<'s, 'a, 'f, O: Oracle, A: Attributes>(
     setting: &Setting<'s, A>,
+    oracle: &mut FileOracle<'a, 'f, O>,
+    types: &mut Typed,
+    at: Option<Node>,
     argument: &Sequence<'s>,
 ) -> Result<Sequence<'static>, XFault>
-    requires argument { OfTree (A.nodes setting.now.facts.now) (values_of argument.now) }
-    ensures { IsGiven (and_then (text_argument (A.attribute_of setting.now.facts.now) (A.names_of setting.now.facts.now) (values_of argument.now)) (λ text. call_reply (pattern_in text))) (outcome values_of result) }
+    requires inside { ForSome at (λ n. n.0 < length oracle.old.file.now.nodes) }
+    requires of_tree { A.nodes setting.now.facts.now ≡ length oracle.old.file.now.nodes }
+    requires argument { OfTree (length oracle.old.file.now.nodes) (values_of argument.now) }
+    requires keeps { KeepsOver oracle.old.file.now (O.tells oracle.old.inner.now) types.old.variables }
+    ensures asks { Asks (with_text (text_argument (A.attribute_of setting.now.facts.now) (A.names_of setting.now.facts.now) (values_of argument.now)) (λ text. call_reply oracle.old.file.now at (pattern_in text))) (⟦<FileOracle<'a, 'f, O> as Oracle>⟧.tells oracle.old) (⟦<FileOracle<'a, 'f, O> as Oracle>⟧.tells oracle.new) (outcome values_of result) }
+    ensures keeps { KeepsOver oracle.old.file.now (O.tells oracle.new.inner.now) types.new.variables }
+    ensures kind { IsTruthOrCode (outcome values_of result) }
 {
-    let text = text_argument(setting.alloc, setting.facts, argument)?;
-    called(setting.alloc, &text)
+    match text_argument(setting.alloc, setting.facts, argument) {
+        Ok(text) => called(setting.alloc, oracle, types, at, &text),
+        Err(fault) => Err(fault),
+    }
 }
 
 /// `modifiers()` and `explicitModifiers()`.
@@ -145,7 +203,7 @@ fn reply_to<'s, 'a, 'f, O: Oracle, A: Attributes>(
         PmdFunction::HasAnnotation => {
             test_reply(setting, oracle, types, Test::HasAnnotation, at, argument)
         }
-        PmdFunction::MatchesSig => signature_reply(setting, argument),
+        PmdFunction::MatchesSig => signature_reply(setting, oracle, types, at, argument),
         PmdFunction::NodeIs => kind_reply(alloc, tree, facts, at, argument),
         PmdFunction::Modifiers => modifier_reply(alloc, tree, facts, at, true),
         PmdFunction::ExplicitModifiers => modifier_reply(alloc, tree, facts, at, false),

@@ -67,7 +67,7 @@ put_by k x q xs more Equal e rest =
     absorbed (is_at (byte_order q) x) (has_key xs q) ∙ (λ i. sym same i || (is_at (byte_order q) x || has_key xs q))
 put_by k x q xs more Greater e rest = ap (λ (b : Bool). is_at (byte_order q) x || b) rest ∙ swapped (is_at (byte_order q) x) (is_at (byte_order q) k) (has_key xs q)
 
-has_put : (held : List Key) (k q : Key) → has_key (insert_key byte_order held k) q ≡ (is_at (byte_order q) k || has_key held q)
+pub has_put : (held : List Key) (k q : Key) → has_key (insert_key byte_order held k) q ≡ (is_at (byte_order q) k || has_key held q)
 has_put [] k q = refl
 has_put (x ∷ xs) k q = put_by k x q xs (insert_key byte_order xs k) (byte_order k x) refl (has_put xs k q)
 
@@ -95,7 +95,7 @@ meets_by keys xs x q true at e there rest =
 meets_by keys xs x q false at e there rest = ap (λ (b : Bool). has_key keys x || b) (rest e) ∙ or_true (has_key keys x)
 
 -- lists that both have a key
-meets : (keys xs : List Key) (q : Key) → has_key xs q ≡ true → has_key keys q ≡ true → list_any (has_key keys) xs ≡ true
+pub meets : (keys xs : List Key) (q : Key) → has_key xs q ≡ true → has_key keys q ≡ true → list_any (has_key keys) xs ≡ true
 meets keys [] q e there = absurd cc
 meets keys (x ∷ xs) q e there = meets_by keys xs x q (is_at (byte_order q) x) refl e there (λ rest. meets keys xs q rest there)
 
@@ -103,7 +103,7 @@ has_more : (k : Key) (ks xs : List Key) → AllByRecursion (λ (x : Key). has_ke
 has_more k ks [] all = tt
 has_more k ks (x ∷ xs) all = (ap (λ (b : Bool). is_at (byte_order x) k || b) all.0 ∙ or_true (is_at (byte_order x) k), has_more k ks xs all.1)
 
-has_itself : (keys : List Key) → AllByRecursion (λ (x : Key). has_key keys x ≡ true) keys
+pub has_itself : (keys : List Key) → AllByRecursion (λ (x : Key). has_key keys x ≡ true) keys
 has_itself [] = tt
 has_itself (k ∷ ks) = (ap (λ (o : Ordering). is_eq o || has_key ks k) (tied_itself nat_list_cmp_total k), has_more k ks ks (has_itself ks))
 

@@ -1,11 +1,12 @@
 //! Answers of a cache.
 ghost use Rattle.std.specs.Prelude.{◌≡◌, map};
 ghost use Rattle.std.specs.List.Sorted.{IsStrictlySortedBy};
-ghost use Rattle.pj_cache.specs.Places.{byte_order, place_in};
+ghost use Rattle.pj_cache.specs.Places.{byte_order};
 ghost use Rattle.pj_reuse.specs.Same.{is_same_answer};
 ghost use Rattle.pj_reuse.specs.Serving.{is_kept};
 
 use pj_base::Exact;
+use pj_cache::place_of_name;
 use pj_names::{Answer, ClassName};
 use std::sync::Arc;
 
@@ -14,26 +15,6 @@ fn is_same_answer(first: &Answer, second: &Answer) -> bool
     ensures { result ≡ is_same_answer first.now second.now }
 {
     first.is(second)
-}
-
-/// The place of a name: the number of names below it.
-fn place_of(answers: &[(ClassName, Arc<Answer>)], name: &ClassName) -> usize
-    requires { IsStrictlySortedBy byte_order (map (λ a. a.0) answers.now) }
-    ensures { result ≡ place_in (map (λ a. a.0) answers.now) name.now }
-{
-    let mut low = 0;
-    let mut high = answers.len();
-    'search: while low < high {
-        let middle = low + (high - low) / 2;
-        let pair = &answers[middle];
-        let is_below = pair.0.cmp(name).is_lt();
-        if is_below {
-            low = middle + 1;
-        } else {
-            high = middle;
-        }
-    }
-    low
 }
 
 /// Whether the answer for a name among others is this one, by bisection.
@@ -45,7 +26,7 @@ pub(crate) fn is_kept(
     requires { IsStrictlySortedBy byte_order (map (λ a. a.0) answers.now) }
     ensures { result ≡ is_kept (map (λ a. (a.0, a.1.value)) answers.now) name.now current.now }
 {
-    let place = place_of(answers, name);
+    let place = place_of_name(answers, name);
     if place >= answers.len() {
         return false;
     }

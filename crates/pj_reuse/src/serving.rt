@@ -8,7 +8,7 @@ ghost use Rattle.pj_reuse.specs.Serving.{has_key, are_kept, with_keys, keys_of_r
 
 use crate::kept::is_kept;
 use pj_base::{Copied, NoMemory, Numbers};
-use pj_cache::{Cache, CachedResult, Entry, Key, KeyRows, Keys};
+use pj_cache::{Cache, CachedResult, Entry, Key, KeyRows, Keys, SharedName};
 use pj_names::{Answer, AskFault, ClassName, Oracle};
 use std::alloc::Global;
 use std::collections::BTreeSet;
@@ -19,12 +19,13 @@ use std::sync::Arc;
 fn are_kept<O: Oracle>(
     oracle: &mut O,
     answers: &[(ClassName, Arc<Answer>)],
-    names: &[ClassName],
+    names: &[SharedName],
 ) -> Result<bool, AskFault>
     requires { IsStrictlySortedBy byte_order (map (λ a. a.0) answers.now) }
     ensures { Asks (are_kept (map (λ a. (a.0, a.1.value)) answers.now) names.now) (O.tells oracle.old) (O.tells oracle.new) result }
 {
     for name in names {
+        let name = name.as_name();
         let now = oracle.ask(name)?;
         let is_same = is_kept(answers, name, &*now);
         if !is_same {

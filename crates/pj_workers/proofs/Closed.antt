@@ -1,6 +1,6 @@
 -- What expressions denote is of a kind of meanings that has each value and each sequence of its members, where the functions of PMD that are called reply so: as
 -- the meanings that ask for nothing, and those that come to something over a world.
-use Rattle.std.proofs.Common.{◌≡◌, ℕ, sym, subst, cond, Bool, true, false, List, [], ◌∷◌, Option, Result, Ok, Err, refl}
+use Rattle.std.proofs.Common.{ℕ, sym, subst, cond, Bool, true, false, List, [], ◌∷◌, Option, Result, Ok, Err, refl}
 use Rattle.std.specs.Prelude.{⊤, ◌&&◌, IsTrue, length}
 use Rattle.std.specs.List.{AllByRecursion, list_all}
 use Rattle.pj_names.specs.Asking.{Asking, Return, bind, each}

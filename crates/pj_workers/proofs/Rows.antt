@@ -11,7 +11,7 @@ use Rattle.pj_attrs.specs.FileFacts.{FileFacts, facts_of}
 use Rattle.pj_findings.specs.Merged.{merge}
 use Rattle.pj_findings.specs.declared.run.RuleRun.{RuleRun}
 use Rattle.pj_names.specs.Asking.{Asking}
-use Rattle.pj_names.specs.ClassName.{Name, NameSet, name_set}
+use Rattle.pj_names.specs.ClassName.{NameSet, name_set}
 use Rattle.pj_names.specs.Held.{IsHeld}
 use Rattle.pj_names.specs.Told.{Asks, Told, with_names}
 use Rattle.pj_names.proofs.AskingLaws.{asks-return}
@@ -55,12 +55,11 @@ marked_rules set marker rules meant is marked are =
     subst (λ (m : Bytes). AllZip (IsRuleOf m) rules meant) (sym marked) (subst (λ (l : List EffectiveRule). AllZip (IsRuleOf set.marker) l meant) (sym is) are)
 
 -- a view of a file that was parsed
-pub is_of_one : (source : SourceText) (parsed : Parsed) (view : FileView) → view.facts.now ≡ facts_of source (file_parsed parsed) → view.tree.now ≡ parsed.tree → view.java.now ≡ parsed.tree → parsed.tree.text ≡ source.text
+pub is_of_one : (source : SourceText) (parsed : Parsed) (view : FileView) → view.facts.now ≡ facts_of source (file_parsed parsed) → view.tree.now ≡ parsed.tree → parsed.tree.text ≡ source.text
     → ((line : ℕ) → list_any (λ other. other == line) view.marked.now ≡ marks.is_marked source parsed.tokens view.marker.now line) → AllByRecursion (λ (token : Token). IsUtf8 token.text.now) parsed.tokens
     → IsNonDecreasing view.marked.now → IsOfOneFile view
-is_of_one source parsed view facts tree java text marked utf8 up = record {
+is_of_one source parsed view facts tree text marked utf8 up = record {
   tree_is = tree ∙ ap (λ (f : FileFacts). f.file.tree) (sym facts);
-  java_is = java ∙ ap (λ (f : FileFacts). f.file.tree) (sym facts);
   text_is = ap (λ (f : FileFacts). f.file.tree.text) facts ∙ text ∙ ap (λ (f : FileFacts). f.source.text) (sym facts);
   marked_are = λ line. marked line
       ∙ sym (marks_are_one (java_file source (file_parsed parsed)) parsed.tokens view.marker.now line refl utf8)

@@ -50,7 +50,6 @@ file_seen view = java_file view.facts.now.source view.facts.now.file
 -- All that the view has is of one file, and its lines are those that comments with the marker mark.
 pub record IsOfOneFile (view : FileView) : Type 0 where
   pub tree_is : view.tree.now ≡ view.facts.now.file.tree
-  pub java_is : view.java.now ≡ view.facts.now.file.tree
   pub text_is : view.facts.now.file.tree.text ≡ view.facts.now.source.text
   pub marked_are : (line : ℕ) → list_any (λ other. other == line) view.marked.now ≡ is_marked (file_seen view) view.marker.now line
   pub ascending : IsNonDecreasing view.marked.now

@@ -41,18 +41,20 @@ fn package_head(alloc: Global, name: &str) -> Result<Head, NoMemory>
 /// What is said of a file of which this is seen, and what the rules come to in it.
 fn view_runs<'t, O: Oracle>(
     file: &'t FileView<'t>,
+    java: &'t File<'_>,
     rules: &'t RuleSet,
     name: &str,
     oracle: &mut O,
 ) -> Result<FileRuns, AskFault>
     requires file { IsOfOneFile file.now }
+    requires java { java.now ≡ (file_seen file.now).tree }
     requires marker { file.now.marker.now ≡ rules.now.marker }
     requires name { name.now ≡ package_name (file_seen file.now).tree }
     ensures asks { AsksOf rules.now file.now.path.now (Ok (file_seen file.now)) (O.tells oracle.old) (O.tells oracle.new) result }
     ensures runs { IfOk result (AreRunsOf rules.now file.now.path.now (Ok (file_seen file.now)) (O.tells oracle.old)) }
 {
     let head = package_head(file.alloc, name)?;
-    let runs = rule_runs(file, rules.rules().as_slice(), oracle)?;
+    let runs = rule_runs(file, java, rules.rules().as_slice(), oracle)?;
     Ok(FileRuns { head, runs })
 }
 
@@ -100,12 +102,11 @@ fn parsed_runs<'t, O: Oracle>(
         alloc,
         path,
         tree: &parsed.tree,
-        java: &java,
         facts: &facts,
         marker,
         marked: &marked,
     };
-    view_runs(&file, rules, symbols.package_name(), oracle)
+    view_runs(&file, &java, rules, symbols.package_name(), oracle)
 }
 
 /// What is said of a file with this fault: no rule comes to anything.

@@ -7,6 +7,7 @@ mod analyse;
 mod analysis;
 mod fault;
 mod file;
+mod file_rule;
 mod laws;
 mod names;
 mod result;

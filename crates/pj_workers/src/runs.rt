@@ -12,13 +12,14 @@ ghost use Rattle.pj_workers.specs.RuleMeaning.{rule_in_file};
 ghost use Rattle.pj_workers.specs.Rules.{IsRuleOf, Rule as MeantRule};
 ghost use Rattle.pj_workers.specs.Views.{AreRight, IsOfOneFile, file_seen, if_active};
 
-use crate::analysis::rule_result;
+use crate::file_rule::{FileRule, result_by};
 use crate::view::FileView;
 use pj_exprtypes::Typed;
 use pj_file_oracle::{FileOracle, Held};
 use pj_findings::{RuleRun, RuleRuns};
 use pj_javafuncs::JavaCalls;
 use pj_names::{AskFault, ClassNameSet, Oracle, Recorder};
+use pj_outer_names::File;
 use pj_reports::{Ruled, Spots};
 use pj_rule_sets::{Rule, which_are_active};
 use pj_xlaws::trees_tell_expressions;
@@ -49,6 +50,7 @@ fn give_back<'a, 'f, O: Oracle, A: Attributes>(
 /// What an active rule comes to in a file, with the facts of the file and what is held of it.
 fn active_result<'t, O: Oracle, A: Attributes>(
     file: &'t FileView<'t>,
+    java: &'t File<'_>,
     facts: &'t A,
     rule: &'t Rule,
     oracle: &mut O,
@@ -56,6 +58,7 @@ fn active_result<'t, O: Oracle, A: Attributes>(
     types: &mut Typed,
 ) -> Result<Ruled, AskFault>
     requires file { IsOfOneFile file.now }
+    requires java { java.now ≡ (file_seen file.now).tree }
     requires nodes { A.nodes facts.now ≡ length (file_seen file.now).tree.nodes }
     requires text { A.text_length facts.now ≡ length (file_seen file.now).tree.text }
     requires known { known (A.attribute_of facts.now) (A.names_of facts.now) (A.modifiers_of facts.now) (A.place_of facts.now) file.now.path.now ≡ known_in file.now.path.now (file_seen file.now) }
@@ -70,9 +73,10 @@ fn active_result<'t, O: Oracle, A: Attributes>(
     trees_tell_patterns();
     let mut own_held = replace(held, Held::new(file.alloc));
     let mut own_types = replace(types, Typed::new(file.alloc));
-    let over = FileOracle::new(file.alloc, file.java, oracle, &mut own_held);
+    let over = FileOracle::new(file.alloc, java, oracle, &mut own_held);
     let mut calls = JavaCalls::new(over, &mut own_types, facts, file.path);
-    let came_to = rule_result(file, rule, &mut calls);
+    let in_file = FileRule { file, rule };
+    let came_to = result_by(&in_file, &mut calls);
     let _inner = give_back(calls, held, types);
     came_to
 }
@@ -80,6 +84,7 @@ fn active_result<'t, O: Oracle, A: Attributes>(
 /// What a rule comes to in a file: nothing where it is not active.
 fn result_if_active<'t, O: Oracle>(
     file: &'t FileView<'t>,
+    java: &'t File<'_>,
     rule: &'t Rule,
     is_active: bool,
     oracle: &mut O,
@@ -87,6 +92,7 @@ fn result_if_active<'t, O: Oracle>(
     types: &mut Typed,
 ) -> Result<Ruled, AskFault>
     requires file { IsOfOneFile file.now }
+    requires java { java.now ≡ (file_seen file.now).tree }
     requires right { AreRight (file_seen file.now).tree (O.tells oracle.old) held.old types.old.variables }
     ensures asks { (meant : MeantRule) → IsRuleOf file.now.marker.now rule.now meant
         → Asks (if_active is_active file.now.path.now (file_seen file.now) meant) (O.tells oracle.old) (O.tells oracle.new) result }
@@ -94,7 +100,7 @@ fn result_if_active<'t, O: Oracle>(
     ensures right { AreRight (file_seen file.now).tree (O.tells oracle.new) held.new types.new.variables }
 {
     if is_active {
-        return active_result(file, file.facts, rule, oracle, held, types);
+        return active_result(file, java, file.facts, rule, oracle, held, types);
     }
     Ok(Ruled::Spots(Spots::new(file.alloc)))
 }
@@ -102,6 +108,7 @@ fn result_if_active<'t, O: Oracle>(
 /// The same, and the names that the rule asks are noted.
 fn noted_result<'t, O: Oracle>(
     file: &'t FileView<'t>,
+    java: &'t File<'_>,
     rule: &'t Rule,
     is_active: bool,
     oracle: &mut O,
@@ -110,6 +117,7 @@ fn noted_result<'t, O: Oracle>(
     noted: &mut ClassNameSet,
 ) -> Result<Ruled, AskFault>
     requires file { IsOfOneFile file.now }
+    requires java { java.now ≡ (file_seen file.now).tree }
     requires right { AreRight (file_seen file.now).tree (O.tells oracle.old) held.old types.old.variables }
     ensures asks { (meant : MeantRule) → IsRuleOf file.now.marker.now rule.now meant
         → Asks (if_active is_active file.now.path.now (file_seen file.now) meant) (O.tells oracle.old) (O.tells oracle.new) result }
@@ -121,12 +129,13 @@ fn noted_result<'t, O: Oracle>(
         inner: &mut *oracle,
         noted: &mut *noted,
     };
-    result_if_active(file, rule, is_active, &mut recorder, held, types)
+    result_if_active(file, java, rule, is_active, &mut recorder, held, types)
 }
 
 /// What a rule comes to in a file, with the names that it asks.
 fn rule_run<'t, O: Oracle>(
     file: &'t FileView<'t>,
+    java: &'t File<'_>,
     rule: &'t Rule,
     is_active: bool,
     oracle: &mut O,
@@ -134,6 +143,7 @@ fn rule_run<'t, O: Oracle>(
     types: &mut Typed,
 ) -> Result<RuleRun, AskFault>
     requires file { IsOfOneFile file.now }
+    requires java { java.now ≡ (file_seen file.now).tree }
     requires right { AreRight (file_seen file.now).tree (O.tells oracle.old) held.old types.old.variables }
     ensures asks { (meant : MeantRule) → IsRuleOf file.now.marker.now rule.now meant
         → Asks (if_active is_active file.now.path.now (file_seen file.now) meant) (O.tells oracle.old) (O.tells oracle.new) (seen (λ run. run.rows) result) }
@@ -142,7 +152,7 @@ fn rule_run<'t, O: Oracle>(
     ensures right { AreRight (file_seen file.now).tree (O.tells oracle.new) held.new types.new.variables }
 {
     let mut noted = ClassNameSet::new(file.alloc);
-    let rows = noted_result(file, rule, is_active, oracle, held, types, &mut noted)?;
+    let rows = noted_result(file, java, rule, is_active, oracle, held, types, &mut noted)?;
     let names = noted.names(file.alloc)?;
     Ok(RuleRun { rows, names })
 }
@@ -150,12 +160,14 @@ fn rule_run<'t, O: Oracle>(
 /// What the rules come to in a file, one after the other, with what is held of the file.
 fn runs_with<'t, O: Oracle>(
     file: &'t FileView<'t>,
+    java: &'t File<'_>,
     rules: &'t [Rule],
     oracle: &mut O,
     held: &mut Held,
     types: &mut Typed,
 ) -> Result<RuleRuns, AskFault>
     requires file { IsOfOneFile file.now }
+    requires java { java.now ≡ (file_seen file.now).tree }
     requires right { AreRight (file_seen file.now).tree (O.tells oracle.old) held.old types.old.variables }
     ensures asks { (meant : List MeantRule) → AllZip (IsRuleOf file.now.marker.now) rules.now meant
         → Asks (each (rule_at java_replies file.now.path.now (Ok (file_seen file.now))) meant) (O.tells oracle.old) (O.tells oracle.new) (seen came_to result) }
@@ -166,7 +178,7 @@ fn runs_with<'t, O: Oracle>(
     let mut runs = RuleRuns::new(file.alloc);
     for (number, rule) in rules.iter().enumerate() {
         let is_active = active.as_slice()[number];
-        let of_rule = rule_run(file, rule, is_active, oracle, held, types)?;
+        let of_rule = rule_run(file, java, rule, is_active, oracle, held, types)?;
         runs.push(of_rule)?;
     }
     Ok(runs)
@@ -175,10 +187,12 @@ fn runs_with<'t, O: Oracle>(
 /// What the rules come to in a file, one after the other. What is found of the file's classes and variables serves all of them.
 pub fn rule_runs<'t, O: Oracle>(
     file: &'t FileView<'t>,
+    java: &'t File<'_>,
     rules: &'t [Rule],
     oracle: &mut O,
 ) -> Result<RuleRuns, AskFault>
     requires file { IsOfOneFile file.now }
+    requires java { java.now ≡ (file_seen file.now).tree }
     ensures asks { (meant : List MeantRule) → AllZip (IsRuleOf file.now.marker.now) rules.now meant
         → Asks (each (rule_at java_replies file.now.path.now (Ok (file_seen file.now))) meant) (O.tells oracle.old) (O.tells oracle.new) (seen came_to result) }
     ensures rest { IfOk result (λ runs. (meant : List MeantRule) → AllZip (IsRuleOf file.now.marker.now) rules.now meant
@@ -186,5 +200,5 @@ pub fn rule_runs<'t, O: Oracle>(
 {
     let mut held = Held::new(file.alloc);
     let mut types = Typed::new(file.alloc);
-    runs_with(file, rules, oracle, &mut held, &mut types)
+    runs_with(file, java, rules, oracle, &mut held, &mut types)
 }

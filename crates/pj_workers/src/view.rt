@@ -2,7 +2,6 @@
 
 use pj_attrs::Facts;
 use pj_base::Text;
-use pj_outer_names::File;
 use pj_rule_sets::{Rule, RuleExpressions};
 use pj_suppress::Lines;
 use pj_tree::SyntaxTree;
@@ -17,8 +16,6 @@ pub struct FileView<'t> {
     pub path: &'t Text,
     /// Its syntax tree.
     pub tree: &'t SyntaxTree<'t>,
-    /// Its tree with its classes and declarations, by which its classes answer.
-    pub java: &'t File<'t>,
     /// The attributes of its nodes, and the places of its text.
     pub facts: &'t Facts<'t>,
     /// What a comment contains that suppresses findings.

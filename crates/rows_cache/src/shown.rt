@@ -91,7 +91,7 @@ fn put_result(text: &mut String, alloc: Global, found: &CachedResult) -> Result<
     }
     for name in found.names.as_slice() {
         text.push_str(" ")?;
-        text.push_str(name.as_str())?;
+        text.push_str(name.as_name().as_str())?;
     }
     Ok(())
 }

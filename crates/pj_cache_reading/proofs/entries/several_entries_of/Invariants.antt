@@ -1,4 +1,4 @@
-use Rattle.std.proofs.Common.{◌≡◌, ◌-◌, map}
+use Rattle.std.proofs.Common.{◌≡◌, ◌-◌}
 use Rattle.std.specs.Prelude.{None}
 use Rattle.std.specs.Option.{option_copied}
 use Rattle.pj_format.specs.Format.{first}
@@ -8,4 +8,4 @@ use Rattle.pj_cache_format.specs.FormatTwo.{entry}
 use Rattle.pj_cache_reading.proofs.entries.several_entries_of.Given as goal
 
 abbrev pub invariant-loop : goal.invariant-loop
-invariant-loop l = with_front l.list.items (first (several_from (entry l.keys (map (λ a. a.0) l.answers)) (l.count - l.counter) (option_copied l.before)) l.bytes l.place) ≡ first (several_from (entry l.keys (map (λ a. a.0) l.answers)) l.count (None)) l.bytes l.at
+invariant-loop l = with_front l.list.items (first (several_from (entry l.keys l.names) (l.count - l.counter) (option_copied l.before)) l.bytes l.place) ≡ first (several_from (entry l.keys l.names) l.count (None)) l.bytes l.at

@@ -1,4 +1,3 @@
-use Rattle.std.proofs.Common.{map}
 use Rattle.std.specs.Prelude.{None, []}
 use Rattle.std.proofs.lemmas.Result.{err_from_is_err_and}
 use Rattle.pj_format.specs.Format.{first}
@@ -11,11 +10,11 @@ pub returns-in_err-item : goal.returns-in_err-item
 returns-in_err-item c =
     let p = err_from_is_err_and c.from_residual.result c.from_residual.ensures.1 in
     let e = c.in_err-item.field-0.0 in
-    rw (p.1, p.2) (ends e c.loop.list.items _ (first (several_from (result_format c.args.keys.now (map (λ a. a.0) c.args.answers.now)) c.args.count ((None, []))) c.args.bytes.now c.args.at) (several_from_ends e (result_format c.args.keys.now (map (λ a. a.0) c.args.answers.now)) c.args.bytes.now c.args.count c.loop.counter ((c.loop.before, c.loop.used.keys)) c.loop.place c.loop-test.true c.in_err-item.ensures) c.loop.invariant)
+    rw (p.1, p.2) (ends e c.loop.list.items _ (first (several_from (result_format c.args.keys.now c.args.names.now) c.args.count ((None, []))) c.args.bytes.now c.args.at) (several_from_ends e (result_format c.args.keys.now c.args.names.now) c.args.bytes.now c.args.count c.loop.counter ((c.loop.before, c.loop.used.keys)) c.loop.place c.loop-test.true c.in_err-item.ensures) c.loop.invariant)
 
 pub loop-preserved : goal.loop-preserved
 loop-preserved c =
-    rw c.in_ok-push.ensures.items (goes_on c.loop.list.items c.in_ok-item.item _ _ (first (several_from (result_format c.args.keys.now (map (λ a. a.0) c.args.answers.now)) c.args.count ((None, []))) c.args.bytes.now c.args.at) (several_from_more (result_format c.args.keys.now (map (λ a. a.0) c.args.answers.now)) c.args.bytes.now c.args.count c.loop.counter ((c.loop.before, c.loop.used.keys)) c.loop.place c.in_ok-item.item ((c.in_ok-item.first, c.result_of.new.used.keys)) c.in_ok-item.behind c.loop-test.true c.in_ok-item.ensures) c.loop.invariant)
+    rw c.in_ok-push.ensures.items (goes_on c.loop.list.items c.in_ok-item.item _ _ (first (several_from (result_format c.args.keys.now c.args.names.now) c.args.count ((None, []))) c.args.bytes.now c.args.at) (several_from_more (result_format c.args.keys.now c.args.names.now) c.args.bytes.now c.args.count c.loop.counter ((c.loop.before, c.loop.used.keys)) c.loop.place c.in_ok-item.item ((c.in_ok-item.first, c.result_of.new.used.keys)) c.in_ok-item.behind c.loop-test.true c.in_ok-item.ensures) c.loop.invariant)
 
 pub returns : goal.returns
-returns c = is_done c.loop.list.items c.loop.place _ (first (several_from (result_format c.args.keys.now (map (λ a. a.0) c.args.answers.now)) c.args.count ((None, []))) c.args.bytes.now c.args.at) (several_from_done (result_format c.args.keys.now (map (λ a. a.0) c.args.answers.now)) c.args.bytes.now c.args.count c.loop.counter ((c.loop.before, c.loop.used.keys)) c.loop.place c.loop-test.false) c.loop.invariant
+returns c = is_done c.loop.list.items c.loop.place _ (first (several_from (result_format c.args.keys.now c.args.names.now) c.args.count ((None, []))) c.args.bytes.now c.args.at) (several_from_done (result_format c.args.keys.now c.args.names.now) c.args.bytes.now c.args.count c.loop.counter ((c.loop.before, c.loop.used.keys)) c.loop.place c.loop-test.false) c.loop.invariant

@@ -14,6 +14,7 @@ use Rattle.pj_names.proofs.MeaningLaws.{each-gather, gather}
 use Rattle.pj_names.proofs.NotingLaws.{asks-noted, notes-noted}
 use Rattle.pj_file_oracle.proofs.Lists.{gather-turn}
 use Rattle.pj_scopes.proofs.Turns.{asks-as}
+use Rattle.pj_calls.specs.Nodes.{arguments_of, functions_of}
 use Rattle.pj_exprtypes.specs.Operands.{operands, var_operands}
 use Rattle.pj_exprtypes.specs.TypeOf.{deep, earlier, typed, var_of}
 use Rattle.pj_exprtypes.proofs.Steps.{earlier-var, typed-none, typed-some}
@@ -56,6 +57,34 @@ typed-returns-clause-asks g t c =
     let nodes : c.as_slice.result.now ≡ operands file c.args.n = search rules in
     let asked = rw nodes at c.in_ok-operand_types.ensures.asks in
     asks-as (typed-some file (earlier file c.args.before) c.args.left c.args.n some) (asks-then _ asked (asks-then _ c.in_ok-found.ensures.asks c.final_type.ensures.asks))
+
+-- ---- a call by its arguments
+
+pub passed_type-returns-in_err-nodes-clause-asks : goal.passed_type-returns-in_err-nodes-clause-asks
+passed_type-returns-in_err-nodes-clause-asks g t c = asks-stop (search rules)
+
+pub passed_type-returns-in_err-arguments-clause-asks : goal.passed_type-returns-in_err-arguments-clause-asks
+passed_type-returns-in_err-arguments-clause-asks g t c =
+    let nodes : c.as_slice.result.now ≡ arguments_of c.args.file.now c.args.n = search rules in
+    let asked = rw nodes at c.in_err-arguments.ensures.asks in
+    asks-refused _ asked (search rules)
+
+pub passed_type-returns-in_err-functions-clause-asks : goal.passed_type-returns-in_err-functions-clause-asks
+passed_type-returns-in_err-functions-clause-asks g t c =
+    let nodes : c.as_slice.result.now ≡ arguments_of c.args.file.now c.args.n = search rules in
+    let asked = rw nodes at c.in_ok-arguments.ensures.asks in
+    asks-then _ asked (asks-stop (search rules))
+
+pub passed_type-returns-clause-asks : goal.passed_type-returns-clause-asks
+passed_type-returns-clause-asks g t c =
+    let nodes : c.as_slice.result.now ≡ arguments_of c.args.file.now c.args.n = search rules in
+    let asked = rw nodes at c.in_ok-arguments.ensures.asks in
+    let places : c.in_ok-functions.functions ≡ functions_of c.args.file.now c.args.n = search rules in
+    let chosen = rw places at c.chosen_result.ensures in
+    asks-then _ asked chosen
+
+pub passed_type-returns-clause-keeps : goal.passed_type-returns-clause-keeps
+passed_type-returns-clause-keeps g t c = keeps-on c.args.file.now _ c.chosen_result.ensures c.in_ok-arguments.ensures.keeps
 
 -- ---- nodes, one after the other
 

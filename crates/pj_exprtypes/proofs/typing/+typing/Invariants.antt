@@ -17,7 +17,10 @@ abbrev pub decreases-types_of : goal.decreases-types_of
 decreases-types_of g l = 100000000 * l.before + 20 * l.left + 1
 
 abbrev pub decreases-final_type : goal.decreases-final_type
-decreases-final_type g l = 100000000 * l.before + 6
+decreases-final_type g l = 100000000 * l.before + 20 * l.left + 6
+
+abbrev pub decreases-passed_type : goal.decreases-passed_type
+decreases-passed_type g l = 100000000 * l.before + 20 * l.left + 5
 
 abbrev pub decreases-var_once : goal.decreases-var_once
 decreases-var_once g l = 100000000 * l.id.0 + 90000000 + 5

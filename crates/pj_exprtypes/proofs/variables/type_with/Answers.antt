@@ -14,7 +14,7 @@ returns-in_default g c =
     let types = type_list c.args.operand_types in
     let kind : kind_of t c.args.n ≡ Some c.kind.result = rw c.tree.ensures at c.kind.ensures.value in
     let is = c.in_default in
-    let other = other-kind t c.args.n types c.kind.result is.not-VariableAccess is.not-VariableId is.not-VariableDeclarator is.not-FormalParameter is.not-LambdaParameter is.not-CatchParameter is.not-RecordComponent is.not-EnumConstant is.not-FieldDeclaration is.not-LocalVariableDeclaration in
+    let other = other-kind t c.args.n types c.kind.result is.not-VariableAccess is.not-MethodCall is.not-VariableId is.not-VariableDeclarator is.not-FormalParameter is.not-LambdaParameter is.not-CatchParameter is.not-RecordComponent is.not-EnumConstant is.not-FieldDeclaration is.not-LocalVariableDeclaration in
     record {
       inside = c.known_type.ensures.inside;
       asks =

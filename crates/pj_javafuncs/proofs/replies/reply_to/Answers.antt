@@ -11,7 +11,7 @@ use Rattle.pj_node_functions.specs.Replies.{end_column, end_line, kind_reply, st
 use Rattle.pj_javafuncs.specs.Facts.{Facts, facts}
 use Rattle.pj_javafuncs.specs.Replies.{reply_to}
 use Rattle.pj_javafuncs.proofs.Given.{given-asks}
-use Rattle.pj_javafuncs.proofs.OfKind.{given-kind, no-code, test-kind}
+use Rattle.pj_javafuncs.proofs.OfKind.{call-kind, given-kind, no-code, test-kind}
 use Rattle.pj_javafuncs.proofs.replies.reply_to.Goals as goal
 
 pub returns-in-FileName : goal.returns-in-FileName
@@ -83,11 +83,10 @@ returns-in-MatchesSig g c =
     let file = c.args.oracle.now.file.now in
     let argument = values_of c.args.argument.now in
     let known : Facts = facts (g.A.Attributes.attribute_of c.args.setting.now.facts.now) (g.A.Attributes.names_of c.args.setting.now.facts.now) (g.A.Attributes.modifiers_of c.args.setting.now.facts.now) (g.A.Attributes.place_of c.args.setting.now.facts.now) c.args.setting.now.path.now in
-    let plain = ap (λ (f : PmdFunction). reply_to known file f c.args.at argument) c.in-MatchesSig.is in
     record {
-      asks = given-asks _ plain c.signature_reply.ensures;
-      keeps = c.requires.keeps;
-      kind = λ arguments first. given-kind known file c.args.at c.args.function argument arguments _ _ first plain c.signature_reply.ensures;
+      asks = asks-as (ap (λ (f : PmdFunction). reply_to known file f c.args.at argument) c.in-MatchesSig.is) c.signature_reply.ensures.asks;
+      keeps = c.signature_reply.ensures.keeps;
+      kind = λ arguments first. subst (λ (f : PmdFunction). IsTrue (may_return f arguments (outcome values_of c.signature_reply.result))) (sym c.in-MatchesSig.is) (call-kind arguments _ c.signature_reply.ensures.kind);
     }
 
 pub returns-in-NodeIs : goal.returns-in-NodeIs

@@ -10,4 +10,5 @@ returns-in_err-now g c =
     let i = c.loop-name.name-index in
     let left : drop i names ≡ c.name-item.result ∷ drop (i + 1) names = left_from names i c.name-item.result c.loop-name-test.true ∙ ap (λ (n : List ℕ). n ∷ drop (i + 1) names) (sym c.name-item.is) in
     let so_far = subst (λ (l : List (List ℕ)). ComesTo (are_kept answers names) (g.O.Oracle.tells c.args.oracle.now) (are_kept answers l) (g.O.Oracle.tells c.loop-name.oracle)) left c.loop-name.invariant in
-    comes-ends so_far (asks-refused _ c.in_err-now.ensures (search rules))
+    let asked = rw c.as_name-name.ensures at c.in_err-now.ensures in
+    comes-ends so_far (asks-refused _ asked (search rules))

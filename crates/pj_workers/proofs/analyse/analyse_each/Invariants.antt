@@ -1,5 +1,5 @@
-use Rattle.std.proofs.Common.{◌≡◌, List, [], map, take}
-use Rattle.std.specs.List.{AllByRecursion, AllZip}
+use Rattle.std.proofs.Common.{List, map, take}
+use Rattle.std.specs.List.{AllZip}
 use Rattle.pj_outside.specs.Files.{Bytes}
 use Rattle.pj_workers.specs.FileMeaning.{file_meaning}
 use Rattle.pj_workers.specs.JavaReplies.{java_replies}

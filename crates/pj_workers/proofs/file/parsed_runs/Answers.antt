@@ -1,7 +1,8 @@
-use Rattle.std.proofs.Common.{List, Ok, refl, rules, subst}
+use Rattle.std.proofs.Common.{◌∙◌, List, Ok, ap, refl, rules, subst, sym}
 use Rattle.std.specs.Prelude.{IfOk}
 use Rattle.std.specs.List.{AllByRecursion}
 use Rattle.std.specs.Str.{IsUtf8}
+use Rattle.pj_attrs.specs.FileFacts.{FileFacts}
 use Rattle.pj_lex.specs.declared.token.Token.{Token}
 use Rattle.pj_names.proofs.AskingLaws.{asks-stop}
 use Rattle.pj_parse.specs.JavaFile.{JavaFile}
@@ -23,8 +24,11 @@ returns-in_err-marked-clause-asks g c = λ meant are. asks-stop (search rules)
 
 pub view_runs-requires-clause-file : goal.view_runs-requires-clause-file
 view_runs-requires-clause-file g c =
-    is_of_one c.args.source.now c.args.parsed.now _ c.new-facts.ensures refl c.in_ok-java.ensures c.requires.text c.in_ok-marked.ensures.lines
+    is_of_one c.args.source.now c.args.parsed.now _ c.new-facts.ensures refl c.requires.text c.in_ok-marked.ensures.lines
     (subst (λ (tokens : List Token). AllByRecursion (λ (token : Token). IsUtf8 token.text.now) tokens) c.as_slice.ensures c.tokens_are_texts.ensures) c.in_ok-marked.ensures.ascending
+
+pub view_runs-requires-clause-java : goal.view_runs-requires-clause-java
+view_runs-requires-clause-java g c = c.in_ok-java.ensures ∙ ap (λ (f : FileFacts). f.file.tree) (sym c.new-facts.ensures)
 
 pub returns-clause-asks : goal.returns-clause-asks
 returns-clause-asks g c =
