@@ -7,6 +7,7 @@ use Rattle.pj_reports.specs.declared.ruled.Head.TheVariants.{Package, Message}
 use Rattle.pj_reports.specs.declared.ruled.Ruled.{Ruled}
 use Rattle.pj_reports.specs.declared.ruled.Ruled.TheVariants.{Spots}
 use Rattle.pj_names.specs.Asking.{Asking, Return, bind, each}
+use Rattle.pj_outside.specs.Files.{Bytes}
 use Rattle.pj_parse.specs.FileOutcome.{outcome_of}
 use Rattle.pj_parse.specs.JavaFile.{JavaFile}
 use Rattle.pj_parse.specs.declared.file_fault.FileFault.{FileFault}

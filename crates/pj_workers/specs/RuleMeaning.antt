@@ -21,6 +21,7 @@ use Rattle.pj_xvalue.specs.Boolean.{effective_boolean}
 use Rattle.pj_xvalue.specs.Items.{ItemValue, Document, Element}
 use Rattle.pj_xexpressions.specs.declared.expr.Expr.{Expr}
 use Rattle.pj_xvalue.specs.declared.fault.XCode.{XCode}
+use Rattle.pj_xlaws.specs.Laws.{Reply}
 use Rattle.pj_workers.specs.FileFacts.{around_file, place_of}
 use Rattle.pj_workers.specs.Reasons.{plain_reason_of, xpath_reason}
 use Rattle.pj_workers.specs.Rules.{Rule, patterns_of}
