@@ -5,7 +5,7 @@ use Rattle.std.specs.Option.{ForSome}
 use Rattle.pj_xexpressions.specs.TreeFolds.{fold_tree}
 use Rattle.pj_xexpressions.specs.Trees.{Construct, PmdCall, Tree, tree_of}
 use Rattle.pj_xexpressions.specs.declared.pmd_function.PmdFunction.{PmdFunction}
-use Rattle.pj_xexpressions.specs.declared.pmd_function.PmdFunction.TheVariants.{HasAnnotation, TypeIs, TypeIsExactly}
+use Rattle.pj_xexpressions.specs.declared.pmd_function.PmdFunction.TheVariants.{HasAnnotation, MatchesSig, TypeIs, TypeIsExactly}
 use Rattle.pj_workers.specs.Rules.{Rule}
 
 module _ (may : PmdFunction → Bool) where
@@ -26,9 +26,10 @@ pub record RuleCallsOnly (may : PmdFunction → Bool) (rule : Rule) : Type 0 whe
   pub query : IsTrue (calls_only may (tree_of rule.query))
   pub suppression : ForSome rule.suppression (λ expr. IsTrue (calls_only may (tree_of expr)))
 
--- the functions that ask for no class, whatever they are called with: all but the three that look at types and at annotations
+-- the functions that ask for no class, whatever they are called with: all but the four that look at types, annotations and signatures
 abbrev pub asks_nothing : PmdFunction → Bool
 asks_nothing TypeIs = false
 asks_nothing TypeIsExactly = false
 asks_nothing HasAnnotation = false
+asks_nothing MatchesSig = false
 asks_nothing function = true

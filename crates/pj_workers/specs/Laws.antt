@@ -74,11 +74,11 @@ abbrev pub SettleByReplies : Type 0
 SettleByReplies = (replies : Replies) (may : PmdFunction → Bool) (world : World) (path bytes : Bytes) (rules : List Rule) → AllByRecursion (RuleCallsOnly may) rules
     → SourceSettles may replies world (path, bytes) → FileSettles replies world rules (path, bytes)
 
--- All functions of PMD but three ask for no class in a Java file.
+-- All functions of PMD but four ask for no class in a Java file.
 abbrev pub OnlyTypesAsk : Type 0
 OnlyTypesAsk = (path : Bytes) (file : JavaFile) → RepliesPlain asks_nothing (java_replies path file)
 
--- So rules that call none of these three come to something at every file, over every world.
+-- So rules that call none of these four come to something at every file, over every world.
 abbrev pub SettleWithoutTypes : Type 0
 SettleWithoutTypes = (world : World) (path bytes : Bytes) (rules : List Rule) → AllByRecursion (RuleCallsOnly asks_nothing) rules → FileSettles java_replies world rules (path, bytes)
 

@@ -84,8 +84,8 @@ pub fn settled_cold_report()
     ensures { SettledCold }
 {}
 
-/// What rules mean at a file comes to something over a world of classes, if what `typeIs`, `typeIsExactly` and `hasAnnotation` reply there does: all other functions
-/// of PMD ask for no class. So rules that call none of these three come to something over every world.
+/// What rules mean at a file comes to something over a world of classes, if what `typeIs`, `typeIsExactly`, `hasAnnotation` and `matchesSig` reply there does: all
+/// other functions of PMD ask for no class. So rules that call none of these four come to something over every world.
 pub fn what_rules_mean_settles()
     ensures replies { SettleByReplies }
     ensures only_types { OnlyTypesAsk }
