@@ -58,7 +58,7 @@ pub fn rules_have_reports()
 }
 
 /// What the rules of a set mean at sources comes to something over a world of classes, if what the functions of PMD that they call reply in these sources does: so
-/// it is over every world of rules that call none of `typeIs`, `typeIsExactly` and `hasAnnotation`.
+/// it is over every world of rules that call none of `typeIs`, `typeIsExactly`, `hasAnnotation` and `matchesSig`.
 pub fn what_sets_mean_settles()
     ensures replies { SetSettlesByReplies }
     ensures without_types { SetSettlesWithoutTypes }
@@ -76,7 +76,7 @@ pub fn some_run_or_refusal()
     rules_or_first_fault();
 }
 
-/// Words and files have a run or a cause of refusal over all class folders, if none of the rules that they name calls `typeIs`, `typeIsExactly` or `hasAnnotation`.
+/// Words and files have a run or a cause of refusal over all class folders, if none of the rules that they name calls `typeIs`, `typeIsExactly`, `hasAnnotation` or `matchesSig`.
 pub fn some_run_or_refusal_without_types()
     ensures { RunOrRefusalWithoutTypes }
 {
