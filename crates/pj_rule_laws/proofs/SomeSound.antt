@@ -4,7 +4,6 @@ use Rattle.std.specs.Prelude.{codes, IfSome}
 use Rattle.std.specs.Str.{chars}
 use Rattle.std.proofs.lemmas.Bool.{ltb-true, ltb-false}
 use Rattle.regex_syntax.specs.Grammar.{read}
-use Rattle.pj_rule_sets.specs.Calls.{HasFirstCall, first_call}
 use Rattle.pj_rule_sets.specs.Expressions.{Both, IsSound, IsSpelledBy, Spell, names_of, patterns_of}
 use Rattle.pj_rule_sets.specs.Faults.{HasNoPattern, IsFault, IsSyntaxFault, IsTextFault}
 use Rattle.pj_rule_sets.specs.Patterns.{suppression_of, value_of}
@@ -18,14 +17,10 @@ use Rattle.pj_xexpressions.specs.declared.expr.Expr.{Expr}
 use Rattle.pj_xparse.specs.Faults as syntax
 use Rattle.pj_xparse.specs.Spells.{Spells}
 use Rattle.pj_xparse.specs.declared.fault.XSyntax.{XSyntax}
-use Rattle.pj_xparse.specs.declared.fault.XSyntax.TheVariants.{UnknownFunction}
 use Rattle.pj_xpatterns.specs.Meaning as patterns
 use Rattle.pj_xpatterns.specs.Meaning.{IsNoPattern, config_of}
 use Rattle.pj_xpatterns.specs.Refusing.{AreTaken}
 use Rattle.pj_xsizes.specs.Laws.{SomeExpression}
-use Rattle.pj_xtokens.specs.Size.{size}
-use Rattle.pj_xtokens.specs.Tokens.{Lexed, Tokens}
-use Rattle.pj_xtokens.specs.declared.token.End.{End}
 use Rattle.pj_rule_laws.specs.Sizes.{IsShort, IsShortOr, AreShortProperties, HasShortTexts}
 use Rattle.pj_rule_laws.proofs.Lengths.{few_characters}
 
@@ -75,26 +70,19 @@ value_short name (property ∷ properties) h = by (is_same property.name name) (
     by true more = h.0
     by false more = more
 
-module _ (tokens : (text : List ℕ) → (ts : List Lexed) × ((end : End) × Tokens (size text) text ts end))
-    (answers : (variables : List (List ℕ)) (text : List ℕ) → ((tree : Tree) × Spells variables text tree) ⊎ ((fault : XSyntax) × syntax.IsFault variables text fault))
+module _ (answers : (variables : List (List ℕ)) (text : List ℕ) → ((tree : Tree) × Spells variables text tree) ⊎ ((fault : XSyntax) × syntax.IsFault variables text fault))
     (expressions : SomeExpression) where
   module _ (names : List Text) (text : Text) where
     abbrev Told : Type 0
     Told = ((expr : Expr) × IsSpelledBy names text expr) ⊎ ((fault : XSyntax) × IsTextFault names text fault)
 
-    -- the text spells the expression, and may call a function of PMD
-    calls_none : (expr : Expr) → Spells names (chars text) (tree_of expr) → (call : Option (List ℕ × ℕ)) → HasFirstCall (chars text) call → Told
-    calls_none expr spells None is = inl (expr, record { spells = spells; no_calls = is })
-    calls_none expr spells (Some call) is = inr (UnknownFunction call.0 call.1, IsTextFault.of_call expr spells is)
-
     spelled : (expr : Expr) → Spells names (chars text) (tree_of expr) → Told
-    spelled expr spells =
-        let found = tokens (chars text) in calls_none expr spells (first_call found.0) (record { tokens = found.0; end = found.1.0; read = found.1.1; first = refl })
+    spelled expr spells = inl (expr, record { spells = spells })
 
     text_told : IsShort text → Told
     text_told short = elim (answers names (chars text)) [
       | inl (tree, spells) ↦ of_tree tree spells
-      | inr (fault, is) ↦ inr (fault, IsTextFault.of_expression is)
+      | inr (fault, is) ↦ inr (fault, is)
     ]
       where
         of_tree : (tree : Tree) → Spells names (chars text) tree → Told

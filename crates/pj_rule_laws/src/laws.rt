@@ -4,7 +4,6 @@ ghost use Rattle.pj_rule_laws.specs.Laws.{ReadIsShort, RulesOrFirstFault, SoundO
 use pj_rules::files_are_read;
 use pj_xparse::some_answer;
 use pj_xsizes::some_expression;
-use pj_xtokens::each_text_has_tokens;
 
 /// The values of properties in a ruleset that is read, of which one may be the `xpath` of a rule, have at most four bytes for each byte that a
 /// ruleset may have.
@@ -16,7 +15,6 @@ pub fn read_texts_are_short()
 pub fn short_texts_are_sound_or_not()
     ensures { SoundOrSomeFault }
 {
-    each_text_has_tokens();
     some_answer();
     some_expression();
 }

@@ -8,7 +8,7 @@ use Rattle.pj_rule_texts.specs.declared.properties.Property.{Property}
 use Rattle.pj_rule_texts.specs.Seen.{variables_seen}
 use Rattle.pj_rule_texts.specs.declared.rule.RuleTexts.{RuleTexts}
 use Rattle.pj_rule_sets.specs.Expressions.{AreOf, Both, IsKept, IsParsed, IsSound, IsSpelled, IsSpelledBy, Spell, names_of, patterns_of, variables_of}
-use Rattle.pj_rule_sets.specs.Faults.{HasNoPattern, IfNoPattern, IsCallFault, IsFault, IsParseFault, IsSomeParseFault, IsTextFault}
+use Rattle.pj_rule_sets.specs.Faults.{HasNoPattern, IfNoPattern, IsFault, IsParseFault, IsSomeParseFault, IsTextFault}
 use Rattle.pj_rule_sets.specs.Patterns.{is_covered, suppression_of}
 use Rattle.pj_rule_sets.specs.Refusals.{of_pattern, of_syntax}
 use Rattle.pj_rule_sets.specs.declared.expressions.RuleExpressions.{RuleExpressions}
@@ -16,9 +16,7 @@ use Rattle.pj_rule_sets.specs.declared.fault.ExpressionFault.{ExpressionFault}
 use Rattle.pj_rule_sets.specs.declared.fault.ExpressionFault.TheVariants.{XPath, Pattern, Memory}
 use Rattle.pj_rule_sets.specs.declared.spelled.Spelled.{Spelled}
 use Rattle.pj_rule_sets.specs.Faults as faults
-use Rattle.pj_xexpressions.specs.Trees.{tree_of}
 use Rattle.pj_xparse.specs.Faults as syntax
-use Rattle.pj_xparse.specs.Spells.{Spells}
 use Rattle.pj_xparse.specs.declared.fault.XSyntax.{XSyntax}
 use Rattle.pj_xparse.specs.declared.fault.XSyntax.TheVariants as refusal
 use Rattle.pj_xpatterns.specs.Refusing.{AreTaken}
@@ -39,24 +37,13 @@ is_memory _ = false
 
 -- the fault of a text, as that of a rule
 pub parse_fault : (names : List (List ℕ)) (text : List ℕ) (fault : XSyntax) → (fault ≢ refusal.Memory → syntax.IsFault names (chars text) fault) → IsParseFault names text (of_syntax fault)
-parse_fault names text (refusal.Token from) h = faults.IsTextFault.of_expression (h (λ e. absurd (false≢true (ap is_memory e))))
-parse_fault names text (refusal.Expected from) h = faults.IsTextFault.of_expression (h (λ e. absurd (false≢true (ap is_memory e))))
-parse_fault names text (refusal.UnknownFunction name from) h = faults.IsTextFault.of_expression (h (λ e. absurd (false≢true (ap is_memory e))))
-parse_fault names text (refusal.UnknownVariable name) h = faults.IsTextFault.of_expression (h (λ e. absurd (false≢true (ap is_memory e))))
-parse_fault names text (refusal.Outside from) h = faults.IsTextFault.of_expression (h (λ e. absurd (false≢true (ap is_memory e))))
-parse_fault names text (refusal.Deep nesting) h = faults.IsTextFault.of_expression (h (λ e. absurd (false≢true (ap is_memory e))))
+parse_fault names text (refusal.Token from) h = h (λ e. absurd (false≢true (ap is_memory e)))
+parse_fault names text (refusal.Expected from) h = h (λ e. absurd (false≢true (ap is_memory e)))
+parse_fault names text (refusal.UnknownFunction name from) h = h (λ e. absurd (false≢true (ap is_memory e)))
+parse_fault names text (refusal.UnknownVariable name) h = h (λ e. absurd (false≢true (ap is_memory e)))
+parse_fault names text (refusal.Outside from) h = h (λ e. absurd (false≢true (ap is_memory e)))
+parse_fault names text (refusal.Deep nesting) h = h (λ e. absurd (false≢true (ap is_memory e)))
 parse_fault names text refusal.Memory h = tt
-
--- the fault of a call, as that of a rule, where the text spells an expression
-pub call_fault : (names : List (List ℕ)) (text : List ℕ) (expr : Expr) → Spells names (chars text) (tree_of expr) → (fault : XSyntax) → IsCallFault (chars text) fault →
-    IsParseFault names text (of_syntax fault)
-call_fault names text expr spells (refusal.UnknownFunction name from) h = faults.IsTextFault.of_call expr spells h
-call_fault names text expr spells (refusal.Token from) h = absurd h
-call_fault names text expr spells (refusal.Expected from) h = absurd h
-call_fault names text expr spells (refusal.UnknownVariable name) h = absurd h
-call_fault names text expr spells (refusal.Outside from) h = absurd h
-call_fault names text expr spells (refusal.Deep nesting) h = absurd h
-call_fault names text expr spells refusal.Memory h = h
 
 -- the names of the rule's variables
 pub names_same : (texts : RuleTexts) (names : List (List ℕ)) (variables slice : List (List ℕ × List Item)) (properties : List Property) → properties ≡ texts.properties →

@@ -1,7 +1,6 @@
 -- Texts of a rule can be used or have a fault, and not both; and they have one first fault at most.
 use Rattle.std.proofs.Common.{◌≡◌, ◌≢◌, ℕ, List, [], ◌∷◌, ◌++◌, Option, Some, None, refl, sym, ap, ap₂, ◌∙◌, subst}
 use Rattle.std.specs.Str.{chars}
-use Rattle.pj_rule_sets.specs.Calls.{CallsNone, HasFirstCall, first_call}
 use Rattle.pj_rule_sets.specs.Expressions.{Both, IsSound, IsSpelledBy, Spell, names_of, patterns_in_some, patterns_of, variables_of}
 use Rattle.pj_rule_sets.specs.Faults.{HasNoPattern, IsFault, IsSyntaxFault, IsTextFault}
 use Rattle.pj_rule_sets.specs.Patterns.{property_patterns, suppressing_regex_of, suppression_of, whole_of}
@@ -13,35 +12,14 @@ use Rattle.pj_xexpressions.specs.Trees.{Tree, tree_of}
 use Rattle.pj_xparse.specs.Faults as syntax
 use Rattle.pj_xparse.specs.Spells.{Spells}
 use Rattle.pj_xparse.specs.declared.fault.XSyntax.{XSyntax}
-use Rattle.pj_xparse.specs.declared.fault.XSyntax.TheVariants.{UnknownFunction}
 use Rattle.pj_xpatterns.specs.Meaning as patterns
 use Rattle.pj_xpatterns.specs.Refusing.{AreTaken}
 use Rattle.pj_xpatterns.specs.Written.{patterns_in}
-use Rattle.pj_xtokens.specs.Size.{size}
-use Rattle.pj_xtokens.specs.Tokens.{Lexed, Tokens}
-use Rattle.pj_xtokens.specs.declared.token.End.{End}
 use Rattle.pj_xpatterns.specs.Laws.{PatternsByTree}
 use Rattle.pj_xexpressions.specs.declared.expr.Expr.{Expr}
 
--- the tokens of a text and where they end are one
-abbrev TokensAreOne : Type 0
-TokensAreOne = (text : List ℕ) (xs ys : List Lexed) (e f : End) → Tokens (size text) text xs e → Tokens (size text) text ys f → (xs ≡ ys) × (e ≡ f)
-
--- a text has one first call of a function that has no answer yet, or none
-one_call : TokensAreOne → (text : List ℕ) (a b : Option (List ℕ × ℕ)) → HasFirstCall text a → HasFirstCall text b → a ≡ b
-one_call one_tokens text a b x y = sym x.first ∙ ap first_call (one_tokens text x.tokens y.tokens x.end y.end x.read y.read).0 ∙ y.first
-
-no_call : TokensAreOne → (text name : List ℕ) (from : ℕ) → CallsNone text → HasFirstCall text (Some (name, from)) → ⊥
-no_call one_tokens text name from none call =
-    let both : ◌≡◌ {A = Option (List ℕ × ℕ)} None (Some (name, from)) = one_call one_tokens text None (Some (name, from)) none call in absurd (cc)
-
 one_some : {A : Type 0} (o : Option A) (a b : A) → o ≡ Some a → o ≡ Some b → a ≡ b
 one_some o a b e f = let both : Some a ≡ Some b = sym e ∙ f in cc
-
-call_again : TokensAreOne → (text : List ℕ) (name other : List ℕ) (from at : ℕ) → HasFirstCall text (Some (name, from)) → HasFirstCall text (Some (other, at)) →
-    UnknownFunction name from ≡ UnknownFunction other at
-call_again one_tokens text name other from at x y = ap (λ (call : List ℕ × ℕ). UnknownFunction call.0 call.1)
-    (one_some (Some (name, from)) (name, from) (other, at) refl (one_call one_tokens text (Some (name, from)) (Some (other, at)) x y))
 
 none_some : (o : Option Text) (a : Text) → o ≡ None → o ≡ Some a → ⊥
 none_some o a e f = let both : ◌≡◌ {A = Option Text} None (Some a) = sym e ∙ f in absurd (cc)
@@ -57,10 +35,9 @@ not_refused list taken none = (taken_right none.before (none.refused ∷ none.be
 
 -- ---- what is spelled has no fault
 
-module _ (one_tokens : TokensAreOne) (spelled : (variables : List (List ℕ)) (text : List ℕ) (tree : Tree) (fault : XSyntax) → Spells variables text tree → syntax.IsFault variables text fault → ⊥) where
+module _ (spelled : (variables : List (List ℕ)) (text : List ℕ) (tree : Tree) (fault : XSyntax) → Spells variables text tree → syntax.IsFault variables text fault → ⊥) where
   no_text_fault : (names : List Text) (text : Text) (expr : Expr) (fault : XSyntax) → IsSpelledBy names text expr → IsTextFault names text fault → ⊥
-  no_text_fault names text expr fault is (IsTextFault.of_expression h) = spelled names (chars text) (tree_of expr) fault is.spells h
-  no_text_fault names text expr _ is (IsTextFault.of_call other {name} {from} spells call) = no_call one_tokens (chars text) name from is.no_calls call
+  no_text_fault names text expr fault is h = spelled names (chars text) (tree_of expr) fault is.spells h
 
   -- what suppresses findings, where it is spelled
   no_suppression_fault : (names : List Text) (given : Option Text) (text : Text) (expr : Option Expr) (fault : XSyntax) → given ≡ Some text →
@@ -107,11 +84,7 @@ module _ (one_tokens : TokensAreOne) (spelled : (variables : List (List ℕ)) (t
 
   module _ (one : (variables : List (List ℕ)) (text : List ℕ) (a b : XSyntax) → syntax.IsFault variables text a → syntax.IsFault variables text b → a ≡ b) where
     one_text_fault : (names : List Text) (text : Text) (a b : XSyntax) → IsTextFault names text a → IsTextFault names text b → a ≡ b
-    one_text_fault names text a b (IsTextFault.of_expression h) (IsTextFault.of_expression k) = one names (chars text) a b h k
-    one_text_fault names text a _ (IsTextFault.of_expression h) (IsTextFault.of_call expr spells call) = absurd (spelled names (chars text) (tree_of expr) a spells h)
-    one_text_fault names text _ b (IsTextFault.of_call expr spells call) (IsTextFault.of_expression k) = absurd (spelled names (chars text) (tree_of expr) b spells k)
-    one_text_fault names text _ _ (IsTextFault.of_call expr {name = name} {from = from} spells call) (IsTextFault.of_call expr_too {name = other} {from = at} spells_too call_too) =
-        call_again one_tokens (chars text) name other from at call call_too
+    one_text_fault names text a b h k = one names (chars text) a b h k
 
     one_syntax_fault : (texts : RuleTexts) (a b : XSyntax) → IsSyntaxFault texts a → IsSyntaxFault texts b → a ≡ b
     one_syntax_fault texts a b (IsSyntaxFault.of_query h) (IsSyntaxFault.of_query k) = one_text_fault (names_of texts) texts.xpath a b h k

@@ -5,7 +5,6 @@ use Rattle.std.specs.Str.{chars}
 use Rattle.pj_rule_texts.specs.Seen.{variables_seen}
 use Rattle.pj_rule_texts.specs.Values.{Text, variable_of}
 use Rattle.pj_rule_texts.specs.declared.rule.RuleTexts.{RuleTexts}
-use Rattle.pj_rule_sets.specs.Calls.{CallsNone}
 use Rattle.pj_rule_sets.specs.Patterns.{is_covered, property_patterns, suppression_of, suppressing_regex_of, whole_of}
 use Rattle.pj_rule_sets.specs.declared.expressions.RuleExpressions.{RuleExpressions}
 use Rattle.pj_rule_sets.specs.declared.spelled.Spelled.{Spelled}
@@ -39,10 +38,9 @@ abbrev pub patterns_of : RuleTexts → Expr → Option Expr → List Pattern
 patterns_of texts query suppression = property_patterns texts ++ (patterns_in (variables_of texts) query
     ++ (patterns_in_some (variables_of texts) suppression ++ whole_of (suppressing_regex_of texts)))
 
--- The text spells the expression, with these variables, and calls no function that has no answer yet.
+-- The text spells the expression, with these variables.
 pub record IsSpelledBy (names : List Text) (text : Text) (expr : Expr) : Type 0 where
   pub spells : Spells names (chars text) (tree_of expr)
-  pub no_calls : CallsNone (chars text)
 
 -- The expressions that the rule's texts spell: its query, and what suppresses findings, where the rule has that.
 pub record Spell (texts : RuleTexts) (query : Expr) (suppression : Option Expr) : Type 0 where

@@ -1,19 +1,14 @@
 -- Why a rule's texts make no rule that can be used.
-use Rattle.std.specs.Prelude.{⊤, ◌≡◌, ℕ, List, ◌∷◌, ◌++◌, Option, Some, None}
+use Rattle.std.specs.Prelude.{⊤, ◌≡◌, List, ◌∷◌, ◌++◌, Option, Some, None}
 use Rattle.std.specs.Str.{chars}
 use Rattle.pj_rule_texts.specs.Values.{Text}
 use Rattle.pj_rule_texts.specs.declared.rule.RuleTexts.{RuleTexts}
-use Rattle.pj_rule_sets.specs.Calls.{HasFirstCall}
 use Rattle.pj_rule_sets.specs.Expressions.{IsSpelledBy, Spell, names_of, patterns_of}
 use Rattle.pj_rule_sets.specs.Patterns.{suppression_of}
 use Rattle.pj_rule_sets.specs.declared.fault.ExpressionFault.{ExpressionFault}
 use Rattle.pj_rule_sets.specs.declared.fault.ExpressionFault.TheVariants.{XPath, Pattern, Memory}
-use Rattle.pj_xexpressions.specs.Trees.{tree_of}
 use Rattle.pj_xparse.specs.Faults as syntax
-use Rattle.pj_xparse.specs.Spells.{Spells}
 use Rattle.pj_xparse.specs.declared.fault.XSyntax.{XSyntax}
-use Rattle.pj_xparse.specs.declared.fault.XSyntax.TheVariants.{UnknownFunction}
-use Rattle.pj_xparse.specs.declared.fault.XSyntax.TheVariants as refusal
 use Rattle.pj_xpatterns.specs.Meaning as pattern
 use Rattle.pj_xpatterns.specs.Meaning.{IsNoPattern}
 use Rattle.pj_xpatterns.specs.declared.compiled.PatternFault.{PatternFault}
@@ -33,19 +28,9 @@ abbrev pub IfNoPattern : PatternFault → Type 0 → Type 0
 IfNoPattern (patterns.Refused text) fact = fact
 IfNoPattern patterns.Memory fact = ⊤
 
--- The first call in the text, in characters, of a function that has no answer yet, as a fault: it is as if there were no such function. Want of
--- memory has no cause in the text.
-abbrev pub IsCallFault : List ℕ → XSyntax → Type 0
-IsCallFault text (UnknownFunction name from) = HasFirstCall text (Some (name, from))
-IsCallFault text refusal.Memory = ⊤
-IsCallFault text _ = ⊥
-
--- The fault of a text as an expression with these variables: its first fault, or where it has none and spells an expression the first call of a
--- function in it that has no answer yet. So a fault of the expression goes before each call, also one that stands before the fault.
-pub data IsTextFault (names : List Text) (text : Text) : XSyntax → Type 0 where
-  of_expression : {fault : XSyntax} → syntax.IsFault names (chars text) fault → IsTextFault names text fault
-  of_call : (expr : Expr) {name : Text} {from : ℕ} → Spells names (chars text) (tree_of expr) → HasFirstCall (chars text) (Some (name, from)) →
-      IsTextFault names text (UnknownFunction name from)
+-- the first fault of a text as an expression with these variables
+abbrev pub IsTextFault : List Text → Text → XSyntax → Type 0
+IsTextFault names text fault = syntax.IsFault names (chars text) fault
 
 -- the fault of a text as an expression with these variables
 abbrev pub IsParseFault : List Text → Text → ExpressionFault → Type 0

@@ -1,5 +1,4 @@
 -- definitions
-pub mod Calls
 pub mod Expressions
 pub mod Faults
 pub mod Patterns

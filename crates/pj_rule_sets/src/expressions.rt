@@ -8,7 +8,6 @@ ghost use Rattle.pj_rule_texts.specs.Seen.{variables_seen};
 ghost use Rattle.pj_xpatterns.specs.Refusing.{AreTaken};
 ghost use Rattle.pj_xpatterns.specs.Written.{patterns_in};
 
-use crate::calls::judge_calls;
 use crate::fault::ExpressionFault;
 use crate::patterns::{is_covered_by, judge_properties, value_of};
 use crate::spelled::Spelled;
@@ -44,7 +43,7 @@ fn names_of(alloc: Global, variables: &[(Text, Sequence<'static>)]) -> Result<Na
     Ok(names)
 }
 
-/// The expression that a text spells, where it calls no function that has no answer yet. A fault of the expression goes before each call.
+/// The expression that a text spells.
 fn parsed(
     alloc: Global,
     parser: &Parser,
@@ -55,7 +54,6 @@ fn parsed(
     ensures fault { IfErr result (IsParseFault names.now text.now) }
 {
     let expr = parse_with(alloc, parser, text, names)?;
-    judge_calls(alloc, text)?;
     Ok(expr)
 }
 

@@ -3,7 +3,6 @@ ghost use Rattle.pj_rule_sets.specs.Laws.{OneFault, SoundOrFault};
 
 use pj_xparse::{one_answer, one_expression};
 use pj_xpatterns::trees_tell_patterns;
-use pj_xtokens::tokens_are_one;
 
 /// Texts of a rule that can be used have no fault.
 pub fn sound_or_fault()
@@ -11,7 +10,6 @@ pub fn sound_or_fault()
 {
     one_expression();
     one_answer();
-    tokens_are_one();
     trees_tell_patterns();
 }
 
@@ -20,5 +18,4 @@ pub fn one_fault()
     ensures { OneFault }
 {
     one_answer();
-    tokens_are_one();
 }

@@ -2,7 +2,6 @@
 #![tactic(auto)]
 
 mod active;
-mod calls;
 mod entry;
 mod expressions;
 mod fault;

@@ -1,6 +1,6 @@
 use Rattle.pj_rule_sets.specs.Faults.{IsParseFault}
 use Rattle.pj_rule_sets.specs.Refusals.{of_syntax}
-use Rattle.pj_rule_sets.proofs.Judging.{call_fault, parse_fault}
+use Rattle.pj_rule_sets.proofs.Judging.{parse_fault}
 use Rattle.pj_rule_sets.proofs.Lists.{handed_on}
 use Rattle.pj_rule_sets.proofs.expressions.parsed.Goals as goal
 
@@ -10,11 +10,3 @@ returns-in_err-expr-clause-fault c =
     let text = c.args.text.now in
     handed_on c.from_residual.result (of_syntax c.in_err-expr.field-0.0) (IsParseFault names text) c.from_residual.ensures.1
     (parse_fault names text c.in_err-expr.field-0.0 c.in_err-expr.ensures.fault)
-
-pub returns-in_err-judge_calls-clause-fault : goal.returns-in_err-judge_calls-clause-fault
-returns-in_err-judge_calls-clause-fault c =
-    let names = c.args.names.now in
-    let text = c.args.text.now in
-    let fault = c.in_err-judge_calls.field-0.0 in
-    handed_on c.from_residual-in_err-judge_calls.result (of_syntax fault) (IsParseFault names text) c.from_residual-in_err-judge_calls.ensures.1
-    (call_fault names text c.in_ok-expr.expr c.in_ok-expr.ensures.spells fault c.in_err-judge_calls.ensures.call)
