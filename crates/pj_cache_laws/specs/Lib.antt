@@ -1,0 +1,3 @@
+-- definitions
+pub mod Written
+pub mod Reported
