@@ -15,7 +15,7 @@ mod unqualified;
 
 pub use candidates::Candidates;
 pub use choosing::{Chosen, chosen_among};
-pub use laws::{calls_have_results, one_is_chosen, sources_agree, unknown_receivers};
+pub use laws::{one_is_chosen, sources_agree, unknown_receivers};
 pub use nodes::{arguments_of, functions_of, receiver_of};
 pub use of_nodes::candidates_of;
 pub use results::{chosen_result, result_or_unknown, result_type};

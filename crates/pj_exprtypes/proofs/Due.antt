@@ -246,8 +246,3 @@ none-left (x ∷ xs) is = absurd (let none : length (x ∷ xs) ≡ 0 = eqb-true 
 pub on-map : {A E : Type 0} {P Q : Type 0} (r : Result A E) → (P → Q) → OnOk r P → OnOk r Q
 on-map (Ok v) next p = next p
 on-map (Err e) next p = tt
-
--- what holds anyway
-pub on-ok : {A E : Type 0} {P : Type 0} (r : Result A E) → P → OnOk r P
-on-ok (Ok v) p = p
-on-ok (Err e) p = tt

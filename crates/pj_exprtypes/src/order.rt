@@ -2,8 +2,7 @@
 //! costs no stack.
 
 ghost use Rattle.std.specs.Prelude.{◌≡◌, ◌<◌, ◌≤◌, ◌++◌, ◌+◌, ℕ, [], Bool, length, IfOk, IfSome, IsTrue, OnOk};
-ghost use Rattle.pj_names.specs.Told.{Asks, seen};
-ghost use Rattle.pj_names.specs.Told.{Worlds};
+ghost use Rattle.pj_names.specs.Told.{Asks, Worlds, seen};
 ghost use Rattle.pj_exprtypes.specs.Operands.{operands};
 ghost use Rattle.pj_exprtypes.specs.Order.{AddsParts, asked_by, node_of, visits};
 ghost use Rattle.pj_exprtypes.specs.Parts.{AsksPart};
@@ -111,14 +110,8 @@ fn open_among(tree: &SyntaxTree<'_>, types: &Typed, before: u32, found: Found) -
     ensures earlier { IfSome result (λ id. id.0 < before) }
 {
     match found {
-        Found::Var(id) => {
-            if is_open(tree, types, before, id) {
-                Some(id)
-            } else {
-                None
-            }
-        }
-        Found::Type(_) | Found::Call(_) => None,
+        Found::Var(id) if is_open(tree, types, before, id) => Some(id),
+        Found::Var(_) | Found::Type(_) | Found::Call(_) => None,
     }
 }
 
@@ -294,23 +287,6 @@ fn told_by_operands<'r, O: Oracle>(
     type_with(alloc, file, oracle, n, operand_types)
 }
 
-/// Finds and holds a variable.
-fn find<'r, O: Oracle>(
-    alloc: Global,
-    file: &File<'_>,
-    oracle: &mut Recorder<'r, O>,
-    types: &mut Typed,
-    id: Node,
-) -> Result<(), AskFault>
-    requires inside { id.0 < length file.now.nodes }
-    requires keeps { Keeps file.now (⟦<Recorder<'r, O> as Oracle>⟧.tells oracle.old) types.old.variables }
-    ensures asks { AsksPart (var_of file.now id) (⟦<Recorder<'r, O> as Oracle>⟧.tells oracle.old) (⟦<Recorder<'r, O> as Oracle>⟧.tells oracle.new) result }
-    ensures keeps { Keeps file.now (⟦<Recorder<'r, O> as Oracle>⟧.tells oracle.new) types.new.variables }
-{
-    let _ty = var_once(alloc, file, oracle, types, id)?;
-    Ok(())
-}
-
 /// Does what is still to do of one entry, and puts what is to be done before the entries behind it.
 fn do_one<'r, O: Oracle>(
     alloc: Global,
@@ -327,7 +303,10 @@ fn do_one<'r, O: Oracle>(
     ensures keeps { Keeps file.now (⟦<Recorder<'r, O> as Oracle>⟧.tells oracle.new) types.new.variables }
 {
     match next {
-        Pending::Find { id } => find(alloc, file, oracle, types, id),
+        Pending::Find { id } => {
+            let _ty = var_once(alloc, file, oracle, types, id)?;
+            Ok(())
+        }
         Pending::Pass { before, left, n } => {
             pass(alloc, file, oracle, types, all, before, left, n)
         }

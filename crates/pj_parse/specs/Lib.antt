@@ -6,6 +6,7 @@ pub mod JavaFile
 pub mod FileOutcome
 pub mod OwnTokens
 pub mod Refused
+pub mod Messages
 -- laws, with the proofs on which the function in `FileOutcome` rests
 pub mod Laws
 pub mod OneOutcome

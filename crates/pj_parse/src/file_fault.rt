@@ -1,8 +1,6 @@
 //! Why bytes are no Java file.
 
 use pj_tree::Place;
-use std::fmt;
-use std::fmt::{Display, Formatter, Write};
 
 /// Why bytes are no Java file. Of several reasons the first in this order counts.
 #[derive(Clone, Copy, Debug, PartialEq, Eq)]
@@ -21,24 +19,6 @@ pub enum FileFault {
     TooDeep(u32),
     /// The number of nodes, which is more than 2,000,000.
     TooManyNodes(u32),
-}
-
-impl Display for FileFault {
-    fn fmt<W: Write>(&self, f: &mut Formatter<W>) -> fmt::Result {
-        match self {
-            FileFault::NotUtf8(offset) => write!(f, "not UTF-8 at byte {offset}"),
-            FileFault::Escape(place) => {
-                write!(f, "bad unicode escape at {}:{}", place.line, place.column)
-            }
-            FileFault::Lexical(kind, place) => {
-                write!(f, "lexical fault {kind} at {}:{}", place.line, place.column)
-            }
-            FileFault::TooManyTokens(_) => f.write_str("too many tokens"),
-            FileFault::Syntax => f.write_str("syntax fault"),
-            FileFault::TooDeep(_) => f.write_str("too deep"),
-            FileFault::TooManyNodes(_) => f.write_str("too many nodes"),
-        }
-    }
 }
 
 /// Why a call gives nothing of the bytes of a file.

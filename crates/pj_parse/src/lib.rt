@@ -12,6 +12,7 @@ mod file;
 mod file_fault;
 mod laws;
 mod lexing;
+mod message;
 mod names;
 mod parsing;
 mod pool;
@@ -23,5 +24,6 @@ pub use laws::{
     faults_stand_in_text, file_has_one_outcome, text_has_one_outcome, words_are_own_tokens,
 };
 pub use lexing::tokens;
+pub use message::fault_message;
 pub use parsing::{Parsed, parse, parse_by};
 pub use pool::Pool;

@@ -8,7 +8,7 @@ use Rattle.pj_names.specs.Asking.{Return, bind, each}
 use Rattle.pj_parse.specs.FileOutcome.{outcome_of}
 use Rattle.pj_parse.specs.JavaFile.{JavaFile}
 use Rattle.pj_parse.specs.declared.file_fault.FileFault.{FileFault}
-use Rattle.pj_workers.specs.Faults.{fault_message}
+use Rattle.pj_parse.specs.Messages.{fault_message}
 use Rattle.pj_outside.specs.Files.{Bytes}
 use Rattle.pj_workers.specs.FileMeaning.{Replies, file_at, file_meaning, nothing, rule_at, rule_meaning}
 use Rattle.pj_workers.specs.RuleMeaning.{rule_in_file}

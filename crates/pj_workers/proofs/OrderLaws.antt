@@ -25,7 +25,7 @@ use Rattle.pj_xsteps.specs.Means.{after, judged, ◌>>=◌}
 use Rattle.pj_xvalue.specs.Items.{ItemValue, Element}
 use Rattle.pj_xvalue.specs.declared.fault.XCode.{XCode}
 use Rattle.pj_workers.specs.Cold.{AreRowsOf, World}
-use Rattle.pj_workers.specs.Faults.{fault_message}
+use Rattle.pj_parse.specs.Messages.{fault_message}
 use Rattle.pj_workers.specs.FileMeaning.{Replies, file_at, file_meaning, head_of, rule_at, rule_meaning}
 use Rattle.pj_workers.specs.Laws.{AreInOrder, AreOfRule, ColdIsInOrder, FilesAreInOrder, FilesAreTheirRules, FindingsHaveRules, FoundAreDenoted, NamesAreTheirRules}
 use Rattle.pj_xlaws.specs.Laws.{Reply}

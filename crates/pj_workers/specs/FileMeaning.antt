@@ -13,7 +13,7 @@ use Rattle.pj_parse.specs.JavaFile.{JavaFile}
 use Rattle.pj_parse.specs.declared.file_fault.FileFault.{FileFault}
 use Rattle.pj_reports.specs.declared.rows.FileRows.{FileRows}
 use Rattle.pj_symbols.specs.Names.{package_name}
-use Rattle.pj_workers.specs.Faults.{fault_message}
+use Rattle.pj_parse.specs.Messages.{fault_message}
 use Rattle.pj_xlaws.specs.Laws.{Reply}
 use Rattle.pj_workers.specs.RuleMeaning.{rule_in_file}
 use Rattle.pj_workers.specs.Rules.{Rule, is_active}

@@ -31,7 +31,7 @@ use Rattle.pj_xvalue.specs.declared.fault.XCode.{XCode}
 use Rattle.pj_names.specs.declared.rule_row.ConfigError.{ConfigError}
 use Rattle.pj_workers.specs.Calls.{RuleCallsOnly, asks_nothing}
 use Rattle.pj_workers.specs.Cold.{FileSettles, IsCold, SourceSettles, World}
-use Rattle.pj_workers.specs.Faults.{fault_message}
+use Rattle.pj_parse.specs.Messages.{fault_message}
 use Rattle.pj_workers.specs.FileFacts.{place_of}
 use Rattle.pj_workers.specs.FileMeaning.{Replies, file_meaning, nothing, rule_meaning}
 use Rattle.pj_workers.specs.JavaReplies.{java_replies}

@@ -4,7 +4,6 @@ pub mod Marked
 pub mod Rules
 pub mod Reasons
 pub mod RuleMeaning
-pub mod Faults
 pub mod FileMeaning
 pub mod JavaReplies
 pub mod Calls

@@ -28,7 +28,7 @@ use Rattle.pj_rule_sets.specs.Rules.{EffectiveRule, EffectiveRules, texts_of}
 use Rattle.pj_tree.specs.Tree.{Tree}
 use Rattle.pj_tree.specs.declared.node.Node.{Node}
 use Rattle.pj_xsteps.specs.Means.{Means, give, ◌>>=◌}
-use Rattle.pj_workers.specs.Faults.{fault_message}
+use Rattle.pj_parse.specs.Messages.{fault_message}
 use Rattle.pj_outside.specs.Files.{Bytes}
 use Rattle.pj_workers.specs.FileMeaning.{file_at, head_of, nothing, rule_at}
 use Rattle.pj_workers.specs.Marked.{is_marked}

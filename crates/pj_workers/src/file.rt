@@ -11,7 +11,6 @@ ghost use Rattle.pj_peg_grammar.specs.Form.{forms_of};
 ghost use Rattle.pj_symbols.specs.Names.{package_name};
 ghost use Rattle.pj_workers.specs.Views.{AreRunsOf, AsksOf, IsErrorOf, IsOfOneFile, file_seen};
 
-use crate::fault::fault_message;
 use crate::result::FileRuns;
 use crate::runs::rule_runs;
 use crate::view::FileView;
@@ -22,7 +21,9 @@ use pj_findings::RuleRuns;
 use pj_lex::Token;
 use pj_names::{AskFault, Oracle};
 use pj_outer_names::File;
-use pj_parse::{FileFault, FileRefused, Parsed, file_has_one_outcome, parse_file_by, read_file};
+use pj_parse::{
+    FileFault, FileRefused, Parsed, fault_message, file_has_one_outcome, parse_file_by, read_file,
+};
 use pj_peg::WellFormed;
 use pj_reports::Head;
 use pj_rule_sets::RuleSet;

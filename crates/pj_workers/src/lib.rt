@@ -5,7 +5,6 @@
 
 mod analyse;
 mod analysis;
-mod fault;
 mod file;
 mod file_rule;
 mod laws;
@@ -16,7 +15,6 @@ mod view;
 mod work;
 
 pub use analyse::{analyse_file, analyse_files};
-pub use fault::fault_message;
 pub use laws::{
     cold_reports_are_in_order, files_are_their_rules, files_without_tree_have_one_error,
     findings_are_denoted, inactive_rules_mean_nothing, marked_lines_are_those_of_tokens,

@@ -1,7 +1,6 @@
 //! Why not all was shown.
 
 use pj_base::{NoMemory, Text};
-use pj_parse::FileFault;
 use std::alloc::{AllocError, AllocFailed};
 use std::fmt::{Display, Formatter, Write};
 use std::{fmt, io};
@@ -15,8 +14,8 @@ pub enum Fault {
     Missing(Text),
     /// The file of this path has more bytes than are read.
     TooLong(Text),
-    /// The file of this path is no Java file.
-    NotJava(Text, FileFault),
+    /// The file of this path is no Java file, for what the second text says.
+    NotJava(Text, Text),
     /// The rulesets are invalid: the lines that say where and why.
     Rules(String),
     /// There are more than 2,000 rules.
@@ -37,7 +36,7 @@ impl Display for Fault {
             }
             Fault::Missing(path) => write!(f, "no such file: {}", path.as_str()),
             Fault::TooLong(path) => write!(f, "too long: {}", path.as_str()),
-            Fault::NotJava(path, fault) => write!(f, "{}: {fault}", path.as_str()),
+            Fault::NotJava(path, fault) => { write!(f, "{}: {}", path.as_str(), fault.as_str()) },
             Fault::Rules(lines) => f.write_str(lines.as_str()),
             Fault::TooManyRules => f.write_str("more than 2,000 rules"),
             Fault::NotRead => f.write_str("a file cannot be read"),

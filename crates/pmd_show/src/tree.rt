@@ -6,10 +6,10 @@ ghost use Rattle.pj_parse.specs.PoolText.{IsPoolOf};
 
 use crate::fault::Fault;
 use pj_attrs::{Facts, tokens_are_in_order};
-use pj_base::{Bytes, Text};
+use pj_base::{Bytes, NoMemory, Text};
 use pj_findings::{Extent, extent_of};
 use pj_outside::{Reading, Refused, Tree};
-use pj_parse::{FileRefused, Parsed, parse_file, read_file};
+use pj_parse::{FileFault, FileRefused, Parsed, fault_message, parse_file, read_file};
 use pj_source::Source;
 use pj_symbols::Symbols;
 use pj_tree::{Node, SyntaxTree};
@@ -131,12 +131,19 @@ fn show_parsed<W: Write>(
     Ok(())
 }
 
+/// What is said of a file of this path with this fault.
+fn not_java(alloc: Global, path: &str, fault: FileFault) -> Result<Fault, NoMemory> {
+    let path = Text::from_str(alloc, path)?;
+    let message = fault_message(alloc, fault)?;
+    Ok(Fault::NotJava(path, message))
+}
+
 /// Why a file of this path that was refused so is not shown.
 fn fault_of(alloc: Global, path: &str, refused: FileRefused) -> Fault {
     match refused {
         FileRefused::Memory => Fault::Memory,
-        FileRefused::Fault(fault) => match Text::from_str(alloc, path) {
-            Ok(path) => Fault::NotJava(path, fault),
+        FileRefused::Fault(fault) => match not_java(alloc, path, fault) {
+            Ok(fault) => fault,
             Err(_) => Fault::Memory,
         },
     }

@@ -30,6 +30,10 @@ returns-clause-one c = λ depth world candidates arguments functions number is.
     subst (λ (found : Option Chosen). IsTrue (is_some found)) (sym (by-choice depth world candidates arguments functions (choices.One number) is))
     (some-at (chosen_as candidates.receiver arguments) candidates.methods number (c.one_is_a_candidate.ensures depth world candidates.methods arguments functions number is))
 
+pub returns-clause-method : goal.returns-clause-method
+returns-clause-method c = λ depth world candidates arguments functions number method is at.
+    by-choice depth world candidates arguments functions (choices.One number) is ∙ ap (option_map (chosen_as candidates.receiver arguments)) at
+
 pub returns-clause-none : goal.returns-clause-none
 returns-clause-none c = λ depth world candidates arguments functions is. by-choice depth world candidates arguments functions choices.None is
 

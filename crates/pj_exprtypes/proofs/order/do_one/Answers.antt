@@ -4,18 +4,7 @@ use Rattle.pj_names.specs.Noting.{tells_noting}
 use Rattle.pj_exprtypes.specs.declared.order.Pending.{Pending}
 use Rattle.pj_exprtypes.specs.Order.{AddsParts, asked_by}
 use Rattle.pj_exprtypes.specs.Parts.{AsksPart}
-use Rattle.pj_exprtypes.proofs.Due.{adds-nothing, on-ok}
 use Rattle.pj_exprtypes.proofs.order.do_one.Goals as goal
-
-pub returns-in-Find-clause-due : goal.returns-in-Find-clause-due
-returns-in-Find-clause-due g c = on-ok c.find.result (adds-nothing _ _ _ _ _)
-
-pub returns-in-Find-clause-asks : goal.returns-in-Find-clause-asks
-returns-in-Find-clause-asks g c =
-    let t = c.args.file.now in
-    let old = tells_noting c.args.oracle.now.inner.ghost_name c.args.oracle.now.noted.ghost_name c.args.oracle.now.noted.now (g.O.Oracle.tells c.args.oracle.now.inner.now) in
-    let new = tells_noting c.find.new.oracle.inner.ghost_name c.find.new.oracle.noted.ghost_name c.find.new.oracle.noted.now (g.O.Oracle.tells c.find.new.oracle.inner.now) in
-    subst (λ (p : Pending). AsksPart (asked_by t p) old new c.find.result) (sym c.in-Find.is) c.find.ensures.asks
 
 pub returns-in-Visit-clause-due : goal.returns-in-Visit-clause-due
 returns-in-Visit-clause-due g c =

@@ -1,9 +1,9 @@
-//! The message of a file that has no tree.
+//! What is said of a file that has no tree.
 ghost use Rattle.std.specs.Prelude.{◌≡◌, IfOk, string_bytes};
-ghost use Rattle.pj_workers.specs.Faults.{fault_message};
+ghost use Rattle.pj_parse.specs.Messages.{fault_message};
 
+use crate::file_fault::FileFault;
 use pj_base::{NoMemory, Text};
-use pj_parse::FileFault;
 use pj_tree::Place;
 use std::alloc::{AllocError, Global};
 

@@ -1,4 +1,4 @@
--- The message of a file that has no tree.
+-- What is said of a file that has no tree.
 use Rattle.std.specs.Prelude.{ℕ, List, ◌++◌, codes, decimal}
 use Rattle.pj_parse.specs.declared.file_fault.FileFault.{FileFault}
 use Rattle.pj_parse.specs.declared.file_fault.FileFault.TheVariants as fault
