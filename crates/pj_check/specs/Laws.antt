@@ -1,6 +1,6 @@
 -- What follows from the definitions.
 use Rattle.std.specs.Prelude.{◌≡◌, ◌⊎◌, ℕ, Bool, List, map}
-use Rattle.std.specs.List.{AllByRecursion}
+use Rattle.std.specs.List.{AllByRecursion, AllZip}
 use Rattle.std.specs.List.Sorted.{IsStrictlySortedBy}
 use Rattle.pj_outside.specs.Doors.{ClassFolders}
 use Rattle.pj_outside.specs.Files.{Files, Bytes}
@@ -15,7 +15,7 @@ use Rattle.pj_sources.specs.declared.listing.Listing.{Listing}
 use Rattle.pj_workers.specs.Calls.{RuleCallsOnly, asks_nothing}
 use Rattle.pj_workers.specs.Cold.{FileSettles, SourceSettles, World}
 use Rattle.pj_workers.specs.JavaReplies.{java_replies}
-use Rattle.pj_workers.specs.Laws.{AreInOrder}
+use Rattle.pj_workers.specs.Laws.{AreInOrder, FindWhatIsDenoted}
 use Rattle.pj_workers.specs.Rules.{AreRulesOf, Rule}
 use Rattle.pj_xexpressions.specs.declared.pmd_function.PmdFunction.{PmdFunction}
 use Rattle.pj_check.specs.Cold.{IsColdOf, world_of}
@@ -40,6 +40,11 @@ OneRun = (words : List Bytes) (held : Files) (classes : ClassFolders) (a b : Run
 abbrev pub ReportIsInOrder : Type 0
 ReportIsInOrder = (words : List Bytes) (held : Files) (classes : ClassFolders) (run : Run) → IsRun words held classes run
     → IsStrictlySortedBy byte_order (map (λ (of_file : Bytes × FileRows). of_file.0) run.report.files) × AllByRecursion (λ (of_file : Bytes × FileRows). AreInOrder of_file.1) run.report.files
+
+-- The report of a run says of each source and of each rule what the rule denotes there, in the world of the class folders.
+abbrev pub ReportFindsWhatIsDenoted : Type 0
+ReportFindsWhatIsDenoted = (words : List Bytes) (held : Files) (classes : ClassFolders) (run : Run) → IsRun words held classes run
+    → (rules : List Rule) × AreRulesOf run.rules rules × AllZip (FindWhatIsDenoted java_replies (world_of classes run.settings.classes) rules) run.sources run.report.files
 
 -- What a set of rules means at each source comes to something over a world of classes.
 abbrev pub SetSettles : World → Files → EffectiveRules → Type 0

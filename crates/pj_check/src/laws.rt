@@ -1,11 +1,11 @@
 //! Laws of the definitions, each the contract of a function that does nothing.
-ghost use Rattle.pj_check.specs.Laws.{OneRefusal, OneRun, ReportIsInOrder, RunIsNotRefused, RunOrRefusal, RunOrRefusalWithoutTypes, SetSettlesByReplies, SetSettlesWithoutTypes, SomeReport};
+ghost use Rattle.pj_check.specs.Laws.{OneRefusal, OneRun, ReportFindsWhatIsDenoted, ReportIsInOrder, RunIsNotRefused, RunOrRefusal, RunOrRefusalWithoutTypes, SetSettlesByReplies, SetSettlesWithoutTypes, SomeReport};
 
 use pj_rule_laws::rules_or_first_fault;
 use pj_rules::{one_first_fault, one_set, rules_are_sound, rules_or_fault};
 use pj_sources::{one_listing, one_reading};
 use pj_workers::{
-    cold_reports_are_in_order, one_cold_report, rules_are_their_texts, settled_cold_report,
+    cold_reports_are_in_order, cold_reports_find_what_is_denoted, one_cold_report, rules_are_their_texts, settled_cold_report,
     what_rules_mean_settles,
 };
 
@@ -47,6 +47,15 @@ pub fn reports_are_in_order()
     ensures { ReportIsInOrder }
 {
     cold_reports_are_in_order();
+}
+
+/// The report of a run says, of each of its sources that has a tree and each of its rules that is active for the path: without an error of the rule there, it
+/// has a finding at just the nodes that the rule's XPath denotes, in the world of the class folders; each finding has the first reason that covers it, or none
+/// exactly where nothing does.
+pub fn reports_find_what_is_denoted()
+    ensures { ReportFindsWhatIsDenoted }
+{
+    cold_reports_find_what_is_denoted();
 }
 
 /// The rules that rulesets come to have a cold report of every list of sources, where what they mean comes to something.

@@ -17,7 +17,7 @@ use Rattle.pj_workers.specs.RuleMeaning.{rule_in_file}
 use Rattle.pj_workers.specs.Rules.{Rule}
 
 -- what a rule means where it is looked at
-analysed_meaning : (replies : Replies) (path bytes : Bytes) (rules : List Rule) (number : ℕ) (file : JavaFile) (rule : Rule) → IsAnalysed path bytes rules number file rule
+pub analysed_meaning : (replies : Replies) (path bytes : Bytes) (rules : List Rule) (number : ℕ) (file : JavaFile) (rule : Rule) → IsAnalysed path bytes rules number file rule
     → rule_meaning replies path bytes rule ≡ rule_in_file (replies path file) file rule
 analysed_meaning replies path bytes rules number file rule is =
     ap (λ o. rule_at replies path o rule) is.tree ∙ ap (λ b. cond b (rule_in_file (replies path file) file rule) nothing) is.active

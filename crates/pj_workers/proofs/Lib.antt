@@ -8,6 +8,7 @@ pub mod OrderLaws
 pub mod CodeLaws
 pub mod ReasonLaws
 pub mod EndLaws
+pub mod ReportLaws
 pub mod MarkLaws
 pub mod TextLaws
 -- the analysis of a file

@@ -1,11 +1,11 @@
 -- The rows of a file are those of its rules, in order.
-use Rattle.std.proofs.Common.{◌≡◌, ◌<◌, ◌==◌, ◌∙◌, ◌++◌, ℕ, zero, suc, List, [], ◌∷◌, Some, Result, Ok, Err, ap, append-nil, arith, flat_map, inl, length, map, refl, subst, sym}
+use Rattle.std.proofs.Common.{◌≡◌, ◌<◌, ◌≤◌, ◌+◌, ◌==◌, ◌∙◌, ◌++◌, ℕ, zero, suc, List, [], ◌∷◌, Some, Result, Ok, Err, ap, append-nil, arith, flat_map, inl, length, map, refl, subst, sym}
 use Rattle.std.specs.Prelude.{◌||◌, slice_get}
 use Rattle.std.specs.List.{AllByRecursion, AllZip, list_any}
 use Rattle.std.specs.List.Sorted.{IsStrictlySortedBy}
 use Rattle.pj_findings.specs.Denoted.{denoted}
 use Rattle.pj_findings.specs.Laws.{ErrorsAreKept, ErrorsAscend, FindingsAreKept, FindingsAreOfRules, FindingsAscend, IsAscending, NodesAreItems, NodesAscend, NoneHasBoth}
-use Rattle.pj_findings.specs.Merged.{by_node, findings_from, merge, only_error}
+use Rattle.pj_findings.specs.Merged.{by_node, errors_from, findings_from, merge, only_error}
 use Rattle.pj_names.specs.Asking.{Asking, Return, bind, each, names_of, value_of}
 use Rattle.pj_names.specs.ClassName.{NameSet}
 use Rattle.pj_names.specs.Meaning.{Done, Gives, Means, outcome_of as outcome_in, whole}
@@ -14,10 +14,11 @@ use Rattle.pj_outside.specs.Files.{Bytes, Files}
 use Rattle.pj_parse.specs.FileOutcome.{outcome_of}
 use Rattle.pj_parse.specs.JavaFile.{JavaFile}
 use Rattle.pj_parse.specs.declared.file_fault.FileFault.{FileFault}
+use Rattle.pj_reports.specs.declared.rows.FileError.{FileError}
 use Rattle.pj_reports.specs.declared.rows.FileRows.{FileRows}
 use Rattle.pj_reports.specs.declared.rows.Finding.{Finding}
 use Rattle.pj_reports.specs.declared.ruled.Ruled.{Ruled}
-use Rattle.pj_reports.specs.declared.ruled.Ruled.TheVariants.{Spots}
+use Rattle.pj_reports.specs.declared.ruled.Ruled.TheVariants.{Message, Spots}
 use Rattle.pj_reports.specs.declared.ruled.Spot.{Spot}
 use Rattle.pj_tree.specs.declared.node.Node.{Node}
 use Rattle.pj_xaxes.specs.Order.{has_item}
@@ -27,7 +28,7 @@ use Rattle.pj_xvalue.specs.declared.fault.XCode.{XCode}
 use Rattle.pj_workers.specs.Cold.{AreRowsOf, World}
 use Rattle.pj_parse.specs.Messages.{fault_message}
 use Rattle.pj_workers.specs.FileMeaning.{Replies, file_at, file_meaning, head_of, rule_at, rule_meaning}
-use Rattle.pj_workers.specs.Laws.{AreInOrder, AreOfRule, ColdIsInOrder, FilesAreInOrder, FilesAreTheirRules, FindingsHaveRules, FoundAreDenoted, NamesAreTheirRules}
+use Rattle.pj_workers.specs.Laws.{AreInOrder, AreOfRule, ColdIsInOrder, ErrorsHaveRules, FilesAreInOrder, FilesAreTheirRules, FindingsHaveRules, FoundAreDenoted, IsOfOne, NamesAreTheirRules, PackagesAreOfTrees}
 use Rattle.pj_xlaws.specs.Laws.{Reply}
 use Rattle.pj_workers.specs.RuleMeaning.{found_at, items, result_of}
 use Rattle.pj_workers.specs.Rules.{Rule}
@@ -122,6 +123,21 @@ pub have_rules : FindingsAreOfRules → FindingsHaveRules
 have_rules of replies w d path bytes rules =
     subst (λ (rows : FileRows). AllByRecursion (λ (finding : Finding). finding.rule < length rules) rows.findings) (sym (file_value d w replies path (outcome_of bytes) rules)) (have_rules_at of replies w d path rules (outcome_of bytes))
 
+errors_of : (number count : ℕ) (results : List Ruled) → number + length results ≤ count → AllByRecursion (λ (error : FileError). IsOfOne count error.rule) (errors_from number results)
+errors_of number count [] few = tt
+errors_of number count (Spots spots ∷ results) few = errors_of (number + 1) count results (omega (arith, few))
+errors_of number count (Message message ∷ results) few = (omega (arith, few), errors_of (number + 1) count results (omega (arith, few)))
+
+pub errors_have_rules : ErrorsHaveRules
+errors_have_rules replies w d path bytes rules file tree =
+    let is = ap (λ (o : Result JavaFile FileFault). value_of d w (file_at replies path o rules)) tree ∙ file_value d w replies path (Ok file) rules in
+    subst (λ (rows : FileRows). AllByRecursion (λ (error : FileError). IsOfOne (length rules) error.rule) rows.errors) (sym is)
+    (errors_of 0 (length rules) (came d w replies path (Ok file) rules) (omega (arith, came_long d w replies path (Ok file) rules)))
+
+pub have_packages : PackagesAreOfTrees
+have_packages replies w d path bytes rules file tree =
+    ap (λ (o : Result JavaFile FileFault). (value_of d w (file_at replies path o rules)).«package») tree ∙ ap (λ (rows : FileRows). rows.«package») (file_value d w replies path (Ok file) rules)
+
 -- ---- what a query denotes
 
 same_any : (ns : List Node) (spots : List Spot) (n : Node) → map (λ (s : Spot). s.node) spots ≡ map (λ (m : Node). m.0) ns → list_any (λ (s : Spot). s.node == n.0) spots ≡ list_any (λ (m : Node). m.0 == n.0) ns
@@ -159,9 +175,10 @@ found_denoted kept reply w d file rule spots is =
 
 -- ---- cold reports
 
-value_given : {A : Type 0} (w : World) (m : Asking A) (v : A) (names : NameSet) (means : Means (whole w) m (Gives v names)) → value_of means.least w m ≡ v
-value_given w m v names means =
-    let at : outcome_in (Done (value_of means.least w m) _) ≡ Gives v names = ap (λ r. outcome_in r) (sym (over-whole means.least w m)) ∙ means.is means.least (omega arith) in
+-- a meaning has its value from its least depth on
+pub value_given : {A : Type 0} (w : World) (m : Asking A) (v : A) (names : NameSet) (means : Means (whole w) m (Gives v names)) (d : ℕ) → means.least ≤ d → value_of d w m ≡ v
+value_given w m v names means d far =
+    let at : outcome_in (Done (value_of d w m) _) ≡ Gives v names = ap (λ r. outcome_in r) (sym (over-whole d w m)) ∙ means.is d far in
     cc
 
 cold_rows : FilesAreInOrder → (replies : Replies) (w : World) (rules : List Rule) (files : Files) (rows : List (Bytes × FileRows)) → AllZip (AreRowsOf replies w rules) files rows
@@ -171,7 +188,7 @@ cold_rows up replies w rules [] (r ∷ rs) h = absurd h
 cold_rows up replies w rules (f ∷ fs) [] h = absurd h
 cold_rows up replies w rules (f ∷ fs) (r ∷ rs) h =
     let rest = cold_rows up replies w rules fs rs h.1 in
-    let one = value_given w (file_meaning replies f.0 f.1 rules) r.1 h.0.names h.0.comes in
+    let one = value_given w (file_meaning replies f.0 f.1 rules) r.1 h.0.names h.0.comes h.0.comes.least (omega arith) in
     (λ i. h.0.path i ∷ rest.0 i, (subst AreInOrder one (up replies w h.0.comes.least f.0 f.1 rules), rest.1))
 
 pub cold_in_order : FilesAreInOrder → ColdIsInOrder

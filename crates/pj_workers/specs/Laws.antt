@@ -1,5 +1,5 @@
 -- What follows from the definitions.
-use Rattle.std.specs.Prelude.{◌≡◌, ◌⊎◌, ◌↔◌, ◌<◌, ◌==◌, ◌&&◌, ℕ, Bool, true, false, List, [], ◌∷◌, filter, flat_map, length, map, slice_get, Ok, Err, None, Some}
+use Rattle.std.specs.Prelude.{⊥, ◌≡◌, ◌≤◌, Option, ◌⊎◌, ◌↔◌, ◌<◌, ◌==◌, ◌&&◌, ℕ, Bool, true, false, List, [], ◌∷◌, filter, flat_map, length, map, slice_get, Ok, Err, None, Some}
 use Rattle.std.specs.List.{AllByRecursion, AllZip, list_any}
 use Rattle.std.specs.List.Sorted.{IsStrictlySortedBy}
 use Rattle.std.specs.Str.{IsUtf8}
@@ -19,9 +19,11 @@ use Rattle.pj_parse.specs.JavaFile.{JavaFile}
 use Rattle.pj_parse.specs.declared.file_fault.FileFault.{FileFault}
 use Rattle.pj_reports.specs.declared.report.Report.{Report}
 use Rattle.pj_reports.specs.declared.rows.FileRows.{FileRows}
+use Rattle.pj_reports.specs.declared.rows.FileError.{FileError}
 use Rattle.pj_reports.specs.declared.rows.Finding.{Finding}
 use Rattle.pj_reports.specs.declared.ruled.Ruled.{Ruled}
 use Rattle.pj_reports.specs.declared.ruled.Ruled.TheVariants.{Spots, Message}
+use Rattle.pj_symbols.specs.Names.{package_name}
 use Rattle.pj_tree.specs.declared.node.Node.{Node}
 use Rattle.pj_xaxes.specs.Order.{has_item}
 use Rattle.pj_xexpressions.specs.declared.pmd_function.PmdFunction.{PmdFunction}
@@ -75,7 +77,7 @@ abbrev pub SettleByReplies : Type 0
 SettleByReplies = (replies : Replies) (may : PmdFunction → Bool) (world : World) (path bytes : Bytes) (rules : List Rule) → AllByRecursion (RuleCallsOnly may) rules
     → SourceSettles may replies world (path, bytes) → FileSettles replies world rules (path, bytes)
 
--- All functions of PMD but four ask for no class in a Java file.
+-- All functions of PMD but four ask for no class in a Java file, and recur within bounds.
 abbrev pub OnlyTypesAsk : Type 0
 OnlyTypesAsk = (path : Bytes) (file : JavaFile) → RepliesPlain asks_nothing (java_replies path file)
 
@@ -117,6 +119,20 @@ FilesAreTheirRules = (replies : Replies) (world : World) (depth : ℕ) (path byt
 abbrev pub FindingsHaveRules : Type 0
 FindingsHaveRules = (replies : Replies) (world : World) (depth : ℕ) (path bytes : Bytes) (rules : List Rule)
     → AllByRecursion (λ (finding : Finding). finding.rule < length rules) (value_of depth world (file_meaning replies path bytes rules)).findings
+
+-- an error is of one of so many rules
+abbrev pub IsOfOne : ℕ → Option ℕ → Type 0
+IsOfOne count None = ⊥
+IsOfOne count (Some number) = number < count
+
+-- So is each error of a file that has a tree, and its package is that of the tree.
+abbrev pub ErrorsHaveRules : Type 0
+ErrorsHaveRules = (replies : Replies) (world : World) (depth : ℕ) (path bytes : Bytes) (rules : List Rule) (file : JavaFile) → outcome_of bytes ≡ Ok file
+    → AllByRecursion (λ (error : FileError). IsOfOne (length rules) error.rule) (value_of depth world (file_meaning replies path bytes rules)).errors
+
+abbrev pub PackagesAreOfTrees : Type 0
+PackagesAreOfTrees = (replies : Replies) (world : World) (depth : ℕ) (path bytes : Bytes) (rules : List Rule) (file : JavaFile) → outcome_of bytes ≡ Ok file
+    → (value_of depth world (file_meaning replies path bytes rules)).«package» ≡ package_name file.tree
 
 -- The names that it asks are those that its rules ask, one rule after the other.
 abbrev pub NamesAreTheirRules : Type 0
@@ -178,6 +194,24 @@ ErrorsTellCodes = (replies : Replies) (world : World) (depth : ℕ) (path bytes 
 abbrev pub ColdIsInOrder : Type 0
 ColdIsInOrder = (replies : Replies) (world : World) (files : Files) (rules : List Rule) (unusable : List ConfigError) (report : Report) → IsCold replies world files rules unusable report
     → (map (λ (of_file : Bytes × FileRows). of_file.0) report.files ≡ map (λ (file : Bytes × Bytes). file.0) files) × AllByRecursion (λ (of_file : Bytes × FileRows). AreInOrder of_file.1) report.files
+
+-- What rows say of the rule of a number, of a file with this tree, where recursions go at most so deep: without an error of it, its
+-- findings are at just the nodes that its query denotes; and each of its findings has its reason.
+pub record AreDenoted (replies : Replies) (world : World) (depth : ℕ) (path : Bytes) (number : ℕ) (java : JavaFile) (rule : Rule) (rows : FileRows) : Type 0 where
+  pub nodes : filter (is_of number) rows.errors ≡ []
+      → (values : List ItemValue) × (items_in depth world (replies path java) java rule ≡ Ok values) × ((n : Node) → list_any (is_finding number n) rows.findings ≡ has_item values (Element n))
+  pub reasons : (spots : List Spot) × (filter (λ (finding : Finding). finding.rule == number) rows.findings ≡ map (finding_of number) spots) × AllByRecursion (HasItsReason depth world (replies path java) java rule) spots
+
+-- The rows of a file are what the rules mean there from some depth of recursions on, and so they say of each rule that is active for the path.
+pub record FindWhatIsDenoted (replies : Replies) (world : World) (rules : List Rule) (file : Bytes × Bytes) (rows : Bytes × FileRows) : Type 0 where
+  pub least : ℕ
+  pub meant : (depth : ℕ) → least ≤ depth → value_of depth world (file_meaning replies file.0 file.1 rules) ≡ rows.1
+  pub denoted : (depth : ℕ) → least ≤ depth → (number : ℕ) (java : JavaFile) (rule : Rule) → IsAnalysed file.0 file.1 rules number java rule → AreDenoted replies world depth file.0 number java rule rows.1
+
+-- So do the rows of each file of a cold report.
+abbrev pub ColdFindsWhatIsDenoted : Type 0
+ColdFindsWhatIsDenoted = (replies : Replies) (world : World) (files : Files) (rules : List Rule) (unusable : List ConfigError) (report : Report) → IsCold replies world files rules unusable report
+    → AllZip (FindWhatIsDenoted replies world rules) files report.files
 
 -- ---- rules by their texts
 

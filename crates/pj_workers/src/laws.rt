@@ -1,7 +1,7 @@
 //! Laws of the definitions, each the contract of a call that does nothing.
 ghost use Rattle.std.specs.Prelude.{List};
 ghost use Rattle.pj_workers.specs.Rules.{AreRulesOf, Rule};
-ghost use Rattle.pj_workers.specs.Laws.{ColdIsInOrder, ErrorsTellCodes, FilesAreInOrder, FilesAreTheirRules, FindingsAreDenoted, FindingsHaveRules, FoundAreDenoted, InactiveIsNothing, ListsAreTexts, MarksAreOne, MessagesTellCodes, NamesAreTheirRules, NoTreeIsOneError, OneCold, OnlyTypesAsk, RuleAscends, RulesAreTexts, SettleByReplies, SettleWithoutTypes, SettledCold, SomeCold, SpotsAreNodes, SpotsHaveReasons};
+ghost use Rattle.pj_workers.specs.Laws.{ColdFindsWhatIsDenoted, ColdIsInOrder, ErrorsHaveRules, ErrorsTellCodes, FilesAreInOrder, FilesAreTheirRules, FindingsAreDenoted, FindingsHaveRules, FoundAreDenoted, InactiveIsNothing, ListsAreTexts, MarksAreOne, MessagesTellCodes, NamesAreTheirRules, NoTreeIsOneError, OneCold, OnlyTypesAsk, PackagesAreOfTrees, RuleAscends, RulesAreTexts, SettleByReplies, SettleWithoutTypes, SettledCold, SomeCold, SpotsAreNodes, SpotsHaveReasons};
 
 use pj_findings::{errors_are_the_rules, findings_are_the_rules, nodes_are_the_items};
 use pj_rule_sets::RuleSet;
@@ -28,12 +28,14 @@ pub fn rules_find_nodes()
 }
 
 /// What rules mean at a file has the findings by node and then by rule, none twice, and the errors by rule. Of each rule it has just what
-/// this rule alone means there, findings or an error, and of no others anything. So what is kept of single rules is merged again to the
-/// file's meaning. The names that it asks are those that its rules ask, together.
+/// this rule alone means there, findings or an error, and of no others anything, where the file has a tree. So what is kept of single rules is
+/// merged again to the file's meaning. The names that it asks are those that its rules ask, together.
 pub fn files_are_their_rules()
     ensures in_order { FilesAreInOrder }
     ensures of_rules { FilesAreTheirRules }
     ensures have_rules { FindingsHaveRules }
+    ensures errors_have_rules { ErrorsHaveRules }
+    ensures package_name { PackagesAreOfTrees }
     ensures names { NamesAreTheirRules }
 {
     nodes_are_the_items();
@@ -69,12 +71,24 @@ pub fn cold_reports_are_in_order()
     files_are_their_rules();
 }
 
+/// A cold report says of each file and each rule that is active for its path, from the bytes of the file on: where the file has a tree and the rule no
+/// error there, it has a finding of the rule at just the nodes that the rule's query denotes, and each finding has the first reason that covers it, or none
+/// exactly where nothing does.
+pub fn cold_reports_find_what_is_denoted()
+    ensures { ColdFindsWhatIsDenoted }
+{
+    files_are_their_rules();
+    findings_are_denoted();
+    rules_find_what_they_denote();
+}
+
 /// Rules have one cold report of files at most.
 pub fn one_cold_report()
     ensures { OneCold }
 {}
 
-/// Rules have a cold report of files where the functions of PMD that they call ask for no class, and it is the same over every world.
+/// Rules have a cold report of files where the functions of PMD that they call ask for no class and recur within bounds, and it is the same over every
+/// world.
 pub fn some_cold_report()
     ensures { SomeCold }
 {}
@@ -84,16 +98,15 @@ pub fn settled_cold_report()
     ensures { SettledCold }
 {}
 
-/// What rules mean at a file comes to something over a world of classes, if what `typeIs`, `typeIsExactly`, `hasAnnotation` and `matchesSig` reply there does: all
-/// other functions of PMD ask for no class. So rules that call none of these four come to something over every world.
+/// What rules mean at a file comes to something over a world of classes, if what the functions of PMD that they call reply there does. All but `typeIs`,
+/// `typeIsExactly`, `hasAnnotation` and `matchesSig` ask for no class, so rules that call none of these four come to something over every world.
 pub fn what_rules_mean_settles()
     ensures replies { SettleByReplies }
     ensures only_types { OnlyTypesAsk }
     ensures without_types { SettleWithoutTypes }
 {}
 
-/// What rules mean is determined by their texts, the path patterns of their rulesets and the marker: so rules with one key mean
-/// the same.
+/// What rules mean is determined by their texts, the path patterns of their rulesets and the marker.
 pub fn rules_are_their_texts()
     ensures one { RulesAreTexts }
     ensures all { ListsAreTexts }

@@ -1,0 +1,3 @@
+-- definitions
+pub mod Loading
+pub mod Leaving
