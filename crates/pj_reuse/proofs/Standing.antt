@@ -50,7 +50,7 @@ associated false b c = refl
 
 -- ---- keys
 
-tied : (o : Ordering) → is_eq o ≡ true → o ≡ Equal
+pub tied : (o : Ordering) → is_eq o ≡ true → o ≡ Equal
 tied Less e = absurd cc
 tied Equal e = refl
 tied Greater e = absurd cc
@@ -71,7 +71,7 @@ pub has_put : (held : List Key) (k q : Key) → has_key (insert_key byte_order h
 has_put [] k q = refl
 has_put (x ∷ xs) k q = put_by k x q xs (insert_key byte_order xs k) (byte_order k x) refl (has_put xs k q)
 
-has_all : (held keys : List Key) (q : Key) → has_key (with_keys held keys) q ≡ (has_key held q || has_key keys q)
+pub has_all : (held keys : List Key) (q : Key) → has_key (with_keys held keys) q ≡ (has_key held q || has_key keys q)
 has_all held [] q = or_false (has_key held q)
 has_all held (k ∷ ks) q =
     has_all (insert_key byte_order held k) ks q
@@ -82,7 +82,7 @@ pub same_one : (keys : List Key) (r : CachedResult) → has_one (with_keys [] ke
 same_one keys r = λ i. list_any (λ (q : Key). has_all [] keys q i) (keys_of r)
 
 -- a list that has a key has the one that ties with it
-same_has : (keys : List Key) (a b : Key) → byte_order a b ≡ Equal → has_key keys a ≡ has_key keys b
+pub same_has : (keys : List Key) (a b : Key) → byte_order a b ≡ Equal → has_key keys a ≡ has_key keys b
 same_has [] a b e = refl
 same_has (k ∷ ks) a b e =
     let first : is_at (byte_order a) k ≡ is_at (byte_order b) k = ap is_eq (nat_list_cmp_total.congr a b k e) in
