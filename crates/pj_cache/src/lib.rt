@@ -3,6 +3,7 @@
 
 mod bisection;
 mod cache;
+mod copied;
 mod found;
 mod key;
 mod old;

@@ -30,7 +30,7 @@ or_swapped true true c = refl
 or_swapped true false c = refl
 or_swapped false b c = refl
 
-has_both : (xs ys : List Name) (q : Name) → has_key (xs ++ ys) q ≡ (has_key xs q || has_key ys q)
+pub has_both : (xs ys : List Name) (q : Name) → has_key (xs ++ ys) q ≡ (has_key xs q || has_key ys q)
 has_both [] ys q = refl
 has_both (x ∷ xs) ys q = ap (λ (b : Bool). is_at (byte_order q) x || b) (has_both xs ys q) ∙ or_apart (is_at (byte_order q) x) (has_key xs q) (has_key ys q)
 

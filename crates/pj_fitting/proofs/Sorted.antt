@@ -169,7 +169,7 @@ in_by : (q x : Name) (xs : List Name) (b : Bool) → is_at (byte_order q) x ≡ 
 in_by q x xs true at rest e = inl (same_name q x at)
 in_by q x xs false at rest e = inr (rest e)
 
-has_in : (xs : List Name) (q : Name) → has_key xs q ≡ true → IsIn q xs
+pub has_in : (xs : List Name) (q : Name) → has_key xs q ≡ true → IsIn q xs
 has_in [] q e = absurd cc
 has_in (x ∷ xs) q e = in_by q x xs (is_at (byte_order q) x) refl (has_in xs q) e
 

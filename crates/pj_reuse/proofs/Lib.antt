@@ -1,3 +1,4 @@
 pub mod Equal
 pub mod Answered
 pub mod Standing
+pub mod KeptLaws

@@ -50,7 +50,7 @@ associated false b c = refl
 
 -- ---- keys
 
-tied : (o : Ordering) → is_eq o ≡ true → o ≡ Equal
+pub tied : (o : Ordering) → is_eq o ≡ true → o ≡ Equal
 tied Less e = absurd cc
 tied Equal e = refl
 tied Greater e = absurd cc
@@ -71,18 +71,18 @@ pub has_put : (held : List Key) (k q : Key) → has_key (insert_key byte_order h
 has_put [] k q = refl
 has_put (x ∷ xs) k q = put_by k x q xs (insert_key byte_order xs k) (byte_order k x) refl (has_put xs k q)
 
-has_all : (held keys : List Key) (q : Key) → has_key (with_keys held keys) q ≡ (has_key held q || has_key keys q)
+pub has_all : (held keys : List Key) (q : Key) → has_key (with_keys held keys) q ≡ (has_key held q || has_key keys q)
 has_all held [] q = or_false (has_key held q)
 has_all held (k ∷ ks) q =
     has_all (insert_key byte_order held k) ks q
     ∙ ap (λ (b : Bool). b || has_key ks q) (has_put held k q)
     ∙ regrouped (is_at (byte_order q) k) (has_key held q) (has_key ks q)
 
-same_one : (keys : List Key) (r : CachedResult) → has_one (with_keys [] keys) r ≡ has_one keys r
+pub same_one : (keys : List Key) (r : CachedResult) → has_one (with_keys [] keys) r ≡ has_one keys r
 same_one keys r = λ i. list_any (λ (q : Key). has_all [] keys q i) (keys_of r)
 
 -- a list that has a key has the one that ties with it
-same_has : (keys : List Key) (a b : Key) → byte_order a b ≡ Equal → has_key keys a ≡ has_key keys b
+pub same_has : (keys : List Key) (a b : Key) → byte_order a b ≡ Equal → has_key keys a ≡ has_key keys b
 same_has [] a b e = refl
 same_has (k ∷ ks) a b e =
     let first : is_at (byte_order a) k ≡ is_at (byte_order b) k = ap is_eq (nat_list_cmp_total.congr a b k e) in
@@ -124,7 +124,7 @@ module _ (depth : ℕ) (world : Name → Answer) (answers : List (Name × Answer
   kept_value_by name names true rest = rest
   kept_value_by name names false rest = refl
 
-  kept_value : (names : List Name) → value_of depth world (are_kept answers names) ≡ list_all (λ (n : Name). is_kept answers n (world n)) names
+  pub kept_value : (names : List Name) → value_of depth world (are_kept answers names) ≡ list_all (λ (n : Name). is_kept answers n (world n)) names
   kept_value [] = refl
   kept_value (n ∷ ns) = kept_value_by n ns (is_kept answers n (world n)) (kept_value ns)
 
@@ -133,7 +133,7 @@ module _ (depth : ℕ) (world : Name → Answer) (answers : List (Name × Answer
   kept_names_by names true rest = rest
   kept_names_by names false rest = refl
 
-  kept_names : (names : List Name) → names_of depth world (are_kept answers names) ≡ up_to_change answers world names
+  pub kept_names : (names : List Name) → names_of depth world (are_kept answers names) ≡ up_to_change answers world names
   kept_names [] = refl
   kept_names (n ∷ ns) = ap (λ (l : List Name). n ∷ l) (kept_names_by ns (is_kept answers n (world n)) (kept_names ns))
 

@@ -1,5 +1,5 @@
 -- Which rules a cache serves at a file, and which classes are asked for to tell that.
-use Rattle.std.specs.Prelude.{ℕ, suc, Bool, true, false, ◌&&◌, List, [], ◌∷◌, map, Option, Some, None, if◌then◌else◌}
+use Rattle.std.specs.Prelude.{ℕ, suc, Bool, true, false, ◌&&◌, List, [], ◌∷◌, ◌++◌, map, Option, Some, None, if◌then◌else◌}
 use Rattle.std.specs.List.{list_any, list_all, flat_map}
 use Rattle.std.specs.BTreeSet.{insert_key}
 use Rattle.std.specs.BTreeMap.{is_at}
@@ -91,3 +91,20 @@ keys_of_results answers wanted held (r ∷ rs) = bind (keys_of_result answers wa
 
 abbrev pub served : List (Name × Answer) → List CachedResult → List Key → Asking (List ℕ)
 served answers results keys = bind (keys_of_results answers (with_keys [] keys) [] results) (λ held. Return (places_from (has_key held) 0 keys))
+
+-- The results that are kept, as a meaning that asks.
+
+-- whether a result is for one of some keys and stands: the names of one that is for none of them are not asked
+abbrev pub is_result_kept : List (Name × Answer) → List Key → CachedResult → Asking Bool
+is_result_kept answers wanted r = if has_one wanted r then are_kept answers r.names else Return false
+
+-- some results, with another one behind them where it is kept
+abbrev pub with_result : Bool → List CachedResult → CachedResult → List CachedResult
+with_result is_kept front r = if is_kept then front ++ r ∷ [] else front
+
+abbrev pub kept_behind : List (Name × Answer) → List Key → List CachedResult → List CachedResult → Asking (List CachedResult)
+kept_behind answers wanted front [] = Return front
+kept_behind answers wanted front (r ∷ rs) = bind (is_result_kept answers wanted r) (λ is_kept. kept_behind answers wanted (with_result is_kept front r) rs)
+
+abbrev pub kept_results : List (Name × Answer) → List CachedResult → List Key → Asking (List CachedResult)
+kept_results answers results keys = kept_behind answers (with_keys [] keys) [] results

@@ -6,7 +6,7 @@ ghost use Rattle.pj_names.specs.Told.{Asks, seen};
 ghost use Rattle.pj_cache.specs.Places.{byte_order};
 ghost use Rattle.pj_reuse.specs.Serving.{has_key, are_kept, with_keys, keys_of_result, keys_of_results, places_from, served};
 
-use crate::kept::is_kept;
+use crate::current::is_kept;
 use pj_base::{Copied, NoMemory, Numbers};
 use pj_cache::{Cache, CachedResult, Entry, Key, KeyRows, Keys, SharedName};
 use pj_names::{Answer, AskFault, ClassName, Oracle};
@@ -16,7 +16,7 @@ use std::sync::Arc;
 
 /// Whether each of the names has the answer that is among these, asked in their order up to the first one that has another.
 #[tactic(auto, using(pj_names::proofs::AskingLaws::asking_loops))]
-fn are_kept<O: Oracle>(
+pub(crate) fn are_kept<O: Oracle>(
     oracle: &mut O,
     answers: &[(ClassName, Arc<Answer>)],
     names: &[SharedName],
@@ -36,7 +36,7 @@ fn are_kept<O: Oracle>(
 }
 
 /// Whether a result is for one of the keys.
-fn has_one(wanted: &BTreeSet<Key>, group: &[KeyRows]) -> bool
+pub(crate) fn has_one(wanted: &BTreeSet<Key>, group: &[KeyRows]) -> bool
     ensures { result ≡ list_any (has_key wanted.now.keys) (map (λ k. k.key) group.now) }
 {
     for member in group {
@@ -59,7 +59,7 @@ fn note_group(held: &mut BTreeSet<Key>, group: &[KeyRows]) -> Result<(), NoMemor
 }
 
 /// Puts keys to others.
-fn note_keys(held: &mut BTreeSet<Key>, keys: &[Key]) -> Result<(), NoMemory>
+pub(crate) fn note_keys(held: &mut BTreeSet<Key>, keys: &[Key]) -> Result<(), NoMemory>
     ensures { OnOk result (held.new.keys ≡ with_keys held.old.keys keys.now) }
 {
     for key in keys {

@@ -3,7 +3,7 @@ use Rattle.pj_names.specs.declared.answer.Answer.{Answer}
 use Rattle.pj_reuse.specs.Same.{is_same_answer}
 use Rattle.pj_cache.proofs.Paths.{not_both, none_at, none_here, some_here}
 use Rattle.pj_reuse.proofs.Answered.{absent, present}
-use Rattle.pj_reuse.proofs.kept.is_kept.Goals as goal
+use Rattle.pj_reuse.proofs.current.is_kept.Goals as goal
 
 pub returns-then-place-answers : goal.returns-then-place-answers
 returns-then-place-answers c =

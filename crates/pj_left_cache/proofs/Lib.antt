@@ -1,0 +1,5 @@
+pub mod MissingLaws
+pub mod SaidLaws
+pub mod LeavingLaws
+pub mod OrderLaws
+pub mod LeftLaws

@@ -1,0 +1,5 @@
+-- definitions
+pub mod Missing
+pub mod Said
+pub mod Leaving
+pub mod Bytes

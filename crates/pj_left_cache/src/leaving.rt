@@ -1,0 +1,43 @@
+//! The cache that a run leaves.
+ghost use Rattle.std.specs.Prelude.{◌≡◌, []};
+ghost use Rattle.pj_names.specs.Told.{Asks};
+ghost use Rattle.pj_left_cache.specs.Leaving.{answers_behind, left_cache};
+
+use pj_base::Copied;
+use pj_cache::{Cache, Entries, SharedName};
+use pj_cache_format::names_of;
+use pj_names::{Answers, AskFault, Oracle};
+use std::alloc::Global;
+
+/// The names with their answers, asked in their order.
+#[tactic(auto, using(pj_names::proofs::AskingLaws::asking_loops))]
+fn answers_for<O: Oracle>(
+    alloc: Global,
+    oracle: &mut O,
+    names: &[SharedName],
+) -> Result<Answers, AskFault>
+    ensures { Asks (answers_behind [] names.now) (O.tells oracle.old) (O.tells oracle.new) result }
+{
+    let mut answers = Answers::new(alloc);
+    for name in names {
+        let name = name.as_name();
+        let now = oracle.ask(name)?;
+        answers.push(name.copied()?, now)?;
+    }
+    Ok(answers)
+}
+
+/// The cache of the entries, with the answers for the names of their results: each name is asked once, in the order of the names'
+/// bytes, and no other one is.
+#[tactic(auto, using(pj_names::proofs::AskingLaws::asking_steps))]
+pub fn left_cache<O: Oracle>(
+    alloc: Global,
+    oracle: &mut O,
+    entries: Entries,
+) -> Result<Cache, AskFault>
+    ensures { Asks (left_cache entries) (O.tells oracle.old) (O.tells oracle.new) result }
+{
+    let names = names_of(alloc, entries.as_slice())?;
+    let answers = answers_for(alloc, oracle, names.as_slice())?;
+    Ok(Cache { answers, entries })
+}

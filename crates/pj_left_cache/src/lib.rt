@@ -1,0 +1,14 @@
+//! The cache that a run leaves, made of what it found in files.
+#![tactic(auto)]
+
+mod laws;
+mod leaving;
+mod missing;
+mod ordering;
+mod saying;
+
+pub use laws::{left_cache_is, missing_rules_are, results_are_left, said_is};
+pub use leaving::left_cache;
+pub use missing::missing_rules;
+pub use ordering::in_order;
+pub use saying::rows_of_rules;
