@@ -41,7 +41,7 @@ each_in : {A : Type 0} (xs : List A) → AllByRecursion (λ (x : A). IsIn x xs) 
 each_in [] = tt
 each_in {A} (x ∷ xs) = (inl refl, all_map (λ (y : A). IsIn y xs) (λ (y : A). IsIn y (x ∷ xs)) xs (λ y there. inr there) (each_in xs))
 
-all_append : {A : Type 0} (P : A → Type 0) (xs ys : List A) → AllByRecursion P xs → AllByRecursion P ys → AllByRecursion P (xs ++ ys)
+pub all_append : {A : Type 0} (P : A → Type 0) (xs ys : List A) → AllByRecursion P xs → AllByRecursion P ys → AllByRecursion P (xs ++ ys)
 all_append P [] ys first rest = rest
 all_append P (x ∷ xs) ys first rest = (first.0, all_append P xs ys first.1 rest)
 

@@ -1,5 +1,5 @@
 -- Which rules a run makes new results for.
-use Rattle.std.proofs.Common.{◌≡◌, ◌↔◌, ℕ, zero, suc, ◌+◌, ◌-◌, ◌≤◌, ◌<◌, Bool, true, false, not, cond, ◌&&◌, ◌||◌, List, [], ◌∷◌, ◌++◌, length, map, drop, Option, Some, refl, sym, ap, subst, ◌∙◌, arith, add-one}
+use Rattle.std.proofs.Common.{◌≡◌, ◌↔◌, ℕ, zero, suc, ◌+◌, ◌-◌, ◌≤◌, ◌<◌, Bool, true, false, not, cond, ◌&&◌, ◌||◌, List, [], ◌∷◌, ◌++◌, length, map, drop, get_or, Option, Some, refl, sym, ap, subst, ◌∙◌, arith, add-one}
 use Rattle.std.specs.Prelude.{min, slice_get}
 use Rattle.std.specs.List.{All, AllByRecursion, IsDistinct, filter, flat_map, list_any}
 use Rattle.std.specs.List.Sorted.{IsStrictlySortedBy}
@@ -12,6 +12,7 @@ use Rattle.std.proofs.lemmas.Bool.{lt-ltb}
 use Rattle.std.proofs.lemmas.List.{append_assoc}
 use Rattle.std.proofs.lemmas.List.Concat.{flat_map-cons}
 use Rattle.std.proofs.lemmas.List.Elements.{All-from_recursion}
+use Rattle.pj_names.proofs.AskingLaws.{left_from}
 use Rattle.pj_cache.specs.Places.{byte_order}
 use Rattle.pj_cache.specs.declared.cache.CachedResult.{CachedResult}
 use Rattle.pj_reuse.specs.Serving.{has_key, keys_of, with_keys}
@@ -61,6 +62,10 @@ pub missing_besides : (stay : List CachedResult) (keys : List Key) (active : Lis
 missing_besides stay keys active = same_missing (with_results [] stay) (keys_of_all stay) (has_results [] stay) 0 keys active
 
 -- ---- a step of the loop
+
+-- what is left at a place of a list
+pub left_at : {A : Type 0} (xs : List A) (i : ℕ) (x : A) → i < length xs → x ≡ get_or xs i x → drop i xs ≡ x ∷ drop (i + 1) xs
+left_at {A} xs i x small is = left_from xs i x small ∙ ap (λ (y : A). y ∷ drop (i + 1) xs) (sym is)
 
 module _ (held : List Key) (at : ℕ) (k : Key) (ks : List Key) (more : List Bool) (numbers : List ℕ) where
   next_by : (b : Bool) (later : List Key) (after : List ℕ) → later ≡ cond b (insert_key byte_order held k) held → after ≡ cond b (numbers ++ at ∷ []) numbers
@@ -249,10 +254,12 @@ abbrev AreDistinct : List Rule → Type 0
 AreDistinct ms = IsDistinct is_same_key (map key_of ms)
 
 once_by : (held : List Key) (at : ℕ) (k : Key) (b : Bool) (fresh others : List Rule) → AllByRecursion (IsAway (k ∷ held)) (map key_of fresh) → AreDistinct fresh → AreDistinct others → AreDistinct (cond b ((at, k) ∷ fresh) others)
+unfolding IsDistinct
 once_by held at k true fresh others one d e = (all_map (IsAway (k ∷ held)) (λ q. is_same_key k q ≡ false) (map key_of fresh) (λ q x. (or_parts (is_at (byte_order q) k) (has_key held q) x).0) one, d)
 once_by held at k false fresh others one d e = e
 
 once : (held : List Key) (at : ℕ) (keys : List Key) (active : List Bool) → AreDistinct (missing_from held at keys active)
+unfolding IsDistinct
 once held at [] active = tt
 once held at (k ∷ ks) [] = tt
 once held at (k ∷ ks) (a ∷ more) =

@@ -41,7 +41,7 @@ module _ {A : Type 0} (f : A → Key) where
   above x (y ∷ ys) all apart = (below_by x y (byte_order (f x) (f y)) refl all.0 apart.0, above x ys all.1 apart.1)
 
   ascends : (xs : List A) → IsSortedBy is_before xs → IsDistinct is_same_key (map f xs) → IsStrictlySortedBy byte_order (map f xs)
-  unfolding IsStrictlySortedBy
+  unfolding IsStrictlySortedBy IsDistinct
   ascends [] up once = tt
   ascends (x ∷ xs) up once = (
     above x xs (recursion_from_All (λ y. is_before y x ≡ false) xs (λ k d small. sorted_far is_before (ranks_by nat_list_cmp_total f) (x ∷ xs) up 0 (suc k) d (omega arith) (omega (arith, small)))) once.0,
