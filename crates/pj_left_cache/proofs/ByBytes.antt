@@ -15,7 +15,6 @@ use Rattle.pj_fitting.specs.Right.{Key}
 use Rattle.pj_fitting.specs.Left.{has_result}
 use Rattle.pj_fitting.proofs.Lists.{all_both, all_filter, all_map}
 use Rattle.pj_fitting.proofs.Named.{itself}
-use Rattle.pj_fitting.proofs.Sets.{or_true}
 use Rattle.pj_left_cache.specs.Bytes.{AreByBytes, IsByBytes, first_key, shares_key}
 use Rattle.pj_left_cache.specs.Missing.{is_same_key}
 use Rattle.pj_left_cache.proofs.LeftLaws.{all_append}
@@ -25,31 +24,33 @@ use Rattle.pj_left_cache.proofs.OrderLaws.{same_key_flips}
 -- ---- results that stay
 
 module _ (test : CachedResult → Bool) where
+  below_by : (P : Key → Type 0) (r : CachedResult) (rs : List CachedResult) (b : Bool) → P (first_key r) → AllByRecursion P (map first_key rs) → AllByRecursion P (map first_key (cond b (r ∷ rs) rs))
+  below_by P r rs true here rest = (here, rest)
+  below_by P r rs false here rest = rest
+
   stay_below : (P : Key → Type 0) (rs : List CachedResult) → AllByRecursion P (map first_key rs) → AllByRecursion P (map first_key (filter test rs))
   stay_below P [] all = tt
-  stay_below P (r ∷ rs) all = by (test r)
-    where
-      by : (b : Bool) → AllByRecursion P (map first_key (cond b (r ∷ filter test rs) (filter test rs)))
-      by true = (all.0, stay_below P rs all.1)
-      by false = stay_below P rs all.1
+  stay_below P (r ∷ rs) all = below_by P r (filter test rs) (test r) all.0 (stay_below P rs all.1)
+
+  sorted_by : (r : CachedResult) (rs : List CachedResult) (b : Bool) → AllByRecursion (λ y. byte_order (first_key r) y ≡ Less) (map first_key rs) → IsStrictlySortedBy byte_order (map first_key rs) → IsStrictlySortedBy byte_order (map first_key (cond b (r ∷ rs) rs))
+  unfolding IsStrictlySortedBy
+  sorted_by r rs true above s = (above, s)
+  sorted_by r rs false above s = s
 
   stay_sorted : (rs : List CachedResult) → IsStrictlySortedBy byte_order (map first_key rs) → IsStrictlySortedBy byte_order (map first_key (filter test rs))
   unfolding IsStrictlySortedBy
   stay_sorted [] s = tt
-  stay_sorted (r ∷ rs) s = by (test r)
-    where
-      by : (b : Bool) → IsStrictlySortedBy byte_order (map first_key (cond b (r ∷ filter test rs) (filter test rs)))
-      by true = (stay_below (λ y. byte_order (first_key r) y ≡ Less) rs s.0, stay_sorted rs s.1)
-      by false = stay_sorted rs s.1
+  stay_sorted (r ∷ rs) s = sorted_by r (filter test rs) (test r) (stay_below (λ y. byte_order (first_key r) y ≡ Less) rs s.0) (stay_sorted rs s.1)
+
+  once_by : (r : CachedResult) (rs : List CachedResult) (b : Bool) → AllByRecursion (λ s. shares_key r s ≡ false) rs → IsDistinct shares_key rs → IsDistinct shares_key (cond b (r ∷ rs) rs)
+  unfolding IsDistinct
+  once_by r rs true away once = (away, once)
+  once_by r rs false away once = once
 
   stay_once : (rs : List CachedResult) → IsDistinct shares_key rs → IsDistinct shares_key (filter test rs)
   unfolding IsDistinct
   stay_once [] once = tt
-  stay_once (r ∷ rs) once = by (test r)
-    where
-      by : (b : Bool) → IsDistinct shares_key (cond b (r ∷ filter test rs) (filter test rs))
-      by true = (all_filter test (λ s. shares_key r s ≡ false) (λ s. shares_key r s ≡ false) (λ s e passed. e) rs once.0, stay_once rs once.1)
-      by false = stay_once rs once.1
+  stay_once (r ∷ rs) once = once_by r (filter test rs) (test r) (all_filter test (λ s. shares_key r s ≡ false) (λ s. shares_key r s ≡ false) (λ s e passed. e) rs once.0) (stay_once rs once.1)
 
   pub those_that_stay : (rs : List CachedResult) → AreByBytes rs → AreByBytes (filter test rs)
   those_that_stay rs by = record {
@@ -65,22 +66,24 @@ share_by xs ys true c e f there back = sym (there refl)
 share_by xs ys false true e f there back = back refl
 share_by xs ys false false e f there back = refl
 
+more_by : (a t b c : Bool) → (t || b) ≡ true → (b ≡ true → c ≡ true) → ((a || t) || c) ≡ true
+more_by true t b c e rest = refl
+more_by false true b c e rest = refl
+more_by false false b c e rest = rest e
+
+-- a key more in a list is no less
+shares_more : (x : Key) (xs zs : List Key) → list_any (has_key xs) zs ≡ true → list_any (has_key (x ∷ xs)) zs ≡ true
+shares_more x xs [] e = absurd cc
+shares_more x xs (z ∷ zs) e = more_by (is_at (byte_order z) x) (has_key xs z) (list_any (has_key xs) zs) (list_any (has_key (x ∷ xs)) zs) e (shares_more x xs zs)
+
+back_by : (x : Key) (xs ys : List Key) (b : Bool) → has_key ys x ≡ b → (b || list_any (has_key ys) xs) ≡ true → (list_any (has_key ys) xs ≡ true → list_any (has_key xs) ys ≡ true) → list_any (has_key (x ∷ xs)) ys ≡ true
+back_by x xs ys true here e rest = meets (x ∷ xs) ys x here (ap (λ (b : Bool). b || has_key xs x) (itself x))
+back_by x xs ys false here e rest = shares_more x xs ys (rest e)
+
 -- some key of the first is in the second, where some key of the second is in the first
 shares_back : (xs ys : List Key) → list_any (has_key ys) xs ≡ true → list_any (has_key xs) ys ≡ true
 shares_back [] ys e = absurd cc
-shares_back (x ∷ xs) ys e = by (has_key ys x) refl e
-  where
-    more : (zs : List Key) → list_any (has_key xs) zs ≡ true → list_any (has_key (x ∷ xs)) zs ≡ true
-    more [] f = absurd cc
-    more (z ∷ zs) f = step (has_key xs z) f
-      where
-        step : (t : Bool) → (t || list_any (has_key xs) zs) ≡ true → ((is_at (byte_order z) x || t) || list_any (has_key (x ∷ xs)) zs) ≡ true
-        step true g = ap (λ (b : Bool). b || list_any (has_key (x ∷ xs)) zs) (or_true (is_at (byte_order z) x))
-        step false g = ap (λ (b : Bool). (is_at (byte_order z) x || false) || b) (more zs g) ∙ or_true (is_at (byte_order z) x || false)
-
-    by : (b : Bool) → has_key ys x ≡ b → (b || list_any (has_key ys) xs) ≡ true → list_any (has_key (x ∷ xs)) ys ≡ true
-    by true here f = meets (x ∷ xs) ys x here (ap (λ (b : Bool). b || has_key xs x) (itself x))
-    by false here f = more ys (shares_back xs ys f)
+shares_back (x ∷ xs) ys e = back_by x xs ys (has_key ys x) refl e (shares_back xs ys)
 
 shares_flips : (a b : CachedResult) → shares_key a b ≡ shares_key b a
 shares_flips a b = share_by (keys_of a) (keys_of b) (shares_key a b) (shares_key b a) refl refl (shares_back (keys_of a) (keys_of b)) (shares_back (keys_of b) (keys_of a))

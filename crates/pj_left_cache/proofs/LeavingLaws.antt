@@ -21,7 +21,7 @@ behind_is front (n ∷ ns) = λ i. Ask n (λ now. behind_is (front ++ (n, now) �
 pub answers_are : (names : List Name) → answers_behind [] names ≡ each answered names
 answers_are names = behind_is [] names ∙ sym (each-gather answered names)
 
-abbrev cache_of : List Entry → Pairs → Cache
+abbrev pub cache_of : List Entry → Pairs → Cache
 cache_of entries answers = record { answers = answers; entries = entries }
 
 module _ (depth : ℕ) (world : Name → Answer) where

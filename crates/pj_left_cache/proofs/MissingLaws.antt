@@ -76,13 +76,13 @@ module _ (held : List Key) (at : ℕ) (k : Key) (ks : List Key) (more : List Boo
       ∙ ap (λ (l : List Rule). numbers ++ at ∷ map number l) (same_missing (insert_key byte_order held k) (k ∷ held) (has_put held k) (suc at) ks more)
   next_by false later after e f = λ i. f i ++ map number (missing_from (e i) (suc at) ks more)
 
-pub next_rule : (keys : List Key) (active : List Bool) (at : ℕ) (k : Key) (a : Bool) (held later : List Key) (numbers after all : List ℕ) → drop at keys ≡ k ∷ drop (at + 1) keys → drop at active ≡ a ∷ drop (at + 1) active
-    → later ≡ cond (a && not (has_key held k)) (insert_key byte_order held k) held → after ≡ cond (a && not (has_key held k)) (numbers ++ at ∷ []) numbers
+pub next_rule : (keys : List Key) (active : List Bool) (at : ℕ) (k : Key) (a : Bool) (n : ℕ) (held later : List Key) (numbers after all : List ℕ) → n ≡ at → drop at keys ≡ k ∷ drop (at + 1) keys → drop at active ≡ a ∷ drop (at + 1) active
+    → later ≡ cond (a && not (has_key held k)) (insert_key byte_order held k) held → after ≡ cond (a && not (has_key held k)) (numbers ++ n ∷ []) numbers
     → numbers ++ map number (missing_from held at (drop at keys) (drop at active)) ≡ all
     → after ++ map number (missing_from later (at + 1) (drop (at + 1) keys) (drop (at + 1) active)) ≡ all
-next_rule keys active at k a held later numbers after all left still e f so_far =
+next_rule keys active at k a n held later numbers after all same left still e f so_far =
     ap (λ (n : ℕ). after ++ map number (missing_from later n (drop (at + 1) keys) (drop (at + 1) active))) (add-one at)
-    ∙ next_by held at k (drop (at + 1) keys) (drop (at + 1) active) numbers (a && not (has_key held k)) later after e f
+    ∙ next_by held at k (drop (at + 1) keys) (drop (at + 1) active) numbers (a && not (has_key held k)) later after e (f ∙ ap (λ (m : ℕ). cond (a && not (has_key held k)) (numbers ++ m ∷ []) numbers) same)
     ∙ (λ i. numbers ++ map number (missing_from held at (sym left i) (sym still i)))
     ∙ so_far
 

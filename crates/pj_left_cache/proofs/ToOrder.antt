@@ -244,17 +244,15 @@ module _ (keys : List Key) (sorted : IsStrictlySortedBy byte_order keys) (names 
   results_from : (before : Option ℕ) (used : List ℕ) (r : CachedResult) (rs : List CachedResult) → AllByRecursion IsByBytes (r ∷ rs) → AllByRecursion IsKnown (r ∷ rs) → IsStrictlySortedBy byte_order (map first_key (r ∷ rs)) → IsDistinct shares_key (r ∷ rs) → AllByRecursion (Free used) (keys_of_all (r ∷ rs))
       → is_behind nat_cmp before (place_in keys (first_key r)) ≡ true → ResultChain before used (r ∷ rs)
   unfolding IsStrictlySortedBy IsDistinct
-  results_from before used r rs by known first once free after =
-      let frees = all_apart (Free used) (keys_of r) (keys_of_all rs) (subst (λ (l : List Key). AllByRecursion (Free used) l) (flat_map-cons keys_of r rs) free) in
+  results_from before used r [] by known first once free after =
+      let frees = all_apart (Free used) (keys_of r) [] (subst (λ (l : List Key). AllByRecursion (Free used) l) (flat_map-cons keys_of r []) free) in
+      (here_result before used r by.0 known.0 (group_of_result before used r by.0 known.0 frees.0 after), tt)
+  results_from before used r (s ∷ ss) by known first once free after =
+      let frees = all_apart (Free used) (keys_of r) (keys_of_all (s ∷ ss)) (subst (λ (l : List Key). AllByRecursion (Free used) l) (flat_map-cons keys_of r (s ∷ ss)) free) in
       let group = group_of_result before used r by.0 known.0 frees.0 after in
-      (here_result before used r by.0 known.0 group, later rs by.1 known.1 first once.1 (free_after used r (keys_of_all rs) known.0.0 (keys_known rs known.1) frees.1 (apart_all r rs once.0)) group)
-    where
-      later : (ss : List CachedResult) → AllByRecursion IsByBytes ss → AllByRecursion IsKnown ss → IsStrictlySortedBy byte_order (first_key r ∷ map first_key ss) → IsDistinct shares_key ss → AllByRecursion (Free (with_places used (places_of keys r))) (keys_of_all ss) → IsGroup keys sorted used before r.group
-          → Chain (IsResultInOrder keys names) (result_step keys) (result_step keys (before, used) r) ss
-      later [] b k f o x g = tt
-      later (s ∷ ss) b k f o x g =
-          subst (λ (p : Option ℕ). ResultChain p (with_places used (places_of keys r)) (s ∷ ss)) (sym g.first)
-          (results_from (Some (place_in keys (first_key r))) (with_places used (places_of keys r)) s ss b k f.1 o x (behind keys sorted (first_key r) (first_key s) (first_has r by.0 known.0) f.0.0))
+      let later = results_from (Some (place_in keys (first_key r))) (with_places used (places_of keys r)) s ss by.1 known.1 first.1 once.1
+      (free_after used r (keys_of_all (s ∷ ss)) known.0.0 (keys_known (s ∷ ss) known.1) frees.1 (apart_all r (s ∷ ss) once.0)) (behind keys sorted (first_key r) (first_key s) (first_has r by.0 known.0) first.0.0) in
+      (here_result before used r by.0 known.0 group, subst (λ (p : Option ℕ). ResultChain p (with_places used (places_of keys r)) (s ∷ ss)) (sym group.first) later)
 
   free_first : (ks : List Key) → AllByRecursion (Free []) ks
   free_first [] = tt

@@ -1,6 +1,6 @@
-use Rattle.std.proofs.Common.{ℕ, List, ◌∷◌, [], ◌++◌, map, cond, ◌&&◌, not, sym, ap, ◌∙◌, arith}
+use Rattle.std.proofs.Common.{ℕ, List, ◌∷◌, [], ◌++◌, map, sym, ap, ◌∙◌, arith}
 use Rattle.std.proofs.lemmas.List.{append-nil}
-use Rattle.pj_reuse.specs.Serving.{has_key}
+use Rattle.pj_names.proofs.AskingLaws.{left_from}
 use Rattle.pj_fitting.specs.Right.{Key}
 use Rattle.pj_left_cache.specs.Missing.{missing_from}
 use Rattle.pj_left_cache.proofs.MissingLaws.{ended, left_at, next_rule, number}
@@ -11,10 +11,8 @@ loop-i-preserved c =
     let keys = c.args.keys.now in
     let active = c.args.is_active.now in
     let i = c.loop-i.i in
-    let test = c.index-is_active-i.result && not (has_key c.loop-i.held.keys c.index-keys-i.result) in
-    next_rule keys active i c.index-keys-i.result c.index-is_active-i.result c.loop-i.held.keys c.note_rule.new.held.keys c.loop-i.numbers c.note_rule.new.numbers (map number (missing_from c.args.held.keys 0 keys active))
-    (left_at keys i c.index-keys-i.result (omega arith) c.index-keys-i.is) (left_at active i c.index-is_active-i.result (omega arith) c.index-is_active-i.is)
-    c.in_ok-note_rule.ensures.held (c.in_ok-note_rule.ensures.numbers ∙ ap (λ (n : ℕ). cond test (c.loop-i.numbers ++ n ∷ []) c.loop-i.numbers) c.in_ok-number.ensures) c.loop-i.invariant
+    next_rule keys active i c.index-keys-i.result _ c.in_ok-number.number c.loop-i.held.keys c.note_rule.new.held.keys c.loop-i.numbers c.note_rule.new.numbers (map number (missing_from c.args.held.keys 0 keys active)) c.in_ok-number.ensures
+    (left_at keys i c.index-keys-i.result (omega arith) c.index-keys-i.is) (left_from active i _ (omega arith)) c.in_ok-note_rule.ensures.held c.in_ok-note_rule.ensures.numbers c.loop-i.invariant
 
 pub returns : goal.returns
 returns c =
