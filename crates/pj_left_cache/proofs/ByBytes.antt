@@ -1,5 +1,5 @@
 -- Results that stay, and results that are made, stand by bytes together.
-use Rattle.std.proofs.Common.{◌≡◌, ℕ, suc, ◌<◌, Bool, true, false, not, cond, ◌||◌, List, [], ◌∷◌, ◌++◌, length, map, refl, sym, ap, subst, ◌∙◌, arith}
+use Rattle.std.proofs.Common.{◌≡◌, ◌<◌, Bool, true, false, cond, ◌||◌, List, [], ◌∷◌, ◌++◌, length, map, refl, sym, ap, ◌∙◌, arith}
 use Rattle.std.specs.List.{All, AllByRecursion, AllZip, IsDistinct, filter, list_any}
 use Rattle.std.specs.List.Sorted.{IsPermutation, IsStrictlySortedBy}
 use Rattle.std.specs.BTreeMap.{is_at}
@@ -9,11 +9,11 @@ use Rattle.std.proofs.lemmas.Map.Keys.{IsDistinct-IsPermutation}
 use Rattle.std.specs.declared.cmp.Ordering.TheVariants.{Less}
 use Rattle.pj_cache.specs.Places.{byte_order, member_at}
 use Rattle.pj_cache.specs.declared.cache.CachedResult.{CachedResult}
-use Rattle.pj_reuse.specs.Serving.{has_key, has_one, keys_of}
+use Rattle.pj_reuse.specs.Serving.{has_key, keys_of}
 use Rattle.pj_reuse.proofs.Standing.{meets}
 use Rattle.pj_fitting.specs.Right.{Key}
 use Rattle.pj_fitting.specs.Left.{has_result}
-use Rattle.pj_fitting.proofs.Lists.{all_both, all_filter, all_map}
+use Rattle.pj_fitting.proofs.Lists.{all_filter, all_map}
 use Rattle.pj_fitting.proofs.Named.{itself}
 use Rattle.pj_left_cache.specs.Bytes.{AreByBytes, IsByBytes, first_key, shares_key}
 use Rattle.pj_left_cache.specs.Missing.{is_same_key}

@@ -1,5 +1,5 @@
 -- The results of a cache that is in order stand by bytes.
-use Rattle.std.proofs.Common.{◌≡◌, ℕ, suc, ◌<◌, Bool, true, false, not, ◌&&◌, ◌||◌, List, [], ◌∷◌, ◌++◌, length, map, Option, Some, None, refl, sym, ap, subst, ◌∙◌, arith}
+use Rattle.std.proofs.Common.{◌≡◌, ℕ, ◌<◌, Bool, true, false, not, ◌&&◌, ◌||◌, List, [], ◌∷◌, length, map, Option, Some, None, refl, sym, ap, subst, ◌∙◌, arith}
 use Rattle.std.specs.List.{AllByRecursion, IsDistinct, flat_map, list_any}
 use Rattle.std.specs.List.Sorted.{IsStrictlySortedBy}
 use Rattle.std.specs.BTreeMap.{is_at}
@@ -11,30 +11,27 @@ use Rattle.std.specs.Cmp.{nat_cmp_total, tied_itself}
 use Rattle.std.specs.Str.{is_utf8}
 use Rattle.std.proofs.lemmas.Bool.{ltb-true}
 use Rattle.std.proofs.lemmas.List.{length-map}
-use Rattle.std.proofs.lemmas.List.Concat.{flat_map-cons}
 use Rattle.std.proofs.lemmas.List.Elements.{All-from_recursion, recursion_from_All}
 use Rattle.pj_format.specs.Fields.{Chain}
 use Rattle.pj_names.specs.declared.answer.Answer.{Answer}
 use Rattle.pj_names.specs.ClassName.{Name, is_class_name}
 use Rattle.pj_reports.specs.declared.ruled.Head.{Head}
 use Rattle.pj_reports.specs.declared.ruled.Head.TheVariants as heads
-use Rattle.pj_cache.specs.Places.{byte_order, member_at, place_in}
+use Rattle.pj_cache.specs.Places.{byte_order, place_in}
 use Rattle.pj_cache.specs.declared.cache.KeyRows.{KeyRows}
 use Rattle.pj_cache.specs.declared.cache.CachedResult.{CachedResult}
 use Rattle.pj_cache.specs.declared.cache.Entry.{Entry}
 use Rattle.pj_cache.specs.declared.cache.Cache.{Cache}
 use Rattle.pj_cache_format.specs.Judges.{is_behind}
-use Rattle.pj_cache_format.specs.FormatTwo.{first_of, has, is_key_place, is_name_place, with_places, keys_of as keys_of_entries, names_of}
+use Rattle.pj_cache_format.specs.FormatTwo.{first_of, has, is_key_place, with_places, keys_of as keys_of_entries}
 use Rattle.pj_cache_format.specs.Ordered.{AreRowsInOrder, AreResultsInOrder, IsAnswerInOrder, IsEntryInOrder, IsInOrder, IsKeyInOrder, IsNameInOrder, IsResultInOrder, places_of, result_step}
-use Rattle.pj_reuse.specs.Serving.{has_key, has_one, keys_of}
+use Rattle.pj_reuse.specs.Serving.{has_key, keys_of}
 use Rattle.pj_fitting.specs.Right.{Key}
 use Rattle.pj_fitting.proofs.Among.{both_true}
 use Rattle.pj_fitting.proofs.Lists.{all_map}
-use Rattle.pj_fitting.proofs.Named.{all_apart, all_each, itself}
 use Rattle.pj_fitting.proofs.Sets.{or_true, same_name}
 use Rattle.pj_fitting.proofs.Sorted.{IsAscending, all_member, all_sorted, names_ascend, none_sorted, results_ascend, first_key as first_key_of}
-use Rattle.pj_left_cache.specs.Bytes.{AreByBytes, AreByBytesAt, IsByBytes, first_key, shares_key}
-use Rattle.pj_left_cache.specs.Missing.{is_same_key, keys_of_all}
+use Rattle.pj_left_cache.specs.Bytes.{AreByBytesAt, IsByBytes, first_key, shares_key}
 use Rattle.pj_left_cache.proofs.ToOrder.{both_and}
 
 -- ---- strict order

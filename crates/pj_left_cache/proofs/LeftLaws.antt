@@ -1,7 +1,7 @@
 -- What stays and what is made is what a run leaves.
-use Rattle.std.proofs.Common.{◌≡◌, ℕ, zero, suc, Bool, true, false, ◌||◌, inl, inr, List, [], ◌∷◌, ◌++◌, map, refl, sym, ap, subst, ◌∙◌, arith}
+use Rattle.std.proofs.Common.{◌≡◌, ℕ, suc, Bool, true, false, ◌||◌, inl, inr, List, [], ◌∷◌, ◌++◌, map, refl, sym, ap, subst, ◌∙◌, arith}
 use Rattle.std.specs.Prelude.{◌⊎◌}
-use Rattle.std.specs.List.{All, AllByRecursion, AllZip, Contains}
+use Rattle.std.specs.List.{AllByRecursion, AllZip, Contains}
 use Rattle.std.specs.List.Sorted.{IsPermutation}
 use Rattle.std.specs.BTreeMap.{is_at}
 use Rattle.std.proofs.lemmas.List.Elements.{All-from_recursion}
@@ -18,7 +18,7 @@ use Rattle.pj_fitting.proofs.Lists.{all_map}
 use Rattle.pj_fitting.proofs.Named.{itself}
 use Rattle.pj_fitting.proofs.Sets.{or_true, same_name}
 use Rattle.pj_fitting.proofs.Sorted.{IsIn, has_in}
-use Rattle.pj_left_cache.specs.Missing.{keys_of_active, missing_rules}
+use Rattle.pj_left_cache.specs.Missing.{missing_rules}
 use Rattle.pj_left_cache.proofs.MissingLaws.{active_are, key_of, missing_keys}
 
 -- ---- members

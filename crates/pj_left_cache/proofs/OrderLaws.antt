@@ -1,5 +1,5 @@
 -- Results sorted by their first keys ascend strictly, where no two of these are one.
-use Rattle.std.proofs.Common.{◌≡◌, ℕ, zero, suc, ◌+◌, ◌<◌, Bool, true, false, List, [], ◌∷◌, length, map, get_or, refl, sym, ap, subst, ◌∙◌, arith}
+use Rattle.std.proofs.Common.{◌≡◌, ℕ, suc, ◌+◌, Bool, true, false, List, [], ◌∷◌, map, get_or, refl, sym, ap, subst, ◌∙◌, arith}
 use Rattle.std.specs.List.{AllByRecursion, IsDistinct}
 use Rattle.std.specs.List.Sorted.{IsPermutation, IsSortedBy, IsStrictlySortedBy}
 use Rattle.std.specs.declared.cmp.Ordering.{Ordering}
@@ -11,7 +11,6 @@ use Rattle.std.proofs.lemmas.List.Sorted.{IsPermutation-map, ranks_by, sorted_fa
 use Rattle.std.proofs.lemmas.Map.Keys.{IsDistinct-IsPermutation}
 use Rattle.pj_cache.specs.Places.{byte_order}
 use Rattle.pj_fitting.specs.Right.{Key}
-use Rattle.pj_fitting.proofs.Lists.{all_both}
 use Rattle.pj_left_cache.specs.Missing.{is_same_key}
 
 eq_back : (o : Ordering) → is_eq (ordering_reverse o) ≡ is_eq o

@@ -1,6 +1,5 @@
 -- A cache whose entries stand by bytes is in order.
-use Rattle.std.proofs.Common.{◌≡◌, ℕ, zero, suc, ◌+◌, ◌<◌, ◌≤◌, Bool, true, false, not, cond, ◌&&◌, ◌||◌, List, [], ◌∷◌, ◌++◌, length, map, get_or, Option, Some, None, refl, sym, ap, subst, ◌∙◌, arith}
-use Rattle.std.specs.Prelude.{slice_get}
+use Rattle.std.proofs.Common.{◌≡◌, ℕ, zero, suc, ◌<◌, Bool, true, false, not, cond, ◌&&◌, ◌||◌, List, [], ◌∷◌, length, map, get_or, Option, Some, None, refl, sym, ap, subst, ◌∙◌, arith}
 use Rattle.std.specs.List.{AllByRecursion, IsDistinct, flat_map, list_any}
 use Rattle.std.specs.List.Sorted.{IsStrictlySortedBy}
 use Rattle.std.specs.BTreeMap.{is_at}
@@ -8,7 +7,7 @@ use Rattle.std.specs.BTreeSet.{insert_key}
 use Rattle.std.specs.declared.cmp.Ordering.{Ordering}
 use Rattle.std.specs.declared.cmp.Ordering.TheVariants.{Less, Equal, Greater}
 use Rattle.std.specs.Ordering.{is_eq, is_lt, match_ordering, nat_cmp}
-use Rattle.std.specs.Cmp.{nat_cmp_total, tied_itself}
+use Rattle.std.specs.Cmp.{tied_itself}
 use Rattle.std.specs.Cmp.Lexicographic.{nat_list_cmp_total}
 use Rattle.std.specs.Str.{is_utf8}
 use Rattle.std.proofs.lemmas.Bool.{lt-ltb}
@@ -25,9 +24,8 @@ use Rattle.pj_cache.proofs.Places.{place_below}
 use Rattle.pj_cache.specs.declared.cache.KeyRows.{KeyRows}
 use Rattle.pj_cache.specs.declared.cache.CachedResult.{CachedResult}
 use Rattle.pj_cache.specs.declared.cache.Entry.{Entry}
-use Rattle.pj_cache.specs.declared.cache.Cache.{Cache}
 use Rattle.pj_cache_format.specs.Judges.{is_behind, is_path_behind}
-use Rattle.pj_cache_format.specs.FormatTwo.{first_of, has, is_key_place, is_name_place, results_of, with_more, with_places, keys_of as keys_of_entries, names_of}
+use Rattle.pj_cache_format.specs.FormatTwo.{first_of, has, is_key_place, results_of, with_more, with_places, keys_of as keys_of_entries, names_of}
 use Rattle.pj_cache_format.specs.Ordered.{AreRowsInOrder, AreResultsInOrder, HasItsName, IsAnswerInOrder, IsEntryInOrder, IsInOrder, IsKeyInOrder, IsNameInOrder, IsResultInOrder, places_of, result_step}
 use Rattle.pj_reuse.specs.Serving.{has_key, keys_of}
 use Rattle.pj_fitting.specs.Right.{Key}
@@ -35,7 +33,7 @@ use Rattle.pj_fitting.proofs.Lists.{all_both, all_joined, all_map}
 use Rattle.pj_fitting.proofs.Named.{all_apart, all_each, has_more, itself, members}
 use Rattle.pj_fitting.proofs.Sets.{same_name}
 use Rattle.pj_fitting.proofs.Sorted.{all_put, all_sorted, has_in, in_at, none_sorted}
-use Rattle.pj_left_cache.specs.Bytes.{AreByBytes, AreByBytesAt, IsByBytes, first_key, shares_key}
+use Rattle.pj_left_cache.specs.Bytes.{AreByBytesAt, IsByBytes, first_key, shares_key}
 use Rattle.pj_left_cache.specs.Missing.{is_same_key, keys_of_all}
 use Rattle.pj_left_cache.proofs.OrderLaws.{same_key_flips}
 

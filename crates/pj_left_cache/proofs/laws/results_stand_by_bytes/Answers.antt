@@ -1,4 +1,3 @@
-use Rattle.std.specs.List.{All}
 use Rattle.std.proofs.lemmas.List.Elements.{All-from_recursion}
 use Rattle.pj_cache.specs.declared.cache.Entry.{Entry}
 use Rattle.pj_left_cache.specs.Bytes.{AreByBytesAt}
