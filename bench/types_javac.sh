@@ -109,19 +109,57 @@ public class Types {
                     String erased = erased(type), whole = whole(type, 0);
                     out.println(word + " " + file + " " + from + " " + to + " " + kind + " " + erased + " " + (whole.equals(erased) ? "=" : whole));
                 }
-                void sayCall(Tree tree, Element element) {
-                    if (!(element instanceof ExecutableElement method)) return;
-                    String owner = name((TypeElement) method.getEnclosingElement());
-                    String parameters = method.getParameters().stream().map(p -> erased(p.asType())).collect(Collectors.joining(",", "(", ")"));
-                    out.println("call " + file + " " + places.getStartPosition(unit, tree) + " " + places.getEndPosition(unit, tree) + " " + tree.getKind() + " " + owner + parameters);
+                /** The class type among the enclosing ones that inherits from a class. */
+                DeclaredType around(TypeElement owner) {
+                    for (TreePath path = getCurrentPath(); path != null; path = path.getParentPath()) {
+                        if (!(path.getLeaf() instanceof ClassTree)) continue;
+                        Element element = trees.getElement(path);
+                        if (element != null && isBelow(element.asType(), owner)) return (DeclaredType) element.asType();
+                    }
+                    return null;
                 }
+
+                /** The type of what stands before the dot of a call, or of the class around. */
+                DeclaredType receiver(Tree tree, TreePath path, ExecutableElement method) {
+                    TypeElement owner = (TypeElement) method.getEnclosingElement();
+                    if (!(tree instanceof MethodInvocationTree call) || method.getKind() == ElementKind.CONSTRUCTOR || method.getModifiers().contains(Modifier.STATIC)) return null;
+                    if (!(call.getMethodSelect() instanceof MemberSelectTree select)) return around(owner);
+                    TypeMirror before = trees.getTypeMirror(new TreePath(new TreePath(path, select), select.getExpression()));
+                    while (before instanceof TypeVariable variable) before = variable.getUpperBound();
+                    if (before instanceof IntersectionType types) {
+                        for (TypeMirror bound : types.getBounds()) if (isBelow(bound, owner)) return bound instanceof DeclaredType found ? found : null;
+                    }
+                    return before instanceof DeclaredType found && isBelow(found, owner) ? found : null;
+                }
+
+                boolean isBelow(TypeMirror type, TypeElement owner) {
+                    return task.getTypes().isSubtype(task.getTypes().erasure(type), task.getTypes().erasure(owner.asType()));
+                }
+
+                void sayCall(Tree tree, TreePath path) {
+                    if (!(trees.getElement(path) instanceof ExecutableElement method)) return;
+                    String owner = name((TypeElement) method.getEnclosingElement());
+                    DeclaredType receiver = receiver(tree, path, method);
+                    ExecutableType type = (ExecutableType) (receiver == null ? method.asType() : task.getTypes().asMemberOf(receiver, method));
+                    String parameters = type.getParameterTypes().stream().map(p -> erased(p)).collect(Collectors.joining(",", "(", ")"));
+                    boolean isPolymorphic = method.getAnnotationMirrors().stream().anyMatch(a -> a.toString().contains("PolymorphicSignature"));
+                    String sort = isPolymorphic ? "polymorphic" : method.getTypeParameters().isEmpty() ? "plain" : "generic";
+                    out.println("call " + file + " " + places.getStartPosition(unit, tree) + " " + places.getEndPosition(unit, tree) + " " + sort + " " + owner + parameters);
+                }
+                /** The kind of a tree, and of a name also the kind of what it means. */
+                String sort(Tree tree, TreePath path) {
+                    if (!(tree instanceof IdentifierTree) && !(tree instanceof MemberSelectTree)) return tree.getKind().toString();
+                    Element element = trees.getElement(path);
+                    return tree.getKind() + (element == null ? "" : element.getKind().isField() ? ":field" : element.getKind().isClass() || element.getKind().isInterface() ? ":class" : ":other");
+                }
+
                 @Override public Void scan(Tree tree, Void nothing) {
                     if (tree == null) return null;
                     TreePath last = getCurrentPath();
                     if (tree instanceof ExpressionTree && !(tree instanceof ParenthesizedTree)) {
                         TreePath path = new TreePath(last, tree);
-                        say("node", places.getStartPosition(unit, tree), places.getEndPosition(unit, tree), tree.getKind().toString(), trees.getTypeMirror(path));
-                        if (tree instanceof MethodInvocationTree || tree instanceof NewClassTree) sayCall(tree, trees.getElement(path));
+                        say("node", places.getStartPosition(unit, tree), places.getEndPosition(unit, tree), sort(tree, path), trees.getTypeMirror(path));
+                        if (tree instanceof MethodInvocationTree || tree instanceof NewClassTree) sayCall(tree, path);
                     } else if (tree instanceof VariableTree variable) {
                         long from = ((JCTree.JCVariableDecl) variable).pos;
                         TreePath path = new TreePath(last, tree);
@@ -191,30 +229,72 @@ def root_of(node, nodes):
 
 
 def is_other(node):
-    return node.verdict in ('different', 'unknown')
+    return node.verdict in ('different', 'unknown', 'erased')
+
+
+OF_OBJECT = {'getClass', 'hashCode', 'equals', 'toString', 'notify', 'notifyAll', 'wait', 'clone', 'finalize'}
+
+
+def unknown_cause(root, nodes):
+    """Why the type of a node is not known that is the first of those that have it."""
+    receiver = nodes.get(int(root.receiver)) if root.receiver.isdigit() else None
+    if root.cause == 'no-method':
+        if receiver is not None and receiver.erased.endswith('[]'):
+            return 'a method of an array'
+        if receiver is not None and receiver.kind == 'TypeExpression' and receiver.verdict == 'different':
+            return 'a constant that is read as a class'
+        if root.name in OF_OBJECT:
+            return 'a method of java.lang.Object'
+        if root.name in ('values', 'valueOf'):
+            return 'a method that an enum has without writing it'
+        if receiver is not None and is_other(receiver):
+            return 'no method is chosen, where the receiver differs'
+        return 'no method of the name'
+    if root.cause == 'not-applicable' and root.name in ('values', 'valueOf'):
+        return 'a method that an enum has without writing it'
+    if root.cause in ('not-applicable', 'tie') and any(is_other(inner) for inner in root.inner):
+        return 'no method is chosen, where an argument differs or is not known'
+    if root.kind == 'TypeExpression' and root.meant and root.meant[0].endswith(':field'):
+        return 'a constant that is read as a class'
+    return f'{root.kind} {root.cause}'
 
 
 def cause_of(node, nodes, names, calls, their_calls):
     """Why a type differs from that of javac."""
     meant = node.meant
     receiver = nodes.get(int(node.receiver)) if node.receiver.isdigit() else None
-    if node.kind == 'ConstructorCall' and re.search(r'\$$', meant[1]):
-        return 'an anonymous class'
+    if node.kind == 'TypeExpression':
+        return 'a constant that is read as a class' if meant[0].endswith(':field') else 'by itself'
+    if node.kind == 'ThisExpression':
+        return '`this` without type arguments'
+    if node.kind == 'ConstructorCall':
+        if meant[1].endswith('$'):
+            return 'an anonymous class'
+        return 'a diamond' if '<>' in node.text.partition('(')[0].replace(' ', '') else 'by itself'
+    if node.kind == 'CastExpression' and '&' in meant[2]:
+        return 'the first type of an intersection'
     if node.kind == 'VariableAccess' and names.get(node.name):
         return 'as a variable'
-    if receiver is not None and is_other(receiver):
-        return 'as its receiver'
-    if receiver is not None and receiver.verdict == 'erased':
-        return 'by the type arguments of its receiver'
     if node.kind == 'MethodCall':
-        here, there = calls.get((node.start, node.end)), their_calls.get((node.start, node.end))
-        if there is not None and here != there:
-            return 'another method'
-        if any(is_other(inner) for inner in node.inner):
-            return 'one method, an argument differs or is not known'
-        return 'one method'
+        here, (sort, there) = calls.get((node.start, node.end)), their_calls.get((node.start, node.end), ('?', '?'))
+        if node.name == 'getClass' and there.endswith('()'):
+            return 'getClass'
+        if here != there:
+            return 'another method' if receiver is None or not is_other(receiver) else 'as its receiver'
+        if sort == 'polymorphic':
+            return 'a signature polymorphic method'
+        if sort == 'generic':
+            return 'a type parameter of the method'
+    if receiver is not None and is_other(receiver):
+        return 'by its receiver' if receiver.verdict == 'erased' else 'as its receiver'
     if any(is_other(inner) for inner in node.inner):
         return 'as an operand'
+    if node.kind == 'ConditionalExpression':
+        return 'a conditional expression'
+    if node.kind == 'VariableId':
+        return '`var` of an expression that differs'
+    if 'java.lang.Object' in node.whole or '...' in meant[2] or '..' in meant[2]:
+        return 'a wildcard or what javac captures of it'
     return 'by itself'
 
 
@@ -229,19 +309,31 @@ def note(table, cause, text):
         samples[key].append(text)
 
 
+def text_of(path):
+    """The text of a file with its Unicode escapes translated, as bytes; offsets in it are good enough for a look."""
+    with open(f'{folder}/{path}', encoding='utf-8', newline='') as file:
+        text = file.read()
+    return re.sub(r'\\u+([0-9a-fA-F]{4})', lambda escape: chr(int(escape[1], 16)), text).encode('utf-8', 'replace')
+
+
 def compare(path, our_lines, their_lines):
     at = translated(f'{folder}/{path}')
     place = (lambda text: at[int(text)]) if at else int
-    nodes, calls, exprs, variables, their_calls = {}, {}, collections.defaultdict(list), {}, {}
+    whole = text_of(path)
+    nodes, calls, invocations, exprs, variables, their_calls, last_calls = {}, {}, set(), collections.defaultdict(list), {}, {}, {}
     for parts in our_lines:
         if parts[0] == 'node':
             nodes[int(parts[2])] = Node(parts)
         else:
             calls[int(parts[2]), int(parts[3])] = our_name(parts[5])
+            if parts[4] == 'ExplicitConstructorInvocation':
+                invocations.add((int(parts[2]), int(parts[3])))
     for parts in their_lines:
         if parts[0] == 'call':
             if int(parts[2]) >= 0 and int(parts[3]) >= 0:
-                their_calls[place(parts[2]), place(parts[3])] = their_name(parts[5])
+                start, end, call = place(parts[2]), place(parts[3]), (parts[4], their_name(parts[5]))
+                their_calls[start, end] = call
+                last_calls[start] = max(last_calls.get(start, (0, call)), (end, call))
             continue
         erased = their_name(parts[5])
         meant = parts[4], erased, erased if parts[6] == '=' else their_name(parts[6])
@@ -252,6 +344,7 @@ def compare(path, our_lines, their_lines):
     stack, names = [], {}
     for n in sorted(nodes):
         node = nodes[n]
+        node.text = whole[node.start:node.end].decode('utf-8', 'replace')
         while stack and not (stack[-1].start <= node.start and node.end <= stack[-1].end):
             stack.pop()
         if stack:
@@ -261,7 +354,7 @@ def compare(path, our_lines, their_lines):
             node.meant = variables.get(node.start)
         else:
             found = exprs.get((node.start, node.end), [])
-            of_kind = [meant for meant in found if meant[0] in KINDS.get(node.kind, {meant[0]})]
+            of_kind = [meant for meant in found if meant[0].partition(':')[0] in KINDS.get(node.kind, {meant[0].partition(':')[0]})]
             node.meant = of_kind[0] if of_kind else None
         node.verdict = verdict(node, node.meant)
         if node.kind == 'VariableId' and node.verdict in ('different', 'erased'):
@@ -272,23 +365,35 @@ def compare(path, our_lines, their_lines):
         text = f'{path} {node.start} {node.kind} {node.name} {node.erased} {node.whole} {node.meant}'
         if node.verdict.startswith('unknown'):
             root, follows = root_of(node, nodes)
-            note('unknown', (root.kind, root.cause, 'follows' if follows else 'itself'), text + ' root ' + root.name + ' ' + (nodes[int(root.receiver)].erased if root.receiver.isdigit() and int(root.receiver) in nodes else '-'))
+            note('unknown', unknown_cause(root, nodes) + (', and what is made of it' if follows else ''), text + ' root ' + root.name + ' ' + (nodes[int(root.receiver)].erased if root.receiver.isdigit() and int(root.receiver) in nodes else '-'))
         elif node.verdict == 'javac has none':
             note('none', node.kind, text)
         elif node.verdict in ('different', 'erased'):
             note(node.verdict, (node.kind, cause_of(node, nodes, names, calls, their_calls)), text + f' {calls.get((node.start, node.end))} {their_calls.get((node.start, node.end))}')
     for key, here in calls.items():
-        there = their_calls.get(key)
-        if there is None:
-            note('calls', 'javac has none', f'{path} {key} {here}')
-        elif here == '?':
-            note('calls', 'none is chosen here', f'{path} {key} {there}')
-        elif here == there:
-            note('calls', 'the same', '')
-        elif here.partition('(')[2] == there.partition('(')[2]:
-            note('calls', 'the same parameters, of another class', f'{path} {key} {here} {there}')
-        else:
-            note('calls', 'another', f'{path} {key} {here} {there}')
+        # a call of another constructor is a statement, and its node ends behind the semicolon
+        sort, there = last_calls.get(key[0], (0, ('', None)))[1] if key in invocations else their_calls.get(key, ('', None))
+        note('calls', call_cause(here, there), f'{path} {key} {here} {there} {" ".join(whole[key[0]:key[1]].decode("utf-8", "replace").split())[:60]}')
+
+
+def call_cause(here, there):
+    """What differs in the method that is chosen for a call."""
+    if there is None:
+        return 'javac has none'
+    owner, _, parameters = there.partition('(')
+    if here == there:
+        return 'the same'
+    if owner.endswith('$'):
+        return 'an anonymous class, which here is its superclass or interface' if here != '?' or parameters == ')' else 'none: an anonymous class'
+    if here == '?' and owner == 'java.lang.Object':
+        return 'none: a member of java.lang.Object'
+    if here == '?' and owner == 'Array':
+        return 'none: a member of an array'
+    if here == '?':
+        return 'none: the receiver or an argument is not known, or what is chosen is not written'
+    if here.partition('(')[2] == parameters:
+        return 'the same parameters, of another class'
+    return 'another'
 
 
 def main():
