@@ -45,7 +45,6 @@ ghost use Rattle.std.specs.FinSet as set;
 ghost use Rattle.pj_names.specs.AnswerList.{list_world};
 ghost use Rattle.pj_grammar.specs.Java17.{java_17_forms};
 ghost use Rattle.pj_peg_grammar.specs.Form.{forms_of};
-ghost use Rattle.pj_symbols.specs.Symbols.{symbols_of};
 
 use pj_base::{Copied, NoMemory, Text};
 use pj_calls::{arguments_of, candidates_of, functions_of, receiver_of};
@@ -189,7 +188,7 @@ fn type_all(alloc: Global, file: &File<'_>, jdk: &mut Jdk) -> anyhow::Result<Vec
     let mut nodes = Vec::new(alloc);
     for n in 0..file.tree().len() {
         let node = Node(n);
-        if is_typed(file.tree().kind(node)) {
+        if n < oracle.tree().len() && is_typed(oracle.tree().kind(node)) {
             let found = type_of(&mut oracle, &mut types, node);
             nodes.push(TypedNode { node, found })?;
         }
@@ -208,6 +207,9 @@ fn type_last(alloc: Global, file: &File<'_>, jdk: &mut Jdk) -> Result<Ty, AskFau
             last = Node(n);
         }
     }
+    if last.0 >= oracle.tree().len() {
+        return Ok(Ty::Unknown);
+    }
     type_of(&mut oracle, &mut types, last)
 }
 
@@ -220,10 +222,13 @@ struct Asked<'a, 'f> {
     types: Typed,
 }
 
-// The type of a node, where it is an expression.
+// The type of a node.
 fn type_at(asked: &mut Asked<'_, '_>, n: Node) -> Result<Ty, AskFault>
-    requires inside { n.0 < length asked.old.file.now.nodes }
+    ensures { asked.new.file.now ≡ asked.old.file.now }
 {
+    if n.0 >= asked.oracle.tree().len() {
+        return Ok(Ty::Unknown);
+    }
     type_of(&mut asked.oracle, &mut asked.types, n)
 }
 
@@ -250,11 +255,18 @@ fn first_or(
 }
 
 // The children of a node from one on, without types that are written.
-fn children_from(asked: &Asked<'_, '_>, n: Node, first: u32) -> Result<Vec<Node>, NoMemory> {
-    let mut nodes = Vec::new(asked.alloc);
+fn children_from(
+    alloc: Global,
+    tree: &SyntaxTree<'_>,
+    n: Node,
+    first: u32,
+) -> Result<Vec<Node>, NoMemory>
+    requires inside { n.0 < length tree.now.nodes }
+{
+    let mut nodes = Vec::new(alloc);
     let mut place = 0u32;
-    for child in asked.file.tree().children(n) {
-        if place >= first && is_typed(asked.file.tree().kind(child)) {
+    for child in tree.children(n) {
+        if place >= first && child.0 < tree.len() && is_typed(tree.kind(child)) {
             nodes.push(child)?;
         }
         place = place.saturating_add(1);
@@ -262,24 +274,44 @@ fn children_from(asked: &Asked<'_, '_>, n: Node, first: u32) -> Result<Vec<Node>
     Ok(nodes)
 }
 
-// Why no method is chosen, where the method's name has candidates: none is applicable, or none of several is the most specific.
-fn why_not_chosen(asked: &mut Asked<'_, '_>, n: Node) -> Result<Cause, AskFault> {
-    let nodes = arguments_of(asked.alloc, asked.file.tree(), n)?;
-    let functions = functions_of(asked.alloc, asked.file.tree(), &nodes)?;
-    let receiver = match receiver_of(asked.file.tree(), n) {
-        Some(receiver) => Some(type_at(asked, receiver)?),
-        None => None,
-    };
-    let mut arguments = TyList::new(asked.alloc);
-    for argument in nodes.as_slice() {
-        let ty = type_at(asked, *argument)?;
-        arguments.push(ty)?;
+// The types of nodes, one after the other.
+fn types_at(asked: &mut Asked<'_, '_>, nodes: &[Node]) -> Result<TyList, AskFault> {
+    let mut types = TyList::new(asked.alloc);
+    for n in nodes {
+        let ty = type_at(asked, *n)?;
+        types.push(ty)?;
     }
-    let found = candidates_of(asked.alloc, asked.file, &mut asked.oracle, n, receiver)?;
+    Ok(types)
+}
+
+// The type of what stands before the dot of a call, where something does.
+fn receiver_type(asked: &mut Asked<'_, '_>, receiver: Option<Node>) -> Result<Option<Ty>, AskFault> {
+    match receiver {
+        Some(receiver) => Ok(Some(type_at(asked, receiver)?)),
+        None => Ok(None),
+    }
+}
+
+// Why no method is chosen: there is none of the name, none is applicable, or none of several is the most specific.
+fn why_not_chosen(asked: &mut Asked<'_, '_>, n: Node) -> Result<Cause, AskFault>
+    requires inside { n.0 < length asked.old.file.now.nodes }
+{
+    let (alloc, file) = (asked.alloc, asked.file);
+    let nodes = arguments_of(alloc, file.tree(), n)?;
+    let functions = functions_of(alloc, file.tree(), &nodes)?;
+    let receiver = receiver_type(asked, receiver_of(file.tree(), n))?;
+    let arguments = types_at(asked, nodes.as_slice())?;
+    let found = candidates_of(alloc, file, &mut asked.oracle, n, receiver)?;
     let Some(candidates) = found else {
         return Ok(Cause::Own("no-method"));
     };
-    let choice = choose(asked.alloc, &mut asked.oracle, &candidates.methods, &arguments, &functions)?;
+    let choice = choose(
+        alloc,
+        &mut asked.oracle,
+        &candidates.methods,
+        &arguments,
+        &functions,
+    )?;
     match choice {
         Choice::None => Ok(Cause::Own("not-applicable")),
         Choice::Tie => Ok(Cause::Own("tie")),
@@ -288,8 +320,11 @@ fn why_not_chosen(asked: &mut Asked<'_, '_>, n: Node) -> Result<Cause, AskFault>
 }
 
 // Why the type of a method call is not known.
-fn why_call(asked: &mut Asked<'_, '_>, n: Node) -> Result<Cause, AskFault> {
-    if let Some(receiver) = receiver_of(asked.file.tree(), n) {
+fn why_call(asked: &mut Asked<'_, '_>, n: Node) -> Result<Cause, AskFault>
+    requires inside { n.0 < length asked.old.file.now.nodes }
+{
+    let file = asked.file;
+    if let Some(receiver) = receiver_of(file.tree(), n) {
         if let Ty::Unknown = type_at(asked, receiver)? {
             return Ok(Cause::Other(receiver));
         }
@@ -298,13 +333,16 @@ fn why_call(asked: &mut Asked<'_, '_>, n: Node) -> Result<Cause, AskFault> {
 }
 
 // Why the type of the name of a variable is not known.
-fn why_name(asked: &mut Asked<'_, '_>, n: Node) -> Result<Cause, AskFault> {
-    let name = first_word(asked.file.tree(), n);
-    match variable_name(asked.alloc, asked.file, &mut asked.oracle, n, name)? {
+fn why_name(asked: &mut Asked<'_, '_>, n: Node) -> Result<Cause, AskFault>
+    requires inside { n.0 < length asked.old.file.now.nodes }
+{
+    let file = asked.file;
+    let name = first_word(file.tree(), n);
+    match variable_name(asked.alloc, file, &mut asked.oracle, n, name)? {
         None => Ok(Cause::Own("no-variable")),
         Some(Variable::Inherited(_)) => Ok(Cause::Own("inherited-field")),
         Some(Variable::Declared(id)) => {
-            if is_in_own_initializer(asked.file.tree(), n, id) {
+            if is_in_own_initializer(file.tree(), n, id) {
                 Ok(Cause::Own("own-initializer"))
             } else {
                 Ok(Cause::Other(id))
@@ -327,7 +365,8 @@ fn source_of(tree: &SyntaxTree<'_>, id: Node) -> Option<Node>
 fn why_variable(asked: &mut Asked<'_, '_>, id: Node) -> Result<Cause, AskFault>
     requires inside { id.0 < length asked.old.file.now.nodes }
 {
-    let tree = asked.file.tree();
+    let file = asked.file;
+    let tree = file.tree();
     if is_var_name(tree, id) {
         return match source_of(tree, id) {
             Some(n) => first_or(asked, &[n], "no-iterable"),
@@ -348,29 +387,30 @@ fn why_variable(asked: &mut Asked<'_, '_>, id: Node) -> Result<Cause, AskFault>
 fn why(asked: &mut Asked<'_, '_>, n: Node) -> Result<Cause, AskFault>
     requires inside { n.0 < length asked.old.file.now.nodes }
 {
-    let kind = asked.file.tree().kind(n);
-    match kind {
+    let file = asked.file;
+    let tree = file.tree();
+    match tree.kind(n) {
         Kind::MethodCall => why_call(asked, n),
         Kind::VariableAccess => why_name(asked, n),
         Kind::VariableId => why_variable(asked, n),
         Kind::ConditionalExpression => {
-            let nodes = children_from(asked, n, 1)?;
+            let nodes = children_from(asked.alloc, tree, n, 1)?;
             first_or(asked, nodes.as_slice(), "branches")
         }
         Kind::InfixExpression | Kind::UnaryExpression => {
-            let nodes = children_from(asked, n, 0)?;
+            let nodes = children_from(asked.alloc, tree, n, 0)?;
             first_or(asked, nodes.as_slice(), "operator")
         }
         Kind::AssignmentExpression => {
-            let nodes = children_from(asked, n, 0)?;
+            let nodes = children_from(asked.alloc, tree, n, 0)?;
             first_or(asked, nodes.as_slice(), "assignment")
         }
         Kind::FieldAccess => {
-            let nodes = children_from(asked, n, 0)?;
+            let nodes = children_from(asked.alloc, tree, n, 0)?;
             first_or(asked, nodes.as_slice(), "no-field")
         }
         Kind::ArrayAccess => {
-            let nodes = children_from(asked, n, 0)?;
+            let nodes = children_from(asked.alloc, tree, n, 0)?;
             first_or(asked, nodes.as_slice(), "no-array")
         }
         Kind::LambdaExpression => Ok(Cause::Own("lambda")),
@@ -452,18 +492,17 @@ fn name_of<'t>(tree: &'t SyntaxTree<'_>, n: Node) -> &'t str
 }
 
 // The number of the node before the dot of a call or of a field.
-fn receiver_text(asked: &Asked<'_, '_>, n: Node) -> Result<Text, NoMemory>
-    requires inside { n.0 < length asked.now.file.now.nodes }
+fn receiver_text(alloc: Global, tree: &SyntaxTree<'_>, n: Node) -> Result<Text, NoMemory>
+    requires inside { n.0 < length tree.now.nodes }
 {
-    let tree = asked.file.tree();
     let receiver = match tree.kind(n) {
         Kind::MethodCall => receiver_of(tree, n),
         Kind::FieldAccess => first_child(tree, n),
         _ => None,
     };
     match receiver {
-        Some(receiver) => cause_text(asked.alloc, Cause::Other(receiver)),
-        None => Text::from_str(asked.alloc, "-"),
+        Some(receiver) => cause_text(alloc, Cause::Other(receiver)),
+        None => Text::from_str(alloc, "-"),
     }
 }
 
@@ -479,7 +518,10 @@ fn cause_text(alloc: Global, cause: Cause) -> Result<Text, NoMemory> {
 }
 
 // The erased and the whole type, and where it is not known why, with the type of the receiver.
-fn said(asked: &mut Asked<'_, '_>, typed: &TypedNode) -> Result<Text, AskFault> {
+fn said(asked: &mut Asked<'_, '_>, typed: &TypedNode) -> Result<Text, AskFault>
+    requires inside { typed.now.node.0 < length asked.old.file.now.nodes }
+{
+    let file = asked.file;
     let mut out = Text::new(asked.alloc);
     let Ok(ty) = &typed.found else {
         out.push_str("! ! memory -")?;
@@ -497,16 +539,17 @@ fn said(asked: &mut Asked<'_, '_>, typed: &TypedNode) -> Result<Text, AskFault> 
         out.push_str("-")?;
     }
     out.push_str(" ")?;
-    let receiver = receiver_text(asked, typed.node)?;
+    let receiver = receiver_text(asked.alloc, file.tree(), typed.node)?;
     out.push_str(receiver.as_str())?;
     Ok(out)
 }
 
 // The erased parameters of the method that is chosen for a call.
-fn said_chosen(asked: &mut Asked<'_, '_>, n: Node) -> Result<Text, AskFault>
-    requires inside { n.0 < length asked.old.file.now.nodes }
-{
+fn said_chosen(asked: &mut Asked<'_, '_>, n: Node) -> Result<Text, AskFault> {
     let mut out = Text::new(asked.alloc);
+    if n.0 >= asked.oracle.tree().len() {
+        return Ok(out);
+    }
     let Some((_, method)) = chosen(&mut asked.oracle, &mut asked.types, n)? else {
         out.push_str("?")?;
         return Ok(out);
@@ -525,7 +568,57 @@ fn said_chosen(asked: &mut Asked<'_, '_>, n: Node) -> Result<Text, AskFault>
     Ok(out)
 }
 
-// Says the type of each node.
+// Says the type of a node.
+fn say_node(
+    rt: &HostRuntime,
+    asked: &mut Asked<'_, '_>,
+    path: &str,
+    typed: &TypedNode,
+) -> anyhow::Result<()> {
+    let file = asked.file;
+    let (tree, n) = (file.tree(), typed.node);
+    if n.0 >= tree.len() {
+        return Ok(());
+    }
+    let span = tree.span(n);
+    let (kind, name) = (tree.kind(n).name(), name_of(tree, n));
+    match said(asked, typed) {
+        Ok(text) => println!(rt;
+            "node {path} {} {} {} {kind} {name} {}",
+            n.0, span.from, span.to, text.as_str()
+        )?,
+        Err(_) => println!(rt; "sum: {path}: out of memory at {}", span.from)?,
+    }
+    Ok(())
+}
+
+// Whether a node is a call.
+fn is_call(kind: Kind) -> bool {
+    match kind {
+        Kind::MethodCall | Kind::ConstructorCall | Kind::ExplicitConstructorInvocation => true,
+        _ => false,
+    }
+}
+
+// Says what is chosen for a call.
+fn say_call(rt: &HostRuntime, asked: &mut Asked<'_, '_>, path: &str, n: Node) -> anyhow::Result<()> {
+    let file = asked.file;
+    let tree = file.tree();
+    if n.0 >= tree.len() || !is_call(tree.kind(n)) {
+        return Ok(());
+    }
+    let (span, kind) = (tree.span(n), tree.kind(n).name());
+    match said_chosen(asked, n) {
+        Ok(text) => println!(rt;
+            "call {path} {} {} {kind} {}",
+            span.from, span.to, text.as_str()
+        )?,
+        Err(_) => println!(rt; "sum: {path}: out of memory at {}", span.from)?,
+    }
+    Ok(())
+}
+
+// Says the type of each node, and what is chosen for each call.
 fn say_all(
     rt: &HostRuntime,
     file: &File<'_>,
@@ -533,7 +626,6 @@ fn say_all(
     path: &str,
     nodes: &[TypedNode],
 ) -> anyhow::Result<()> {
-    let tree = file.tree();
     let mut held = Held::new(rt.alloc());
     let mut asked = Asked {
         alloc: rt.alloc(),
@@ -542,25 +634,10 @@ fn say_all(
         types: Typed::new(rt.alloc()),
     };
     for typed in nodes {
-        let n = typed.node;
-        let span = tree.span(n);
-        let (kind, name) = (tree.kind(n).name(), name_of(tree, n));
-        let Ok(text) = said(&mut asked, typed) else {
-            println!(rt; "sum: {path}: out of memory at {}", span.from)?;
-            return Ok(());
-        };
-        println!(rt; "node {path} {} {} {} {kind} {name} {}", n.0, span.from, span.to, text.as_str())?;
+        say_node(rt, &mut asked, path, typed)?;
     }
-    for n in 0..tree.len() {
-        let kind = tree.kind(Node(n));
-        if kind == Kind::MethodCall || kind == Kind::ConstructorCall || kind == Kind::ExplicitConstructorInvocation {
-            let span = tree.span(Node(n));
-            let Ok(text) = said_chosen(&mut asked, Node(n)) else {
-                println!(rt; "sum: {path}: out of memory at {}", span.from)?;
-                return Ok(());
-            };
-            println!(rt; "call {path} {} {} {} {}", span.from, span.to, kind.name(), text.as_str())?;
-        }
+    for n in 0..file.tree().len() {
+        say_call(rt, &mut asked, path, Node(n))?;
     }
     Ok(())
 }
@@ -744,10 +821,11 @@ for count in (10000, 20000, 39000):
     write('var_names', count, in_one(['var v0 = 1;'] + [f'var v{i} = v{i - 1};' for i in range(1, count)]))
 for count in (5000, 10000, 19000):
     write('var_arguments', count, in_one(['var v0 = 1;'] + [f'var v{i} = f(v{i - 1});' for i in range(1, count)]))
+for count in (500, 1000, 2000):
     write('var_receivers', count, in_one(['var v0 = text;'] + [f'var v{i} = v{i - 1}.append(1);' for i in range(1, count)]))
 for count in (25, 50, 100):
     write('one_chain', count, '    Object m() { return text' + '.append(1)' * count + '; }\n')
-for count in (100, 200, 400, 800):
+for count in (50, 100, 200):
     write('one_sum', count, '    int m(int a) { return a' + ' + a' * count + '; }\n')
 for count in (25, 50, 100, 200):
     write('one_nest', count, '    Object m() { return ' + 'f(' * count + '1' + ')' * count + '; }\n')
