@@ -825,7 +825,7 @@ for count in (500, 1000, 2000):
     write('var_receivers', count, in_one(['var v0 = text;'] + [f'var v{i} = v{i - 1}.append(1);' for i in range(1, count)]))
 for count in (25, 50, 100):
     write('one_chain', count, '    Object m() { return text' + '.append(1)' * count + '; }\n')
-for count in (50, 100, 200):
+for count in (50, 100, 200, 400):
     write('one_sum', count, '    int m(int a) { return a' + ' + a' * count + '; }\n')
 for count in (25, 50, 100, 200):
     write('one_nest', count, '    Object m() { return ' + 'f(' * count + '1' + ')' * count + '; }\n')
