@@ -338,7 +338,8 @@ def compare(path, our_lines, their_lines):
         erased = their_name(parts[5])
         meant = parts[4], erased, erased if parts[6] == '=' else their_name(parts[6])
         if parts[0] == 'name':
-            variables[place(parts[2])] = meant
+            # the first one: javac gives the parameters of a constructor that it makes the place of the class
+            variables.setdefault(place(parts[2]), meant)
         else:
             exprs[place(parts[2]), place(parts[3])].append(meant)
     stack, names = [], {}
