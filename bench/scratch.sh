@@ -30,6 +30,42 @@ scratch_repository() {
     : > "$bench/proofs/Lib.antt"
 }
 
+# build_unproved PROGRAM
+# Builds the program in $bench without proofs, as out/PROGRAM, in some minutes: `rt try` makes one module of the sources of all crates and hands
+# it to its toolchain's compiler. So it runs here as a copy in a folder of links to the kit, in which that compiler compiles the module for use.
+build_unproved() {
+    local program=$1 kit file
+    kit=$(dirname "$(rt doc)")
+    mkdir -p "$scratch/kit/bin" "$scratch/kit/toolchain/bin" "$bench/out"
+    for file in "$kit"/* "$kit"/bin/* "$kit"/toolchain/* "$kit"/toolchain/bin/*; do
+        [ -e "$scratch/kit${file#"$kit"}" ] || ln -s "$file" "$scratch/kit${file#"$kit"}"
+    done
+    rm -f "$scratch/kit/bin/rt" "$scratch/kit/bin/rtlib.py" "$scratch/kit/toolchain/bin/clang"
+    cp "$kit/bin/rt" "$kit/bin/rtlib.py" "$scratch/kit/bin/"
+    cat > "$scratch/kit/toolchain/bin/clang" <<TXT
+#!/bin/sh
+# Compiles the second module, which is meant for the address sanitizer, for use and without it, and then fails, so that nothing is tried.
+case " \$* " in *" -fsanitize=address "*) ;; *) exec '$kit/toolchain/bin/clang' "\$@" ;; esac
+words=''
+for word in "\$@"; do
+    case \$word in
+        -fsanitize=address) continue ;;
+        -O0) word=-O1 ;;
+        module.o) word='$scratch/$program.o' ;;
+        --sysroot=*) word='--sysroot=$kit/toolchain' ;;
+    esac
+    words="\$words '\$word'"
+done
+eval "'$kit/toolchain/bin/clang' \$words"
+exit 1
+TXT
+    chmod +x "$scratch/kit/toolchain/bin/clang"
+    (cd "$bench" && "$scratch/kit/bin/rt" try -- build) > "$scratch/log" 2>&1 < /dev/null || true
+    [ -s "$scratch/$program.o" ] || { tail -n 40 "$scratch/log"; exit 1; }
+    "$kit/bin/rattle-link" --target x86_64-unknown-linux-gnu --toolchain "$kit/toolchain" -o "$bench/out/$program" "$scratch/$program.o" \
+        "$kit/c/libos_c.a" "$kit/c/liblibc_c.a" > "$scratch/log" 2>&1 || { tail -n 40 "$scratch/log"; exit 1; }
+}
+
 # with_lower_crates LIBRARY..
 # Prints the libraries with the crates that they stand on, lowest first.
 with_lower_crates() {

@@ -36,7 +36,7 @@ keys_behind before (k ∷ ks) h = (h.0.1, keys_behind (Some k) ks h.1)
 keys_sorted : (ks : List (List ℕ)) → AreKeys ks → IsStrictlySortedBy byte_order ks
 keys_sorted ks h = behind_sorted None ks (keys_behind None ks h.1)
 
-abbrev named : List (Name × Answer) → List Name
+abbrev pub named : List (Name × Answer) → List Name
 named list = map (λ a. a.0) list
 
 answers_behind : (before : Option Name) (list : List (Name × Answer)) → Chain IsAnswerBehind (λ b a. Some a.0) before list → AreBehind before (named list)
@@ -46,7 +46,7 @@ answers_behind before (a ∷ rest) h =
     let three = both_true (is_class_name a.0) (is_behind byte_order before a.0) two.1 in
     (three.1, answers_behind (Some a.0) rest h.1)
 
-names_sorted : (list : List (Name × Answer)) → AreAnswers list → IsStrictlySortedBy byte_order (named list)
+pub names_sorted : (list : List (Name × Answer)) → AreAnswers list → IsStrictlySortedBy byte_order (named list)
 names_sorted list h = behind_sorted None (named list) (answers_behind None list h.1)
 
 -- ---- what may stand behind entries
@@ -55,7 +55,7 @@ name_at_open : (names : List Name) (before : Option ℕ) → IsOpen (name_at nam
 unfolding name_at
 name_at_open names before = made_open (u32_as (passing (is_name_place (length names) before))) (name_made names) (number_text (is_name_place (length names) before)).is_open
 
-name_list_open : (names : List Name) → IsOpen (name_list names)
+pub name_list_open : (names : List Name) → IsOpen (name_list names)
 unfolding name_list
 name_list_open names = open_then u32 (λ count. several_from (name_at names) count None) u32_law.is_open (λ count. from_open (name_at names) count None (name_at_open names))
 
@@ -92,7 +92,7 @@ no_text x = record {
   again = λ y fits. let none = fits.0 in absurd cc;
 }
 
-when_text : {A : Type 0} (b : Bool) (x : A) → IsText (when b x) (λ y. []) (λ y. (b ≡ true) × (y ≡ x))
+pub when_text : {A : Type 0} (b : Bool) (x : A) → IsText (when b x) (λ y. []) (λ y. (b ≡ true) × (y ≡ x))
 unfolding when
 when_text true x = done_text x (λ y. []) (λ y. (true ≡ true) × (y ≡ x)) refl (refl, refl) (λ y h. h.1)
 when_text false x = no_text x
@@ -102,7 +102,7 @@ when_text false x = no_text x
 same_bytes : (a b : List ℕ) → pointwise nat_eq a b ≡ true → a ≡ b
 same_bytes a b e = (bytes_decides a b).0 e
 
-same_lists : (xs ys : List (List ℕ)) → is_same_list xs ys ≡ true → xs ≡ ys
+pub same_lists : (xs ys : List (List ℕ)) → is_same_list xs ys ≡ true → xs ≡ ys
 same_lists [] [] e = refl
 same_lists [] (y ∷ ys) e = absurd cc
 same_lists (x ∷ xs) [] e = absurd cc

@@ -5,6 +5,7 @@ pub mod AnswerLaws
 pub mod ResultLaws
 pub mod EntryLaws
 pub mod CacheLaws
+pub mod Fronts
 pub mod StoredLaws
 pub mod Split
 pub mod Noted

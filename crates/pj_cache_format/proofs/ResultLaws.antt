@@ -60,14 +60,14 @@ reason_again (Some reasons.Comment) h = refl
 reason_again (Some reasons.Regex) h = refl
 reason_again (Some reasons.XPath) h = refl
 
-reason_below : (r : Option Reason) → reason_byte r < 256
+pub reason_below : (r : Option Reason) → reason_byte r < 256
 reason_below None = omega arith
 reason_below (Some reasons.Annotation) = omega arith
 reason_below (Some reasons.Comment) = omega arith
 reason_below (Some reasons.Regex) = omega arith
 reason_below (Some reasons.XPath) = omega arith
 
-reason_law : IsText (u8_as reason_of) (λ (r : Option Reason). reason_byte r ∷ []) (λ (r : Option Reason). (reason_byte r < 256) × Unit {0})
+pub reason_law : IsText (u8_as reason_of) (λ (r : Option Reason). reason_byte r ∷ []) (λ (r : Option Reason). (reason_byte r < 256) × Unit {0})
 reason_law = u8_text reason_byte (λ r. Unit {0}) reason_of reason_read reason_again
 
 pub place_law : IsText place place_text FitsPlace

@@ -34,19 +34,20 @@ use Rattle.pj_cache_format.specs.Ordered.{HasItsName, IsAnswerInOrder, AreRowsIn
 use Rattle.pj_cache_format.proofs.Whole.{IsClass, IsAnswerFor, IsAnswerBehind, AreAnswers}
 use Rattle.pj_cache_format.proofs.WholeTwo.{IsSpotBehind, AreRows, IsKeyBehind, AreKeys, AreKeyRows, IsNameBehind, IsResultBehind, AreResults, IsEntryBehind, IsWhole}
 use Rattle.pj_cache_format.proofs.AnswerLaws.{both_true}
+use Rattle.pj_cache_format.proofs.CacheLaws.{same_lists}
 use Rattle.pj_cache_format.proofs.Order.{AreBehind, behind_sorted}
 
 -- ---- facts along a list, and facts of each member
 
-chain_both : {A S : Type 0} (P : S → A → Type 0) (Q : A → Type 0) (R : S → A → Type 0) (step : S → A → S) (s : S) (xs : List A) → ((z : S) (x : A) → P z x → Q x → R z x) → Chain P step s xs → AllByRecursion Q xs → Chain R step s xs
+pub chain_both : {A S : Type 0} (P : S → A → Type 0) (Q : A → Type 0) (R : S → A → Type 0) (step : S → A → S) (s : S) (xs : List A) → ((z : S) (x : A) → P z x → Q x → R z x) → Chain P step s xs → AllByRecursion Q xs → Chain R step s xs
 chain_both P Q R step s [] both p q = tt
 chain_both P Q R step s (x ∷ xs) both p q = (both s x p.0 q.0, chain_both P Q R step (step s x) xs both p.1 q.1)
 
-chain_as : {A S : Type 0} (P R : S → A → Type 0) (step : S → A → S) (s : S) (xs : List A) → ((z : S) (x : A) → P z x → R z x) → Chain P step s xs → Chain R step s xs
+pub chain_as : {A S : Type 0} (P R : S → A → Type 0) (step : S → A → S) (s : S) (xs : List A) → ((z : S) (x : A) → P z x → R z x) → Chain P step s xs → Chain R step s xs
 chain_as P R step s [] as_is p = tt
 chain_as P R step s (x ∷ xs) as_is p = (as_is s x p.0, chain_as P R step (step s x) xs as_is p.1)
 
-chain_each : {A S : Type 0} (R : S → A → Type 0) (Q : A → Type 0) (step : S → A → S) (s : S) (xs : List A) → ((z : S) (x : A) → R z x → Q x) → Chain R step s xs → AllByRecursion Q xs
+pub chain_each : {A S : Type 0} (R : S → A → Type 0) (Q : A → Type 0) (step : S → A → S) (s : S) (xs : List A) → ((z : S) (x : A) → R z x → Q x) → Chain R step s xs → AllByRecursion Q xs
 chain_each R Q step s [] of_each r = tt
 chain_each R Q step s (x ∷ xs) of_each r = (of_each s x r.0, chain_each R Q step (step s x) xs of_each r.1)
 
@@ -73,19 +74,19 @@ answer_fits name answers.Absent h = tt
 answer_fits name (answers.Found class) h = class_fits class h.1
 answer_fits name (answers.Broken what) h = h
 
-abbrev name_step : Option Name → Name × Answer → Option Name
+abbrev pub name_step : Option Name → Name × Answer → Option Name
 name_step before a = Some a.0
 
-answers_from : (list : List (Name × Answer)) → Chain IsAnswerInOrder name_step None list → AllFit FitsNamed list → AreAnswers list
+pub answers_from : (list : List (Name × Answer)) → Chain IsAnswerInOrder name_step None list → AllFit FitsNamed list → AreAnswers list
 answers_from list o f = (f.0, chain_both IsAnswerInOrder FitsNamed IsAnswerBehind name_step None list (λ before a p q. (q.0, p.0, answer_from a.0 a.1 p.1 q.1)) o (recursion_from_All FitsNamed list f.1))
 
-answers_order : (list : List (Name × Answer)) → AreAnswers list → Chain IsAnswerInOrder name_step None list
+pub answers_order : (list : List (Name × Answer)) → AreAnswers list → Chain IsAnswerInOrder name_step None list
 answers_order list h = chain_as IsAnswerBehind IsAnswerInOrder name_step None list (λ before a r. (r.1, answer_order a.0 a.1 r.2)) h.1
 
-answers_fit : (list : List (Name × Answer)) → AreAnswers list → AllFit FitsNamed list
+pub answers_fit : (list : List (Name × Answer)) → AreAnswers list → AllFit FitsNamed list
 answers_fit list h = (h.0, All-from_recursion FitsNamed list (chain_each IsAnswerBehind FitsNamed name_step None list (λ before a r. (r.0, answer_fits a.0 a.1 r.2)) h.1))
 
-answers_behind : (before : Option Name) (list : List (Name × Answer)) → Chain IsAnswerInOrder name_step before list → AreBehind before (map (λ (a : Name × Answer). a.0) list)
+pub answers_behind : (before : Option Name) (list : List (Name × Answer)) → Chain IsAnswerInOrder name_step before list → AreBehind before (map (λ (a : Name × Answer). a.0) list)
 answers_behind before [] h = tt
 answers_behind before (a ∷ rest) h =
     let two = both_true (is_utf8 a.0) _ h.0.0 in
@@ -140,7 +141,7 @@ key_place_small count used before place room e =
     let there : place < count = ltb-true place count (both_true (ltb place count) _ e).0 in
     omega (arith, there, room)
 
-name_place_small : (count : ℕ) (before : Option ℕ) (place : ℕ) → count < 2 ^ 32 → is_name_place count before place ≡ true → place < 2 ^ 32
+pub name_place_small : (count : ℕ) (before : Option ℕ) (place : ℕ) → count < 2 ^ 32 → is_name_place count before place ≡ true → place < 2 ^ 32
 name_place_small count before place room e =
     let there : place < count = ltb-true place count (both_true (ltb place count) _ e).0 in
     omega (arith, there, room)
@@ -244,19 +245,9 @@ keys_fit es h = (h.0, All-from_recursion KeyFits (keys_of es) (chain_each IsKeyB
 
 -- ---- what is named
 
-itself : (xs : List (List ℕ)) → is_same_list xs xs ≡ true
+pub itself : (xs : List (List ℕ)) → is_same_list xs xs ≡ true
 itself [] = refl
 itself (x ∷ xs) = rw ((bytes_decides x x).1 refl) (itself xs)
-
-same_lists : (xs ys : List (List ℕ)) → is_same_list xs ys ≡ true → xs ≡ ys
-same_lists [] [] e = refl
-same_lists [] (y ∷ ys) e = absurd cc
-same_lists (x ∷ xs) [] e = absurd cc
-same_lists (x ∷ xs) (y ∷ ys) e =
-    let both = both_true (pointwise nat_eq x y) (is_same_list xs ys) e in
-    let one = (bytes_decides x y).0 both.0 in
-    let others = same_lists xs ys both.1 in
-    λ i. one i ∷ others i
 
 abbrev named : Cache → List Name
 named c = map (λ (a : Name × Answer). a.0) c.answers

@@ -35,7 +35,7 @@ flat_pairs : {A B : Type 0} (h : B → List ℕ) (g : A → B) (l : List A) → 
 flat_pairs h g [] = refl
 flat_pairs {A} h g (x ∷ xs) = flat_map-cons h (g x) (map g xs) ∙ ap (λ (t : List ℕ). h (g x) ++ t) (flat_pairs h g xs) ∙ sym (flat_map-cons (λ (a : A). h (g a)) x xs)
 
-counted_pairs : {A B : Type 0} (h : B → List ℕ) (g : A → B) (l : List A) → counted h (map g l) ≡ counted (λ (a : A). h (g a)) l
+pub counted_pairs : {A B : Type 0} (h : B → List ℕ) (g : A → B) (l : List A) → counted h (map g l) ≡ counted (λ (a : A). h (g a)) l
 counted_pairs h g l =
     let long : length (map g l) ≡ length l = length-map l g in
     let texts = flat_pairs h g l in

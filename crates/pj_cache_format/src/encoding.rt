@@ -6,7 +6,7 @@ ghost use Rattle.pj_cache_format.specs.Decoded.{text_two};
 ghost use Rattle.pj_cache_format.specs.Fitting.{FitsFields};
 
 use crate::put::put_number;
-use crate::seal::seal;
+use crate::seal::seal_content;
 use crate::writing::put_cache;
 use pj_base::{Bytes, NoMemory};
 use pj_cache::Cache;
@@ -24,5 +24,5 @@ pub fn encode(alloc: Global, cache: &Cache) -> Result<Bytes, NoMemory>
     out.extend_from_slice(b"PMDJCACH")?;
     put_number(&mut out, 2)?;
     put_cache(alloc, &mut out, cache)?;
-    seal(out)
+    seal_content(out)
 }

@@ -16,4 +16,6 @@ pub use laws::{
     spells_one_cache, text_spells_its_cache,
 };
 pub use named::{keys_of, names_of};
-pub use seal::digest_of;
+pub use put::{put_answers, put_bytes, put_count, put_number, put_text};
+pub use seal::{digest_of, seal_content};
+pub use writing::{put_name_places, put_place, reason_byte};

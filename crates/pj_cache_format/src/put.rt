@@ -7,8 +7,8 @@ use pj_base::NoMemory;
 use pj_names::{Answer, Broken, ClassInfo, ClassName, Member};
 use std::sync::Arc;
 
-/// Puts a number of four bytes at the end.
-pub(crate) fn put_number(out: &mut Vec<u8>, n: u32) -> Result<(), NoMemory>
+/// Puts a number of four bytes at the end, the highest one first.
+pub fn put_number(out: &mut Vec<u8>, n: u32) -> Result<(), NoMemory>
     ensures { OnOk result (out.new.items ≡ out.old.items ++ number n) }
 {
     out.extend_from_slice(&n.to_be_bytes())?;
@@ -16,7 +16,7 @@ pub(crate) fn put_number(out: &mut Vec<u8>, n: u32) -> Result<(), NoMemory>
 }
 
 /// Puts how many there are at the end. More than four bytes tell are want of memory.
-pub(crate) fn put_count(out: &mut Vec<u8>, count: usize) -> Result<(), NoMemory>
+pub fn put_count(out: &mut Vec<u8>, count: usize) -> Result<(), NoMemory>
     ensures put { OnOk result (out.new.items ≡ out.old.items ++ number count) }
     ensures room { OnOk result (count < 2 ^ 32) }
 {
@@ -26,8 +26,8 @@ pub(crate) fn put_count(out: &mut Vec<u8>, count: usize) -> Result<(), NoMemory>
     put_number(out, count as u32)
 }
 
-/// Puts bytes at the end, behind their number.
-pub(crate) fn put_bytes(out: &mut Vec<u8>, bytes: &[u8]) -> Result<(), NoMemory>
+/// Puts bytes at the end, behind their number. More than four bytes tell are want of memory.
+pub fn put_bytes(out: &mut Vec<u8>, bytes: &[u8]) -> Result<(), NoMemory>
     ensures put { OnOk result (out.new.items ≡ out.old.items ++ string bytes.now) }
     ensures room { OnOk result (HasRoom bytes.now) }
 {
@@ -36,8 +36,8 @@ pub(crate) fn put_bytes(out: &mut Vec<u8>, bytes: &[u8]) -> Result<(), NoMemory>
     Ok(())
 }
 
-/// Puts a text at the end, behind the number of its bytes.
-pub(crate) fn put_text(out: &mut Vec<u8>, text: &str) -> Result<(), NoMemory>
+/// Puts a text at the end, behind the number of its bytes. More than four bytes tell are want of memory.
+pub fn put_text(out: &mut Vec<u8>, text: &str) -> Result<(), NoMemory>
     ensures put { OnOk result (out.new.items ≡ out.old.items ++ string text.now) }
     ensures room { OnOk result (FitsText text.now) }
 {
@@ -132,11 +132,8 @@ fn put_answer(out: &mut Vec<u8>, name: &ClassName, answer: &Answer) -> Result<()
     put_content(out, answer)
 }
 
-/// Puts answers at the end.
-pub(crate) fn put_answers(
-    out: &mut Vec<u8>,
-    answers: &[(ClassName, Arc<Answer>)],
-) -> Result<(), NoMemory>
+/// Puts answers with their names at the end, behind their number. More members or bytes than four bytes tell are want of memory.
+pub fn put_answers(out: &mut Vec<u8>, answers: &[(ClassName, Arc<Answer>)]) -> Result<(), NoMemory>
     ensures put { OnOk result (out.new.items ≡ out.old.items ++ counted (λ a. answer_text (a.0, a.1.value)) answers.now) }
     ensures room { OnOk result (AllFit (λ a. FitsNamed (a.0, a.1.value)) answers.now) }
 {

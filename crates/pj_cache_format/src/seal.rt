@@ -16,8 +16,8 @@ pub fn digest_of(bytes: &[u8]) -> Digest32
     hasher.finalize()
 }
 
-/// Puts the seal at the end.
-pub(crate) fn seal(content: Vec<u8>) -> Result<Bytes, NoMemory>
+/// Puts the seal, the SHA-256 of all bytes before, at the end.
+pub fn seal_content(content: Vec<u8>) -> Result<Bytes, NoMemory>
     ensures { IfOk result (λ bytes. bytes ≡ sealed content.items) }
 {
     let mut content = content;

@@ -19,8 +19,8 @@ use pj_tree::Place;
 use std::alloc::Global;
 use std::sync::Arc;
 
-/// The byte of a reason.
-fn reason_byte(reason: Option<Reason>) -> u8
+/// The byte of a reason: 0 for none, 1 to 4 for why a node is not reported.
+pub fn reason_byte(reason: Option<Reason>) -> u8
     ensures { result ≡ reason_byte reason }
 {
     match reason {
@@ -32,8 +32,8 @@ fn reason_byte(reason: Option<Reason>) -> u8
     }
 }
 
-/// Puts a place at the end.
-fn put_place(out: &mut Vec<u8>, place: Place) -> Result<(), NoMemory>
+/// Puts a place at the end, its line and its column.
+pub fn put_place(out: &mut Vec<u8>, place: Place) -> Result<(), NoMemory>
     ensures put { OnOk result (out.new.items ≡ out.old.items ++ place_text place) }
     ensures room { OnOk result (FitsPlace place) }
 {
@@ -95,8 +95,9 @@ fn put_key_places(out: &mut Vec<u8>, keys: &[Key], group: &[KeyRows]) -> Result<
     Ok(())
 }
 
-/// Puts the places of names at the end, behind their number.
-fn put_name_places(
+/// Puts the places of names among those of answers at the end, behind their number. The condition is that the answers stand in the
+/// order of their names' bytes, each once.
+pub fn put_name_places(
     out: &mut Vec<u8>,
     answers: &[(ClassName, Arc<Answer>)],
     names: &[SharedName],

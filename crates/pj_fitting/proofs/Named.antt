@@ -44,18 +44,18 @@ more_by : (held : List Name) (x : Name) (xs : List Name) (q : Name) (b : Bool) �
 more_by held x xs q true at here rest = has_held (insert_key byte_order held x) xs q (has_put held x q ∙ ap (λ (b : Bool). b || has_key held q) at)
 more_by held x xs q false at here rest = rest here
 
-has_more : (held xs : List Name) (q : Name) → has_key xs q ≡ true → has_key (with_more held xs) q ≡ true
+pub has_more : (held xs : List Name) (q : Name) → has_key xs q ≡ true → has_key (with_more held xs) q ≡ true
 has_more held [] q here = absurd cc
 has_more held (x ∷ xs) q here = more_by held x xs q (is_at (byte_order q) x) refl here (λ rest. has_more (insert_key byte_order held x) xs q rest)
 
 -- ---- what holds of each member of lists put together
 
 module _ {B : Type 0} (P : B → Type 0) where
-  all_apart : (xs ys : List B) → AllByRecursion P (xs ++ ys) → AllByRecursion P xs × AllByRecursion P ys
+  pub all_apart : (xs ys : List B) → AllByRecursion P (xs ++ ys) → AllByRecursion P xs × AllByRecursion P ys
   all_apart [] ys all = (tt, all)
   all_apart (x ∷ xs) ys all = let rest = all_apart xs ys all.1 in ((all.0, rest.0), rest.1)
 
-  all_each : {A : Type 0} (f : A → List B) (xs : List A) → AllByRecursion P (flat_map f xs) → AllByRecursion (λ (x : A). AllByRecursion P (f x)) xs
+  pub all_each : {A : Type 0} (f : A → List B) (xs : List A) → AllByRecursion P (flat_map f xs) → AllByRecursion (λ (x : A). AllByRecursion P (f x)) xs
   all_each f [] all = tt
   all_each f (x ∷ xs) all =
       let both = all_apart (f x) (flat_map f xs) (subst (λ (l : List B). AllByRecursion P l) (flat_map-cons f x xs) all) in
@@ -65,7 +65,7 @@ pub itself : (x : Name) → is_at (byte_order x) x ≡ true
 itself x = ap is_eq (tied_itself nat_list_cmp_total x)
 
 -- each member of a list is among those put behind others
-members : (front xs : List Name) → AllByRecursion (λ (x : Name). has_key (front ++ xs) x ≡ true) xs
+pub members : (front xs : List Name) → AllByRecursion (λ (x : Name). has_key (front ++ xs) x ≡ true) xs
 members front [] = tt
 members front (x ∷ xs) = (
   has_both front (x ∷ xs) x ∙ ap (λ (b : Bool). has_key front x || (b || has_key xs x)) (itself x) ∙ or_true (has_key front x),

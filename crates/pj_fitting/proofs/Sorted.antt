@@ -87,7 +87,7 @@ by_test false false = refl
 number_below : (x y : ℕ) → is_lt (nat_cmp x y) ≡ true → x < y
 number_below x y e = ltb-true x y (sym (by_test (ltb x y) (eqb x y)) ∙ e)
 
-all_member : (P : List ℕ → Type 0) (xs : List (List ℕ)) (i : ℕ) → AllByRecursion P xs → i < length xs → P (member_at xs i)
+pub all_member : (P : List ℕ → Type 0) (xs : List (List ℕ)) (i : ℕ) → AllByRecursion P xs → i < length xs → P (member_at xs i)
 all_member P [] i all lt = absurd (omega (arith, lt))
 all_member P (x ∷ xs) zero all lt = all.0
 all_member P (x ∷ xs) (suc i) all lt = all_member P xs i all.1 (omega (arith, lt))
@@ -112,7 +112,7 @@ members_less list x y sorted is m =
 
 -- ---- byte strings put in order
 
-all_put : (P : List ℕ → Type 0) (k : List ℕ) (xs : List (List ℕ)) → P k → AllByRecursion P xs → AllByRecursion P (insert_key byte_order xs k)
+pub all_put : (P : List ℕ → Type 0) (k : List ℕ) (xs : List (List ℕ)) → P k → AllByRecursion P xs → AllByRecursion P (insert_key byte_order xs k)
 all_put P k [] here all = (here, tt)
 all_put P k (x ∷ xs) here all = by (byte_order k x) (all_put P k xs here all.1)
   where

@@ -3,7 +3,7 @@ use Rattle.std.proofs.Common.{◌≡◌, ℕ, List, [], ◌∷◌, ◌++◌, map
 use Rattle.std.proofs.lemmas.List.{append-nil}
 use Rattle.pj_names.specs.declared.answer.Answer.{Answer}
 use Rattle.pj_names.specs.ClassName.{Name}
-use Rattle.pj_names.specs.Asking.{Asking, Return, Ask, bind, each, value_of, names_of as names_asked}
+use Rattle.pj_names.specs.Asking.{Return, Ask, each, value_of, names_of as names_asked}
 use Rattle.pj_names.proofs.MeaningLaws.{each-gather, gather, names_of-bind, value_of-bind}
 use Rattle.pj_cache.specs.declared.cache.Entry.{Entry}
 use Rattle.pj_cache.specs.declared.cache.Cache.{Cache}
@@ -21,7 +21,7 @@ behind_is front (n ∷ ns) = λ i. Ask n (λ now. behind_is (front ++ (n, now) �
 pub answers_are : (names : List Name) → answers_behind [] names ≡ each answered names
 answers_are names = behind_is [] names ∙ sym (each-gather answered names)
 
-abbrev cache_of : List Entry → Pairs → Cache
+abbrev pub cache_of : List Entry → Pairs → Cache
 cache_of entries answers = record { answers = answers; entries = entries }
 
 module _ (depth : ℕ) (world : Name → Answer) where

@@ -1,7 +1,7 @@
 -- What stays and what is made is what a run leaves.
-use Rattle.std.proofs.Common.{◌≡◌, ℕ, zero, suc, Bool, true, false, ◌||◌, inl, inr, List, [], ◌∷◌, ◌++◌, map, refl, sym, ap, subst, ◌∙◌, arith}
+use Rattle.std.proofs.Common.{◌≡◌, ℕ, suc, Bool, true, false, ◌||◌, inl, inr, List, [], ◌∷◌, ◌++◌, map, refl, sym, ap, subst, ◌∙◌, arith}
 use Rattle.std.specs.Prelude.{◌⊎◌}
-use Rattle.std.specs.List.{All, AllByRecursion, AllZip, Contains}
+use Rattle.std.specs.List.{AllByRecursion, AllZip, Contains}
 use Rattle.std.specs.List.Sorted.{IsPermutation}
 use Rattle.std.specs.BTreeMap.{is_at}
 use Rattle.std.proofs.lemmas.List.Elements.{All-from_recursion}
@@ -18,7 +18,7 @@ use Rattle.pj_fitting.proofs.Lists.{all_map}
 use Rattle.pj_fitting.proofs.Named.{itself}
 use Rattle.pj_fitting.proofs.Sets.{or_true, same_name}
 use Rattle.pj_fitting.proofs.Sorted.{IsIn, has_in}
-use Rattle.pj_left_cache.specs.Missing.{keys_of_active, missing_rules}
+use Rattle.pj_left_cache.specs.Missing.{missing_rules}
 use Rattle.pj_left_cache.proofs.MissingLaws.{active_are, key_of, missing_keys}
 
 -- ---- members
@@ -41,7 +41,7 @@ each_in : {A : Type 0} (xs : List A) → AllByRecursion (λ (x : A). IsIn x xs) 
 each_in [] = tt
 each_in {A} (x ∷ xs) = (inl refl, all_map (λ (y : A). IsIn y xs) (λ (y : A). IsIn y (x ∷ xs)) xs (λ y there. inr there) (each_in xs))
 
-all_append : {A : Type 0} (P : A → Type 0) (xs ys : List A) → AllByRecursion P xs → AllByRecursion P ys → AllByRecursion P (xs ++ ys)
+pub all_append : {A : Type 0} (P : A → Type 0) (xs ys : List A) → AllByRecursion P xs → AllByRecursion P ys → AllByRecursion P (xs ++ ys)
 all_append P [] ys first rest = rest
 all_append P (x ∷ xs) ys first rest = (first.0, all_append P xs ys first.1 rest)
 

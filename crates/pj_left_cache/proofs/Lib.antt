@@ -3,3 +3,6 @@ pub mod SaidLaws
 pub mod LeavingLaws
 pub mod OrderLaws
 pub mod LeftLaws
+pub mod ToOrder
+pub mod FromOrder
+pub mod ByBytes

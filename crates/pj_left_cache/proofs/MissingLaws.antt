@@ -1,10 +1,9 @@
 -- Which rules a run makes new results for.
-use Rattle.std.proofs.Common.{◌≡◌, ◌↔◌, ℕ, zero, suc, ◌+◌, ◌-◌, ◌≤◌, ◌<◌, Bool, true, false, not, cond, ◌&&◌, ◌||◌, List, [], ◌∷◌, ◌++◌, length, map, drop, Option, Some, refl, sym, ap, subst, ◌∙◌, arith, add-one}
+use Rattle.std.proofs.Common.{◌≡◌, ◌↔◌, ℕ, zero, suc, ◌+◌, ◌-◌, ◌≤◌, ◌<◌, Bool, true, false, not, cond, ◌&&◌, ◌||◌, List, [], ◌∷◌, ◌++◌, length, map, drop, get_or, Some, refl, sym, ap, ◌∙◌, arith, add-one}
 use Rattle.std.specs.Prelude.{min, slice_get}
-use Rattle.std.specs.List.{All, AllByRecursion, IsDistinct, filter, flat_map, list_any}
+use Rattle.std.specs.List.{All, AllByRecursion, IsDistinct, filter}
 use Rattle.std.specs.List.Sorted.{IsStrictlySortedBy}
-use Rattle.std.specs.declared.cmp.Ordering.{Ordering}
-use Rattle.std.specs.declared.cmp.Ordering.TheVariants.{Less, Equal, Greater}
+use Rattle.std.specs.declared.cmp.Ordering.TheVariants.{Less}
 use Rattle.std.specs.Ordering.{nat_cmp}
 use Rattle.std.specs.BTreeSet.{insert_key}
 use Rattle.std.specs.BTreeMap.{is_at}
@@ -12,6 +11,7 @@ use Rattle.std.proofs.lemmas.Bool.{lt-ltb}
 use Rattle.std.proofs.lemmas.List.{append_assoc}
 use Rattle.std.proofs.lemmas.List.Concat.{flat_map-cons}
 use Rattle.std.proofs.lemmas.List.Elements.{All-from_recursion}
+use Rattle.pj_names.proofs.AskingLaws.{left_from}
 use Rattle.pj_cache.specs.Places.{byte_order}
 use Rattle.pj_cache.specs.declared.cache.CachedResult.{CachedResult}
 use Rattle.pj_reuse.specs.Serving.{has_key, keys_of, with_keys}
@@ -62,6 +62,10 @@ missing_besides stay keys active = same_missing (with_results [] stay) (keys_of_
 
 -- ---- a step of the loop
 
+-- what is left at a place of a list
+pub left_at : {A : Type 0} (xs : List A) (i : ℕ) (x : A) → i < length xs → x ≡ get_or xs i x → drop i xs ≡ x ∷ drop (i + 1) xs
+left_at {A} xs i x small is = left_from xs i x small ∙ ap (λ (y : A). y ∷ drop (i + 1) xs) (sym is)
+
 module _ (held : List Key) (at : ℕ) (k : Key) (ks : List Key) (more : List Bool) (numbers : List ℕ) where
   next_by : (b : Bool) (later : List Key) (after : List ℕ) → later ≡ cond b (insert_key byte_order held k) held → after ≡ cond b (numbers ++ at ∷ []) numbers
       → after ++ map number (missing_from later (suc at) ks more) ≡ numbers ++ map number (cond b ((at, k) ∷ missing_from (k ∷ held) (suc at) ks more) (missing_from held (suc at) ks more))
@@ -71,13 +75,13 @@ module _ (held : List Key) (at : ℕ) (k : Key) (ks : List Key) (more : List Boo
       ∙ ap (λ (l : List Rule). numbers ++ at ∷ map number l) (same_missing (insert_key byte_order held k) (k ∷ held) (has_put held k) (suc at) ks more)
   next_by false later after e f = λ i. f i ++ map number (missing_from (e i) (suc at) ks more)
 
-pub next_rule : (keys : List Key) (active : List Bool) (at : ℕ) (k : Key) (a : Bool) (held later : List Key) (numbers after all : List ℕ) → drop at keys ≡ k ∷ drop (at + 1) keys → drop at active ≡ a ∷ drop (at + 1) active
-    → later ≡ cond (a && not (has_key held k)) (insert_key byte_order held k) held → after ≡ cond (a && not (has_key held k)) (numbers ++ at ∷ []) numbers
+pub next_rule : (keys : List Key) (active : List Bool) (at : ℕ) (k : Key) (a : Bool) (n : ℕ) (held later : List Key) (numbers after all : List ℕ) → n ≡ at → drop at keys ≡ k ∷ drop (at + 1) keys → drop at active ≡ a ∷ drop (at + 1) active
+    → later ≡ cond (a && not (has_key held k)) (insert_key byte_order held k) held → after ≡ cond (a && not (has_key held k)) (numbers ++ n ∷ []) numbers
     → numbers ++ map number (missing_from held at (drop at keys) (drop at active)) ≡ all
     → after ++ map number (missing_from later (at + 1) (drop (at + 1) keys) (drop (at + 1) active)) ≡ all
-next_rule keys active at k a held later numbers after all left still e f so_far =
+next_rule keys active at k a n held later numbers after all same left still e f so_far =
     ap (λ (n : ℕ). after ++ map number (missing_from later n (drop (at + 1) keys) (drop (at + 1) active))) (add-one at)
-    ∙ next_by held at k (drop (at + 1) keys) (drop (at + 1) active) numbers (a && not (has_key held k)) later after e f
+    ∙ next_by held at k (drop (at + 1) keys) (drop (at + 1) active) numbers (a && not (has_key held k)) later after e (f ∙ ap (λ (m : ℕ). cond (a && not (has_key held k)) (numbers ++ m ∷ []) numbers) same)
     ∙ (λ i. numbers ++ map number (missing_from held at (sym left i) (sym still i)))
     ∙ so_far
 
@@ -249,10 +253,12 @@ abbrev AreDistinct : List Rule → Type 0
 AreDistinct ms = IsDistinct is_same_key (map key_of ms)
 
 once_by : (held : List Key) (at : ℕ) (k : Key) (b : Bool) (fresh others : List Rule) → AllByRecursion (IsAway (k ∷ held)) (map key_of fresh) → AreDistinct fresh → AreDistinct others → AreDistinct (cond b ((at, k) ∷ fresh) others)
+unfolding IsDistinct
 once_by held at k true fresh others one d e = (all_map (IsAway (k ∷ held)) (λ q. is_same_key k q ≡ false) (map key_of fresh) (λ q x. (or_parts (is_at (byte_order q) k) (has_key held q) x).0) one, d)
 once_by held at k false fresh others one d e = e
 
 once : (held : List Key) (at : ℕ) (keys : List Key) (active : List Bool) → AreDistinct (missing_from held at keys active)
+unfolding IsDistinct
 once held at [] active = tt
 once held at (k ∷ ks) [] = tt
 once held at (k ∷ ks) (a ∷ more) =

@@ -1,5 +1,5 @@
 -- Results sorted by their first keys ascend strictly, where no two of these are one.
-use Rattle.std.proofs.Common.{◌≡◌, ℕ, zero, suc, ◌+◌, ◌<◌, Bool, true, false, List, [], ◌∷◌, length, map, get_or, refl, sym, ap, ◌∙◌, arith}
+use Rattle.std.proofs.Common.{◌≡◌, ℕ, suc, ◌+◌, Bool, true, false, List, [], ◌∷◌, map, get_or, refl, sym, ap, subst, ◌∙◌, arith}
 use Rattle.std.specs.List.{AllByRecursion, IsDistinct}
 use Rattle.std.specs.List.Sorted.{IsPermutation, IsSortedBy, IsStrictlySortedBy}
 use Rattle.std.specs.declared.cmp.Ordering.{Ordering}
@@ -11,7 +11,6 @@ use Rattle.std.proofs.lemmas.List.Sorted.{IsPermutation-map, ranks_by, sorted_fa
 use Rattle.std.proofs.lemmas.Map.Keys.{IsDistinct-IsPermutation}
 use Rattle.pj_cache.specs.Places.{byte_order}
 use Rattle.pj_fitting.specs.Right.{Key}
-use Rattle.pj_fitting.proofs.Lists.{all_both}
 use Rattle.pj_left_cache.specs.Missing.{is_same_key}
 
 eq_back : (o : Ordering) → is_eq (ordering_reverse o) ≡ is_eq o
@@ -41,11 +40,15 @@ module _ {A : Type 0} (f : A → Key) where
   above x (y ∷ ys) all apart = (below_by x y (byte_order (f x) (f y)) refl all.0 apart.0, above x ys all.1 apart.1)
 
   ascends : (xs : List A) → IsSortedBy is_before xs → IsDistinct is_same_key (map f xs) → IsStrictlySortedBy byte_order (map f xs)
-  unfolding IsStrictlySortedBy
+  unfolding IsStrictlySortedBy IsDistinct
   ascends [] up once = tt
   ascends (x ∷ xs) up once = (
     above x xs (recursion_from_All (λ y. is_before y x ≡ false) xs (λ k d small. sorted_far is_before (ranks_by nat_list_cmp_total f) (x ∷ xs) up 0 (suc k) d (omega arith) (omega (arith, small)))) once.0,
-    ascends xs (λ k d low high. up (suc k) d (omega arith) (omega (arith, high))) once.1,
+    ascends xs
+        (λ k d low high.
+        let next : suc k + 1 ≡ suc (k + 1) = omega arith in
+        subst (λ (n : ℕ). is_before (get_or (x ∷ xs) n d) (get_or xs k d) ≡ false) next (up (suc k) d (omega arith) (omega (arith, high))))
+        once.1,
   )
 
   -- so does a list in another order

@@ -1,14 +1,14 @@
 -- Rows by their keys, and what they say of rules.
-use Rattle.std.proofs.Common.{◌≡◌, ℕ, zero, suc, ◌≤◌, Bool, true, false, cond, List, [], ◌∷◌, ◌++◌, length, map, drop, Option, Some, None, refl, sym, ap, subst, ◌∙◌, arith}
+use Rattle.std.proofs.Common.{◌≡◌, ℕ, zero, suc, ◌+◌, ◌≤◌, Bool, true, false, cond, List, [], ◌∷◌, ◌++◌, length, map, drop, Option, Some, None, refl, sym, ap, ◌∙◌, arith}
 use Rattle.std.specs.Prelude.{is_some, min, nat_eq}
 use Rattle.std.specs.Cmp.Lexicographic.{bytes_decides, nat_list_cmp_total, pointwise}
 use Rattle.std.specs.Cmp.{tied_itself}
 use Rattle.std.specs.List.{flat_map}
-use Rattle.std.specs.Map.{lookup}
 use Rattle.std.specs.BTreeMap.{insert_entry, is_at}
 use Rattle.std.specs.declared.cmp.Ordering.{Ordering}
 use Rattle.std.specs.declared.cmp.Ordering.TheVariants.{Less, Equal, Greater}
 use Rattle.std.specs.Ordering.{is_eq, match_ordering}
+use Rattle.std.proofs.lemmas.List.{append_assoc}
 use Rattle.std.proofs.lemmas.List.Concat.{flat_map-cons}
 use Rattle.pj_cache.specs.Found.{first_named}
 use Rattle.pj_cache.specs.Places.{byte_order}
@@ -124,6 +124,13 @@ pub said_all : (rs : List CachedResult) (keys : List Key) (active : List Bool) �
 said_all rs [] active = refl
 said_all rs (k ∷ ks) [] = refl
 said_all rs (k ∷ ks) (a ∷ more) = λ i. said_by (row_groups rs k i) a ∷ said_all rs ks more i
+
+-- a step of the loop
+pub next_said : (rows : Rows) (keys : List Key) (active : List Bool) (i : ℕ) (k : Key) (a : Bool) (all after total : List Ruled) → drop i keys ≡ k ∷ drop (i + 1) keys → drop i active ≡ a ∷ drop (i + 1) active → after ≡ all ++ said_by (row_at rows k) a ∷ []
+    → all ++ said_from rows (drop i keys) (drop i active) ≡ total → after ++ said_from rows (drop (i + 1) keys) (drop (i + 1) active) ≡ total
+next_said rows keys active i k a all after total left still e so_far =
+    let rest : List Ruled = said_from rows (drop (i + 1) keys) (drop (i + 1) active) in
+    ap (λ (l : List Ruled). l ++ rest) e ∙ append_assoc all (said_by (row_at rows k) a ∷ []) rest ∙ (λ j. all ++ said_from rows (sym left j) (sym still j)) ∙ so_far
 
 none_said : (rows : Rows) (keys : List Key) → said_from rows keys [] ≡ []
 none_said rows [] = refl

@@ -1,13 +1,23 @@
 //! The cache that a run leaves.
-ghost use Rattle.std.specs.Prelude.{◌≡◌, []};
+ghost use Rattle.std.specs.Prelude.{◌≡◌, ◌++◌, ◌∷◌, [], IfOk};
 ghost use Rattle.pj_names.specs.Told.{Asks};
 ghost use Rattle.pj_left_cache.specs.Leaving.{answers_behind, left_cache};
 
-use pj_base::Copied;
+use pj_base::{Copied, NoMemory};
 use pj_cache::{Cache, Entries, SharedName};
 use pj_cache_format::names_of;
-use pj_names::{Answers, AskFault, Oracle};
+use pj_names::{Answer, Answers, AskFault, ClassName, Oracle};
 use std::alloc::Global;
+use std::sync::Arc;
+
+/// The answers, with that for another name behind them.
+fn with_answer(answers: Answers, name: &ClassName, now: Arc<Answer>) -> Result<Answers, NoMemory>
+    ensures { IfOk result (λ more. more ≡ answers ++ (name.now, now.value) ∷ []) }
+{
+    let mut answers = answers;
+    answers.push(name.copied()?, now)?;
+    Ok(answers)
+}
 
 /// The names with their answers, asked in their order.
 #[tactic(auto, using(pj_names::proofs::AskingLaws::asking_loops))]
@@ -22,7 +32,7 @@ fn answers_for<O: Oracle>(
     for name in names {
         let name = name.as_name();
         let now = oracle.ask(name)?;
-        answers.push(name.copied()?, now)?;
+        answers = with_answer(answers, name, now)?;
     }
     Ok(answers)
 }

@@ -1,5 +1,5 @@
 //! The rules for which a run makes new results at a file.
-ghost use Rattle.std.specs.Prelude.{◌≡◌, ◌++◌, ◌∷◌, ◌&&◌, not, [], IfOk, OnOk, map, if◌then◌else◌};
+ghost use Rattle.std.specs.Prelude.{◌≡◌, ◌++◌, ◌∷◌, ◌&&◌, not, [], IfOk, OnOk, map, min, if◌then◌else◌};
 ghost use Rattle.std.specs.BTreeSet.{insert_key};
 ghost use Rattle.pj_cache.specs.Places.{byte_order};
 ghost use Rattle.pj_reuse.specs.Serving.{has_key, with_keys};
@@ -28,6 +28,16 @@ fn note_results(held: &mut BTreeSet<Key>, results: &[CachedResult]) -> Result<()
         note_group(held, item.group.as_slice())?;
     }
     Ok(())
+}
+
+/// The smaller of two numbers.
+pub(crate) fn smaller(first: usize, second: usize) -> usize
+    ensures { result ≡ min first second }
+{
+    if first < second {
+        return first;
+    }
+    second
 }
 
 /// The number of a rule by its place; past 32 bits it wants memory.
@@ -71,7 +81,7 @@ fn numbers_besides(
 {
     let mut held = held;
     let mut numbers = Numbers::new(alloc);
-    let count = keys.len().min(is_active.len());
+    let count = smaller(keys.len(), is_active.len());
     for i in 0..count {
         let number = rule_number(i)?;
         note_rule(&mut held, &mut numbers, number, &keys[i], is_active[i])?;

@@ -1,8 +1,8 @@
 //! What the results of a file say of each rule.
 ghost use Rattle.std.specs.Prelude.{◌≡◌, [], IfOk, OnOk};
-ghost use Rattle.std.specs.Option.{option_copied};
 ghost use Rattle.pj_left_cache.specs.Said.{row_at, said_by, said_from, said_of_rules, with_group, with_groups, with_row};
 
+use crate::missing::smaller;
 use pj_base::{Copied, ListOf, NoMemory};
 use pj_cache::{CachedResult, Key, KeyRows};
 use pj_reports::{Ruled, Spots};
@@ -44,14 +44,19 @@ fn note_groups(held: &mut BTreeMap<Key, KeyRows>, results: &[CachedResult]) -> R
     Ok(())
 }
 
-/// What is said of a rule where this is the row of its key.
-fn said_by(alloc: Global, row: Option<&KeyRows>, is_active: bool) -> Result<Ruled, NoMemory>
-    ensures { IfOk result (λ said. said ≡ said_by (option_copied row) is_active) }
+/// What rows by their keys say of a rule: nothing, where it is not active or there is no row of its key.
+fn said_of(
+    alloc: Global,
+    rows: &BTreeMap<Key, KeyRows>,
+    key: &Key,
+    is_active: bool,
+) -> Result<Ruled, NoMemory>
+    ensures { IfOk result (λ said. said ≡ said_by (row_at rows.now.entries key.now) is_active) }
 {
     if !is_active {
         return Ok(Ruled::Spots(Spots::new(alloc)));
     }
-    match row {
+    match rows.get(key) {
         Some(row) => Ok(row.copied()?.rows),
         None => Ok(Ruled::Spots(Spots::new(alloc))),
     }
@@ -67,9 +72,9 @@ fn said_from(
     ensures { IfOk result (λ all. all ≡ said_from rows.now.entries keys.now is_active.now) }
 {
     let mut all = RuledList::new(alloc);
-    let count = keys.len().min(is_active.len());
+    let count = smaller(keys.len(), is_active.len());
     for i in 0..count {
-        let said = said_by(alloc, rows.get(&keys[i]), is_active[i])?;
+        let said = said_of(alloc, rows, &keys[i], is_active[i])?;
         all.push(said)?;
     }
     Ok(all)

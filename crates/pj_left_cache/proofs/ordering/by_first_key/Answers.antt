@@ -1,4 +1,4 @@
-use Rattle.std.proofs.Common.{rules, List, map, sym, ap, subst, ◌∙◌}
+use Rattle.std.proofs.Common.{rules, List, map, sym, subst}
 use Rattle.std.specs.List.{IsDistinct}
 use Rattle.std.specs.List.Sorted.{IsPermutation, IsStrictlySortedBy}
 use Rattle.std.specs.Cmp.Lexicographic.{nat_list_cmp_total}

@@ -1,0 +1,7 @@
+pub mod WholeOne
+pub mod KeyLaws
+pub mod RowLaws
+pub mod OldLaws
+pub mod AnyLaws
+pub mod Split
+pub mod Written
