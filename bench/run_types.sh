@@ -1,7 +1,7 @@
 #!/usr/bin/env bash
 # Rules that ask for types, over real sources and the classes of the JDK.
 #
-#   bench/types.sh FOLDER [N]     FOLDER as the module java.base of a JDK's sources, unpacked
+#   bench/run_types.sh FOLDER [N]     FOLDER as the module java.base of a JDK's sources, unpacked
 #
 # It runs the ten rules of examples/rulesets/types.xml over every 8th, every 4th, every second and all of every Nth file of the folder (all of them
 # without N), with a class folder, into which `jimage extract` puts the classes of java.base, and without one. Beside these it runs
