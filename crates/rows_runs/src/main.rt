@@ -19,7 +19,7 @@ use sources::Sources;
 use std::process::ExitCode;
 
 /// The files of whole runs.
-static RUNS: [&str; 10] = [
+static RUNS: [&str; 12] = [
     "queries.rows",
     "rulesets.rows",
     "paths.rows",
@@ -29,6 +29,8 @@ static RUNS: [&str; 10] = [
     "calls.rows",
     "classes.rows",
     "functions.rows",
+    "function_calls.rows",
+    "signatures.rows",
     "work.rows",
 ];
 

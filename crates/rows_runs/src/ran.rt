@@ -3,7 +3,7 @@ use crate::calls::Failing;
 use crate::classes::{CountedClasses, classes_of};
 use pj_base::{NoMemory, Numbers, Words};
 use pj_check::{Outcome, check_alone};
-use pj_outside::{Files, MemKeeper, MemSink, MemTree};
+use pj_outside::{Files, Keeper, MemKeeper, MemSink, MemTree};
 use pj_row_folders::tree_of;
 use pj_workers::Work;
 use std::alloc::Global;
@@ -21,6 +21,27 @@ pub struct Ran {
     pub work: Work,
     /// The class path.
     pub classes: CountedClasses,
+    keeper: MemKeeper,
+}
+
+/// A name of the keeper, and what it has there before a run.
+static KEPT: (&str, &[u8]) = ("c", b"kept");
+
+impl Ran {
+    /// Whether the keeper has what it had before the run.
+    pub fn keeps(&self) -> bool {
+        match self.keeper.get(KEPT.0) {
+            Some(bytes) => bytes.as_slice() == KEPT.1,
+            None => false,
+        }
+    }
+}
+
+/// A keeper that has something.
+fn keeper_of(alloc: Global) -> MemKeeper {
+    let mut keeper = MemKeeper::new(alloc, Numbers::new(alloc));
+    let _ = keeper.replace(KEPT.0, KEPT.1);
+    keeper
 }
 
 /// A sink whose call of this number fails. Calls are counted from 1.
@@ -39,7 +60,7 @@ fn run_into(
     mut report: MemSink,
     mut notes: MemSink,
 ) -> Ran {
-    let mut keeper = MemKeeper::new(alloc, Numbers::new(alloc));
+    let mut keeper = keeper_of(alloc);
     let mut work = Work::new(alloc);
     let outcome = check_alone(
         alloc,
@@ -57,6 +78,7 @@ fn run_into(
         notes,
         work,
         classes,
+        keeper,
     }
 }
 

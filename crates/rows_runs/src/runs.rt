@@ -72,13 +72,16 @@ fn put_ran(out: &mut String, ran: &Ran) -> Result<(), NoMemory> {
     put_sink(out, "", &ran.report)
 }
 
-/// What a section asks of a run.
+/// What a section asks of a run, and below it that the keeper has not what it had, where that is so.
 fn told(alloc: Global, section: &Section, ran: &Ran) -> Result<String, NoMemory> {
     let mut out = String::new(alloc);
     match section.setting("asks") {
         Some("work") => put_work(&mut out, &ran.work)?,
         Some("doors") => put_doors(&mut out, ran)?,
         _ => put_ran(&mut out, ran)?,
+    }
+    if !ran.keeps() {
+        put(&mut out, &["\nkeeper changed"])?;
     }
     Ok(out)
 }

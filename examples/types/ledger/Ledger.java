@@ -6,7 +6,6 @@ import java.text.SimpleDateFormat;
 import java.util.ArrayList;
 import java.util.Date;
 import java.util.List;
-import java.util.Vector;
 import org.junit.jupiter.api.Test;
 import org.slf4j.Logger;
 import org.slf4j.LoggerFactory;
@@ -34,9 +33,14 @@ class Ledger {
         }
     }
 
-    void old(Vector<Date> all) {
-        var copy = all;
-        LOG.info("dates {}", copy);
+    /** @deprecated {@link #share(BigDecimal)} keeps what is written. */
+    @Deprecated
+    BigDecimal share(double sum) {
+        return share(BigDecimal.valueOf(sum));
+    }
+
+    void log(BigDecimal sum) {
+        LOG.info("{} {}", share(sum), share(2.5));
     }
 
     @Test
