@@ -1,7 +1,8 @@
 -- What is loaded is found, and what is left fits.
-use Rattle.std.proofs.Common.{◌≡◌, ◌≤◌, ◌<◌, ◌⊎◌, inl, inr, ℕ, Bool, true, false, List, [], length, Option, Some, None, Result, Ok, Err, nat_lt, refl, ap, sym, subst, arith}
+use Rattle.std.proofs.Common.{◌≡◌, ◌∙◌, ◌≤◌, ◌<◌, ◌⊎◌, inl, inr, ℕ, Bool, true, false, List, [], length, Option, Some, None, Result, Ok, Err, nat_lt, refl, ap, sym, subst, arith}
 use Rattle.std.specs.Prelude.{if◌then◌else◌}
 use Rattle.std.proofs.lemmas.Bool.{ltb-false, ltb-true}
+use Rattle.std.proofs.lemmas.List.Elements.{All-from_recursion}
 use Rattle.pj_outside.specs.Files.{reading_of}
 use Rattle.pj_outside.specs.declared.refused.Reading.{Reading}
 use Rattle.pj_outside.specs.declared.refused.Reading.TheVariants as reading
@@ -12,12 +13,13 @@ use Rattle.pj_cache_format.specs.declared.fault.CacheFault.{CacheFault}
 use Rattle.pj_cache_format.specs.declared.fault.CacheRefused.{CacheRefused}
 use Rattle.pj_cache_format.specs.declared.fault.CacheRefused.TheVariants as refused
 use Rattle.pj_cache_format.specs.Decoded.{IsDecoded, IsStored, text_two}
-use Rattle.pj_cache_format.specs.Fitting.{FitsFields}
+use Rattle.pj_cache_format.specs.Fitting.{FitsEntry, FitsFields, FitsNamed, HasRoom}
+use Rattle.pj_cache_format.specs.FormatTwo.{keys_of}
 use Rattle.pj_cache_format.specs.Ordered.{IsInOrder}
 use Rattle.pj_cache_format.proofs.StoredLaws.{one_answer}
 use Rattle.pj_fitting.specs.Fits.{CacheFits, IsFound, IsReadable, empty, limit}
 use Rattle.pj_fitting.specs.Left.{File, IsLeftCache}
-use Rattle.pj_fitting.specs.Right.{Files, IsRightCache}
+use Rattle.pj_fitting.specs.Right.{Files, IsRightEntry}
 use Rattle.pj_fitting.proofs.Fits.{left_fits, right_fits}
 use Rattle.pj_cache_store.specs.Leaving.{text_to_leave}
 use Rattle.pj_cache_store.specs.Loading.{IsLoaded, IsTaken, IsTakenOf}
@@ -62,11 +64,15 @@ empty_in_order : IsInOrder empty
 empty_in_order = record { answers = tt; entries = tt; named = refl }
 
 empty_fits : FitsFields empty
-empty_fits = record { keys = (arith, tt); answers = (arith, tt); entries = (arith, tt) }
+empty_fits = record {
+  keys = (omega arith, All-from_recursion (λ (key : List ℕ). HasRoom key) (keys_of empty.entries) tt);
+  answers = (omega arith, All-from_recursion FitsNamed empty.answers tt);
+  entries = (omega arith, All-from_recursion FitsEntry empty.entries tt);
+}
 
 module _ {R : Type 0} (files : Files R) where
   text_fits : (c : Cache) (long : Bool) → CacheFits files (Some (text_two c)) → CacheFits files (Some (if long then text_two empty else text_two c))
-  text_fits c true fits = right_fits files empty empty_in_order empty_fits tt
+  text_fits c true fits = right_fits files empty empty_in_order empty_fits (All-from_recursion (IsRightEntry files empty.answers) empty.entries tt)
   text_fits c false fits = fits
 
   pub left_text_fits : (world : Name → Answer) (content : Option (List ℕ)) (found : Cache) (held : List R) (list : List File) (c : Cache)

@@ -1,5 +1,5 @@
 -- What a run takes for its cache.
-use Rattle.std.specs.Prelude.{⊥, ◌≡◌, ◌⊎◌, ℕ, List, Option, Some, None, Err}
+use Rattle.std.specs.Prelude.{◌≡◌, ◌⊎◌, ℕ, List, Option, Some, None, Err}
 use Rattle.pj_outside.specs.Faults.{Rises}
 use Rattle.pj_outside.specs.declared.refused.Reading.{Reading}
 use Rattle.pj_outside.specs.declared.refused.Reading.TheVariants as reading
