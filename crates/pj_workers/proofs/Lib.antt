@@ -21,5 +21,6 @@ pub mod Kept
 pub mod Resting
 pub mod Activity
 pub mod Running
+pub mod Chosen
 pub mod Parsed
 pub mod Rows
