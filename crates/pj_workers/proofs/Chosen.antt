@@ -2,7 +2,7 @@
 use Rattle.std.proofs.Common.{◌≡◌, ◌≤◌, ◌<◌, ◌+◌, ◌++◌, ◌∙◌, ℕ, zero, suc, List, [], ◌∷◌, Option, Some, None, Result, Ok, Err, ap, arith, get_or, length, refl, slice_get, subst, sym}
 use Rattle.std.proofs.lemmas.List.Elements.{All-head, All-tail, All-from_get_or}
 use Rattle.std.proofs.lemmas.List.FromFn.{get_or-range_with_len, length-range_with_len}
-use Rattle.std.specs.List.{All, AllZip, cons_option, filter_map, range_with_len}
+use Rattle.std.specs.List.{All, AllZip, cons_option, range_with_len}
 use Rattle.pj_findings.specs.Merged.{merge}
 use Rattle.pj_names.specs.Asking.{Return, bind, each}
 use Rattle.pj_outside.specs.Files.{Bytes}

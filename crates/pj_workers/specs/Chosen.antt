@@ -1,5 +1,5 @@
 -- What rules of some numbers come to at a file: each of them alone, in the order of the numbers.
-use Rattle.std.specs.Prelude.{ℕ, List, Result, length, slice_get}
+use Rattle.std.specs.Prelude.{ℕ, List, Result, slice_get}
 use Rattle.std.specs.List.{filter_map, range_with_len}
 use Rattle.pj_names.specs.Asking.{Asking, each}
 use Rattle.pj_outside.specs.Files.{Bytes}
