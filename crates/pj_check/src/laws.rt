@@ -5,8 +5,8 @@ use pj_rule_laws::rules_or_first_fault;
 use pj_rules::{one_first_fault, one_set, rules_are_sound, rules_or_fault};
 use pj_sources::{one_listing, one_reading};
 use pj_workers::{
-    cold_reports_are_in_order, cold_reports_find_what_is_denoted, one_cold_report, rules_are_their_texts, settled_cold_report,
-    what_rules_mean_settles,
+    cold_reports_are_in_order, cold_reports_find_what_is_denoted, one_cold_report,
+    rules_are_their_texts, settled_cold_report, what_rules_mean_settles,
 };
 
 /// Words and files that have a run are not refused.

@@ -22,5 +22,6 @@ pub mod Kept
 pub mod Resting
 pub mod Activity
 pub mod Running
+pub mod Chosen
 pub mod Parsed
 pub mod Rows

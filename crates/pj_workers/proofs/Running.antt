@@ -28,7 +28,7 @@ pub record StandsAt {X : Type 0} (xs : List X) (i : ℕ) (x : X) : Type 0 where
   pub left : drop i xs ≡ x ∷ drop (suc i) xs
   pub taken : take (suc i) xs ≡ take i xs ++ x ∷ []
 
-later : {X : Type 0} (x y : X) (xs : List X) (i : ℕ) → StandsAt xs i x → StandsAt (y ∷ xs) (suc i) x
+pub later : {X : Type 0} (x y : X) (xs : List X) (i : ℕ) → StandsAt xs i x → StandsAt (y ∷ xs) (suc i) x
 later x y xs i at = record { left = at.left; taken = ap (λ l. y ∷ l) at.taken }
 
 pub stands : {X : Type 0} (xs : List X) (i : ℕ) (x : X) → i < length xs → x ≡ get_or xs i x → StandsAt xs i x

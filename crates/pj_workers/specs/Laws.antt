@@ -8,11 +8,11 @@ use Rattle.pj_lex.specs.declared.token.Token.{Token}
 use Rattle.pj_suppress.specs.Marks as marks
 use Rattle.pj_suppress.specs.Words.{Text}
 use Rattle.pj_findings.specs.Laws.{IsAscending, error_order, finding_order, is_of}
-use Rattle.pj_findings.specs.Merged.{error_by, finding_of, found_by, only_error}
+use Rattle.pj_findings.specs.Merged.{error_by, finding_of, found_by, merge, only_error}
 use Rattle.pj_findings.specs.Extents.{extent_of}
 use Rattle.pj_findings.specs.Messages.{rule_message}
 use Rattle.pj_reports.specs.declared.ruled.Spot.{Spot}
-use Rattle.pj_names.specs.Asking.{Return, names_of, value_of}
+use Rattle.pj_names.specs.Asking.{Return, bind, names_of, value_of}
 use Rattle.pj_outside.specs.Files.{Bytes, Files}
 use Rattle.pj_parse.specs.FileOutcome.{outcome_of}
 use Rattle.pj_parse.specs.JavaFile.{JavaFile}
@@ -32,10 +32,11 @@ use Rattle.pj_xvalue.specs.Items.{ItemValue, Element}
 use Rattle.pj_xvalue.specs.declared.fault.XCode.{XCode}
 use Rattle.pj_names.specs.declared.rule_row.ConfigError.{ConfigError}
 use Rattle.pj_workers.specs.Calls.{RuleCallsOnly, asks_nothing}
+use Rattle.pj_workers.specs.Chosen.{chosen_meaning, numbers_to}
 use Rattle.pj_workers.specs.Cold.{FileSettles, IsCold, SourceSettles, World}
 use Rattle.pj_parse.specs.Messages.{fault_message}
 use Rattle.pj_workers.specs.FileFacts.{place_of}
-use Rattle.pj_workers.specs.FileMeaning.{Replies, file_meaning, nothing, rule_meaning}
+use Rattle.pj_workers.specs.FileMeaning.{Replies, file_meaning, head_of, nothing, rule_meaning}
 use Rattle.pj_workers.specs.JavaReplies.{java_replies}
 use Rattle.pj_workers.specs.Marked.{is_marked}
 use Rattle.pj_workers.specs.RuleFacts.{IsFirstCode, IsUncovered, items_in, reason_in}
@@ -138,6 +139,11 @@ PackagesAreOfTrees = (replies : Replies) (world : World) (depth : ℕ) (path byt
 abbrev pub NamesAreTheirRules : Type 0
 NamesAreTheirRules = (replies : Replies) (world : World) (depth : ℕ) (path bytes : Bytes) (rules : List Rule)
     → names_of depth world (file_meaning replies path bytes rules) ≡ flat_map (λ rule. names_of depth world (rule_meaning replies path bytes rule)) rules
+
+-- What the rules of all numbers come to, one after the other, is merged with the head of the file to what they mean together there.
+abbrev pub ChosenAreFile : Type 0
+ChosenAreFile = (replies : Replies) (path bytes : Bytes) (rules : List Rule)
+    → file_meaning replies path bytes rules ≡ bind (chosen_meaning replies path bytes (numbers_to (length rules)) rules) (λ results. Return (merge (head_of (outcome_of bytes)) results))
 
 -- ---- what a rule comes to in a file
 

@@ -8,6 +8,7 @@ pub mod FileMeaning
 pub mod JavaReplies
 pub mod Calls
 pub mod Results
+pub mod Chosen
 pub mod Cold
 pub mod RuleFacts
 pub mod Plain

@@ -30,7 +30,8 @@ use Rattle.pj_tree.specs.declared.node.Node.{Node}
 use Rattle.pj_xsteps.specs.Means.{Means, give, ◌>>=◌}
 use Rattle.pj_parse.specs.Messages.{fault_message}
 use Rattle.pj_outside.specs.Files.{Bytes}
-use Rattle.pj_workers.specs.FileMeaning.{file_at, head_of, nothing, rule_at}
+use Rattle.pj_workers.specs.Chosen.{chosen, chosen_at}
+use Rattle.pj_workers.specs.FileMeaning.{head_of, nothing, rule_at}
 use Rattle.pj_workers.specs.Marked.{is_marked}
 use Rattle.pj_workers.specs.JavaReplies.{java_replies}
 use Rattle.pj_workers.specs.Results.{RestsOn, came_to, rules_in}
@@ -87,14 +88,15 @@ found_there reply file rule n = reason_at reply file rule n >>= λ why. give (fo
 abbrev pub rows_by : FileRuns → FileRows
 rows_by found = merge found.head (came_to found.runs)
 
--- It asks what the rules of the set mean together at a file with this outcome.
-abbrev pub AsksOf : {K : Type 0} → EffectiveRules → Bytes → Result JavaFile FileFault → Told K → Told K → Result FileRuns AskFault → Type 0
-AsksOf set path outcome old new result = (rules : List Rule) → AreRulesOf set rules → Asks (file_at java_replies path outcome rules) old new (seen rows_by result)
+-- It asks what the rules of these numbers of the set come to at a file with this outcome.
+abbrev pub AsksOf : {K : Type 0} → EffectiveRules → List ℕ → Bytes → Result JavaFile FileFault → Told K → Told K → Result FileRuns AskFault → Type 0
+AsksOf set numbers path outcome old new result =
+    (rules : List Rule) → AreRulesOf set rules → Asks (chosen_at java_replies path outcome numbers rules) old new (seen (λ (found : FileRuns). came_to found.runs) result)
 
--- What is said of a file with this outcome, and what the rules of the set come to in it.
-pub record AreRunsOf {K : Type 0} (set : EffectiveRules) (path : Bytes) (outcome : Result JavaFile FileFault) (told : Told K) (found : FileRuns) : Type 0 where
+-- What is said of a file with this outcome, and what the rules of these numbers of the set come to in it.
+pub record AreRunsOf {K : Type 0} (set : EffectiveRules) (numbers : List ℕ) (path : Bytes) (outcome : Result JavaFile FileFault) (told : Told K) (found : FileRuns) : Type 0 where
   pub head : found.head ≡ head_of outcome
-  pub runs : (rules : List Rule) → AreRulesOf set rules → AllZip (λ rule run. RestsOn told (rule_at java_replies path outcome rule) run.rows run.names) (rules_in outcome rules) found.runs
+  pub runs : (rules : List Rule) → AreRulesOf set rules → AllZip (λ rule run. RestsOn told (rule_at java_replies path outcome rule) run.rows run.names) (rules_in outcome (chosen numbers rules)) found.runs
 
 -- Of a file that was refused is said why, and no rule comes to anything.
 abbrev pub IsErrorOf : FileRefused → FileRuns → Type 0

@@ -1,25 +1,56 @@
 //! The analysis of a file, and of files one after the other.
-ghost use Rattle.std.specs.Prelude.{◌≡◌, ◌++◌, ◌∷◌, [], List, IfOk, OnOk, OnErr, map};
-ghost use Rattle.std.specs.List.{AllZip};
+ghost use Rattle.std.specs.Prelude.{◌≡◌, ◌<◌, ◌++◌, ◌∷◌, [], List, IfOk, OnOk, OnErr, length, map};
+ghost use Rattle.std.specs.List.{All, AllZip};
 ghost use Rattle.pj_grammar.specs.Java17.{java_17_forms};
 ghost use Rattle.pj_names.specs.Asking.{each};
 ghost use Rattle.pj_names.specs.Told.{Asks, seen};
+ghost use Rattle.pj_parse.specs.FileOutcome.{outcome_of};
 ghost use Rattle.pj_peg_grammar.specs.Form.{forms_of};
-ghost use Rattle.pj_workers.specs.FileMeaning.{file_meaning};
+ghost use Rattle.pj_workers.specs.Chosen.{chosen, chosen_meaning};
+ghost use Rattle.pj_workers.specs.FileMeaning.{file_meaning, head_of, rule_meaning};
 ghost use Rattle.pj_workers.specs.JavaReplies.{java_replies};
-ghost use Rattle.pj_workers.specs.Results.{IsResultAt, IsResultOf};
+ghost use Rattle.pj_workers.specs.Results.{IsResultAt, IsResultOf, RestsOn, came_to, rules_in};
 ghost use Rattle.pj_workers.specs.Rules.{AreRulesOf, Rule as MeantRule};
 
 use crate::file::bytes_runs;
 use crate::names::result_of;
-use crate::result::{FileResult, PathResults};
+use crate::numbers::all_numbers;
+use crate::result::{FileResult, FileRuns, PathResults};
 use crate::work::Work;
-use pj_base::{Bytes, Copied, Names, NoMemory, Text};
+use pj_base::{Bytes, Copied, Names, NoMemory, Numbers, Text};
 use pj_grammar::java_17;
 use pj_names::{AskFault, Oracle};
 use pj_peg::WellFormed;
 use pj_rule_sets::RuleSet;
 use std::alloc::Global;
+
+/// The head of a file of this path and these bytes, and what the rules of these numbers, from 0, come to in it, by a grammar that is made once for
+/// many files. The runs stand in the order of the numbers, each with the names that its rule alone asks. A rule that is not active comes to no node and asks
+/// nothing; a file without a tree has the message of its error as head, and no runs, and asks nothing. Memory is wanted for a file of more than
+/// 4,294,967,294 bytes, too. That the file was analysed is noted by the caller.
+///
+/// The conditions are that the grammar is that of Java 17, and that there are rules of these numbers.
+pub fn analyse_rules<O: Oracle>(
+    alloc: Global,
+    grammar: &WellFormed,
+    oracle: &mut O,
+    path: &Text,
+    bytes: &Bytes,
+    rules: &RuleSet,
+    which: &Numbers,
+) -> Result<FileRuns, AskFault>
+    requires grammar { forms_of grammar.now ≡ java_17_forms }
+    requires numbers { All (λ number. number < length rules.now.rules) which.now }
+    // The runs are what the rules of these numbers mean at the file, by the rules that the texts of the set spell, and just their names are asked.
+    ensures asks { (meant : List MeantRule) → AreRulesOf rules.now meant
+        → Asks (chosen_meaning java_replies path.now bytes.now which.now meant) (O.tells oracle.old) (O.tells oracle.new) (seen (λ found. came_to found.runs) result) }
+    ensures head { IfOk result (λ found. found.head ≡ head_of (outcome_of bytes.now)) }
+    // The names of each rule are those on which its rows rest.
+    ensures found { IfOk result (λ found. (meant : List MeantRule) → AreRulesOf rules.now meant
+        → AllZip (λ rule run. RestsOn (O.tells oracle.old) (rule_meaning java_replies path.now bytes.now rule) run.rows run.names) (rules_in (outcome_of bytes.now) (chosen which.now meant)) found.runs) }
+{
+    bytes_runs(alloc, grammar, path, bytes, rules, which.as_slice(), oracle)
+}
 
 /// What the rules of a set find in a file, by a grammar that is made once for many files.
 fn analyse_by<O: Oracle>(
@@ -35,7 +66,8 @@ fn analyse_by<O: Oracle>(
         → Asks (file_meaning java_replies path.now bytes.now meant) (O.tells oracle.old) (O.tells oracle.new) (seen (λ found. found.rows) result) }
     ensures found { IfOk result (λ found. (meant : List MeantRule) → AreRulesOf rules.now meant → IsResultOf (O.tells oracle.old) java_replies path.now bytes.now meant found) }
 {
-    let runs = bytes_runs(alloc, grammar, path, bytes, rules, oracle)?;
+    let which = all_numbers(alloc, rules.rules().len())?;
+    let runs = bytes_runs(alloc, grammar, path, bytes, rules, which.as_slice(), oracle)?;
     Ok(result_of(alloc, runs)?)
 }
 

@@ -1,6 +1,6 @@
-//! What the rules of a set find in a file.
-ghost use Rattle.std.specs.Prelude.{◌≡◌, Ok, IfOk};
-ghost use Rattle.std.specs.List.{AllByRecursion};
+//! What rules of a set come to in a file.
+ghost use Rattle.std.specs.Prelude.{◌≡◌, ◌<◌, Ok, IfOk, length};
+ghost use Rattle.std.specs.List.{All, AllByRecursion};
 ghost use Rattle.std.specs.Str.{IsUtf8};
 ghost use Rattle.pj_grammar.specs.Java17.{java_17_forms};
 ghost use Rattle.pj_parse.specs.FileOutcome.{outcome_of};
@@ -39,11 +39,12 @@ fn package_head(alloc: Global, name: &str) -> Result<Head, NoMemory>
     Ok(Head::Package(Text::from_str(alloc, name)?))
 }
 
-/// What is said of a file of which this is seen, and what the rules come to in it.
+/// What is said of a file of which this is seen, and what the rules of these numbers come to in it.
 fn view_runs<'t, O: Oracle>(
     file: &'t FileView<'t>,
     java: &'t File<'_>,
     rules: &'t RuleSet,
+    which: &[u32],
     name: &str,
     oracle: &mut O,
 ) -> Result<FileRuns, AskFault>
@@ -51,11 +52,12 @@ fn view_runs<'t, O: Oracle>(
     requires java { java.now ≡ (file_seen file.now).tree }
     requires marker { file.now.marker.now ≡ rules.now.marker }
     requires name { name.now ≡ package_name (file_seen file.now).tree }
-    ensures asks { AsksOf rules.now file.now.path.now (Ok (file_seen file.now)) (O.tells oracle.old) (O.tells oracle.new) result }
-    ensures runs { IfOk result (AreRunsOf rules.now file.now.path.now (Ok (file_seen file.now)) (O.tells oracle.old)) }
+    requires numbers { All (λ number. number < length rules.now.rules) which.now }
+    ensures asks { AsksOf rules.now which.now file.now.path.now (Ok (file_seen file.now)) (O.tells oracle.old) (O.tells oracle.new) result }
+    ensures runs { IfOk result (AreRunsOf rules.now which.now file.now.path.now (Ok (file_seen file.now)) (O.tells oracle.old)) }
 {
     let head = package_head(file.alloc, name)?;
-    let runs = rule_runs(file, java, rules.rules().as_slice(), oracle)?;
+    let runs = rule_runs(file, java, rules.rules().as_slice(), which, oracle)?;
     Ok(FileRuns { head, runs })
 }
 
@@ -82,14 +84,16 @@ fn parsed_runs<'t, O: Oracle>(
     source: &'t Source,
     parsed: &'t Parsed<'t>,
     rules: &'t RuleSet,
+    which: &[u32],
     oracle: &mut O,
 ) -> Result<FileRuns, AskFault>
     requires parses { Parses source.now.text (Ok (file_parsed parsed.now)) }
     requires text { parsed.now.tree.text ≡ source.now.text }
     requires pool { parsed.now.pool ≡ pool_of parsed.now.tree }
     requires pool_texts { IsPoolOf parsed.now.tree parsed.now.pool }
-    ensures asks { AsksOf rules.now path.now (Ok (java_file_seen source.now parsed.now)) (O.tells oracle.old) (O.tells oracle.new) result }
-    ensures runs { IfOk result (AreRunsOf rules.now path.now (Ok (java_file_seen source.now parsed.now)) (O.tells oracle.old)) }
+    requires numbers { All (λ number. number < length rules.now.rules) which.now }
+    ensures asks { AsksOf rules.now which.now path.now (Ok (java_file_seen source.now parsed.now)) (O.tells oracle.old) (O.tells oracle.new) result }
+    ensures runs { IfOk result (AreRunsOf rules.now which.now path.now (Ok (java_file_seen source.now parsed.now)) (O.tells oracle.old)) }
 {
     tokens_are_in_order(source.text(), parsed);
     tokens_are_texts(parsed.tokens.as_slice());
@@ -107,7 +111,7 @@ fn parsed_runs<'t, O: Oracle>(
         marker,
         marked: &marked,
     };
-    view_runs(&file, &java, rules, symbols.package_name(), oracle)
+    view_runs(&file, &java, rules, which, symbols.package_name(), oracle)
 }
 
 /// What is said of a file with this fault: no rule comes to anything.
@@ -134,18 +138,20 @@ fn refused_runs(alloc: Global, refused: FileRefused) -> Result<FileRuns, NoMemor
 /// The most bytes that a file may have: the offsets into it are of 32 bits.
 const MOST_BYTES: usize = 4_294_967_294;
 
-/// What is said of a file of these bytes, and what the rules come to in it. More than `MOST_BYTES` want memory.
+/// What is said of a file of these bytes, and what the rules of these numbers come to in it. More than `MOST_BYTES` want memory.
 pub fn bytes_runs<O: Oracle>(
     alloc: Global,
     grammar: &WellFormed,
     path: &Text,
     bytes: &Bytes,
     rules: &RuleSet,
+    which: &[u32],
     oracle: &mut O,
 ) -> Result<FileRuns, AskFault>
-    requires { forms_of grammar.now ≡ java_17_forms }
-    ensures asks { AsksOf rules.now path.now (outcome_of bytes.now) (O.tells oracle.old) (O.tells oracle.new) result }
-    ensures runs { IfOk result (AreRunsOf rules.now path.now (outcome_of bytes.now) (O.tells oracle.old)) }
+    requires grammar { forms_of grammar.now ≡ java_17_forms }
+    requires numbers { All (λ number. number < length rules.now.rules) which.now }
+    ensures asks { AsksOf rules.now which.now path.now (outcome_of bytes.now) (O.tells oracle.old) (O.tells oracle.new) result }
+    ensures runs { IfOk result (AreRunsOf rules.now which.now path.now (outcome_of bytes.now) (O.tells oracle.old)) }
 {
     file_has_one_outcome();
     if bytes.len() > MOST_BYTES {
@@ -156,7 +162,7 @@ pub fn bytes_runs<O: Oracle>(
         Err(refused) => return Ok(refused_runs(alloc, refused)?),
     };
     match parse_file_by(alloc, grammar, &source) {
-        Ok(parsed) => parsed_runs(alloc, path, &source, &parsed, rules, oracle),
+        Ok(parsed) => parsed_runs(alloc, path, &source, &parsed, rules, which, oracle),
         Err(refused) => Ok(refused_runs(alloc, refused)?),
     }
 }

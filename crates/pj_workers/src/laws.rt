@@ -1,7 +1,7 @@
 //! Laws of the definitions, each the contract of a call that does nothing.
 ghost use Rattle.std.specs.Prelude.{List};
 ghost use Rattle.pj_workers.specs.Rules.{AreRulesOf, Rule};
-ghost use Rattle.pj_workers.specs.Laws.{ColdFindsWhatIsDenoted, ColdIsInOrder, ErrorsHaveRules, ErrorsTellCodes, FilesAreInOrder, FilesAreTheirRules, FindingsAreDenoted, FindingsHaveRules, FoundAreDenoted, InactiveIsNothing, ListsAreTexts, MarksAreOne, MessagesTellCodes, NamesAreTheirRules, NoTreeIsOneError, OneCold, OnlyTypesAsk, PackagesAreOfTrees, RuleAscends, RulesAreTexts, SettleByReplies, SettleWithoutTypes, SettledCold, SomeCold, SpotsAreNodes, SpotsHaveReasons};
+ghost use Rattle.pj_workers.specs.Laws.{ChosenAreFile, ColdFindsWhatIsDenoted, ColdIsInOrder, ErrorsHaveRules, ErrorsTellCodes, FilesAreInOrder, FilesAreTheirRules, FindingsAreDenoted, FindingsHaveRules, FoundAreDenoted, InactiveIsNothing, ListsAreTexts, MarksAreOne, MessagesTellCodes, NamesAreTheirRules, NoTreeIsOneError, OneCold, OnlyTypesAsk, PackagesAreOfTrees, RuleAscends, RulesAreTexts, SettleByReplies, SettleWithoutTypes, SettledCold, SomeCold, SpotsAreNodes, SpotsHaveReasons};
 
 use pj_findings::{errors_are_the_rules, findings_are_the_rules, nodes_are_the_items};
 use pj_rule_sets::RuleSet;
@@ -42,6 +42,12 @@ pub fn files_are_their_rules()
     findings_are_the_rules();
     errors_are_the_rules();
 }
+
+/// What all rules of a list come to at a file, one after the other, is merged with the file's head to what they mean together there. So the runs of rules
+/// by their numbers are the parts of the file's meaning.
+pub fn chosen_rules_are_the_file()
+    ensures { ChosenAreFile }
+{}
 
 /// The nodes that a rule finds in a file are the elements that its query denotes there, each with the first reason that covers the finding,
 /// and without one exactly where nothing covers it. The rule comes to a message exactly where its query, an item of it or a reason gives a code,

@@ -19,11 +19,12 @@ pub struct FileResult {
 /// What comes of files, each with its path, in their order.
 pub type PathResults = ListOf<(Text, FileResult)>;
 
-/// What is said of a file, and what each rule came to in it.
+/// What is said of a file, and what rules came to in it.
 #[derive(Drop)]
 pub struct FileRuns {
     /// The name of its package, or why it has no tree.
     pub head: Head,
-    /// What each rule came to, in their order; nothing where the file has no tree.
+    /// What each rule that was looked at came to, with the names that this rule alone asked, in their order; nothing where the file has
+    /// no tree. A rule that is not active came to no node.
     pub runs: RuleRuns,
 }

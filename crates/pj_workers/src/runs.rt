@@ -1,10 +1,11 @@
 //! What the rules of a set come to in a file that has a tree, each with the classes on which that rests.
-ghost use Rattle.std.specs.Prelude.{◌≡◌, List, Ok, IfOk, length};
-ghost use Rattle.std.specs.List.{AllZip};
+ghost use Rattle.std.specs.Prelude.{◌≡◌, ◌<◌, List, Ok, IfOk, length};
+ghost use Rattle.std.specs.List.{All, AllZip};
 ghost use Rattle.pj_javafuncs.specs.Facts.{facts as known};
 ghost use Rattle.pj_names.specs.Asking.{each};
 ghost use Rattle.pj_names.specs.Noting.{Notes};
 ghost use Rattle.pj_names.specs.Told.{Asks, seen};
+ghost use Rattle.pj_workers.specs.Chosen.{chosen};
 ghost use Rattle.pj_workers.specs.FileMeaning.{rule_at};
 ghost use Rattle.pj_workers.specs.JavaReplies.{java_replies, known_in};
 ghost use Rattle.pj_workers.specs.Results.{RestsOn, came_to};
@@ -157,48 +158,54 @@ fn rule_run<'t, O: Oracle>(
     Ok(RuleRun { rows, names })
 }
 
-/// What the rules come to in a file, one after the other, with what is held of the file.
+/// What the rules of these numbers come to in a file, one after the other, with what is held of the file.
 fn runs_with<'t, O: Oracle>(
     file: &'t FileView<'t>,
     java: &'t File<'_>,
     rules: &'t [Rule],
+    which: &[u32],
     oracle: &mut O,
     held: &mut Held,
     types: &mut Typed,
 ) -> Result<RuleRuns, AskFault>
     requires file { IsOfOneFile file.now }
     requires java { java.now ≡ (file_seen file.now).tree }
+    requires numbers { All (λ number. number < length rules.now) which.now }
     requires right { AreRight (file_seen file.now).tree (O.tells oracle.old) held.old types.old.variables }
     ensures asks { (meant : List MeantRule) → AllZip (IsRuleOf file.now.marker.now) rules.now meant
-        → Asks (each (rule_at java_replies file.now.path.now (Ok (file_seen file.now))) meant) (O.tells oracle.old) (O.tells oracle.new) (seen came_to result) }
+        → Asks (each (rule_at java_replies file.now.path.now (Ok (file_seen file.now))) (chosen which.now meant)) (O.tells oracle.old) (O.tells oracle.new) (seen came_to result) }
     ensures rest { IfOk result (λ runs. (meant : List MeantRule) → AllZip (IsRuleOf file.now.marker.now) rules.now meant
-        → AllZip (λ rule run. RestsOn (O.tells oracle.old) (rule_at java_replies file.now.path.now (Ok (file_seen file.now)) rule) run.rows run.names) meant runs) }
+        → AllZip (λ rule run. RestsOn (O.tells oracle.old) (rule_at java_replies file.now.path.now (Ok (file_seen file.now)) rule) run.rows run.names) (chosen which.now meant) runs) }
 {
     let active = which_are_active(file.alloc, rules, file.path.as_str())?;
     let mut runs = RuleRuns::new(file.alloc);
-    for (number, rule) in rules.iter().enumerate() {
-        let is_active = active.as_slice()[number];
+    for number in which {
+        let place = *number as usize;
+        let rule = &rules[place];
+        let is_active = active.as_slice()[place];
         let of_rule = rule_run(file, java, rule, is_active, oracle, held, types)?;
         runs.push(of_rule)?;
     }
     Ok(runs)
 }
 
-/// What the rules come to in a file, one after the other. What is found of the file's classes and variables serves all of them.
+/// What the rules of these numbers come to in a file, one after the other. What is found of the file's classes and variables serves all of them.
 pub fn rule_runs<'t, O: Oracle>(
     file: &'t FileView<'t>,
     java: &'t File<'_>,
     rules: &'t [Rule],
+    which: &[u32],
     oracle: &mut O,
 ) -> Result<RuleRuns, AskFault>
     requires file { IsOfOneFile file.now }
     requires java { java.now ≡ (file_seen file.now).tree }
+    requires numbers { All (λ number. number < length rules.now) which.now }
     ensures asks { (meant : List MeantRule) → AllZip (IsRuleOf file.now.marker.now) rules.now meant
-        → Asks (each (rule_at java_replies file.now.path.now (Ok (file_seen file.now))) meant) (O.tells oracle.old) (O.tells oracle.new) (seen came_to result) }
+        → Asks (each (rule_at java_replies file.now.path.now (Ok (file_seen file.now))) (chosen which.now meant)) (O.tells oracle.old) (O.tells oracle.new) (seen came_to result) }
     ensures rest { IfOk result (λ runs. (meant : List MeantRule) → AllZip (IsRuleOf file.now.marker.now) rules.now meant
-        → AllZip (λ rule run. RestsOn (O.tells oracle.old) (rule_at java_replies file.now.path.now (Ok (file_seen file.now)) rule) run.rows run.names) meant runs) }
+        → AllZip (λ rule run. RestsOn (O.tells oracle.old) (rule_at java_replies file.now.path.now (Ok (file_seen file.now)) rule) run.rows run.names) (chosen which.now meant) runs) }
 {
     let mut held = Held::new(file.alloc);
     let mut types = Typed::new(file.alloc);
-    runs_with(file, java, rules, oracle, &mut held, &mut types)
+    runs_with(file, java, rules, which, oracle, &mut held, &mut types)
 }

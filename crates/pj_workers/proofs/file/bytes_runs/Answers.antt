@@ -25,14 +25,14 @@ returns-in_err-refused_runs-in-Err-clause-asks g c = λ meant are. asks-stop (se
 
 pub returns-in-Err-clause-asks : goal.returns-in-Err-clause-asks
 returns-in-Err-clause-asks g c =
-    refused_asks c.args.rules.now c.args.path.now (g.O.Oracle.tells c.args.oracle.now) c.args.bytes.now (λ (o : Result JavaFile FileFault) is. c.file_has_one_outcome.ensures.one c.args.bytes.now o is)
+    refused_asks c.args.rules.now c.args.which.now c.args.path.now (g.O.Oracle.tells c.args.oracle.now) c.args.bytes.now (λ (o : Result JavaFile FileFault) is. c.file_has_one_outcome.ensures.one c.args.bytes.now o is)
     c.in-Err.refused c.in_ok-refused_runs-in-Err.field-0 (subst (λ (b : List ℕ). IsRefused b c.in-Err.refused) c.as_slice.ensures c.in-Err.ensures) c.in_ok-refused_runs-in-Err.ensures
 
 pub returns-in-Ok-parse_file_by-clause-asks : goal.returns-in-Ok-parse_file_by-clause-asks
 returns-in-Ok-parse_file_by-clause-asks g c =
     let seen : Result JavaFile FileFault = Ok (java_file_seen c.in-Ok.source c.in-Ok-parse_file_by.parsed) in
     let is = subst (λ (b : List ℕ). IsJavaFile b seen) c.as_slice.ensures (c.in-Ok-parse_file_by.ensures.file c.as_slice.result.now c.in-Ok.ensures) in
-    subst (λ (o : Result JavaFile FileFault). AsksOf c.args.rules.now c.args.path.now o (g.O.Oracle.tells c.args.oracle.now) (g.O.Oracle.tells c.parsed_runs.new.oracle) c.parsed_runs.result)
+    subst (λ (o : Result JavaFile FileFault). AsksOf c.args.rules.now c.args.which.now c.args.path.now o (g.O.Oracle.tells c.args.oracle.now) (g.O.Oracle.tells c.parsed_runs.new.oracle) c.parsed_runs.result)
     (c.file_has_one_outcome.ensures.one c.args.bytes.now seen is) c.parsed_runs.ensures.asks
 
 pub returns-in_err-refused_runs-in-Err-parse_file_by-clause-asks : goal.returns-in_err-refused_runs-in-Err-parse_file_by-clause-asks
@@ -40,6 +40,6 @@ returns-in_err-refused_runs-in-Err-parse_file_by-clause-asks g c = λ meant are.
 
 pub returns-clause-asks : goal.returns-clause-asks
 returns-clause-asks g c =
-    refused_asks c.args.rules.now c.args.path.now (g.O.Oracle.tells c.args.oracle.now) c.args.bytes.now (λ (o : Result JavaFile FileFault) is. c.file_has_one_outcome.ensures.one c.args.bytes.now o is)
+    refused_asks c.args.rules.now c.args.which.now c.args.path.now (g.O.Oracle.tells c.args.oracle.now) c.args.bytes.now (λ (o : Result JavaFile FileFault) is. c.file_has_one_outcome.ensures.one c.args.bytes.now o is)
     c.in-Err-parse_file_by.refused c.in_ok-refused_runs-in-Err-parse_file_by.field-0
     (subst (λ (b : List ℕ). IsRefused b c.in-Err-parse_file_by.refused) c.as_slice.ensures (c.in-Err-parse_file_by.ensures.file c.as_slice.result.now c.in-Ok.ensures)) c.in_ok-refused_runs-in-Err-parse_file_by.ensures

@@ -32,10 +32,10 @@ view_runs-requires-clause-java g c = c.in_ok-java.ensures ∙ ap (λ (f : FileFa
 
 pub returns-clause-asks : goal.returns-clause-asks
 returns-clause-asks g c =
-    subst (λ (file : JavaFile). AsksOf c.args.rules.now c.args.path.now (Ok file) (g.O.Oracle.tells c.args.oracle.now) (g.O.Oracle.tells c.view_runs.new.oracle) c.view_runs.result)
+    subst (λ (file : JavaFile). AsksOf c.args.rules.now c.args.which.now c.args.path.now (Ok file) (g.O.Oracle.tells c.args.oracle.now) (g.O.Oracle.tells c.view_runs.new.oracle) c.view_runs.result)
     (java_file_is c.args.source.now c.args.parsed.now c.new-facts.result c.new-facts.ensures c.requires.pool) c.view_runs.ensures.asks
 
 pub returns-clause-runs : goal.returns-clause-runs
 returns-clause-runs g c =
-    subst (λ (file : JavaFile). IfOk c.view_runs.result (AreRunsOf c.args.rules.now c.args.path.now (Ok file) (g.O.Oracle.tells c.args.oracle.now)))
+    subst (λ (file : JavaFile). IfOk c.view_runs.result (AreRunsOf c.args.rules.now c.args.which.now c.args.path.now (Ok file) (g.O.Oracle.tells c.args.oracle.now)))
     (java_file_is c.args.source.now c.args.parsed.now c.new-facts.result c.new-facts.ensures c.requires.pool) c.view_runs.ensures.runs
