@@ -1,0 +1,12 @@
+-- What the oracle over a seat tells.
+use Rattle.std.specs.Borrow.{GName}
+use Rattle.std.specs.Prelude.{ℕ}
+use Rattle.pj_table.specs.declared.view.View.{View}
+
+-- What an oracle over a seat keeps in every call: the references by which the seat and the door are held, what the seat knew and
+-- how many finds the door had when the oracle was made.
+pub record OverSeat : Type 0 where
+  pub seat : GName
+  pub door : GName
+  pub start : View
+  pub finds : ℕ
