@@ -21,6 +21,3 @@ returns-in_err-key g c = asks-stop (search rules)
 
 pub returns-in_err-asked : goal.returns-in_err-asked
 returns-in_err-asked g c = asks-stop (search rules)
-
-pub returns-in_err-reserve : goal.returns-in_err-reserve
-returns-in_err-reserve g c = asks-stop (search rules)
