@@ -2,6 +2,7 @@ mod Told
 mod Explaining
 mod Gathering
 mod DoorCounting
+mod Finding
 mod Ending
 mod Excluding
 mod OneRefusal

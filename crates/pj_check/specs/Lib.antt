@@ -1,5 +1,6 @@
 -- definitions, in the order in which they are read
 pub mod Cold
+pub mod Finds
 pub mod Formats
 pub mod Verdicts
 pub mod Run

@@ -5,6 +5,7 @@ ghost use Rattle.pj_outside.specs.Doors.{opened};
 ghost use Rattle.pj_outside.specs.Faults.{next_count};
 ghost use Rattle.pj_table.specs.ClassWorld.{folders_world};
 ghost use Rattle.pj_check.specs.Cold.{IsColdOf, world_of};
+ghost use Rattle.pj_check.specs.Finds.{FindsEach};
 ghost use Rattle.pj_check.specs.Steps.{CountsDoor, CountsOfClasses, IsOfClasses};
 
 use crate::cold::cold_report;
@@ -30,6 +31,7 @@ fn open_door<C: ClassPath>(classes: &mut C, folders: &Names) -> Result<C::Door, 
     ensures steady { C.never_fails classes.old → C.never_fails classes.new × (result ≢ Err Refusal.ClassFault) }
     ensures steady_door { C.never_fails classes.old → IfOk result (λ door. C.Door.never_fails door) }
     ensures no_faults { IfOk result (λ door. C.Door.faults door ≡ 0) }
+    ensures no_finds { IfOk result (λ door. C.Door.finds door ≡ 0) }
     ensures door { IfOk result (λ door. C.Door.holds door ≡ option_map (λ held. opened held folders.now) (C.holds classes.old)) }
 {
     match classes.open(folders) {
@@ -49,6 +51,7 @@ fn report_over<D: ClassDoor>(
     ensures cold { IfSome (D.holds door.old) (λ folders. IfOk result (IsColdOf (folders_world folders).answer sources.now rules.now)) }
     ensures refused { IfErr result IsOfClasses }
     ensures faults { CountsOfClasses (D.faults door.old) (D.faults door.new) result }
+    ensures finds { IfSome (D.holds door.old) (λ folders. OnOk result (FindsEach (folders_world folders).answer sources.now rules.now (D.finds door.old) (D.finds door.new))) }
     ensures analysed { OnOk result (work.new.analysed ≡ work.old.analysed ++ map (λ file. file.0) sources.now) }
     ensures reused { work.new.reused ≡ work.old.reused }
     ensures skipped { work.new.skipped ≡ work.old.skipped }
@@ -76,6 +79,7 @@ fn report_over_classes<C: ClassPath, V: Knowing + Send>(
     ensures class_faults { CountsOfClasses (C.faults classes.old) (C.faults classes.new) result }
     ensures steady { V.never_fails → C.never_fails classes.new × (result ≢ Err Refusal.ClassFault) }
     ensures doors { CountsDoor (record { given = C.given classes.old; taken = C.taken classes.old; finds = C.finds classes.old }) (record { given = C.given classes.new; taken = C.taken classes.new; finds = C.finds classes.new }) result }
+    ensures finds { IfSome (C.holds classes.old) (λ held. OnOk result (FindsEach (world_of held folders.now) sources.now rules.now (C.finds classes.old) (C.finds classes.new))) }
     ensures analysed { OnOk result (work.new.analysed ≡ work.old.analysed ++ map (λ file. file.0) sources.now) }
     ensures reused { work.new.reused ≡ work.old.reused }
     ensures skipped { work.new.skipped ≡ work.old.skipped }
@@ -103,6 +107,7 @@ pub fn analyse_sources<C: ClassPath>(
     ensures class_faults { CountsOfClasses (C.faults classes.old) (C.faults classes.new) result }
     ensures steady { C.never_fails classes.old → C.never_fails classes.new × (result ≢ Err Refusal.ClassFault) }
     ensures doors { CountsDoor (record { given = C.given classes.old; taken = C.taken classes.old; finds = C.finds classes.old }) (record { given = C.given classes.new; taken = C.taken classes.new; finds = C.finds classes.new }) result }
+    ensures finds { IfSome (C.holds classes.old) (λ held. OnOk result (FindsEach (world_of held folders.now) sources.now rules.now (C.finds classes.old) (C.finds classes.new))) }
     ensures analysed { OnOk result (work.new.analysed ≡ work.old.analysed ++ map (λ file. file.0) sources.now) }
     ensures reused { work.new.reused ≡ work.old.reused }
     ensures skipped { work.new.skipped ≡ work.old.skipped }

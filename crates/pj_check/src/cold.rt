@@ -2,6 +2,7 @@
 ghost use Rattle.std.specs.Prelude.{◌≡◌, ◌++◌, IfOk, IfSome, OnOk, map};
 ghost use Rattle.pj_table.specs.ClassWorld.{folders_world};
 ghost use Rattle.pj_check.specs.Cold.{IsColdOf};
+ghost use Rattle.pj_check.specs.Finds.{FindsEach};
 ghost use Rattle.pj_check.specs.Steps.{AreRows, CountsDoorFaults};
 
 use pj_base::{Bytes, Copied, NoMemory, Text};
@@ -54,6 +55,7 @@ fn file_results<D: ClassDoor>(
 ) -> Result<PathResults, AskFault>
     ensures found { IfSome (D.holds door.old) (λ folders. IfOk result (λ found. AreRows (folders_world folders).answer rules.now files.now (map (λ of_file. (of_file.0, of_file.1.rows)) found))) }
     ensures faults { CountsDoorFaults (D.faults door.old) (D.faults door.new) result }
+    ensures finds { IfSome (D.holds door.old) (λ folders. OnOk result (FindsEach (folders_world folders).answer files.now rules.now (D.finds door.old) (D.finds door.new))) }
     ensures analysed { OnOk result (work.new.analysed ≡ work.old.analysed ++ map (λ file. file.0) files.now) }
     ensures reused { work.new.reused ≡ work.old.reused }
     ensures skipped { work.new.skipped ≡ work.old.skipped }
@@ -61,6 +63,7 @@ fn file_results<D: ClassDoor>(
     sets_have_rules(rules);
     let mut oracle = DoorOracle::new(alloc, door);
     let found = analyse_files(alloc, &mut oracle, files, rules, work);
+    let _asked = oracle.asked();
     let _door = door_of(oracle);
     found
 }
@@ -75,6 +78,7 @@ fn all_rows<D: ClassDoor>(
 ) -> Result<PathRows, AskFault>
     ensures rows { IfSome (D.holds door.old) (λ folders. IfOk result (AreRows (folders_world folders).answer rules.now files.now)) }
     ensures faults { CountsDoorFaults (D.faults door.old) (D.faults door.new) result }
+    ensures finds { IfSome (D.holds door.old) (λ folders. OnOk result (FindsEach (folders_world folders).answer files.now rules.now (D.finds door.old) (D.finds door.new))) }
     ensures analysed { OnOk result (work.new.analysed ≡ work.old.analysed ++ map (λ file. file.0) files.now) }
     ensures reused { work.new.reused ≡ work.old.reused }
     ensures skipped { work.new.skipped ≡ work.old.skipped }
@@ -111,6 +115,7 @@ pub fn cold_report<D: ClassDoor>(
 ) -> Result<Report, AskFault>
     ensures cold { IfSome (D.holds door.old) (λ folders. IfOk result (IsColdOf (folders_world folders).answer sources.now rules.now)) }
     ensures faults { CountsDoorFaults (D.faults door.old) (D.faults door.new) result }
+    ensures finds { IfSome (D.holds door.old) (λ folders. OnOk result (FindsEach (folders_world folders).answer sources.now rules.now (D.finds door.old) (D.finds door.new))) }
     ensures analysed { OnOk result (work.new.analysed ≡ work.old.analysed ++ map (λ file. file.0) sources.now) }
     ensures reused { work.new.reused ≡ work.old.reused }
     ensures skipped { work.new.skipped ≡ work.old.skipped }

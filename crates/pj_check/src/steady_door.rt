@@ -29,6 +29,7 @@ impl<D: ClassDoor, V: Knowing + Send> SteadyDoor<D, V> {
         requires no_faults { D.faults door ≡ 0 }
         ensures holds { D.holds result.door ≡ D.holds door }
         ensures no_faults { D.faults result.door ≡ 0 }
+        ensures finds { D.finds result.door ≡ D.finds door }
     {
         SteadyDoor {
             door,
@@ -39,6 +40,7 @@ impl<D: ClassDoor, V: Knowing + Send> SteadyDoor<D, V> {
     /// The door. Where it is known never to fail it has no faults.
     pub fn into_door(self) -> D
         ensures faults { D.faults result ≡ D.faults self.door }
+        ensures finds { D.finds result ≡ D.finds self.door }
         ensures steady { V.never_fails → D.faults self.door ≡ 0 }
     {
         let SteadyDoor { door, of: _ } = self;

@@ -8,6 +8,7 @@ use Rattle.pj_check.specs.Steps.{CountsDoor, CountsOfClasses, IsOfClasses}
 use Rattle.pj_check.specs.declared.refusal.Refusal.{Refusal}
 use Rattle.pj_check.specs.declared.refusal.Refusal.TheVariants.{ClassFault}
 use Rattle.pj_check.proofs.DoorCounting.{cold_of_classes, no_class_fault, no_door, one_door, shut_door, shut_faults}
+use Rattle.pj_check.proofs.Finding.{finds_shut}
 use Rattle.pj_check.proofs.Ending.{other_end, refused_on, result_on}
 use Rattle.pj_check.proofs.classes.report_over_classes.Goals as goal
 
@@ -69,3 +70,8 @@ returns-clause-doors g c =
     let shut = c.shut.ensures in
     shut_door c.report_over-report.result old new c.report_over-report.ensures.refused
     (one_door old opened new _ begun.counts_given begun.same_taken begun.same_finds shut.same_given shut.counts_taken shut.counts_finds)
+
+pub returns-clause-finds : goal.returns-clause-finds
+returns-clause-finds g c =
+    finds_shut (g.C.ClassPath.holds c.args.classes.now) _ c.args.folders.now c.args.rules.now c.args.sources.now c.report_over-report.result _ _ _ (g.C.ClassPath.finds c.args.classes.now) (g.C.ClassPath.finds c.open_door.new.classes) (g.C.ClassPath.finds c.shut.new.self)
+    (c.new-door.ensures.holds ∙ c.in_ok-opened.ensures.door) (c.new-door.ensures.finds ∙ c.in_ok-opened.ensures.no_finds) c.into_door.ensures.finds c.in_ok-opened.ensures.same_finds c.shut.ensures.counts_finds c.report_over-report.ensures.finds
