@@ -27,7 +27,7 @@ returns-clause-faults g c =
 pub returns-clause-finds : goal.returns-clause-finds
 returns-clause-finds g c =
     let asks = c.analyse_files-found.ensures.asks c.sets_have_rules.ensures.0 c.sets_have_rules.ensures.1 in
-    let counted = c.asked-_asked.ensures.finds ∙ ap (λ s. count_and (g.D.Oracle.tells c.analyse_files-found.new.oracle).kept.finds (set.len s)) c.asked-_asked.ensures.asked in
+    let counted = c.asked-_asked.ensures.finds ∙ ap (λ s. count_and _ (set.len s)) c.asked-_asked.ensures.asked in
     let same : c.analyse_files-found.new.oracle.door.now ≡ c.door-1.given.0 = search rules in
     subst (λ v. IfSome (g.D.ClassDoor.holds c.args.door.now) (λ folders. OnOk c.analyse_files-found.result (FindsEach (folders_world folders).answer c.args.files.now c.args.rules.now (g.D.ClassDoor.finds c.args.door.now) (g.D.ClassDoor.finds v)))) same
     (finds_over_door (g.D.ClassDoor.holds c.args.door.now) _ _ _ _ c.args.rules.now c.args.files.now c.sets_have_rules.ensures.0 c.analyse_files-found.result _ c.sets_have_rules.ensures.1 c.new-oracle.ensures.tells asks counted)
