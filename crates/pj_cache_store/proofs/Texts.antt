@@ -54,9 +54,25 @@ content_found : (content : Option (List ℕ)) (loaded : Loaded) → IsTaken (rea
 content_found None loaded is = ap (λ (l : Loaded). l.cache) is
 content_found (Some bytes) loaded is = some_found bytes loaded (nat_lt limit (length bytes)) refl is
 
-pub loaded_found : (content : Option (List ℕ)) (loaded : Loaded) → IsLoaded (reading_of limit content) loaded → IsFound content loaded.cache ⊎ IsFound None loaded.cache
-loaded_found content loaded (inl is) = inl (content_found content loaded is)
-loaded_found content loaded (inr is) = inr (ap (λ (l : Loaded). l.cache) is)
+pub read_found : (content : Option (List ℕ)) (loaded : Loaded) → IsLoaded (reading_of limit content) loaded → (loaded.unused ≡ Some unused.NotRead → ⊥) → IsFound content loaded.cache
+read_found content loaded (inl is) read = content_found content loaded is
+read_found content loaded (inr is) read = absurd (read (ap (λ (l : Loaded). l.unused) is))
+
+-- a reading is never told as none
+none_unread : (bytes : List ℕ) (c : Cache) (why : Option Unused) → IsTakenOf bytes c why → why ≡ Some unused.NotRead → ⊥
+none_unread bytes c None is e = absurd cc
+none_unread bytes c (Some unused.NotRead) is e = absurd is
+none_unread bytes c (Some unused.TooLong) is e = absurd is
+none_unread bytes c (Some (unused.Refused fault)) is e = absurd cc
+
+taken_read : (read : Reading) (loaded : Loaded) → IsTaken read loaded → loaded.unused ≡ Some unused.NotRead → ⊥
+taken_read reading.Absent loaded is e = let u = ap (λ (l : Loaded). l.unused) is in let both = sym u ∙ e in absurd cc
+taken_read reading.Longer loaded is e = let u = ap (λ (l : Loaded). l.unused) is in let both = sym u ∙ e in absurd cc
+taken_read (reading.Whole bytes) loaded is e = none_unread bytes loaded.cache loaded.unused is e
+
+pub unread_found : (content : Option (List ℕ)) (loaded : Loaded) → IsLoaded (reading_of limit content) loaded → loaded.unused ≡ Some unused.NotRead → IsFound None loaded.cache
+unread_found content loaded (inl is) e = absurd (taken_read (reading_of limit content) loaded is e)
+unread_found content loaded (inr is) e = ap (λ (l : Loaded). l.cache) is
 
 -- ---- what is left
 

@@ -1,5 +1,5 @@
 -- What a run takes for its cache.
-use Rattle.std.specs.Prelude.{◌≡◌, ◌⊎◌, ℕ, List, Option, Some, None, Err}
+use Rattle.std.specs.Prelude.{⊤, ◌≡◌, ◌⊎◌, ℕ, List, Option, Some, None, Err}
 use Rattle.pj_outside.specs.Faults.{Rises}
 use Rattle.pj_outside.specs.declared.refused.Reading.{Reading}
 use Rattle.pj_outside.specs.declared.refused.Reading.TheVariants as reading
@@ -27,6 +27,11 @@ IsTaken (reading.Whole bytes) loaded = IsTakenOf bytes loaded.cache loaded.unuse
 -- the same, or the cache without entries, since the keeper failed
 abbrev pub IsLoaded : Reading → Loaded → Type 0
 IsLoaded read loaded = IsTaken read loaded ⊎ (loaded ≡ record { cache = empty; unused = Some unused.NotRead })
+
+-- where what stands under the name is not used, the cache is the one without entries
+abbrev pub IsEmptyIfUnused : Cache → Option Unused → Type 0
+IsEmptyIfUnused c None = ⊤
+IsEmptyIfUnused c (Some why) = c ≡ empty
 
 -- the faults of the keeper rise exactly where it is told that it was not read
 abbrev pub CountsLoad : ℕ → ℕ → Option Unused → Type 0

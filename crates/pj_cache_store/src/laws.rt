@@ -1,5 +1,5 @@
 //! Laws of caches under a name, each the contract of a call that does nothing.
-ghost use Rattle.std.specs.Prelude.{◌⊎◌, List, ℕ, Option, Some, None};
+ghost use Rattle.std.specs.Prelude.{◌≡◌, ◌≢◌, List, ℕ, Option, Some, None};
 ghost use Rattle.pj_outside.specs.Files.{Files, reading_of};
 ghost use Rattle.pj_classfile.specs.ClassOf.{folder_world};
 ghost use Rattle.pj_names.specs.ClassName.{Name};
@@ -13,11 +13,13 @@ ghost use Rattle.pj_fitting.specs.Right.{Files as RuledFiles};
 ghost use Rattle.pj_cache_store.specs.Leaving.{text_to_leave};
 ghost use Rattle.pj_cache_store.specs.Loading.{IsLoaded};
 ghost use Rattle.pj_cache_store.specs.declared.loading.Loaded.{Loaded};
+ghost use Rattle.pj_cache_store.specs.declared.loading.Unused.TheVariants as unused;
 
-/// What is loaded is the cache that a run finds in what stands under the name. Where the keeper failed, it is the one that a run finds where nothing
-/// stands there.
+/// What is loaded is the cache that a run finds in what stands under the name (`read`). Where the keeper failed, it is the one that a run finds where
+/// nothing stands there (`not_read`).
 pub fn what_is_loaded_is_found()
-    ensures { (content : Option (List ℕ)) (loaded : Loaded) → IsLoaded (reading_of limit content) loaded → IsFound content loaded.cache ⊎ IsFound None loaded.cache }
+    ensures read { (content : Option (List ℕ)) (loaded : Loaded) → IsLoaded (reading_of limit content) loaded → loaded.unused ≢ Some unused.NotRead → IsFound content loaded.cache }
+    ensures not_read { (content : Option (List ℕ)) (loaded : Loaded) → IsLoaded (reading_of limit content) loaded → loaded.unused ≡ Some unused.NotRead → IsFound None loaded.cache }
 {}
 
 /// Class folders answer a name by a class of that name, or by none. So a cache may keep what they answer.

@@ -3,7 +3,7 @@ ghost use Rattle.std.specs.Prelude.{◌≡◌, ◌≤◌, IfOk, IfSome, OnErr, O
 ghost use Rattle.pj_outside.specs.Files.{IsAtMost, read_at};
 ghost use Rattle.pj_cache_format.specs.Ordered.{IsInOrder};
 ghost use Rattle.pj_fitting.specs.Fits.{empty, limit};
-ghost use Rattle.pj_cache_store.specs.Loading.{CountsLoad, IsLoaded, IsTaken, IsTakenOf};
+ghost use Rattle.pj_cache_store.specs.Loading.{CountsLoad, IsEmptyIfUnused, IsLoaded, IsTaken, IsTakenOf};
 
 use pj_base::NoMemory;
 use pj_cache::Cache;
@@ -38,6 +38,7 @@ pub struct Loaded {
 /// The cache without entries, for this cause.
 fn without_entries(alloc: Global, unused: Option<Unused>) -> Loaded
     ensures loaded { result ≡ record { cache = empty; unused = unused } }
+    ensures unused { IsEmptyIfUnused result.cache result.unused }
     ensures in_order { IsInOrder result.cache }
 {
     Loaded {
@@ -51,6 +52,7 @@ fn take_cache(alloc: Global, bytes: &[u8]) -> Result<Loaded, NoMemory>
     requires { length bytes.now ≤ 4294967294 }
     ensures taken { IfOk result (λ loaded. IsTakenOf bytes.now loaded.cache loaded.unused) }
     ensures in_order { IfOk result (λ loaded. IsInOrder loaded.cache) }
+    ensures unused { IfOk result (λ loaded. IsEmptyIfUnused loaded.cache loaded.unused) }
 {
     spelled_is_its_text();
     match decode(alloc, bytes) {
@@ -70,6 +72,7 @@ fn take_reading(alloc: Global, reading: &Reading) -> Result<Loaded, NoMemory>
     requires { IsAtMost limit reading.now }
     ensures taken { IfOk result (IsTaken reading.now) }
     ensures in_order { IfOk result (λ loaded. IsInOrder loaded.cache) }
+    ensures unused { IfOk result (λ loaded. IsEmptyIfUnused loaded.cache loaded.unused) }
 {
     match reading {
         Reading::Absent => Ok(without_entries(alloc, None)),
@@ -84,6 +87,7 @@ fn take_reading(alloc: Global, reading: &Reading) -> Result<Loaded, NoMemory>
 pub fn load_cache<K: Keeper>(alloc: Global, keeper: &mut K, name: &str) -> Result<Loaded, NoMemory>
     ensures loaded { IfSome (K.holds keeper.old) (λ held. IfOk result (IsLoaded (read_at held name.now limit))) }
     ensures in_order { IfOk result (λ loaded. IsInOrder loaded.cache) }
+    ensures unused { IfOk result (λ loaded. IsEmptyIfUnused loaded.cache loaded.unused) }
     ensures same_names { K.holds keeper.new ≡ K.holds keeper.old }
     ensures counts { IfOk result (λ loaded. CountsLoad (K.faults keeper.old) (K.faults keeper.new) loaded.unused) }
     ensures no_fault { OnErr result (K.faults keeper.new ≡ K.faults keeper.old) }
