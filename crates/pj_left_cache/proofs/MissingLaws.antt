@@ -1,5 +1,5 @@
 -- Which rules a run makes new results for.
-use Rattle.std.proofs.Common.{◌≡◌, ◌↔◌, ℕ, zero, suc, ◌+◌, ◌-◌, ◌≤◌, ◌<◌, Bool, true, false, not, cond, ◌&&◌, ◌||◌, List, [], ◌∷◌, ◌++◌, length, map, drop, get_or, Some, refl, sym, ap, ◌∙◌, arith, add-one}
+use Rattle.std.proofs.Common.{◌≡◌, ◌↔◌, ℕ, zero, suc, ◌+◌, ◌-◌, ◌≤◌, ◌<◌, Bool, true, false, not, cond, ◌&&◌, ◌||◌, List, [], ◌∷◌, ◌++◌, length, map, drop, take, get_or, Some, refl, sym, ap, ◌∙◌, arith, add-one}
 use Rattle.std.specs.Prelude.{min, slice_get}
 use Rattle.std.specs.List.{All, AllByRecursion, IsDistinct, filter}
 use Rattle.std.specs.List.Sorted.{IsStrictlySortedBy}
@@ -266,6 +266,78 @@ once held at (k ∷ ks) (a ∷ more) =
 
 pub keys_once : (stay : List CachedResult) (keys : List Key) (active : List Bool) → AreDistinct (missing_rules stay keys active)
 keys_once stay keys active = once (keys_of_all stay) 0 keys active
+
+-- ---- the first of its key
+
+-- No active rule before it, counted from a start, has its key, which is not held.
+record IsFirst (held : List Key) (start : ℕ) (keys : List Key) (active : List Bool) (m : Rule) : Type 0 where
+  behind : start ≤ m.0
+  away : has_key held m.1 ≡ false
+  first : has_key (keys_of_active (take (m.0 - start) keys) (take (m.0 - start) active)) m.1 ≡ false
+
+with_first : (a : Bool) (k q : Key) (before : List Key) → (a ≡ true → is_at (byte_order q) k ≡ false) → has_key before q ≡ false → has_key (cond a (k ∷ before) before) q ≡ false
+with_first true k q before apart none = ap (λ (b : Bool). b || has_key before q) (apart refl) ∙ none
+with_first false k q before apart none = none
+
+later_first : (held : List Key) (start : ℕ) (k : Key) (ks : List Key) (a : Bool) (more : List Bool) (m : Rule) → suc start ≤ m.0 → (a ≡ true → is_at (byte_order m.1) k ≡ false) → has_key held m.1 ≡ false
+    → has_key (keys_of_active (take (m.0 - suc start) ks) (take (m.0 - suc start) more)) m.1 ≡ false → IsFirst held start (k ∷ ks) (a ∷ more) m
+later_first held start k ks a more m behind apart away first =
+    let next : m.0 - start ≡ suc (m.0 - suc start) = omega (arith, behind) in
+    record {
+      behind = omega (arith, behind);
+      away = away;
+      first = ap (λ (i : ℕ). has_key (keys_of_active (take i (k ∷ ks)) (take i (a ∷ more))) m.1) next
+          ∙ with_first a k m.1 (keys_of_active (take (m.0 - suc start) ks) (take (m.0 - suc start) more)) apart first;
+    }
+
+own_first : (held : List Key) (start : ℕ) (k : Key) (ks : List Key) (more : List Bool) → has_key held k ≡ false → IsFirst held start (k ∷ ks) (true ∷ more) (start, k)
+own_first held start k ks more away =
+    let none : start - start ≡ 0 = omega arith in
+    record {
+      behind = omega arith;
+      away = away;
+      first = ap (λ (i : ℕ). has_key (keys_of_active (take i (k ∷ ks)) (take i (true ∷ more))) k) none;
+    }
+
+-- a key that is held ties with none that is not
+no_tie : (held : List Key) (k q : Key) → has_key held k ≡ true → has_key held q ≡ false → (t : Bool) → is_at (byte_order q) k ≡ t → is_at (byte_order q) k ≡ false
+no_tie held k q is away true at =
+    let never : false ≡ true = sym away ∙ tied_has held k q at ∙ is in
+    absurd cc
+no_tie held k q is away false at = at
+
+first_by : (held : List Key) (start : ℕ) (k : Key) (ks : List Key) (a h : Bool) (more : List Bool) (fresh others : List Rule) → has_key held k ≡ h
+    → AllByRecursion (IsFirst (k ∷ held) (suc start) ks more) fresh → AllByRecursion (IsFirst held (suc start) ks more) others → AllByRecursion (IsFirst held start (k ∷ ks) (a ∷ more)) (cond (a && not h) ((start, k) ∷ fresh) others)
+first_by held start k ks true false more fresh others is all rest = (
+  own_first held start k ks more is,
+  all_map (IsFirst (k ∷ held) (suc start) ks more) (IsFirst held start (k ∷ ks) (true ∷ more)) fresh
+  (λ m f. let apart = or_parts (is_at (byte_order m.1) k) (has_key held m.1) f.away in later_first held start k ks true more m f.behind (λ e. apart.0) apart.1 f.first)
+  all,
+)
+first_by held start k ks true true more fresh others is all rest =
+    all_map (IsFirst held (suc start) ks more) (IsFirst held start (k ∷ ks) (true ∷ more)) others
+    (λ m f. later_first held start k ks true more m f.behind (λ e. no_tie held k m.1 is f.away (is_at (byte_order m.1) k) refl) f.away f.first) rest
+first_by held start k ks false h more fresh others is all rest =
+    all_map (IsFirst held (suc start) ks more) (IsFirst held start (k ∷ ks) (false ∷ more)) others (λ m f. later_first held start k ks false more m f.behind (λ e. absurd cc) f.away f.first) rest
+
+firsts : (held : List Key) (start : ℕ) (keys : List Key) (active : List Bool) → AllByRecursion (IsFirst held start keys active) (missing_from held start keys active)
+firsts held start [] active = tt
+firsts held start (k ∷ ks) [] = tt
+firsts held start (k ∷ ks) (a ∷ more) =
+    first_by held start k ks a (has_key held k) more (missing_from (k ∷ held) (suc start) ks more) (missing_from held (suc start) ks more) refl (firsts (k ∷ held) (suc start) ks more) (firsts held (suc start) ks more)
+
+abbrev pub HasNoneBefore : List Key → List Bool → Rule → Type 0
+HasNoneBefore keys active m = has_key (keys_of_active (take m.0 keys) (take m.0 active)) m.1 ≡ false
+
+first_from_start : (held : List Key) (keys : List Key) (active : List Bool) (m : Rule) → IsFirst held 0 keys active m → HasNoneBefore keys active m
+first_from_start held keys active m is =
+    let same : m.0 ≡ m.0 - 0 = omega arith in
+    ap (λ (i : ℕ). has_key (keys_of_active (take i keys) (take i active)) m.1) same ∙ is.first
+
+pub each_is_first : (stay : List CachedResult) (keys : List Key) (active : List Bool) → All (HasNoneBefore keys active) (missing_rules stay keys active)
+each_is_first stay keys active =
+    All-from_recursion (HasNoneBefore keys active) (missing_rules stay keys active)
+    (all_map (IsFirst (keys_of_all stay) 0 keys active) (HasNoneBefore keys active) (missing_rules stay keys active) (first_from_start (keys_of_all stay) keys active) (firsts (keys_of_all stay) 0 keys active))
 
 -- ---- none
 

@@ -1,5 +1,5 @@
 //! Laws of the cache that a run leaves, each the contract of a call that does nothing.
-ghost use Rattle.std.specs.Prelude.{◌≡◌, ◌↔◌, ◌++◌, ◌∷◌, ℕ, Bool, false, true, List, [], None, Some, filter, map, slice_get};
+ghost use Rattle.std.specs.Prelude.{◌≡◌, ◌↔◌, ◌++◌, ◌∷◌, ℕ, Bool, false, true, List, [], None, Some, filter, map, slice_get, take};
 ghost use Rattle.std.specs.List.{All, AllZip, IsDistinct};
 ghost use Rattle.std.specs.List.Sorted.{IsPermutation, IsStrictlySortedBy};
 ghost use Rattle.std.specs.Ordering.{nat_cmp};
@@ -23,10 +23,11 @@ ghost use Rattle.pj_left_cache.specs.Missing.{is_same_key, keys_of_active, missi
 ghost use Rattle.pj_left_cache.specs.Said.{said_of_rules};
 
 /// The rules for which new results are made are just those of the missing keys: each number is that of an active rule with the key
-/// (`places`), their keys are just the missing ones (`keys`), each of one number (`once`), the numbers ascend, and there are none exactly where no
-/// key is missing. The keys of active rules are those of rules at a file (`active`).
+/// (`places`), and no active rule before it has that key (`first`). Their keys are just the missing ones (`keys`), each of one number (`once`), the numbers ascend, and
+/// there are none exactly where no key is missing. The keys of active rules are those of rules at a file (`active`).
 pub fn missing_rules_are<R>()
     ensures places { (stay : List CachedResult) (keys : List Key) (active : List Bool) → All (λ rule. (slice_get keys rule.0 ≡ Some rule.1) × (slice_get active rule.0 ≡ Some true)) (missing_rules stay keys active) }
+    ensures first { (stay : List CachedResult) (keys : List Key) (active : List Bool) → All (λ rule. has_key (keys_of_active (take rule.0 keys) (take rule.0 active)) rule.1 ≡ false) (missing_rules stay keys active) }
     ensures keys { (stay : List CachedResult) (keys : List Key) (active : List Bool) (key : Key) → has_key (map (λ rule. rule.1) (missing_rules stay keys active)) key ≡ has_key (missing stay (keys_of_active keys active)) key }
     ensures once { (stay : List CachedResult) (keys : List Key) (active : List Bool) → IsDistinct is_same_key (map (λ rule. rule.1) (missing_rules stay keys active)) }
     ensures ascending { (stay : List CachedResult) (keys : List Key) (active : List Bool) → IsStrictlySortedBy nat_cmp (map (λ rule. rule.0) (missing_rules stay keys active)) }

@@ -1,6 +1,7 @@
 -- A cache of format 1 is whole where it is in order and fits the fields of a text.
-use Rattle.std.proofs.Common.{◌≡◌, ℕ, ◌<◌, ◌^◌, true, List, length, map, Option, Some, None, sym, subst, arith}
+use Rattle.std.proofs.Common.{◌≡◌, ℕ, ◌<◌, ◌^◌, true, List, [], ◌∷◌, length, map, Option, Some, None, sym, subst, arith}
 use Rattle.std.specs.List.Sorted.{IsStrictlySortedBy}
+use Rattle.std.specs.Str.{is_utf8}
 use Rattle.std.proofs.lemmas.List.{length-map}
 use Rattle.std.proofs.lemmas.List.Elements.{All-from_recursion, recursion_from_All}
 use Rattle.pj_format.specs.Fields.{Chain}
@@ -15,7 +16,9 @@ use Rattle.pj_cache.specs.Places.{byte_order, place_in}
 use Rattle.pj_cache_format.specs.FormatTwo.{is_same_list}
 use Rattle.pj_cache_format.specs.Fitting.{HasRoom, AllFit}
 use Rattle.pj_cache_format.specs.Ordered.{IsNameInOrder}
-use Rattle.pj_cache_format.proofs.Order.{behind_sorted}
+use Rattle.pj_cache_format.specs.Judges.{is_behind}
+use Rattle.pj_cache_format.proofs.AnswerLaws.{both_true}
+use Rattle.pj_cache_format.proofs.Order.{AreBehind, behind_sorted}
 use Rattle.pj_cache_format.proofs.WholeTwo.{IsNameBehind, AreNames}
 use Rattle.pj_cache_format.proofs.CacheLaws.{same_lists}
 use Rattle.pj_cache_format.proofs.Split.{chain_both, chain_as, chain_each, answers_from, answers_order, answers_fit, answers_behind, name_place_small, itself, whole_from, whole_order, whole_fits}
@@ -57,6 +60,12 @@ module _ (names : List Name) where
 
   entries_fit : (es : List OldEntry) → HasRoom es → Chain (IsOldEntryBehind names) path_step None es → AllFit FitsOldEntry es
   entries_fit es room h = (room, All-from_recursion FitsOldEntry es (chain_each (IsOldEntryBehind names) FitsOldEntry path_step None es (λ before e r. (r.0.0, r.1, r.2.0, rows_fit e.rows r.3)) h))
+
+  paths_behind : (before : Option (List ℕ)) (es : List OldEntry) → Chain (IsOldEntryInOrder names) path_step before es → AreBehind before (map (λ (e : OldEntry). e.path) es)
+  paths_behind before [] h = tt
+  paths_behind before (e ∷ es) h =
+      let two = both_true (is_utf8 e.path) (is_behind byte_order before e.path) h.0.0 in
+      (two.1, paths_behind (Some e.path) es h.1)
 
 -- ---- caches
 
@@ -101,3 +110,6 @@ any_to (formats.Two c) w = (whole_order c w, whole_fits c w)
 
 pub old_answers_sorted : (c : OldCache) → IsOldInOrder c → IsStrictlySortedBy byte_order (map (λ (a : Name × Answer). a.0) c.answers)
 old_answers_sorted c o = behind_sorted None (named c) (answers_behind None c.answers o.answers)
+
+pub old_paths_sorted : (c : OldCache) → IsOldInOrder c → IsStrictlySortedBy byte_order (map (λ (e : OldEntry). e.path) c.entries)
+old_paths_sorted c o = behind_sorted None (map (λ (e : OldEntry). e.path) c.entries) (paths_behind (named c) None c.entries o.entries)

@@ -49,7 +49,8 @@ pub fn second_format_is_one()
     ensures { (bytes : List ℕ) (c : Cache) → ((i : ℕ) → slice_index bytes i < 256) → (IsAnyStored bytes (formats.Two c) ↔ IsStored bytes c) }
 {}
 
-/// In a cache of format 1 that keeps the format's rules the answers stand in the order of their names' bytes, each once.
+/// In a cache of format 1 that keeps the format's rules the answers stand in the order of their names' bytes, and the entries in that of their paths', each once.
 pub fn old_order_is_strict()
-    ensures { (c : OldCache) → IsOldInOrder c → IsStrictlySortedBy byte_order (map (λ a. a.0) c.answers) }
+    ensures answers { (c : OldCache) → IsOldInOrder c → IsStrictlySortedBy byte_order (map (λ a. a.0) c.answers) }
+    ensures entries { (c : OldCache) → IsOldInOrder c → IsStrictlySortedBy byte_order (map (λ e. e.path) c.entries) }
 {}

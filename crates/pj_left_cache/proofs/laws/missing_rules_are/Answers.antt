@@ -1,8 +1,11 @@
-use Rattle.pj_left_cache.proofs.MissingLaws.{active_are, each_stands, keys_once, missing_keys, none_missing, numbers_ascend}
+use Rattle.pj_left_cache.proofs.MissingLaws.{active_are, each_is_first, each_stands, keys_once, missing_keys, none_missing, numbers_ascend}
 use Rattle.pj_left_cache.proofs.laws.missing_rules_are.Goals as goal
 
 pub returns-clause-places : goal.returns-clause-places
 returns-clause-places g c stay keys active = each_stands stay keys active
+
+pub returns-clause-first : goal.returns-clause-first
+returns-clause-first g c stay keys active = each_is_first stay keys active
 
 pub returns-clause-keys : goal.returns-clause-keys
 returns-clause-keys g c stay keys active key = missing_keys stay keys active key
