@@ -12,7 +12,7 @@ use Rattle.pj_old_format.specs.ListKeys.{Text, is_number, value_of, tested, ◌f
 
 -- ---- formats whose values are the bytes themselves
 
-abbrev IsVerbatim : Format (List ℕ) → Type 0
+abbrev pub IsVerbatim : Format (List ℕ) → Type 0
 IsVerbatim m = IsText m (λ (bytes : List ℕ). bytes) (λ (bytes : List ℕ). Spells m bytes bytes)
 
 verbatim : (m : Format (List ℕ)) → IsOpen m → ((part y : List ℕ) → IsBytes part → Spells m part y → part ≡ y) → IsVerbatim m
@@ -33,7 +33,7 @@ tested_same test part y fits h =
     let one = (string_text test).takes both.part both.value (bytes_left both.part both.rest whole) both.first_is in
     both.joined ∙ ap (λ (l : List ℕ). both.part ++ l) both.second_is.0 ∙ append-nil both.part ∙ one.1 ∙ sym both.second_is.1
 
-tested_law : (test : Text → Bool) → IsVerbatim (tested test)
+pub tested_law : (test : Text → Bool) → IsVerbatim (tested test)
 unfolding tested
 tested_law test = verbatim (sized_as (passing test) >>= spelled) (made_open (sized_as (passing test)) string (string_text test).is_open) (tested_same test)
 
@@ -53,11 +53,11 @@ module _ (m n : Format (List ℕ)) (first : IsVerbatim m) (second : IsVerbatim n
       let behind : a.rest ≡ b.value = b.joined ∙ ap (λ (l : List ℕ). b.part ++ l) b.second_is.0 ∙ append-nil b.part ∙ two.1 in
       a.joined ∙ (λ i. one.1 i ++ behind i) ∙ sym b.second_is.1
 
-  followed_law : IsVerbatim (m followed_by n)
+  pub followed_law : IsVerbatim (m followed_by n)
   unfolding ◌followed_by◌
   followed_law = verbatim (m >>= after) (open_then m after first.is_open (λ front. made_open n (λ more. front ++ more) second.is_open)) followed_same
 
-abbrev joined : List (List ℕ) → List ℕ
+abbrev pub joined : List (List ℕ) → List ℕ
 joined parts = flat_map (λ (part : List ℕ). part) parts
 
 abbrev joint : List (List ℕ) → Format (List ℕ)
@@ -72,7 +72,7 @@ module _ (item : Format (List ℕ)) (law : IsVerbatim item) where
       let one = (several_text item (λ (bytes : List ℕ). bytes) (λ (bytes : List ℕ). Spells item bytes bytes) law count).takes both.part both.value (bytes_left both.part both.rest whole) both.first_is in
       both.joined ∙ ap (λ (l : List ℕ). both.part ++ l) both.second_is.0 ∙ append-nil both.part ∙ one.1 ∙ sym both.second_is.1
 
-  members_law : (count : ℕ) → IsVerbatim (members item count)
+  pub members_law : (count : ℕ) → IsVerbatim (members item count)
   unfolding members
   members_law count = verbatim (several item count >>= joint) (made_open (several item count) joined (several_open item count law.is_open)) (members_same count)
 
@@ -91,7 +91,7 @@ module _ (item : Format (List ℕ)) (law : IsVerbatim item) where
       let behind : a.rest ≡ b.value = b.joined ∙ ap (λ (l : List ℕ). b.part ++ l) b.second_is.0 ∙ append-nil b.part ∙ two.1 in
       a.joined ∙ (λ i. one.1 i ++ behind i) ∙ sym b.second_is.1
 
-  listed_law : IsVerbatim (listed item)
+  pub listed_law : IsVerbatim (listed item)
   unfolding listed
   listed_law =
       verbatim (sized_as (passing is_number) >>= behind_count)
@@ -109,20 +109,20 @@ nothing_open : IsOpen nothing
 unfolding IsOpen
 nothing_open = tt
 
-all_tested_law : (tests : List (Text → Bool)) → IsVerbatim (all_tested tests)
+pub all_tested_law : (tests : List (Text → Bool)) → IsVerbatim (all_tested tests)
 unfolding all_tested
 all_tested_law [] = verbatim nothing nothing_open nothing_same
 all_tested_law (test ∷ tests) = followed_law (tested test) (all_tested tests) (tested_law test) (all_tested_law tests)
 
 -- ---- rules and keys
 
-abbrev word : Format (List ℕ)
+abbrev pub word : Format (List ℕ)
 word = all_tested word_tests
 
-abbrev property : Format (List ℕ)
+abbrev pub property : Format (List ℕ)
 property = all_tested property_tests
 
-rule_law : IsVerbatim rule
+pub rule_law : IsVerbatim rule
 unfolding rule
 rule_law =
     followed_law (all_tested rule_tests) (listed property followed_by (listed word followed_by listed word)) (all_tested_law rule_tests)

@@ -1,5 +1,6 @@
 pub mod WholeOne
 pub mod KeyLaws
+pub mod KeySpelling
 pub mod RowLaws
 pub mod OldLaws
 pub mod AnyLaws

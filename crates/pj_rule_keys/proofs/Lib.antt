@@ -1,2 +1,3 @@
 pub mod Tell
 pub mod Written
+pub mod OldKeys

@@ -1,2 +1,3 @@
 -- definitions
 pub mod Keys
+pub mod OldTexts

@@ -6,4 +6,4 @@ mod laws;
 mod put;
 
 pub use key::{list_key, rule_key};
-pub use laws::{keys_tell_rules, list_keys_tell_rules};
+pub use laws::{keys_tell_rules, list_keys_are_of_format_one, list_keys_tell_rules};
