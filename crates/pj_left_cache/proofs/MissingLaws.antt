@@ -311,8 +311,8 @@ first_by : (held : List Key) (start : ℕ) (k : Key) (ks : List Key) (a h : Bool
 first_by held start k ks true false more fresh others is all rest = (
   own_first held start k ks more is,
   all_map (IsFirst (k ∷ held) (suc start) ks more) (IsFirst held start (k ∷ ks) (true ∷ more)) fresh
-  (λ m f. let apart = or_parts (is_at (byte_order m.1) k) (has_key held m.1) f.away in later_first held start k ks true more m f.behind (λ e. apart.0) apart.1 f.first)
-  all,
+      (λ m f. let apart = or_parts (is_at (byte_order m.1) k) (has_key held m.1) f.away in later_first held start k ks true more m f.behind (λ e. apart.0) apart.1 f.first)
+      all,
 )
 first_by held start k ks true true more fresh others is all rest =
     all_map (IsFirst held (suc start) ks more) (IsFirst held start (k ∷ ks) (true ∷ more)) others

@@ -52,7 +52,7 @@ of_lists r =
     let exclude = decimal (length r.exclude) ∷ r.exclude in
     let include = decimal (length r.include) ∷ r.include in
     let first : flat_map spelled properties ≡ list_bytes (λ p. flat_map spelled (property_texts p)) r.properties =
-        counted (length r.properties) (flat_map property_texts r.properties) (joined (map (λ p. flat_map spelled (property_texts p)) r.properties)) (of_members property_texts r.properties) in
+    counted (length r.properties) (flat_map property_texts r.properties) (joined (map (λ p. flat_map spelled (property_texts p)) r.properties)) (of_members property_texts r.properties) in
     let second : flat_map spelled exclude ≡ list_bytes word_bytes r.exclude = counted (length r.exclude) r.exclude (joined (map word_bytes r.exclude)) (of_words r.exclude) in
     let third : flat_map spelled include ≡ list_bytes word_bytes r.include = counted (length r.include) r.include (joined (map word_bytes r.include)) (of_words r.include) in
     flat_map-append spelled properties (exclude ++ include) ∙ (λ i. first i ++ (flat_map-append spelled exclude include ∙ (λ j. second j ++ third j)) i)
@@ -80,11 +80,19 @@ one_rule r fits has =
     let key = fits.1 in
     let passes : Pass rule_tests (heads r) = (
       (number_room r.top fits.0, is_top_of r.top has.top),
-      ((key.name, has.name),
-      ((key.rule_set, has.rule_set),
-      ((key.message, has.message),
-      ((number_room r.row.priority key.priority, is_priority_of r.row.priority has.some_priority has.priority),
-      ((key.xpath, has.xpath), tt))))),
+      (
+        (key.name, has.name),
+        (
+          (key.rule_set, has.rule_set),
+          (
+            (key.message, has.message),
+            (
+              (number_room r.row.priority key.priority, is_priority_of r.row.priority has.some_priority has.priority),
+              ((key.xpath, has.xpath), tt),
+            ),
+          ),
+        ),
+      ),
     ) in
     subst (λ (l : List ℕ). Itself rule l) (sym (of_rule r))
     (rule_itself property_texts (heads r) r.properties r.exclude r.include passes
