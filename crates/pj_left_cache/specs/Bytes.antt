@@ -1,5 +1,5 @@
 -- The order of the results of an entry by bytes alone, whatever the other entries of a cache are.
-use Rattle.std.specs.Prelude.{◌≡◌, ◌<◌, ℕ, Bool, true, ◌&&◌, List, [], length, map}
+use Rattle.std.specs.Prelude.{◌≡◌, ◌<◌, Bool, true, ◌&&◌, List, [], length, map}
 use Rattle.std.specs.List.{All, IsDistinct}
 use Rattle.std.specs.List.Sorted.{IsStrictlySortedBy}
 use Rattle.std.specs.Str.{is_utf8}

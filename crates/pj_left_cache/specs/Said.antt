@@ -1,5 +1,5 @@
 -- What the results of a file say of each rule.
-use Rattle.std.specs.Prelude.{Bool, List, [], ◌∷◌, Option, None, is_some, if◌then◌else◌}
+use Rattle.std.specs.Prelude.{Bool, List, [], ◌∷◌, Option, is_some, if◌then◌else◌}
 use Rattle.std.specs.BTreeMap.{insert_entry, is_at}
 use Rattle.std.specs.Map.{lookup}
 use Rattle.pj_reports.specs.declared.ruled.Ruled.{Ruled}

@@ -2,7 +2,7 @@
 use Rattle.std.proofs.Common.{◌≡◌, ℕ, suc, ◌-◌, ◌<◌, ◌^◌, Bool, true, false, cond, eqb, List, [], ◌∷◌, ◌++◌, Option, Some, None, refl, sym, ap, ◌∙◌, arith}
 use Rattle.std.proofs.lemmas.Bool.{eqb-true, eqb-false}
 use Rattle.pj_format.specs.Format.{Done, ◌>>=◌}
-use Rattle.pj_format.specs.Fields.{u8_as, u32, several}
+use Rattle.pj_format.specs.Fields.{u8_as, u32}
 use Rattle.pj_format.proofs.Parts.{IsText, text_next, text_as, text_made}
 use Rattle.pj_tree.specs.declared.node.Place.{Place}
 use Rattle.pj_reports.specs.declared.rows.Reason.{Reason}

@@ -1,5 +1,5 @@
 -- Format 1 of caches: results by file, for one whole list of rules.
-use Rattle.std.specs.Prelude.{ℕ, ◌-◌, Bool, ◌==◌, List, [], map, flat_map, Option, Some, None, if◌then◌else◌}
+use Rattle.std.specs.Prelude.{ℕ, ◌-◌, Bool, ◌==◌, List, map, flat_map, Option, Some, None, if◌then◌else◌}
 use Rattle.pj_format.specs.Format.{Format, Done, ◌>>=◌}
 use Rattle.pj_format.specs.Fields.{u8_as, u32, sized, sized_as, several, several_from}
 use Rattle.pj_names.specs.declared.answer.Answer.{Answer}
