@@ -1,2 +1,0 @@
-pub mod SayingLaws
-pub mod ReportLaws

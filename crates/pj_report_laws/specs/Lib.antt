@@ -1,3 +1,0 @@
--- definitions, in the order in which they are read
-pub mod FileSays
-pub mod ReportSays
