@@ -1,0 +1,3 @@
+-- definitions, in the order in which they are read
+pub mod FileSays
+pub mod ReportSays
