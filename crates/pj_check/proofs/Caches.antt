@@ -107,12 +107,12 @@ leaving_by words told classes kept ready before after made why (Some name) (Some
       (λ folders. FitsUnder (Some name) kept → IsLeftText left.found (world_of folders ready.settings.classes) ready.sources ready.rules before after text.text)
       (λ folders. FindsFitting words kept → IsLeftBy words held folders left.found before after text.text) refl
       (λ folders of is_text fits.
-          let fit = fits ready.settings asked in
-          let report = of fit in record {
-            run = record { settings = ready.settings; listing = ready.listing; rules = ready.rules; sources = ready.sources; report = report.report };
-            is_run = record { has_rules = of_words.has_rules; read = of_words.read; reported = report.cold };
-            left = is_text (subst (λ (n : Option Bytes). FitsUnder n kept) is fit);
-          })
+      let fit = fits ready.settings asked in
+      let report = of fit in record {
+        run = record { settings = ready.settings; listing = ready.listing; rules = ready.rules; sources = ready.sources; report = report.report };
+        is_run = record { has_rules = of_words.has_rules; read = of_words.read; reported = report.cold };
+        left = is_text (subst (λ (n : Option Bytes). FitsUnder n kept) is fit);
+      })
       reported left.left)
       prepared;
 }

@@ -47,9 +47,10 @@ lines_both (l ∷ ls) [] (Ok end) done old mid new before between after h k =
 lines_both (l ∷ ls) [] (Err failed) done old mid new before between after h k = absurd k
 lines_both (l ∷ ls) (m ∷ ms) (Ok end) done old mid new before between after h k =
     (subst (Gets old new) (sym (flat_map-append (λ x. x) (l ∷ ls) (m ∷ ms))) (gets_both old mid new (all (l ∷ ls)) (all (m ∷ ms)) h.0 k.0), k.1 ∙ h.1)
-lines_both (l ∷ ls) (m ∷ ms) (Err failed) done old mid new before between after h k =
-    (subst (GetsPrefix old new) (sym (flat_map-append (λ x. x) (l ∷ ls) (m ∷ ms))) (behind_cut old mid new (all (l ∷ ls)) (all (m ∷ ms)) h.0 k.0),
-      subst (λ (n : ℕ). Rises n after) h.1 k.1)
+lines_both (l ∷ ls) (m ∷ ms) (Err failed) done old mid new before between after h k = (
+  subst (GetsPrefix old new) (sym (flat_map-append (λ x. x) (l ∷ ls) (m ∷ ms))) (behind_cut old mid new (all (l ∷ ls)) (all (m ∷ ms)) h.0 k.0),
+  subst (λ (n : ℕ). Rises n after) h.1 k.1,
+)
 
 -- lines behind which others were to come, and did not
 pub lines_first : (first second : List Bytes) (failed : Failed) (old new : Option Bytes) (before after : ℕ) → GetLines first (Err failed) old new before after → GetLines (first ++ second) (Err failed) old new before after

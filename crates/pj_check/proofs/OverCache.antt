@@ -6,7 +6,7 @@ use Rattle.pj_cache.specs.declared.cache.Cache.{Cache}
 use Rattle.pj_cache_laws.specs.Reported.{report_of, rules_of}
 use Rattle.pj_cache_laws.specs.Written.{AreFiles, AreWrittenRules, WrittenRule}
 use Rattle.pj_cached_files.specs.LeftFile.{IsRun}
-use Rattle.pj_cached_files.specs.LeftFiles.{Does, LeavesAll}
+use Rattle.pj_cached_files.specs.LeftFiles.{Does, HasClassesByName, LeavesAll}
 use Rattle.pj_cached_files.specs.declared.files.LeftFiles.{LeftFiles}
 use Rattle.pj_fitting.specs.Fits.{CacheFits, IsFound}
 use Rattle.pj_fitting.specs.Left.{IsLeftCache}
@@ -46,6 +46,10 @@ abbrev pub ColdLaw : Type 0
 ColdLaw = (replies : Replies) (files : right.Files WrittenRule) → AreFiles replies files → (world : World) (content : Option (List ℕ)) (found : Cache) (held : List WrittenRule) (unusable : List ConfigError) (list : Files) (c : Cache)
     → CacheFits files content → IsFound content found → IsLeftCache files world found held list c → IsCold replies world list (rules_of held) unusable (report_of files held unusable list c)
 
+-- class folders have each class under its name
+abbrev pub NamedLaw : Type 0
+NamedLaw = (folders : List Files) → HasClassesByName (folders_world folders).answer
+
 -- ---- what fits is right
 
 right_by : (files : right.Files WrittenRule) (content : Option Bytes) (found : Cache) → IsFound content found → CacheFits files content → right.IsRightCache files found
@@ -73,11 +77,11 @@ held_of set meant are room law = held_by set set.rules meant refl are room law
 
 -- over a door that tells its folders, what is left of files is what is left in their world
 pub left_over_door : {K : Type 0} (folders : Option (List Files)) (kept : K) (asked : NameSet) (faults : ℕ) (t : Told K) (set : EffectiveRules) (found : Cache) (sources : Files) (before after : Work) (r : Result LeftFiles AskFault)
-    → t ≡ tells_of kept folders asked faults → IfOk r (LeavesAll t set found sources) → OnOk r (Does t set found sources before after)
+    → NamedLaw → t ≡ tells_of kept folders asked faults → IfOk r (LeavesAll t set found sources) → OnOk r (Does t set found sources before after)
     → IfSome folders (λ held. IfOk r (IsLeftFiles (folders_world held).answer set found sources before after))
-left_over_door None kept asked faults t set found sources before after r tells leaves does = tt
-left_over_door (Some folders) kept asked faults t set found sources before after (Err fault) tells leaves does = tt
-left_over_door {K} (Some folders) kept asked faults t set found sources before after (Ok left) tells leaves does =
+left_over_door None kept asked faults t set found sources before after r named tells leaves does = tt
+left_over_door (Some folders) kept asked faults t set found sources before after (Err fault) named tells leaves does = tt
+left_over_door {K} (Some folders) kept asked faults t set found sources before after (Ok left) named tells leaves does =
     λ files rules held are written is_right.
     let is : IsRun t set found files (folders_world folders).answer rules held = record {
       files_are = are;
@@ -85,7 +89,7 @@ left_over_door {K} (Some folders) kept asked faults t set found sources before a
       is_told = λ i. (tells i).is_told;
       one_world = λ depth far. (λ i. ((tells i).world depth).answer);
       right = is_right;
-    } in (leaves files (folders_world folders).answer rules held is, does files (folders_world folders).answer rules held is)
+    } in (leaves files (folders_world folders).answer rules held is (named folders), does files (folders_world folders).answer rules held is)
 
 -- ---- the report
 

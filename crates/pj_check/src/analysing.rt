@@ -17,6 +17,7 @@ use pj_cache::{Cache, Keys};
 use pj_cache_laws::{
     left_caches_make_cold_reports, rules_of_sets_are_written, written_rules_have_files,
 };
+use pj_cache_store::class_folders_answer_by_name;
 use pj_cached_files::{LeftFiles, Run, files_over_cache};
 use pj_grammar::java_17;
 use pj_names::AskFault;
@@ -71,6 +72,7 @@ fn files_over_door<D: ClassDoor>(
     ensures skipped { work.new.skipped ≡ work.old.skipped }
 {
     sets_have_rules(run.rules);
+    class_folders_answer_by_name();
     let mut oracle = DoorOracle::new(alloc, door);
     let left = files_over_cache(alloc, run, &mut oracle, files, work);
     let _door = door_of(oracle);

@@ -168,9 +168,7 @@ pub fn check_alone<T: Tree, C: ClassPath, K: Keeper, S: Sink, N: Sink>(
     ensures keeps_work { KeepsWork result work.old work.new }
 {
     let mut told = CacheNotes::none();
-    let outcome = outcome_of(run(
-        alloc, words, tree, classes, keeper, out, &mut told, work,
-    ));
+    let outcome = outcome_of(run(alloc, words, tree, classes, keeper, out, &mut told, work));
     put_run(notes, &outcome, &told);
     outcome
 }

@@ -28,9 +28,9 @@ mod verdict;
 pub use cache::CacheNotes;
 pub use check::check_alone;
 pub use laws::{
-    keepers_stay_fit, one_refusal, one_run, reports_are_in_order, reports_find_what_is_denoted, rules_have_reports,
-    runs_are_not_refused, some_run_or_refusal, some_run_or_refusal_without_types,
-    what_sets_mean_settles,
+    keepers_stay_fit, one_refusal, one_run, reports_are_in_order, reports_find_what_is_denoted,
+    rules_have_reports, runs_are_not_refused, some_run_or_refusal,
+    some_run_or_refusal_without_types, what_sets_mean_settles,
 };
 pub use limit::LimitKind;
 pub use note::{put_outcome, put_run};

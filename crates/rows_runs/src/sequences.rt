@@ -114,16 +114,33 @@ impl Place {
     }
 
     /// Runs a command, behind `pmd`, and puts what it came to.
-    fn run(&mut self, alloc: Global, out: &mut String, section: &Section, command: &str) -> Result<(), NoMemory> {
+    fn run(
+        &mut self,
+        alloc: Global,
+        out: &mut String,
+        section: &Section,
+        command: &str,
+    ) -> Result<(), NoMemory> {
         let words = words_of(alloc, command.strip_prefix("pmd").unwrap_or(command))?;
         let failing = Failing::of(section.setting("fails").unwrap_or(""));
-        let ran = run_over(alloc, self.files.copied()?, &words, failing, &mut self.keeper)?;
+        let ran = run_over(
+            alloc,
+            self.files.copied()?,
+            &words,
+            failing,
+            &mut self.keeper,
+        )?;
         self.put_run(out, &ran)
     }
 }
 
 /// What comes of the runs of a row: each begins with its command, and the changes before the next one stand below it.
-fn put_runs(out: &mut String, alloc: Global, section: &Section, given: &str) -> Result<(), NoMemory> {
+fn put_runs(
+    out: &mut String,
+    alloc: Global,
+    section: &Section,
+    given: &str,
+) -> Result<(), NoMemory> {
     let (first, rest) = match given.strip_prefix("$ ") {
         Some(rest) => ("", rest),
         None => given.split_once("\n$ ").unwrap_or((given, "")),
