@@ -81,17 +81,17 @@ put_copy put same is = put ∙ (λ i. same i ++ is i ∷ [])
 abbrev over : GName → GName → Identity → View → ℕ → OverSeat
 over seat door identity start finds = record { seat = seat; door = door; identity = identity; start = start; finds = finds }
 
-pub keeps : {seat door : GName} {finds : ℕ} {before after : Identity} {start now : View} → after ≡ before → now ≡ start → over seat door after now finds ≡ over seat door before start finds
-keeps {seat = seat} {door = door} {finds = finds} same start = λ i. over seat door (same i) (start i) finds
+pub keeps : (seat door : GName) (finds : ℕ) {before after : Identity} {start now : View} → after ≡ before → now ≡ start → over seat door after now finds ≡ over seat door before start finds
+keeps seat door finds same start = λ i. over seat door (same i) (start i) finds
 
 -- a refusal says the same of the count of faults, whatever value there would have been
-pub other_value : {A B : Type 0} {f g : ℕ} (e : AskFault) → CountsFaults {A = A} f g (Err e) → CountsFaults {A = B} f g (Err e)
-other_value Failed is = is
-other_value Memory is = is
+pub other_value : (A B : Type 0) (f g : ℕ) (e : AskFault) → CountsFaults {A = A} f g (Err e) → CountsFaults {A = B} f g (Err e)
+other_value A B f g Failed is = is
+other_value A B f g Memory is = is
 
 -- the answer of the table is that of the oracle's world
-pub right_answer : {world folders : World} {name : Name} {answer : Answer} → folders ≡ world → IsAnswer world name answer → IsTrue (is_some folders) → answer ≡ (worlds_of folders 0).answer name
-right_answer {folders = folders} {name = name} {answer = answer} same is = told_answer folders name answer (subst (λ (w : World). IsAnswer w name answer) (sym same) is)
+pub right_answer : {world folders : World} (name : Name) (answer : Answer) → folders ≡ world → IsAnswer world name answer → IsTrue (is_some folders) → answer ≡ (worlds_of folders 0).answer name
+right_answer {folders = folders} name answer same is = told_answer folders name answer (subst (λ (w : World). IsAnswer w name answer) (sym same) is)
 
 -- ---- a refusal
 

@@ -89,7 +89,7 @@ looks_stay n m names more v w long same quiet are =
 
 -- ---- how many of them fill
 
-fills_append : (looks more : List Asked) → count_fills (looks ++ more) ≡ count_fills looks + count_fills more
+pub fills_append : (looks more : List Asked) → count_fills (looks ++ more) ≡ count_fills looks + count_fills more
 fills_append looks more = ap length (filter-append (λ (look : Asked). look.fill) looks more) ∙ length-append (filter (λ (look : Asked). look.fill) looks) (filter (λ (look : Asked). look.fill) more)
 
 fills_one : (look : Asked) (b : Bool) → look.fill ≡ b → count_fills (look ∷ []) ≡ cond b 1 0
@@ -136,7 +136,7 @@ adds_last n v names are = record {
 
 -- ---- one ask after the other
 
-since_more : (a b c : View) → b.own.asked ≡ a.own.asked ++ looks_since a b → c.own.asked ≡ b.own.asked ++ looks_since b c → looks_since a c ≡ looks_since a b ++ looks_since b c
+pub since_more : (a b c : View) → b.own.asked ≡ a.own.asked ++ looks_since a b → c.own.asked ≡ b.own.asked ++ looks_since b c → looks_since a c ≡ looks_since a b ++ looks_since b c
 since_more a b c first then =
     ap (drop (length a.own.asked)) (then ∙ ap (λ (l : List Asked). l ++ looks_since b c) first ∙ append_assoc a.own.asked (looks_since a b) (looks_since b c))
     ∙ drop-append_seam a.own.asked (looks_since a b ++ looks_since b c)

@@ -5,7 +5,9 @@
 mod gate;
 mod laws;
 mod seat_oracle;
+mod worker;
 
 pub use gate::{Gate, OpenGate};
 pub use laws::looks_add_up;
 pub use seat_oracle::SeatOracle;
+pub use worker::{FileWork, Share, claim_loop};
