@@ -34,7 +34,10 @@ fn is_to_hold(tree: &SyntaxTree<'_>, left: u32, n: Node) -> bool
     requires inside { n.0 < length tree.now.nodes }
     ensures { IsTrue result → (var : Node → Asking JavaType) → typed tree.now var left n ≡ typed tree.now var (deep tree.now) n }
 {
-    is_made_of_others(tree, n) && left >= tree.len() - n.0
+    if left < tree.len() - n.0 {
+        return false;
+    }
+    is_made_of_others(tree, n)
 }
 
 /// The type of a node, where nodes are typed at most so deep within one another, and variables by `var` are those before a number.
