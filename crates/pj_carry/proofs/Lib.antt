@@ -1,0 +1,3 @@
+pub mod ByRule
+pub mod Firsts
+pub mod Answering

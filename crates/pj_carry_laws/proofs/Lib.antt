@@ -1,0 +1,4 @@
+pub mod Keys
+pub mod Answers
+pub mod Rules
+pub mod Entries
