@@ -1,3 +1,5 @@
-pub mod ByRule
 pub mod Firsts
-pub mod Answering
+pub mod Keys
+pub mod Answers
+pub mod Rules
+pub mod Entries

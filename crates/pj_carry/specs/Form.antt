@@ -1,5 +1,5 @@
 -- Which rows a file may have in format 1: those of a file without a tree, or those of rules in one with a tree.
-use Rattle.std.specs.Prelude.{ℕ, Bool, true, false, not, ◌==◌, ◌&&◌, ◌||◌, List, [], ◌∷◌, nat_lt, Option, Some, None, if◌then◌else◌}
+use Rattle.std.specs.Prelude.{ℕ, Bool, true, false, not, ◌==◌, ◌&&◌, ◌||◌, List, [], ◌∷◌, length, nat_lt, Option, Some, None, if◌then◌else◌}
 use Rattle.std.specs.List.{list_any}
 use Rattle.pj_reports.specs.declared.rows.Finding.{Finding}
 use Rattle.pj_reports.specs.declared.rows.FileError.{FileError}
@@ -18,13 +18,9 @@ message_of [] = None
 message_of (e ∷ []) = without_rule e.rule e.message
 message_of (e ∷ f ∷ more) = None
 
-abbrev pub is_nil : {A : Type 0} → List A → Bool
-is_nil [] = true
-is_nil (x ∷ xs) = false
-
 -- one error without a rule, no findings, and an empty package
 abbrev pub lone_message : FileRows → Option (List ℕ)
-lone_message r = if is_nil r.«package» && is_nil r.findings then message_of r.errors else None
+lone_message r = if (length r.«package» == 0) && (length r.findings == 0) then message_of r.errors else None
 
 -- The rows of rules.
 

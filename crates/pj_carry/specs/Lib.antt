@@ -2,5 +2,4 @@
 pub mod Form
 pub mod Rows
 pub mod Carried
--- for private clauses
-pub mod ByRule
+pub mod RightOld

@@ -1,10 +1,6 @@
-//! Caches of format 1 carried over to format 2.
+//! Caches of format 1 carried over to format 2: what each becomes, and that it is right where the old one was.
 #![tactic(auto)]
 
-mod carrying;
-mod entries;
-mod firsts;
-mod form;
-mod rows;
+mod laws;
 
-pub use carrying::carry;
+pub use laws::carried_caches_are_right;

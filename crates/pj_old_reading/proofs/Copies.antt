@@ -1,7 +1,7 @@
 -- Laws of what readers of the key put at the end of a copy.
-use Rattle.std.proofs.Common.{◌≡◌, ℕ, zero, suc, ◌+◌, ◌-◌, ◌<◌, ◌≤◌, Bool, true, false, List, [], ◌∷◌, ◌++◌, map, Result, Ok, Err, refl, sym, ap, subst, ◌∙◌, append_assoc, arith}
+use Rattle.std.proofs.Common.{◌≡◌, ℕ, zero, suc, ◌+◌, ◌-◌, ◌<◌, ◌≤◌, Bool, true, false, List, [], ◌∷◌, ◌++◌, length, map, drop, get_or, Result, Ok, Err, refl, sym, ap, subst, ◌∙◌, append_assoc, arith}
 use Rattle.std.specs.List.{flat_map}
-use Rattle.std.proofs.lemmas.List.{append-nil}
+use Rattle.std.proofs.lemmas.List.{append-nil, drop_all, drop_more}
 use Rattle.std.proofs.lemmas.List.Concat.{flat_map-cons}
 use Rattle.pj_format.specs.declared.fault.Fault.{Fault}
 use Rattle.pj_format.specs.declared.fault.Refused.{Refused}
@@ -61,6 +61,7 @@ followed_read m n bytes at =
   where
     ended : (front : List ℕ) → (λ (y : List ℕ × ℕ). first (Done (front ++ y.0)) bytes y.1) ≡ (λ (y : List ℕ × ℕ). good (front ++ y.0) y.1)
     ended front = λ i y. first_done (front ++ y.0) bytes y.1 i
+
     behind : (front : List ℕ) (from : ℕ) → first (n >>= λ more. Done (front ++ more)) bytes from ≡ (first n bytes from and_then λ y. good (front ++ y.0) y.1)
     behind front from = first_then n (λ more. Done (front ++ more)) bytes from ∙ ap (λ (f : List ℕ × ℕ → Read). first n bytes from and_then f) (ended front)
 
@@ -91,6 +92,15 @@ pub more_tests : (test : Text → Bool) (tests : List (Text → Bool)) → all_t
 unfolding all_tested
 more_tests test tests = refl
 
+-- one test more
+pub tests_left : {X : Type 0} (f : X → Text → Bool) (xs : List X) (i : ℕ) (x : X) → i < length xs → x ≡ get_or xs i x → all_tested (map f (drop i xs)) ≡ tested (f x) followed_by all_tested (map f (drop (i + 1) xs))
+tests_left {X} f xs i x lt is =
+    let left : drop i xs ≡ x ∷ drop (i + 1) xs = drop_more xs i x lt ∙ ap (λ (y : X). y ∷ drop (i + 1) xs) (sym is) in
+    ap (λ (l : List X). all_tested (map f l)) left ∙ more_tests (f x) (map f (drop (i + 1) xs))
+
+pub tests_done : {X : Type 0} (f : X → Text → Bool) (xs : List X) (i : ℕ) (bytes : List ℕ) (at : ℕ) → length xs ≤ i → first (all_tested (map f (drop i xs))) bytes at ≡ good [] at
+tests_done {X} f xs i bytes at le = ap (λ (l : List X). first (all_tested (map f l)) bytes at) (drop_all i xs le) ∙ no_tests bytes at
+
 -- one text
 pub one_test : (test : Text → Bool) (bytes : List ℕ) (at : ℕ) → first (tested test) bytes at ≡ (first sized bytes at and_then λ x. judged at (passing test x.0) and_then λ y. good (string y) x.1)
 unfolding tested
@@ -103,6 +113,7 @@ one_test test bytes at =
     inner : (at end : ℕ) (r : Result (List ℕ) ℕ) → ((judged at r and_then λ y. good y end) and_then λ x. good (string x.0) x.1) ≡ (judged at r and_then λ y. good (string y) end)
     inner at end (Ok x) = refl
     inner at end (Err k) = refl
+
     regroup : (r : Read) → ((r and_then λ x. judged at (passing test x.0) and_then λ y. good y x.1) and_then λ x. good (string x.0) x.1) ≡ (r and_then λ x. judged at (passing test x.0) and_then λ y. good (string y) x.1)
     regroup (Ok x) = inner at x.1 (passing test x.0)
     regroup (Err f) = refl
@@ -185,11 +196,14 @@ listed_read item bytes at =
   where
     ended : (front : List ℕ) → (λ (y : List ℕ × ℕ). first (Done (front ++ y.0)) bytes y.1) ≡ (λ (y : List ℕ × ℕ). good (front ++ y.0) y.1)
     ended front = λ i y. first_done (front ++ y.0) bytes y.1 i
+
     behind : (count : List ℕ) (from : ℕ) → first (members item (value_of count) >>= λ all. Done (string count ++ all)) bytes from ≡ behind_copy (string count) (first (members item (value_of count)) bytes from)
     behind count from = first_then (members item (value_of count)) (λ all. Done (string count ++ all)) bytes from ∙ ap (λ (f : List ℕ × ℕ → Read). first (members item (value_of count)) bytes from and_then f) (ended (string count))
+
     inner : (at end : ℕ) (r : Result (List ℕ) ℕ) → ((judged at r and_then λ y. good y end) and_then λ x. behind_copy (string x.0) (first (members item (value_of x.0)) bytes x.1)) ≡ (judged at r and_then λ y. behind_copy (string y) (first (members item (value_of y)) bytes end))
     inner at end (Ok x) = refl
     inner at end (Err k) = refl
+
     regroup : (r : Read) → ((r and_then λ x. judged at (passing is_number x.0) and_then λ y. good y x.1) and_then λ x. behind_copy (string x.0) (first (members item (value_of x.0)) bytes x.1)) ≡ (r and_then λ x. judged at (passing is_number x.0) and_then λ y. behind_copy (string y) (first (members item (value_of y)) bytes x.1))
     regroup (Ok x) = inner at x.1 (passing is_number x.0)
     regroup (Err f) = refl

@@ -39,10 +39,7 @@ fn are_digits(bytes: &[u8]) -> bool
 fn is_number(bytes: &[u8]) -> bool
     ensures { result ≡ is_number bytes.now }
 {
-    is_text(bytes)
-        && are_digits(bytes)
-        && 0 < bytes.len()
-        && (bytes.len() == 1 || bytes[0] != b'0')
+    is_text(bytes) && are_digits(bytes) && 0 < bytes.len() && (bytes.len() == 1 || bytes[0] != b'0')
 }
 
 /// The number that digits write, or `None` where it is not below 2^32.
@@ -104,8 +101,9 @@ fn copy_all(copy: &mut Vec<u8>, bytes: &[u8], at: u32, tests: &[Test]) -> Result
     ensures { Copies (all_tested (map test_of tests.now)) bytes.now at copy.old.items copy.new.items result }
 {
     let mut place = at;
-    for test in tests {
-        place = copy_tested(copy, bytes, place, *test)?;
+    for word in tests {
+        let behind = copy_tested(copy, bytes, place, *word)?;
+        place = behind;
     }
     Ok(place)
 }
@@ -123,7 +121,8 @@ fn copy_members(
 {
     let mut place = at;
     for _ in 0..count {
-        place = copy_all(copy, bytes, place, tests)?;
+        let behind = copy_all(copy, bytes, place, tests)?;
+        place = behind;
     }
     Ok(place)
 }
@@ -173,7 +172,8 @@ fn copy_rules(copy: &mut Vec<u8>, bytes: &[u8], at: u32, count: u32) -> Result<u
 {
     let mut place = at;
     for _ in 0..count {
-        place = copy_rule(copy, bytes, place)?;
+        let behind = copy_rule(copy, bytes, place)?;
+        place = behind;
     }
     Ok(place)
 }

@@ -18,20 +18,24 @@ fn note_names(held: &mut BTreeSet<SharedName>, names: &[SharedName]) -> Result<(
     Ok(())
 }
 
+/// The members of a set in their order.
+fn listed_names(alloc: Global, held: &BTreeSet<SharedName>) -> Result<Vec<SharedName>, NoMemory>
+    ensures { IfOk result (λ list. list.items ≡ held.now.keys) }
+{
+    let mut list = Vec::new(alloc);
+    for name in held {
+        list.push(name.copied()?)?;
+    }
+    Ok(list)
+}
+
 /// The classes that entries name, in the order of their bytes, each once.
-pub(crate) fn old_names_of(
-    alloc: Global,
-    entries: &[OldEntry],
-) -> Result<Vec<SharedName>, NoMemory>
+pub(crate) fn old_names_of(alloc: Global, entries: &[OldEntry]) -> Result<Vec<SharedName>, NoMemory>
     ensures { IfOk result (λ names. names.items ≡ old_names_of entries.now) }
 {
     let mut held = BTreeSet::new(alloc);
     for entry in entries {
         note_names(&mut held, entry.names.as_slice())?;
     }
-    let mut list = Vec::new(alloc);
-    for name in &held {
-        list.push(name.copied()?)?;
-    }
-    Ok(list)
+    listed_names(alloc, &held)
 }

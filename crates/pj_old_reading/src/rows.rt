@@ -118,11 +118,7 @@ fn errors_of(alloc: Global, bytes: &[u8], at: u32) -> Result<(FileErrors, u32), 
 
 /// The rows of a file.
 #[tactic(auto, using(pj_format::proofs::Laws::reads), unfolding(pj_old_format::specs::FormatOne::file_rows))]
-pub(crate) fn file_rows_of(
-    alloc: Global,
-    bytes: &[u8],
-    at: u32,
-) -> Result<(FileRows, u32), Refused>
+pub(crate) fn file_rows_of(alloc: Global, bytes: &[u8], at: u32) -> Result<(FileRows, u32), Refused>
     requires { length bytes.now ≤ 4294967294 }
     ensures { Gives (λ x. x) result (first file_rows bytes.now at) }
 {

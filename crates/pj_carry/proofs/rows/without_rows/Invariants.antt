@@ -1,7 +1,0 @@
-use Rattle.std.proofs.Common.{◌≡◌, []}
-use Rattle.std.specs.List.{replicate}
-use Rattle.pj_reports.specs.declared.ruled.Ruled.TheVariants.{Spots}
-use Rattle.pj_carry.proofs.rows.without_rows.Given as goal
-
-abbrev pub invariant-loop : goal.invariant-loop
-invariant-loop l = l.all.items ≡ replicate l.counter (Spots [])

@@ -1,4 +1,0 @@
-pub mod Keys
-pub mod Answers
-pub mod Rules
-pub mod Entries
