@@ -19,12 +19,18 @@ use Rattle.pj_fitting.proofs.Sets.{same_name}
 abbrev pub HasItsKey : List Key → First → Type 0
 HasItsKey keys f = slice_get keys f.1 ≡ Some f.0
 
+none_more : (a : ℕ) → a ≡ a + 0
+none_more a = omega arith
+
+one_on : (a b : ℕ) → suc a + b ≡ a + suc b
+one_on a b = omega arith
+
 its_from : (keys : List Key) (held : List First) (rule : ℕ) (rest : List Key) → ((j : ℕ) → slice_get keys (rule + j) ≡ slice_get rest j) → AllByRecursion (HasItsKey keys) held → AllByRecursion (HasItsKey keys) (with_rules held rule rest)
 its_from keys held rule [] same all = all
 its_from keys held rule (key ∷ rest) same all =
-    let here : slice_get keys rule ≡ Some key = ap (slice_get keys) (omega arith) ∙ same 0 in
+    let here : slice_get keys rule ≡ Some key = ap (slice_get keys) (none_more rule) ∙ same 0 in
     its_from keys (with_rule held key rule) (suc rule) rest
-    (λ j. ap (slice_get keys) (omega arith) ∙ same (suc j))
+    (λ j. ap (slice_get keys) (one_on rule j) ∙ same (suc j))
     (rule_all (HasItsKey keys) held key rule (λ e tied. here ∙ ap (λ (k : Key). Some k) (same_name key e.0 (ap is_eq tied))) here all)
 
 pub have_their_keys : (keys : List Key) → AllByRecursion (HasItsKey keys) (first_rules keys)

@@ -119,10 +119,16 @@ range_long : (a n : ℕ) → length (range_with_len a n) ≡ n
 range_long a zero = refl
 range_long a (suc n) = ap suc (range_long (a + 1) n)
 
+none_more : (a : ℕ) → a ≡ a + 0
+none_more a = omega arith
+
+one_on : (a b : ℕ) → (a + 1) + b ≡ a + suc b
+one_on a b = omega arith
+
 in_range : (f : ℕ → Ruled) (a n i : ℕ) (d : Ruled) → i < n → get_or (map f (range_with_len a n)) i d ≡ f (a + i)
 in_range f a zero i d lt = absurd (omega (arith, lt))
-in_range f a (suc n) zero d lt = ap f (omega arith)
-in_range f a (suc n) (suc i) d lt = in_range f (a + 1) n i d (omega (arith, lt)) ∙ ap f (omega arith)
+in_range f a (suc n) zero d lt = ap f (none_more a)
+in_range f a (suc n) (suc i) d lt = in_range f (a + 1) n i d (omega (arith, lt)) ∙ ap f (one_on a i)
 
 abbrev found : ℕ → FileRows → List Ruled
 found count r = with_findings (replicate count none) r.findings
