@@ -1,0 +1,3 @@
+pub mod Rules
+pub mod New
+pub mod Reusing

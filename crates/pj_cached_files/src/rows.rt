@@ -1,0 +1,47 @@
+//! The rows of a file by its entry.
+ghost use Rattle.std.specs.Prelude.{◌≡◌, IfOk, map};
+ghost use Rattle.pj_findings.specs.Merged.{merge};
+ghost use Rattle.pj_left_cache.specs.Said.{said_of_rules};
+ghost use Rattle.pj_cached_files.specs.Asked.{activity, keys_of_set};
+
+use crate::entry::copied_head;
+use crate::run::Run;
+use pj_base::{ListOf, NoMemory};
+use pj_cache::Entry;
+use pj_findings::{RuleRun, RuleRuns, file_rows};
+use pj_left_cache::rows_of_rules;
+use pj_names::ClassNames;
+use pj_reports::{FileRows, Ruled};
+use pj_rule_sets::which_are_active;
+use std::alloc::Global;
+
+/// Runs in which rules came to this, without names.
+fn nameless_runs(alloc: Global, said: ListOf<Ruled>) -> Result<RuleRuns, NoMemory>
+    ensures { IfOk result (λ runs. map (λ run. run.rows) runs ≡ said) }
+{
+    let mut runs = RuleRuns::new(alloc);
+    for rows in said.into_vec() {
+        runs.push(RuleRun {
+            rows,
+            names: ClassNames::new(alloc),
+        })?;
+    }
+    Ok(runs)
+}
+
+/// The rows of a file by its entry: its head with what its results say of each rule, merged.
+pub fn rows_by(alloc: Global, run: &Run<'_>, entry: &Entry) -> Result<FileRows, NoMemory>
+    requires { run.now.keys.now ≡ keys_of_set run.now.rules.now }
+    ensures { IfOk result (λ rows. rows ≡ merge entry.now.head (said_of_rules entry.now.results (keys_of_set run.now.rules.now) (activity run.now.rules.now entry.now.path))) }
+{
+    let rules = run.rules.rules().as_slice();
+    let is_active = which_are_active(alloc, rules, entry.path.as_str())?;
+    let said = rows_of_rules(
+        alloc,
+        entry.results.as_slice(),
+        run.keys.as_slice(),
+        is_active.as_slice(),
+    )?;
+    let runs = nameless_runs(alloc, said)?;
+    file_rows(alloc, copied_head(&entry.head)?, &runs)
+}
