@@ -1,5 +1,6 @@
 -- What is asked at a file, step by step.
-use Rattle.std.proofs.Common.{◌≡◌, ◌∙◌, Bool, true, false, ◌&&◌, List, [], ◌∷◌, Option, Result, Ok, Err, ap, length, refl, subst, sym}
+use Rattle.std.proofs.Common.{◌≡◌, ◌∙◌, ℕ, suc, Bool, true, false, ◌&&◌, List, [], ◌∷◌, Option, Result, Ok, Err, ap, arith, length, refl, subst, sym}
+use Rattle.std.proofs.lemmas.Bool.{eqb-true}
 use Rattle.std.specs.Prelude.{◌==◌, if◌then◌else◌}
 use Rattle.pj_cache.specs.declared.cache.CachedResult.{CachedResult}
 use Rattle.pj_cache.specs.declared.cache.Entry.{Entry}
@@ -19,12 +20,18 @@ use Rattle.pj_workers.specs.Rules.{Rule}
 
 -- ---- numbers that are missing
 
+not_zero : (n : ℕ) → (suc n == 0) ≡ true → ⊥
+not_zero n is = let never : suc n ≡ 0 = eqb-true (suc n) 0 is in omega (arith, never)
+
 pub is_none : {A : Type 0} (xs : List A) → (length xs == 0) ≡ true → xs ≡ []
 is_none [] is = refl
-is_none (x ∷ xs) is = absurd cc
+is_none (x ∷ xs) is = absurd (not_zero (length xs) is)
+
+zero_is : (0 == 0) ≡ true
+zero_is = refl
 
 pub is_some : {A : Type 0} (xs : List A) → (length xs == 0) ≡ false → is_empty xs ≡ false
-is_some [] is = absurd cc
+is_some [] is = sym zero_is ∙ is
 is_some (x ∷ xs) is = refl
 
 module _ {K : Type 0} (answers : List (Name × Answer)) (set : EffectiveRules) (meant : List Rule) (file : File) (old : Option Entry) where
@@ -60,3 +67,8 @@ module _ {K : Type 0} (answers : List (Name × Answer)) (set : EffectiveRules) (
   completed_asks {t} {u} {v} {stay} {r} tree asks some looked =
       tree_asks tree (asks-then (then_missing set meant file old) asks
       (subst (λ (b : Bool). Asks (if b then Return true else looked_at meant file (missing_numbers set file.0 stay)) u v r) (sym some) looked))
+
+  -- which is refused
+  pub completed_refused : {t u v : Told K} {stay : List CachedResult} {e : AskFault} {r : Result Bool AskFault} → has_no_tree old ≡ false → Asks (kept_results answers (results_of old) (active_keys_of set file.0)) t u (Ok stay)
+      → (is_there old && is_empty (missing_numbers set file.0 stay)) ≡ false → Asks (looked_at meant file (missing_numbers set file.0 stay)) u v (Err e) → r ≡ Err e → Asks (reused_by answers set meant file old) t v r
+  completed_refused {t} {u} {v} {stay} {e} {r} tree asks some looked is = subst (λ (x : Result Bool AskFault). Asks (reused_by answers set meant file old) t v x) (sym is) (completed_asks tree asks some looked)

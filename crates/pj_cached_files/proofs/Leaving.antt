@@ -2,7 +2,7 @@
 use Rattle.std.proofs.Common.{◌≡◌, ◌≤◌, ◌∙◌, ℕ, Bool, true, false, not, cond, ◌&&◌, ◌||◌, List, [], ◌∷◌, ◌++◌, Option, Some, None, Result, Ok, Err, ap, append-nil, arith, filter, length, map, refl, slice_get, subst, sym}
 use Rattle.std.specs.Prelude.{IsTrue, if◌then◌else◌}
 use Rattle.std.specs.Cmp.Lexicographic.{nat_list_cmp_total}
-use Rattle.std.specs.FinSet as set
+use Rattle.std.specs.FinSet as sets
 use Rattle.std.specs.FinSet.{contains-from_list, contains-union}
 use Rattle.std.specs.List.{All, AllByRecursion, AllZip, IsDistinct, cons_option, list_all}
 use Rattle.std.specs.List.Sorted.{IsPermutation, IsStrictlySortedBy}
@@ -89,9 +89,9 @@ far = omega arith
 -- ---- names
 
 -- names that are put to a set
-put_names : (s : NameSet) (names : List Name) → with_names s names ≡ set.union s (name_set names)
-put_names s names = same_names (with_names s names) (set.union s (name_set names)) (λ q.
-    contains-with_names s names q ∙ ap (λ (b : Bool). set.contains s q || b) (sym (contains-from_list nat_list_cmp_total names q)) ∙ sym (contains-union nat_list_cmp_total s (name_set names) q))
+put_names : (s : NameSet) (names : List Name) → with_names s names ≡ sets.union s (name_set names)
+put_names s names = same_names (with_names s names) (sets.union s (name_set names)) (λ q.
+    contains-with_names s names q ∙ ap (λ (b : Bool). sets.contains s q || b) (sym (contains-from_list nat_list_cmp_total names q)) ∙ sym (contains-union nat_list_cmp_total s (name_set names) q))
 
 -- ---- rows in order
 
@@ -335,7 +335,7 @@ module _ {K : Type 0} (t : Told K) (set : EffectiveRules) (found : Cache) (file 
             all = ap (λ (l : List Name). name_set l) (names_of-bind longest world m (λ (v : Ruled). bind others (λ vs. Return (v ∷ vs)))
                 ∙ ap (λ (l : List Name). names_of longest world m ++ l) (names_of-bind longest world others (λ vs. Return (value_of longest world m ∷ vs)) ∙ append-nil (names_of longest world others)))
                 ∙ set_of_both (names_of longest world m) (names_of longest world others)
-                ∙ ap (λ (s : NameSet). set.union s (name_set (names_of longest world others))) (ap (λ (w : World). name_set (names_of longest w m)) (sym (one_world longest far)) ∙ gives.names_are longest far);
+                ∙ ap (λ (s : NameSet). sets.union s (name_set (names_of longest world others))) (ap (λ (w : World). name_set (names_of longest w m)) (sym (one_world longest far)) ∙ gives.names_are longest far);
           }
 
       abbrev left_over : List WrittenRule
@@ -454,8 +454,8 @@ module _ {K : Type 0} (t : Told K) (set : EffectiveRules) (found : Cache) (file 
       abbrev asked_names : List Name
       asked_names = names_of longest world (reused_at found set rules file)
 
-      looks_by : (u : Told K) (b : Bool) → AsksReused u (Ok b) → (asked : NameSet) → name_set asked_names ≡ set.union (told_of files found world held file) asked → AskFor here world (analysed files found world held file b) asked
-          → (names : NameSet) × LookedFile files found world held file names × (u.asked ≡ set.union t.asked names)
+      looks_by : (u : Told K) (b : Bool) → AsksReused u (Ok b) → (asked : NameSet) → name_set asked_names ≡ sets.union (told_of files found world held file) asked → AskFor here world (analysed files found world held file b) asked
+          → (names : NameSet) × LookedFile files found world held file names × (u.asked ≡ sets.union t.asked names)
       looks_by u b asks asked named ask = (
         name_set asked_names,
         record { asked = asked; comes = subst (λ (x : Bool). AskFor here world (analysed files found world held file x) asked) (reused_here u b asks) ask; all = named },
@@ -467,13 +467,13 @@ module _ {K : Type 0} (t : Told K) (set : EffectiveRules) (found : Cache) (file 
       )
 
       -- at a file that is used again none is asked but to tell which results stand
-      none_more : (u : Told K) (b : Bool) → b ≡ true → AsksReused u (Ok b) → asked_names ≡ looked_in found.answers world old keys ++ [] → (names : NameSet) × LookedFile files found world held file names × (u.asked ≡ set.union t.asked names)
+      none_more : (u : Told K) (b : Bool) → b ≡ true → AsksReused u (Ok b) → asked_names ≡ looked_in found.answers world old keys ++ [] → (names : NameSet) × LookedFile files found world held file names × (u.asked ≡ sets.union t.asked names)
       none_more u b is asks named =
           looks_by u b asks (name_set []) (ap (λ (l : List Name). name_set l) named ∙ set_of_both (looked_in found.answers world old keys) [])
           (subst (λ (x : Bool). AskFor here world (analysed files found world held file x) (name_set [])) (sym is) none_named)
 
       pub looks_without_tree : IsInOrder found → (e : Entry) (u : Told K) (b : Bool) → b ≡ true → entry_at found file ≡ Some e → has_no_tree (Some e) ≡ true → AsksReused u (Ok b)
-          → (names : NameSet) × LookedFile files found world held file names × (u.asked ≡ set.union t.asked names)
+          → (names : NameSet) × LookedFile files found world held file names × (u.asked ≡ sets.union t.asked names)
       looks_without_tree ordered e u b reused is tree asks =
           let none : e.results ≡ [] = subst (λ (h : Head). AreByBytesAt h e.results) (no_tree_at e tree).1 (old_by_bytes found file ordered e is) in
           let none_old_here : old ≡ [] = ap (λ (o : Option Entry). results_of o) is ∙ none in
@@ -495,7 +495,7 @@ module _ {K : Type 0} (t : Told K) (set : EffectiveRules) (found : Cache) (file 
           ∙ ap (λ (l : List CachedResult). looked_in found.answers world old keys ++ names_of longest world (then_missing set rules file (entry_at found file) l)) (sym (stays u stay asks))
 
       pub looks_served : (e : Entry) (stay : List CachedResult) (u v : Told K) (b : Bool) → b ≡ true → entry_at found file ≡ Some e → has_no_tree (Some e) ≡ false → Asks (kept_results found.answers e.results wanted) t u (Ok stay)
-          → missing_numbers set file.0 stay ≡ [] → AsksReused v (Ok b) → (names : NameSet) × LookedFile files found world held file names × (v.asked ≡ set.union t.asked names)
+          → missing_numbers set file.0 stay ≡ [] → AsksReused v (Ok b) → (names : NameSet) × LookedFile files found world held file names × (v.asked ≡ sets.union t.asked names)
       looks_served e stay u v b reused is tree asks none all =
           let kept_asks = subst (λ (o : Option Entry). Asks (kept_results found.answers (results_of o) wanted) t u (Ok stay)) (sym is) asks in
           let has_tree : has_no_tree (entry_at found file) ≡ false = ap (λ (o : Option Entry). has_no_tree o) is ∙ tree in
@@ -506,7 +506,7 @@ module _ {K : Type 0} (t : Told K) (set : EffectiveRules) (found : Cache) (file 
 
       pub looks_completed : (stay : List CachedResult) (left : LeftFile) (u v : Told K) → has_no_tree (entry_at found file) ≡ false → Asks (kept_results found.answers old wanted) t u (Ok stay)
           → (is_there (entry_at found file) && is_empty (missing_numbers set file.0 stay)) ≡ false → IsCompleted u set file stay left → AsksReused v (Ok left.is_reused)
-          → (names : NameSet) × LookedFile files found world held file names × (v.asked ≡ set.union t.asked names)
+          → (names : NameSet) × LookedFile files found world held file names × (v.asked ≡ sets.union t.asked names)
       looks_completed stay left u v tree asks some done all =
           let more : Asking (List Ruled) = chosen_meaning java_replies file.0 file.1 (missing_numbers set file.0 stay) rules in
           let named : names_of longest world (then_missing set rules file (entry_at found file) stay) ≡ names_of longest world more =

@@ -8,6 +8,7 @@ use Rattle.pj_cached_files.specs.Made.{new_result, new_results}
 use Rattle.pj_findings.specs.declared.run.RuleRun.{RuleRun}
 use Rattle.pj_fitting.proofs.Lists.{all_map}
 use Rattle.pj_fitting.specs.Right.{Key}
+use Rattle.pj_left_cache.proofs.LeftLaws.{all_append}
 use Rattle.pj_left_cache.proofs.MissingLaws.{StandsAt, each_stands}
 use Rattle.pj_outside.specs.Files.{Bytes}
 use Rattle.pj_parse.specs.JavaFile.{JavaFile}
@@ -79,3 +80,8 @@ rules_short (Err fault) rules = omega arith
 -- there are no more runs than numbers
 pub runs_short : (R : Rule → RuleRun → Type 0) (o : Result JavaFile FileFault) (numbers : List ℕ) (rules : List Rule) (runs : List RuleRun) → AllZip R (rules_in o (chosen numbers rules)) runs → length runs ≤ length numbers
 runs_short R o numbers rules runs zip = omega (arith, zip_length R (rules_in o (chosen numbers rules)) runs zip, rules_short o (chosen numbers rules), chosen_short numbers rules)
+
+-- ---- one more member
+
+pub all_last : {A : Type 0} (P : A → Type 0) (xs : List A) (x : A) (ys : List A) → ys ≡ xs ++ x ∷ [] → All P xs → P x → All P ys
+all_last P xs x ys is all one = All-from_recursion P ys (subst (λ (l : List _). AllByRecursion P l) (sym is) (all_append P xs (x ∷ []) (recursion_from_All P xs all) (one, tt)))

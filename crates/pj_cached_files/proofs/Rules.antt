@@ -51,10 +51,10 @@ module _ (files : Files WrittenRule) (are : AreFiles java_replies files) (marker
 
 module _ (files : Files WrittenRule) (are : AreFiles java_replies files) (set : EffectiveRules) (rules : List Rule) (held : List WrittenRule) (written : AreWrittenRules set rules held) where
   pub keys_are : map files.key held ≡ keys_of_set set
-  keys_are = own_keys files are set.marker held (recursion_from_All held written.marker) ∙ ap (λ (l : List EffectiveRule). map (λ (rule : EffectiveRule). key_of set.marker rule) l) written.effective
+  keys_are = own_keys files are set.marker held (recursion_from_All (λ (w : WrittenRule). w.marker ≡ set.marker) held written.marker) ∙ ap (λ (l : List EffectiveRule). map (λ (rule : EffectiveRule). key_of set.marker rule) l) written.effective
 
   pub active_keys_are : (path bytes : Bytes) → active_keys (rules_at files path bytes) held ≡ active_keys_of set path
-  active_keys_are path bytes = own_active files are set.marker path held (recursion_from_All held written.marker)
+  active_keys_are path bytes = own_active files are set.marker path held (recursion_from_All (λ (w : WrittenRule). w.marker ≡ set.marker) held written.marker)
       ∙ ap (λ (l : List EffectiveRule). keys_of_active (map (λ (rule : EffectiveRule). key_of set.marker rule) l) (map (λ (rule : EffectiveRule). is_active rule path) l)) written.effective
 
   pub activity_are : (path : Bytes) → map (files.is_active path) held ≡ activity set path

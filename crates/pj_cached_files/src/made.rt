@@ -16,7 +16,8 @@ fn shared_name(alloc: Global, name: ClassName) -> Result<SharedName, NoMemory>
     ensures class { IfOk result (λ shared. IsClassText shared) }
 {
     let _ = name.as_str();
-    SharedName::new(alloc, name)
+    let shared = SharedName::new(alloc, name)?;
+    Ok(shared)
 }
 
 /// The names, to be shared.
