@@ -84,4 +84,4 @@ runs_short R o numbers rules runs zip = omega (arith, zip_length R (rules_in o (
 -- ---- one more member
 
 pub all_last : {A : Type 0} (P : A → Type 0) (xs : List A) (x : A) (ys : List A) → ys ≡ xs ++ x ∷ [] → All P xs → P x → All P ys
-all_last P xs x ys is all one = All-from_recursion P ys (subst (λ (l : List _). AllByRecursion P l) (sym is) (all_append P xs (x ∷ []) (recursion_from_All P xs all) (one, tt)))
+all_last {A} P xs x ys is all one = All-from_recursion P ys (subst (λ (l : List A). AllByRecursion P l) (sym is) (all_append P xs (x ∷ []) (recursion_from_All P xs all) (one, tt)))
