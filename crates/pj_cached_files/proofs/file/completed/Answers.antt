@@ -70,7 +70,7 @@ returns-clause-left g c =
         runs = found.runs;
         is = c.in_ok-made.ensures.value ∙ (λ i. new_results (chosen (numbers i) (keys i)) found.runs);
         rest = subst (λ (ns : List ℕ). (meant : List Rule) → AreRulesOf set meant
-                → AllZip (λ rule run. RestsOn (g.O.Oracle.tells c.args.oracle.now) (rule_meaning java_replies c.args.path.now c.args.bytes.now rule) run.rows run.names) (rules_in (outcome_of c.args.bytes.now) (chosen ns meant)) found.runs)
+            → AllZip (λ rule run. RestsOn (g.O.Oracle.tells c.args.oracle.now) (rule_meaning java_replies c.args.path.now c.args.bytes.now rule) run.rows run.names) (rules_in (outcome_of c.args.bytes.now) (chosen ns meant)) found.runs)
             c.requires.missing c.in_ok-found.ensures.found;
         classes = c.in_ok-made.ensures.classes;
       };
