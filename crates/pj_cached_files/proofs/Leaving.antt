@@ -18,7 +18,7 @@ use Rattle.pj_cache_format.specs.Judges.{is_behind}
 use Rattle.pj_cache_format.specs.Ordered.{AreRowsInOrder, IsInOrder}
 use Rattle.pj_cache_laws.specs.Written.{AreFiles, AreWrittenRules, WrittenRule}
 use Rattle.pj_cached_files.proofs.Entries.{are_left, has_tree_at, left_again, left_treeless, left_with_tree, no_tree_at, none_old, old_by_bytes, old_head}
-use Rattle.pj_cached_files.proofs.NewResults.{none_made}
+use Rattle.pj_cached_files.proofs.NewResults.{none_made, none_of}
 use Rattle.pj_cached_files.proofs.New.{chosen_seen, each_new}
 use Rattle.pj_cached_files.proofs.OneAsked.{both_tests, none_asked, none_named, same_asked}
 use Rattle.pj_cached_files.proofs.Reusing.{reused_value}
@@ -114,10 +114,6 @@ unfolding IsStrictlySortedBy
 one_key k = (tt, tt)
 
 -- ---- lists
-
-none_of : {A : Type 0} (xs : List A) → length xs ≡ 0 → xs ≡ []
-none_of [] is = refl
-none_of (x ∷ xs) is = absurd (omega (arith, is))
 
 zip_back : {A B C : Type 0} (f : A → B) (P : B → C → Type 0) (xs : List A) (ys : List C) → AllZip P (map f xs) ys → AllZip (λ x y. P (f x) y) xs ys
 zip_back f P [] [] zip = tt
@@ -432,7 +428,7 @@ module _ {K : Type 0} (t : Told K) (set : EffectiveRules) (found : Cache) (file 
         let own : left.entry.head ≡ heads.Message (fault_message fault) = done.head_is ∙ ap head_of outcome in
         let none_old_here : old ≡ [] = none_old files world found held file run.right (fault_message fault) head tree in
         let no_stay : stay ≡ [] = stays u stay asks ∙ ap (λ (l : List CachedResult). kept found.answers world keys l) none_old_here in
-        let no_runs = none_zipped _ done.are_made.runs zip in
+        let no_runs = none_zipped (λ (rule : Rule) (came : RuleRun). RestsOn u (rule_meaning java_replies file.0 file.1 rule) came.rows came.names) done.are_made.runs zip in
         let no_made : done.made ≡ [] = done.are_made.is ∙ ap (λ (rs : List RuleRun). new_results (missing_keys set file stay) rs) no_runs ∙ none_made (missing_keys set file stay) in
         let moved : IsPermutation [] left.entry.results = subst (λ (l : List CachedResult). IsPermutation l left.entry.results) (λ i. no_stay i ++ no_made i) done.results.members in
         let none : left.entry.results ≡ [] = none_of left.entry.results (length_permutation [] left.entry.results moved) in

@@ -81,7 +81,11 @@ rules_short (Err fault) rules = omega arith
 pub runs_short : (R : Rule → RuleRun → Type 0) (o : Result JavaFile FileFault) (numbers : List ℕ) (rules : List Rule) (runs : List RuleRun) → AllZip R (rules_in o (chosen numbers rules)) runs → length runs ≤ length numbers
 runs_short R o numbers rules runs zip = omega (arith, zip_length R (rules_in o (chosen numbers rules)) runs zip, rules_short o (chosen numbers rules), chosen_short numbers rules)
 
--- ---- one more member
+-- ---- lists
+
+pub none_of : {A : Type 0} (xs : List A) → length xs ≡ 0 → xs ≡ []
+none_of [] is = refl
+none_of (x ∷ xs) is = absurd (omega (arith, is))
 
 pub all_last : {A : Type 0} (P : A → Type 0) (xs : List A) (x : A) (ys : List A) → ys ≡ xs ++ x ∷ [] → All P xs → P x → All P ys
 all_last {A} P xs x ys is all one = All-from_recursion P ys (subst (λ (l : List A). AllByRecursion P l) (sym is) (all_append P xs (x ∷ []) (recursion_from_All P xs all) (one, tt)))

@@ -48,7 +48,7 @@ returns-in_err-part-clause-asks g c =
     let file : File = (c.args.path.now, c.args.bytes.now) in
     let e = c.args.old.now in
     let tree = sym c.says_no_tree.ensures ∙ c.if-says_no_tree.false in
-    let part = subst (λ (os : List CachedResult). Asks (kept_results found.answers os (active_keys_of set file.0)) t u (Err c.in_err-part.field-0)) c.as_slice.ensures c.in_err-part.ensures.asks in
+    let part = subst (λ (os : List CachedResult). Asks (kept_results found.answers os (active_keys_of set file.0)) t u (Err c.in_err-part.field-0.0)) c.as_slice.ensures c.in_err-part.ensures.asks in
     by_entry t set found file (Some e) u _ c.requires.entry (λ meant are. refused_asks found.answers set meant file (Some e) tree part (search rules))
 
 pub returns-in_err-used_again-2-clause-asks : goal.returns-in_err-used_again-2-clause-asks
@@ -125,7 +125,7 @@ returns-in_err-left-clause-asks g c =
     let part = subst (λ (os : List CachedResult). Asks (kept_results found.answers os (active_keys_of set file.0)) t u (Ok stay)) c.as_slice.ensures c.in_ok-part.ensures.asks in
     let some = subst (λ (ns : List ℕ). is_empty ns ≡ false) c.in_ok-part.ensures.missing (is_some c.in_ok-part.part.missing (sym c.is_empty.ensures ∙ c.if-is_empty.false)) in
     by_entry t set found file (Some e) v _ c.requires.entry (λ meant are. completed_refused found.answers set meant file (Some e) tree part some
-    (subst (λ (ns : List ℕ). Asks (looked_at meant file ns) u v (Err c.in_err-left.field-0)) c.in_ok-part.ensures.missing (c.in_err-left.ensures.asks meant are)) (search rules))
+    (subst (λ (ns : List ℕ). Asks (looked_at meant file ns) u v (Err c.in_err-left.field-0.0)) c.in_ok-part.ensures.missing (c.in_err-left.ensures.asks meant are)) (search rules))
 
 pub returns-clause-asks : goal.returns-clause-asks
 returns-clause-asks g c =

@@ -19,7 +19,7 @@ returns-in_err-part-clause-asks g c =
     let found = c.args.run.now.found.now in
     let file : File = (c.args.path.now, c.args.bytes.now) in
     let tree : has_no_tree None ≡ false = refl in
-    let part : Asks (kept_results found.answers [] (active_keys_of set file.0)) t u (Err c.in_err-part.field-0) = c.in_err-part.ensures.asks in
+    let part : Asks (kept_results found.answers [] (active_keys_of set file.0)) t u (Err c.in_err-part.field-0.0) = c.in_err-part.ensures.asks in
     by_entry t set found file None u _ c.requires.entry (λ meant are. refused_asks found.answers set meant file None tree part (search rules))
 
 pub returns-in_err-left-clause-asks : goal.returns-in_err-left-clause-asks
@@ -35,7 +35,7 @@ returns-in_err-left-clause-asks g c =
     let part : Asks (kept_results found.answers [] (active_keys_of set file.0)) t u (Ok stay) = c.in_ok-part.ensures.asks in
     let some : false ≡ false = refl in
     by_entry t set found file None v _ c.requires.entry (λ meant are. completed_refused found.answers set meant file None tree part some
-    (subst (λ (ns : List ℕ). Asks (looked_at meant file ns) u v (Err c.in_err-left.field-0)) c.in_ok-part.ensures.missing (c.in_err-left.ensures.asks meant are)) (search rules))
+    (subst (λ (ns : List ℕ). Asks (looked_at meant file ns) u v (Err c.in_err-left.field-0.0)) c.in_ok-part.ensures.missing (c.in_err-left.ensures.asks meant are)) (search rules))
 
 pub returns-clause-asks : goal.returns-clause-asks
 returns-clause-asks g c =

@@ -6,7 +6,7 @@ use Rattle.pj_findings.specs.declared.run.RuleRun.{RuleRun}
 use Rattle.pj_names.proofs.AskingLaws.{left_from}
 use Rattle.pj_workers.specs.Chosen.{chosen}
 use Rattle.pj_cached_files.specs.Made.{IsClassText, new_results}
-use Rattle.pj_cached_files.proofs.NewResults.{all_last, got, next_made, none_made}
+use Rattle.pj_cached_files.proofs.NewResults.{all_last, got, next_made, none_made, none_of}
 use Rattle.pj_cached_files.proofs.made.new_results.Goals as goal
 
 pub loop-run-preserved : goal.loop-run-preserved
@@ -31,7 +31,8 @@ pub returns-clause-value : goal.returns-clause-value
 returns-clause-value c =
     let keys = c.args.keys.now in
     let left = chosen (drop c.loop-run.place c.args.which.now) keys in
-    let rest : c.loop-run.run-iterator.rest.items ≡ [] = search rules in
+    let count : length c.loop-run.run-iterator.rest.items ≡ 0 = search rules in
+    let rest = none_of c.loop-run.run-iterator.rest.items count in
     sym (append-nil c.loop-run.made)
     ∙ ap (λ (l : List CachedResult). c.loop-run.made ++ l) (sym (none_made left))
     ∙ subst (λ (l : List RuleRun). c.loop-run.made ++ new_results left l ≡ new_results (chosen c.args.which.now keys) c.args.runs) rest c.loop-run.invariant.value
