@@ -7,6 +7,7 @@ use Rattle.pj_cached_files.specs.declared.entry.LeftFile.{LeftFile}
 use Rattle.pj_fitting.specs.Left.{File, IsLeftEntry}
 use Rattle.pj_fitting.specs.Looked.{LookedFile, is_reusable}
 use Rattle.pj_fitting.specs.Right.{Files, IsRightCache}
+use Rattle.pj_left_cache.specs.Bytes.{AreByBytesAt}
 use Rattle.pj_names.specs.ClassName.{NameSet}
 use Rattle.pj_names.specs.Held.{AreOne, NeedThemselves}
 use Rattle.pj_names.specs.Told.{Told}
@@ -23,10 +24,11 @@ pub record IsRun {K : Type 0} (told : Told K) (set : EffectiveRules) (found : Ca
   pub one_world : AreOne told.world world
   pub right : IsRightCache files found
 
--- What is left of a file is its entry, over the cache that was found, and the file is used again as it is where it can be.
+-- What is left of a file is its entry, over the cache that was found, with its results in their order, and the file is used again as it is where it can be.
 pub record IsLeftFile (files : Files WrittenRule) (world : World) (found : Cache) (held : List WrittenRule) (file : File) (left : LeftFile) : Type 0 where
   pub entry : IsLeftEntry files world found held file left.entry
   pub reused : left.is_reused ≡ is_reusable files found world held file
+  pub by_bytes : AreByBytesAt left.entry.head left.entry.results
 
 -- in every run over the oracle
 abbrev pub Leaves : {K : Type 0} → Told K → EffectiveRules → Cache → File → LeftFile → Type 0

@@ -1,8 +1,7 @@
 //! The rows of a file by its entry.
 ghost use Rattle.std.specs.Prelude.{◌≡◌, IfOk, map};
-ghost use Rattle.pj_findings.specs.Merged.{merge};
-ghost use Rattle.pj_left_cache.specs.Said.{said_of_rules};
-ghost use Rattle.pj_cached_files.specs.Asked.{activity, keys_of_set};
+ghost use Rattle.pj_cached_files.specs.Asked.{keys_of_set};
+ghost use Rattle.pj_cached_files.specs.Gathered.{HasText, rows_said};
 
 use crate::entry::copied_head;
 use crate::run::Run;
@@ -29,10 +28,11 @@ fn nameless_runs(alloc: Global, said: ListOf<Ruled>) -> Result<RuleRuns, NoMemor
     Ok(runs)
 }
 
-/// The rows of a file by its entry: its head with what its results say of each rule, merged.
+/// The rows of a file by its entry: its head with what its results say of each rule, merged. Its path is a text, as contracts do not see of themselves.
 pub fn rows_by(alloc: Global, run: &Run<'_>, entry: &Entry) -> Result<FileRows, NoMemory>
     requires { run.now.keys.now ≡ keys_of_set run.now.rules.now }
-    ensures { IfOk result (λ rows. rows ≡ merge entry.now.head (said_of_rules entry.now.results (keys_of_set run.now.rules.now) (activity run.now.rules.now entry.now.path))) }
+    ensures rows { IfOk result (λ rows. rows ≡ rows_said run.now.rules.now entry.now) }
+    ensures text { HasText entry.now }
 {
     let rules = run.rules.rules().as_slice();
     let is_active = which_are_active(alloc, rules, entry.path.as_str())?;
