@@ -22,6 +22,6 @@ pub fn reused_is()
         → value_of depth world (reused_at found set rules file) ≡ is_reusable files found world held file }
 {
     kept_is();
-    missing_rules_are::<u8>();
+    missing_rules_are();
     results_are_made_where_none_serve();
 }
