@@ -16,7 +16,7 @@ use Rattle.pj_declared.proofs.Ordered.{probe, place_order, place_total, row_tota
 
 -- ---- rows of the name, within the node
 
-equal_from : (r : Ordering) → is_eq r ≡ true → r ≡ Equal
+pub equal_from : (r : Ordering) → is_eq r ≡ true → r ≡ Equal
 equal_from Less h = absurd (true≢false (sym h))
 equal_from Equal h = refl
 equal_from Greater h = absurd (true≢false (sym h))
@@ -73,12 +73,12 @@ module _ (name : List ℕ) (within : Node) where
 
 -- ---- rows by their places
 
-of_index : (keep : Named → Bool) (xs : List Named) (d : Declared) → IsOf keep xs d → (i : ℕ) × (i < length xs) × ((e : Named) → (keep (get_or xs i e) ≡ true) × (declared_by (get_or xs i e).scope ≡ d))
+pub of_index : (keep : Named → Bool) (xs : List Named) (d : Declared) → IsOf keep xs d → (i : ℕ) × (i < length xs) × ((e : Named) → (keep (get_or xs i e) ≡ true) × (declared_by (get_or xs i e).scope ≡ d))
 of_index keep [] d h = absurd h
 of_index keep (x ∷ xs) d (inl h) = (0, omega arith, λ e. h)
 of_index keep (x ∷ xs) d (inr h) = let r = of_index keep xs d h in (suc r.0, omega (arith, r.1), r.2)
 
-at_index : (keep : Named → Bool) (xs : List Named) (i : ℕ) (e : Named) → i < length xs → keep (get_or xs i e) ≡ true → IsOf keep xs (declared_by (get_or xs i e).scope)
+pub at_index : (keep : Named → Bool) (xs : List Named) (i : ℕ) (e : Named) → i < length xs → keep (get_or xs i e) ≡ true → IsOf keep xs (declared_by (get_or xs i e).scope)
 at_index keep [] i e inside h = absurd (omega arith)
 at_index keep (x ∷ xs) zero e inside h = inl (h, refl)
 at_index keep (x ∷ xs) (suc i) e inside h = inr (at_index keep xs i e (omega arith) h)

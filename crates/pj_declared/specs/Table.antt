@@ -2,7 +2,7 @@
 use Rattle.std.specs.Prelude.{ℕ, ◌==◌, ◌&&◌, ◌||◌, Bool, true, false, List, nat_eq, nat_lt, nat_le}
 use Rattle.std.specs.Cmp.Lexicographic.{pointwise, slice_cmp}
 use Rattle.std.specs.List.Sorted.{IsPermutation, IsSorted}
-use Rattle.std.specs.Ordering.{nat_cmp, ordering_then}
+use Rattle.std.specs.Ordering.{nat_cmp, ordering_index, ordering_then}
 use Rattle.std.specs.declared.cmp.Ordering.{Ordering}
 use Rattle.std.specs.declared.cmp.Ordering.TheVariants.{Less, Equal, Greater}
 use Rattle.pj_tree.specs.declared.node.Node.{Node}
@@ -17,6 +17,10 @@ before_by Greater by_scope = false
 abbrev pub is_before : List ℕ → Node → ℕ → Named → Bool
 is_before name within opened row =
     before_by (slice_cmp nat_cmp row.name name) (nat_lt row.scope.within.0 within.0 || (row.scope.within.0 == within.0 && nat_lt row.scope.opened opened))
+
+-- where the name of a row stands beside another one: 0 before it, 1 where they are the same, 2 behind it
+abbrev pub name_rank : List ℕ → Named → ℕ
+name_rank name row = ordering_index (slice_cmp nat_cmp row.name name)
 
 -- whether a row is of the name, with a scope within the node
 abbrev pub is_of : List ℕ → Node → Named → Bool

@@ -2,7 +2,7 @@ use Rattle.std.proofs.Common.{◌≡◌, Some, arith, sym, ◌∙◌, subst}
 use Rattle.pj_tree.specs.Tree.{parent_of}
 use Rattle.pj_declared.proofs.Around.{above_is, root_is}
 use Rattle.pj_declared.proofs.Along.{IsLeft, left_first, left_next, left_last}
-use Rattle.pj_declared.proofs.search.meant_among.Goals as goal
+use Rattle.pj_declared.proofs.search.meant_of.Goals as goal
 
 pub loop-around-init : goal.loop-around-init
 loop-around-init c =
