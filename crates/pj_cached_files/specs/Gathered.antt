@@ -5,7 +5,7 @@ use Rattle.std.specs.Str.{is_utf8}
 use Rattle.pj_cache.specs.declared.cache.Cache.{Cache}
 use Rattle.pj_cache.specs.declared.cache.Entry.{Entry}
 use Rattle.pj_cache_laws.specs.Written.{WrittenRule}
-use Rattle.pj_cached_files.specs.Asked.{activity, keys_of_set}
+use Rattle.pj_cached_files.specs.Asked.{activity, keys_of_set, reused_at}
 use Rattle.pj_cached_files.specs.LeftFile.{IsRun}
 use Rattle.pj_cached_files.specs.LeftFiles.{paths_of}
 use Rattle.pj_cached_files.specs.declared.files.Gathered.{Gathered}
@@ -15,6 +15,7 @@ use Rattle.pj_fitting.specs.Looked.{is_reusable}
 use Rattle.pj_fitting.specs.Right.{Files}
 use Rattle.pj_left_cache.specs.Bytes.{AreByBytesAt}
 use Rattle.pj_left_cache.specs.Said.{said_of_rules}
+use Rattle.pj_names.specs.Asking.{Asking, Return, bind, each}
 use Rattle.pj_names.specs.Told.{Told}
 use Rattle.pj_outside.specs.Files.{Bytes}
 use Rattle.pj_reports.specs.declared.rows.FileRows.{FileRows}
@@ -33,6 +34,13 @@ path_rows set entry = (entry.path, rows_said set entry)
 -- a path behind others, if it is to be put there
 abbrev pub put_if : Bool → List Bytes → Bytes → List Bytes
 put_if is_put paths path = if is_put then paths ++ path ∷ [] else paths
+
+-- what is asked at files, one after the other, apart from what it comes to
+abbrev pub asked_at_all : Cache → EffectiveRules → List Rule → List File → Asking (Unit {0})
+asked_at_all found set rules list = bind (each (reused_at found set rules) list) (λ reused. Return tt)
+
+abbrev pub apart : Gathered → Unit {0}
+apart all = tt
 
 -- a path is a text
 abbrev pub HasText : Entry → Type 0

@@ -7,12 +7,12 @@ ghost use Rattle.pj_cache.specs.declared.cache.Entry.{Entry as EntrySeen};
 ghost use Rattle.pj_cache_format.specs.Ordered.{IsInOrder};
 ghost use Rattle.pj_grammar.specs.Java17.{java_17_forms};
 ghost use Rattle.pj_left_cache.specs.Leaving.{left_cache};
-ghost use Rattle.pj_names.specs.Asking.{Return, bind, each};
+ghost use Rattle.pj_names.specs.Asking.{bind, each};
 ghost use Rattle.pj_names.specs.Told.{Asks, seen};
 ghost use Rattle.pj_peg_grammar.specs.Form.{forms_of};
 ghost use Rattle.pj_workers.specs.Rules.{AreRulesOf, Rule as MeantRule};
 ghost use Rattle.pj_cached_files.specs.Asked.{keys_of_set, reused_at};
-ghost use Rattle.pj_cached_files.specs.Gathered.{Gathers, HasText, path_rows, put_if};
+ghost use Rattle.pj_cached_files.specs.Gathered.{Gathers, HasText, apart, asked_at_all, path_rows, put_if};
 ghost use Rattle.pj_cached_files.specs.LeftFile.{Leaves, Looks};
 ghost use Rattle.pj_cached_files.specs.LeftFiles.{Does, LeavesAll, LooksAtAll};
 
@@ -114,7 +114,7 @@ fn gather_files<O: Oracle>(
     requires in_order { IsInOrder run.now.found.now }
     requires keys { run.now.keys.now ≡ keys_of_set run.now.rules.now }
     ensures asks { (meant : List MeantRule) → AreRulesOf run.now.rules.now meant
-        → Asks (bind (each (reused_at run.now.found.now run.now.rules.now meant) files.now) (λ reused. Return tt)) (O.tells oracle.old) (O.tells oracle.new) (seen (λ all. tt) result) }
+        → Asks (asked_at_all run.now.found.now run.now.rules.now meant files.now) (O.tells oracle.old) (O.tells oracle.new) (seen apart result) }
     ensures gathered { IfOk result (Gathers (O.tells oracle.old) run.now.rules.now run.now.found.now files.now) }
     ensures rows { IfOk result (λ all. all.rows ≡ map (path_rows run.now.rules.now) all.entries) }
     ensures texts { IfOk result (λ all. AllByRecursion HasText all.entries) }
