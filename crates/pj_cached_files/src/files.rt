@@ -50,6 +50,17 @@ struct Gathered {
     analysed: Names,
 }
 
+/// Puts a path behind others, if it is to be put there.
+fn put_path(paths: &mut Names, path: &Text, is_put: bool) -> Result<(), NoMemory>
+    ensures { OnOk result (paths.new ≡ put_if is_put paths.old path.now) }
+{
+    if !is_put {
+        return Ok(());
+    }
+    paths.push(path.copied()?)?;
+    Ok(())
+}
+
 impl Gathered {
     /// Of no files.
     fn new(alloc: Global) -> Gathered
@@ -75,11 +86,8 @@ impl Gathered {
         let LeftFile { entry, is_reused } = left;
         let rows = rows_by(alloc, run, &entry)?;
         self.rows.push((entry.path.copied()?, rows))?;
-        if is_reused {
-            self.reused.push(entry.path.copied()?)?;
-        } else {
-            self.analysed.push(entry.path.copied()?)?;
-        }
+        put_path(&mut self.reused, &entry.path, is_reused)?;
+        put_path(&mut self.analysed, &entry.path, !is_reused)?;
         self.entries.push(entry)?;
         Ok(())
     }
@@ -166,6 +174,8 @@ pub fn files_over_cache<O: Oracle>(
     ensures done { OnOk result (Does (O.tells oracle.old) run.now.rules.now run.now.found.now files.now work.old work.new) }
     ensures skipped { work.new.skipped ≡ work.old.skipped }
     ensures err { OnErr result (work.new ≡ work.old) }
+    // This holds also where the oracle tells nothing of its worlds.
+    ensures ascending { IfOk result (λ left. IsStrictlySortedBy byte_order (map (λ a. a.0) left.cache.answers)) }
 {
     let all = gather_files(alloc, run, oracle, files)?;
     let Gathered {

@@ -28,20 +28,27 @@ fn nameless_runs(alloc: Global, said: ListOf<Ruled>) -> Result<RuleRuns, NoMemor
     Ok(runs)
 }
 
-/// The rows of a file by its entry: its head with what its results say of each rule, merged. Its path is a text, as contracts do not see of themselves.
+/// The path of an entry. Its bytes are those of a text, as contracts see only where it is read.
+fn path_text(entry: &Entry) -> &str
+    ensures value { result.now ≡ entry.now.path }
+    ensures text { HasText entry.now }
+{
+    entry.path.as_str()
+}
+
+/// The rows of a file by its entry: its head with what its results say of each rule, merged. The condition is that the keys are those of the rules, in
+/// their order.
 pub fn rows_by(alloc: Global, run: &Run<'_>, entry: &Entry) -> Result<FileRows, NoMemory>
     requires { run.now.keys.now ≡ keys_of_set run.now.rules.now }
     ensures rows { IfOk result (λ rows. rows ≡ rows_said run.now.rules.now entry.now) }
     ensures text { HasText entry.now }
 {
     let rules = run.rules.rules().as_slice();
-    let is_active = which_are_active(alloc, rules, entry.path.as_str())?;
-    let said = rows_of_rules(
-        alloc,
-        entry.results.as_slice(),
-        run.keys.as_slice(),
-        is_active.as_slice(),
-    )?;
+    let is_active = which_are_active(alloc, rules, path_text(entry))?;
+    let results = entry.results.as_slice();
+    let keys = run.keys.as_slice();
+    let said = rows_of_rules(alloc, results, keys, is_active.as_slice())?;
     let runs = nameless_runs(alloc, said)?;
-    file_rows(alloc, copied_head(&entry.head)?, &runs)
+    let head = copied_head(&entry.head)?;
+    file_rows(alloc, head, &runs)
 }
