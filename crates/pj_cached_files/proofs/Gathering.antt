@@ -1,7 +1,6 @@
 -- What is left of files in a run over an oracle, with one more file behind the others.
 use Rattle.std.proofs.Common.{◌≡◌, ◌∙◌, ◌++◌, Bool, not, List, [], ◌∷◌, Ok, ap, filter, map, refl, subst, sym}
 use Rattle.std.proofs.lemmas.List.{map-append}
-use Rattle.std.proofs.lemmas.List.Elements.{recursion_from_All}
 use Rattle.std.specs.FinSet as names_in
 use Rattle.std.specs.List.{AllByRecursion, AllZip}
 use Rattle.std.specs.List.Sorted.{IsStrictlySortedBy}
@@ -14,7 +13,7 @@ use Rattle.pj_cache_laws.specs.Written.{AreFiles, AreWrittenRules, WrittenRule}
 use Rattle.pj_cached_files.proofs.CacheLeft.{cache_in, cache_left, cache_told}
 use Rattle.pj_cached_files.proofs.Naming.{AreWithin, cache_asks, names_within}
 use Rattle.pj_cached_files.proofs.OneMore.{all_last, looked_last, passing_last, put_alike, union_apart, union_none}
-use Rattle.pj_cached_files.proofs.Rules.{keys_are}
+use Rattle.pj_cached_files.proofs.Rules.{activity_are, are_rules, keys_are}
 use Rattle.pj_cached_files.specs.Asked.{activity, keys_of_set}
 use Rattle.pj_cached_files.specs.Gathered.{Gathers, HasText, path_rows, put_if}
 use Rattle.pj_cached_files.specs.LeftFile.{IsRun, Leaves, Looks}
@@ -36,28 +35,14 @@ use Rattle.pj_names.specs.Told.{Asks, Told, Worlds}
 use Rattle.pj_outside.specs.Files.{Bytes}
 use Rattle.pj_reports.specs.declared.rows.FileRows.{FileRows}
 use Rattle.pj_reports.specs.declared.ruled.Ruled.{Ruled}
-use Rattle.pj_rule_sets.specs.Active.{is_active}
-use Rattle.pj_rule_sets.specs.Rules.{EffectiveRule, EffectiveRules}
-use Rattle.pj_rule_texts.specs.Values.{Text}
+use Rattle.pj_rule_sets.specs.Rules.{EffectiveRules}
 use Rattle.pj_workers.proofs.Running.{zip_last}
 use Rattle.pj_workers.specs.Cold.{World}
 use Rattle.pj_workers.specs.JavaReplies.{java_replies}
-use Rattle.pj_workers.specs.Rules.{AreRulesOf, IsRuleOf, Rule, is_active as is_active_there}
+use Rattle.pj_workers.specs.Rules.{AreRulesOf, Rule}
 use Rattle.pj_workers.specs.declared.work.Work.{Work}
 
 -- ---- the run
-
-each_rule : (marker : Text) (held : List WrittenRule) → AllByRecursion (λ (w : WrittenRule). w.marker ≡ marker) held
-    → AllZip (IsRuleOf marker) (map (λ (w : WrittenRule). w.effective) held) (map (λ (w : WrittenRule). w.rule) held)
-each_rule marker [] all = tt
-each_rule marker (w ∷ held) all = (subst (λ (m : Text). IsRuleOf m w.effective w.rule) all.0 w.is, each_rule marker held all.1)
-
--- the rules of a set that are written rules are its rules
-pub rules_of_written : (set : EffectiveRules) (rules : List Rule) (held : List WrittenRule) → AreWrittenRules set rules held → AreRulesOf set rules
-rules_of_written set rules held written =
-    subst (λ (es : List EffectiveRule). AllZip (IsRuleOf set.marker) es rules) written.effective
-    (subst (λ (rs : List Rule). AllZip (IsRuleOf set.marker) (map (λ (w : WrittenRule). w.effective) held) rs) written.rules
-    (each_rule set.marker held (recursion_from_All (λ (w : WrittenRule). w.marker ≡ set.marker) held written.marker)))
 
 -- where the oracle still tells the same world, the run still stands there
 pub run_later : {K : Type 0} (t u : Told K) (set : EffectiveRules) (found : Cache) (files : Files WrittenRule) (world : World) (rules : List Rule) (held : List WrittenRule) → u.is_told ≡ t.is_told → u.world ≡ t.world
@@ -89,7 +74,7 @@ gathers_none t set found all entries reused analysed = λ files world rules held
 pub gathers_last : {K : Type 0} (t u : Told K) (set : EffectiveRules) (found : Cache) (list : List File) (file : File) (all more : Gathered) (left : LeftFile) → StaysTold set t u → Gathers t set found list all → Leaves u set found file left
     → more.entries ≡ all.entries ++ left.entry ∷ [] → more.reused ≡ put_if left.is_reused all.reused left.entry.path → more.analysed ≡ put_if (not left.is_reused) all.analysed left.entry.path → Gathers t set found (list ++ file ∷ []) more
 gathers_last t u set found list file all more left stays so_far leaves entries reused analysed = λ files world rules held run.
-    let same = stays rules (rules_of_written set rules held run.rules_are) in
+    let same = stays rules (are_rules set rules held run.rules_are) in
     let one = leaves files world rules held (run_later t u set found files world rules held same.0 same.1 run) in
     let gathered = so_far files world rules held run in
     let path_of : File → Bytes = λ f. f.0 in
@@ -114,7 +99,7 @@ looks_none t set found = λ files world rules held run own. (names_in.empty, ref
 -- one more file is asked about
 pub looks_last : {K : Type 0} (t u : Told K) (asked : NameSet) (set : EffectiveRules) (found : Cache) (list : List File) (file : File) → StaysTold set t u → LooksAtAll t u.asked set found list → Looks u asked set found file → LooksAtAll t asked set found (list ++ file ∷ [])
 looks_last t u asked set found list file stays so_far looks = λ files world rules held run own.
-    let same = stays rules (rules_of_written set rules held run.rules_are) in
+    let same = stays rules (are_rules set rules held run.rules_are) in
     let before = so_far files world rules held run own in
     let now = looks files world rules held (run_later t u set found files world rules held same.0 same.1 run) (subst (λ (w : Worlds). NeedThemselves w) (sym same.1) own) in
     (names_in.union before.0 now.0, looked_last files found world held list file before.0 now.0 before.1 now.1, now.2 ∙ ap (λ (s : NameSet). names_in.union s now.0) before.2 ∙ union_apart t.asked before.0 now.0)
@@ -122,21 +107,11 @@ looks_last t u asked set found list file stays so_far looks = λ files world rul
 -- ---- what is left in the end
 
 module _ (files : Files WrittenRule) (are : AreFiles java_replies files) (set : EffectiveRules) (rules : List Rule) (held : List WrittenRule) (written : AreWrittenRules set rules held) where
-  one_activity : (path : Bytes) (w : WrittenRule) → files.is_active path w ≡ is_active w.effective path
-  one_activity path w = are.active path w ∙ ap (λ s. is_active_there s path) w.is.source
-
-  each_activity : (path : Bytes) (ws : List WrittenRule) → map (files.is_active path) ws ≡ map (λ (rule : EffectiveRule). is_active rule path) (map (λ (w : WrittenRule). w.effective) ws)
-  each_activity path [] = refl
-  each_activity path (w ∷ ws) = λ i. one_activity path w i ∷ each_activity path ws i
-
-  activity_is : (path : Bytes) → map (files.is_active path) held ≡ activity set path
-  activity_is path = each_activity path held ∙ ap (λ (l : List EffectiveRule). map (λ (rule : EffectiveRule). is_active rule path) l) written.effective
-
   module _ (world : World) (found : Cache) where
     said_is : (file : File) (e : Entry) → IsLeftEntry files world found held file e → said_of_rules e.results (keys_of_set set) (activity set e.path) ≡ map (rows_at (rules_at files file.0 file.1) e.results) held
     said_is file e left =
         ap (λ (path : Bytes). said_of_rules e.results (keys_of_set set) (activity set path)) left.path
-        ∙ ap (λ (active : List Bool). said_of_rules e.results (keys_of_set set) active) (sym (activity_is file.0))
+        ∙ ap (λ (active : List Bool). said_of_rules e.results (keys_of_set set) active) (sym (activity_are files are set rules held written file.0))
         ∙ ap (λ (keys : List Key). said_of_rules e.results keys (map (files.is_active file.0) held)) (sym (keys_are files are set rules held written))
         ∙ said_of_each (rules_at files file.0 file.1) e.results held
 
@@ -154,7 +129,7 @@ pub leaves_all : {K : Type 0} (t u v : Told K) (set : EffectiveRules) (found : C
     → all.rows ≡ map (path_rows set) all.entries → AllByRecursion HasText all.entries → Asks (left_cache all.entries) u v (Ok c) → LeavesAll t set found list (record { cache = c; rows = all.rows })
 leaves_all t u v set found list all c stays ascending gathers rows texts asks = λ files world rules held run named.
     let gathered = gathers files world rules held run in
-    let same = stays rules (rules_of_written set rules held run.rules_are) in
+    let same = stays rules (are_rules set rules held run.rules_are) in
     let is : c ≡ cache_in world all.entries = cache_told u v world all.entries c (same.0 ∙ run.is_told) (subst (λ (w : Worlds). AreOne w world) (sym same.1) run.one_world) asks in
     record {
       cache = subst (λ (k : Cache). IsLeftCache files world found held list k) (sym is) (cache_left files world found held list all.entries named ascending gathered.entries gathered.by_bytes texts);
@@ -176,7 +151,7 @@ pub looks_all : {K : Type 0} (t u v : Told K) (set : EffectiveRules) (found : Ca
     → LooksAtAll t v.asked set found list
 looks_all t u v set found list all c stays gathers asks looks = λ files world rules held run own.
     let gathered = gathers files world rules held run in
-    let same = stays rules (rules_of_written set rules held run.rules_are) in
+    let same = stays rules (are_rules set rules held run.rules_are) in
     let before = looks files world rules held run own in
     let within : AreWithin u.asked (names_of all.entries) =
     names_within files world found held list all.entries before.0 u.asked run.right (in_rest t.asked before.0 u.asked before.2) before.1 gathered.entries in

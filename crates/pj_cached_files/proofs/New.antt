@@ -53,7 +53,7 @@ module _ {K : Type 0} (told : Told K) (files : Files WrittenRule) (are : AreFile
         (held-means told.world world (rule_meaning java_replies path bytes w.rule) run.rows (name_set run.names) one (rests.held is_told));
   }
 
-  each_new : (held : List WrittenRule) (runs : List RuleRun) → AllZip (λ rule run. RestsOn told (rule_meaning java_replies path bytes rule) run.rows run.names) (map (λ (w : WrittenRule). w.rule) held) runs
+  pub each_new : (held : List WrittenRule) (runs : List RuleRun) → AllZip (λ rule run. RestsOn told (rule_meaning java_replies path bytes rule) run.rows run.names) (map (λ (w : WrittenRule). w.rule) held) runs
       → AllZip (IsNew (rules_at files path bytes) world) (map files.key held) (new_results (map files.key held) runs)
   each_new [] [] h = tt
   each_new [] (run ∷ runs) h = absurd h

@@ -1,19 +1,16 @@
 //! A file over the cache that a run found.
-ghost use Rattle.std.specs.Prelude.{◌≡◌, List, IfOk, None, Some, map};
+ghost use Rattle.std.specs.Prelude.{◌≡◌, List, [], IfOk, None, Some, map};
 ghost use Rattle.std.specs.List.Sorted.{IsStrictlySortedBy};
-ghost use Rattle.std.specs.Option.{option_copied};
 ghost use Rattle.pj_cache.specs.Places.{byte_order};
 ghost use Rattle.pj_cache_format.specs.Ordered.{IsInOrder};
-ghost use Rattle.pj_fitting.specs.Left.{results_of};
+ghost use Rattle.pj_fitting.specs.Left.{entry_at};
 ghost use Rattle.pj_grammar.specs.Java17.{java_17_forms};
 ghost use Rattle.pj_names.specs.Told.{Asks, seen};
-ghost use Rattle.pj_parse.specs.FileOutcome.{outcome_of};
 ghost use Rattle.pj_peg_grammar.specs.Form.{forms_of};
 ghost use Rattle.pj_reuse.specs.Serving.{kept_results};
-ghost use Rattle.pj_workers.specs.FileMeaning.{head_of};
 ghost use Rattle.pj_workers.specs.Rules.{AreRulesOf, Rule as MeantRule};
 ghost use Rattle.pj_cached_files.specs.Asked.{active_keys_of, keys_of_set, looked_at, missing_numbers, reused_at};
-ghost use Rattle.pj_cached_files.specs.Completed.{AreCompleted};
+ghost use Rattle.pj_cached_files.specs.Completed.{IsCompleted, IsUsedAgain};
 ghost use Rattle.pj_cached_files.specs.LeftFile.{Leaves, Looks};
 
 use crate::activity::active_keys;
@@ -29,7 +26,7 @@ use pj_names::{AskFault, Oracle};
 use pj_reports::Head;
 use pj_reuse::kept;
 use pj_rule_sets::which_are_active;
-use pj_workers::{FileRuns, analyse_rules};
+use pj_workers::{FileRuns, analyse_rules, rules_find_nodes, sets_have_rules};
 use std::alloc::Global;
 
 /// The old results that stay at a file, and the numbers of the active rules for whose keys none does.
@@ -75,11 +72,9 @@ fn completed<O: Oracle>(
     requires keys { run.now.keys.now ≡ keys_of_set run.now.rules.now }
     requires missing { part.missing ≡ missing_numbers run.now.rules.now path.now part.stay }
     ensures asks { (meant : List MeantRule) → AreRulesOf run.now.rules.now meant → Asks (looked_at meant (path.now, bytes.now) part.missing) (O.tells oracle.old) (O.tells oracle.new) (seen (λ left. left.is_reused) result) }
-    ensures path { IfOk result (λ left. left.entry.path ≡ path.now) }
-    ensures bytes { IfOk result (λ left. left.entry.bytes ≡ bytes.now) }
-    ensures head { IfOk result (λ left. left.entry.head ≡ head_of (outcome_of bytes.now)) }
-    ensures results { IfOk result (λ left. AreCompleted (O.tells oracle.old) run.now.rules.now (path.now, bytes.now) part.stay left.entry.results) }
+    ensures left { IfOk result (IsCompleted (O.tells oracle.old) run.now.rules.now (path.now, bytes.now) part.stay) }
 {
+    sets_have_rules(run.rules);
     let Part { stay, missing } = part;
     let found = analyse_rules(alloc, run.grammar, oracle, path, bytes, run.rules, &missing)?;
     let FileRuns { head, runs } = found;
@@ -92,10 +87,17 @@ fn completed<O: Oracle>(
     })
 }
 
-/// What is left of a file that is used again as it is, with its old head.
-fn again(path: &Text, bytes: &Bytes, head: &Head, results: Results) -> Result<LeftFile, NoMemory>
-    ensures { IfOk result (λ left. left ≡ record { entry = record { path = path.now; bytes = bytes.now; head = head.now; results = results }; is_reused = true }) }
+/// What is left of a file that is used again as it is, with its old head and the results that stay.
+fn used_again(
+    alloc: Global,
+    path: &Text,
+    bytes: &Bytes,
+    head: &Head,
+    stay: Results,
+) -> Result<LeftFile, NoMemory>
+    ensures { IfOk result (IsUsedAgain (path.now, bytes.now) head.now stay) }
 {
+    let results = in_order(stay, Results::new(alloc))?;
     let entry = entry_with(path, bytes, copied_head(head)?, results)?;
     Ok(LeftFile {
         entry,
@@ -103,14 +105,60 @@ fn again(path: &Text, bytes: &Bytes, head: &Head, results: Results) -> Result<Le
     })
 }
 
-/// The results of an old entry, if there is one.
-fn old_results(old: Option<&Entry>) -> &[CachedResult]
-    ensures { result.now ≡ results_of (option_copied old) }
+/// What a run leaves of a file of which the cache has an entry with the same bytes. The clauses are those of `file_entry`.
+fn entry_again<O: Oracle>(
+    alloc: Global,
+    run: &Run<'_>,
+    oracle: &mut O,
+    path: &Text,
+    bytes: &Bytes,
+    old: &Entry,
+) -> Result<LeftFile, AskFault>
+    requires grammar { forms_of run.now.grammar.now ≡ java_17_forms }
+    requires in_order { IsInOrder run.now.found.now }
+    requires keys { run.now.keys.now ≡ keys_of_set run.now.rules.now }
+    requires entry { entry_at run.now.found.now (path.now, bytes.now) ≡ Some old.now }
+    ensures asks { (meant : List MeantRule) → AreRulesOf run.now.rules.now meant
+        → Asks (reused_at run.now.found.now run.now.rules.now meant (path.now, bytes.now)) (O.tells oracle.old) (O.tells oracle.new) (seen (λ left. left.is_reused) result) }
+    ensures left { IfOk result (Leaves (O.tells oracle.old) run.now.rules.now run.now.found.now (path.now, bytes.now)) }
+    ensures looked { IfOk result (λ _. Looks (O.tells oracle.old) (O.tells oracle.new).asked run.now.rules.now run.now.found.now (path.now, bytes.now)) }
 {
-    match old {
-        Some(entry) => entry.results.as_slice(),
-        None => &[],
+    order_is_strict();
+    rules_find_nodes();
+    if says_no_tree(old) {
+        return Ok(used_again(alloc, path, bytes, &old.head, Results::new(alloc))?);
     }
+    let part = part_of(alloc, run, oracle, path, old.results.as_slice())?;
+    if part.missing.is_empty() {
+        let Part { stay, .. } = part;
+        return Ok(used_again(alloc, path, bytes, &old.head, stay)?);
+    }
+    let left = completed(alloc, run, oracle, path, bytes, part)?;
+    Ok(left)
+}
+
+/// What a run leaves of a file of which the cache has no entry with the same bytes. The clauses are those of `file_entry`.
+fn entry_anew<O: Oracle>(
+    alloc: Global,
+    run: &Run<'_>,
+    oracle: &mut O,
+    path: &Text,
+    bytes: &Bytes,
+) -> Result<LeftFile, AskFault>
+    requires grammar { forms_of run.now.grammar.now ≡ java_17_forms }
+    requires in_order { IsInOrder run.now.found.now }
+    requires keys { run.now.keys.now ≡ keys_of_set run.now.rules.now }
+    requires entry { entry_at run.now.found.now (path.now, bytes.now) ≡ None }
+    ensures asks { (meant : List MeantRule) → AreRulesOf run.now.rules.now meant
+        → Asks (reused_at run.now.found.now run.now.rules.now meant (path.now, bytes.now)) (O.tells oracle.old) (O.tells oracle.new) (seen (λ left. left.is_reused) result) }
+    ensures left { IfOk result (Leaves (O.tells oracle.old) run.now.rules.now run.now.found.now (path.now, bytes.now)) }
+    ensures looked { IfOk result (λ _. Looks (O.tells oracle.old) (O.tells oracle.new).asked run.now.rules.now run.now.found.now (path.now, bytes.now)) }
+{
+    order_is_strict();
+    rules_find_nodes();
+    let part = part_of(alloc, run, oracle, path, &[])?;
+    let left = completed(alloc, run, oracle, path, bytes, part)?;
+    Ok(left)
 }
 
 /// What a run leaves of a file, over the cache that it found, and whether the file is used again as it is.
@@ -139,18 +187,8 @@ pub fn file_entry<O: Oracle>(
     ensures looked { IfOk result (λ _. Looks (O.tells oracle.old) (O.tells oracle.new).asked run.now.rules.now run.now.found.now (path.now, bytes.now)) }
 {
     order_is_strict();
-    let old = old_entry(run.found, path, bytes);
-    if let Some(entry) = old {
-        if says_no_tree(entry) {
-            return Ok(again(path, bytes, &entry.head, Results::new(alloc))?);
-        }
-    }
-    let part = part_of(alloc, run, oracle, path, old_results(old))?;
-    match old {
-        Some(entry) if part.missing.is_empty() => {
-            let results = in_order(part.stay, Results::new(alloc))?;
-            Ok(again(path, bytes, &entry.head, results)?)
-        }
-        _ => completed(alloc, run, oracle, path, bytes, part),
+    match old_entry(run.found, path, bytes) {
+        Some(old) => entry_again(alloc, run, oracle, path, bytes, old),
+        None => entry_anew(alloc, run, oracle, path, bytes),
     }
 }

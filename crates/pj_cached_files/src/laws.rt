@@ -12,16 +12,8 @@ ghost use Rattle.pj_workers.specs.Cold.{World};
 ghost use Rattle.pj_workers.specs.JavaReplies.{java_replies};
 ghost use Rattle.pj_workers.specs.Rules.{Rule};
 
-use pj_fitting::results_are_made_where_none_serve;
-use pj_left_cache::missing_rules_are;
-use pj_reuse::kept_is;
-
 /// In a world the question whether a file is used again has the answer that it can be, for the rules of a set as they are written.
 pub fn reused_is()
     ensures { (depth : ℕ) (world : World) (found : Cache) (files : Files WrittenRule) (set : EffectiveRules) (rules : List Rule) (held : List WrittenRule) (file : File) → AreFiles java_replies files → AreWrittenRules set rules held
         → value_of depth world (reused_at found set rules file) ≡ is_reusable files found world held file }
-{
-    kept_is();
-    missing_rules_are();
-    results_are_made_where_none_serve();
-}
+{}
