@@ -28,8 +28,8 @@ returns-clause-asks g c = λ meant are.
 pub returns-clause-left : goal.returns-clause-left
 returns-clause-left g c =
     let t = g.O.Oracle.tells c.args.oracle.now in
-    let u = g.O.Oracle.tells c.gather_files-all.new.oracle in
-    let v = g.O.Oracle.tells c.left_cache-cache.new.oracle in
+    let u = g.O.Oracle.tells c.gather_files.new.oracle in
+    let v = g.O.Oracle.tells c.left_cache.new.oracle in
     let set = c.args.run.now.rules.now in
     let done = c.in_ok-all.ensures in
     let stays : StaysTold set t u = λ meant are. let asked = done.asks meant are in (asked.same_told, asked.same_world) in
@@ -38,8 +38,8 @@ returns-clause-left g c =
 pub returns-clause-looked : goal.returns-clause-looked
 returns-clause-looked g c =
     let t = g.O.Oracle.tells c.args.oracle.now in
-    let u = g.O.Oracle.tells c.gather_files-all.new.oracle in
-    let v = g.O.Oracle.tells c.left_cache-cache.new.oracle in
+    let u = g.O.Oracle.tells c.gather_files.new.oracle in
+    let v = g.O.Oracle.tells c.left_cache.new.oracle in
     let set = c.args.run.now.rules.now in
     let done = c.in_ok-all.ensures in
     let stays : StaysTold set t u = λ meant are. let asked = done.asks meant are in (asked.same_told, asked.same_world) in
