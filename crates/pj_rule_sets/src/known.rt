@@ -1,5 +1,5 @@
 //! Files that are known: those that are read, and those that are being read.
-ghost use Rattle.std.specs.Prelude.{◌≡◌, ◌++◌, ◌∷◌, [], OnOk, MatchOption};
+ghost use Rattle.std.specs.Prelude.{◌≡◌, ◌++◌, ◌∷◌, [], OnErr, OnOk, MatchOption};
 ghost use Rattle.std.specs.Option.{option_copied};
 ghost use Rattle.pj_rule_sets.specs.Lists.{is_among, with_text};
 ghost use Rattle.pj_rule_sets.specs.ReadFiles.{list_at, put_list};
@@ -45,9 +45,10 @@ impl ReadFiles {
         self.held.get(path)
     }
 
-    /// Puts a file with its list.
+    /// Puts a file with its list. Without memory the files stay as they are.
     pub fn put(&mut self, path: Text, list: RuleList) -> Result<(), NoMemory>
-        ensures { OnOk result (self.new ≡ put_list self.old path list) }
+        ensures put { OnOk result (self.new ≡ put_list self.old path list) }
+        ensures err { OnErr result (self.new ≡ self.old) }
     {
         let _ = self.held.insert(path, list)?;
         Ok(())
@@ -85,9 +86,10 @@ impl OpenPaths {
         self.held.contains(path)
     }
 
-    /// Puts a path at the end, unless it is there.
+    /// Puts a path at the end, unless it is there. Without memory the paths stay as they are.
     pub fn put(&mut self, path: Text) -> Result<(), NoMemory>
-        ensures { OnOk result (self.new ≡ with_text self.old path) }
+        ensures put { OnOk result (self.new ≡ with_text self.old path) }
+        ensures err { OnErr result (self.new ≡ self.old) }
     {
         let _ = self.held.insert(path)?;
         Ok(())
@@ -121,9 +123,10 @@ impl Known {
         }
     }
 
-    /// Begins with a top ruleset, which is the only file that is being read.
+    /// Begins with a top ruleset, which is the only file that is being read. Without memory all stays as it is.
     pub fn begin(&mut self, alloc: Global, path: &Text) -> Result<(), NoMemory>
-        ensures { OnOk result (self.new ≡ record { read = self.old.read; open_paths = path.now ∷ [] }) }
+        ensures begun { OnOk result (self.new ≡ record { read = self.old.read; open_paths = path.now ∷ [] }) }
+        ensures err { OnErr result (self.new ≡ self.old) }
     {
         let mut open_paths = OpenPaths::new(alloc);
         open_paths.put(path.copied()?)?;

@@ -1,5 +1,5 @@
 //! Tables of what is read of a file.
-ghost use Rattle.std.specs.Prelude.{◌≡◌, [], not, IfOk, OnOk};
+ghost use Rattle.std.specs.Prelude.{◌≡◌, [], not, IfOk, OnErr, OnOk};
 ghost use Rattle.pj_rule_sets.specs.Lists.{is_among, put, with_text};
 
 use crate::entry::{Entry, Origin};
@@ -34,9 +34,10 @@ impl RuleTable {
         }
     }
 
-    /// Puts a rule.
+    /// Puts a rule. Without memory the table stays as it is.
     pub fn put(&mut self, origin: Origin, entry: Entry) -> Result<(), NoMemory>
-        ensures { OnOk result (self.new ≡ put self.old (origin, entry)) }
+        ensures put { OnOk result (self.new ≡ put self.old (origin, entry)) }
+        ensures err { OnErr result (self.new ≡ self.old) }
     {
         let _ = self.held.insert(origin, entry)?;
         Ok(())
@@ -79,10 +80,11 @@ impl NameSet {
         }
     }
 
-    /// Puts a name at the end and says `true`; where it is there already the names stay as they are, and the answer is `false`.
+    /// Puts a name at the end and says `true`; where it is there already the names stay as they are, and the answer is `false`. So they do without memory.
     pub fn put(&mut self, name: Text) -> Result<bool, NoMemory>
         ensures was { IfOk result (λ is_new. is_new ≡ not (is_among name self.old)) }
         ensures put { OnOk result (self.new ≡ with_text self.old name) }
+        ensures err { OnErr result (self.new ≡ self.old) }
     {
         Ok(self.held.insert(name)?)
     }

@@ -38,4 +38,4 @@ returns-clause-adds c = λ files.
     adds path c.args.rule_set.now old c.args.rule c.requires.is_defined name c.requires.is_named files entry _
     (subst (λ n. is_among n old.names ≡ false) c.in_ok-copied.ensures fresh) c.in_ok-entry.ensures.entry
     (c.in_ok-is_new.ensures.put ∙ put_new old.names copy fresh ∙ ap (λ n. old.names ++ n ∷ []) c.in_ok-copied.ensures)
-    (c.in_ok-put.ensures ∙ ap (λ p. put old.list (defined_in p name, entry)) c.in_ok-copied-2.ensures)
+    (c.in_ok-put.ensures.put ∙ ap (λ p. put old.list (defined_in p name, entry)) c.in_ok-copied-2.ensures)

@@ -32,6 +32,6 @@ returns-in_err-take-clause-fault c =
 pub returns-clause-next : goal.returns-clause-next
 returns-clause-next c = λ files top is_done.
     let waiting = c.args.waiting in
-    goes_back files top c.args.known.now _ c.args.below waiting c.args.done _ c.pop.result c.in_ok-list.list is_done c.in_ok-list.ensures c.pop.ensures c.in_ok-put.ensures
+    goes_back files top c.args.known.now _ c.args.below waiting c.args.done _ c.pop.result c.in_ok-list.list is_done c.in_ok-list.ensures c.pop.ensures c.in_ok-put.ensures.put
     (subst (λ (list : List Taken). AddsTaken waiting.file.path waiting.file.progress waiting.referral list c.take.new.progress) c.as_slice.ensures c.in_ok-take.ensures.adds)
     refl refl refl refl

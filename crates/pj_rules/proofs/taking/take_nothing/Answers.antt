@@ -29,5 +29,5 @@ returns-clause-adds c = λ files rule_set leads.
     subst (λ f. is_from_elsewhere f ≡ true) c.as_str.ensures (sym c.is_from_elsewhere.ensures ∙ c.if-not-is_from_elsewhere.false) in
     adds_taken files path rule_set referral.rule old _ (referred_in path referral.reference, not_available name referral.reference)
     (takes_nothing files path rule_set old referral leads elsewhere) refl
-    (c.in_ok-put.ensures ∙ ap₂ (λ p t. put old.list (referred_in p t, entry)) c.in_ok-copied.ensures c.in_ok-copied-2.ensures
+    (c.in_ok-put.ensures.put ∙ ap₂ (λ p t. put old.list (referred_in p t, entry)) c.in_ok-copied.ensures c.in_ok-copied-2.ensures
     ∙ ap (λ e. put old.list (referred_in path referral.reference, e)) (c.in_ok-entry.ensures ∙ ap (λ n. not_available n referral.reference) c.name_behind.ensures))

@@ -45,4 +45,4 @@ returns-in_ok-put-in-Some-clause-adds c = λ files rule_set other leads has.
     let found : named c.args.name list ≡ Some taken = subst (λ n. named n list ≡ Some taken) c.as_str.ensures (sym c.named.ensures ∙ ap option_copied c.in-Some.is) in
     adds_taken files path rule_set referral.rule old _ (taken.0, entry)
     (takes_one files path rule_set old referral other c.args.name list taken entry c.requires leads has found c.in_ok-entry-in-Some.ensures.entry)
-    refl (c.in_ok-put-in-Some.ensures ∙ ap (λ o. put old.list (o, entry)) c.in_ok-origin-in-Some.ensures)
+    refl (c.in_ok-put-in-Some.ensures.put ∙ ap (λ o. put old.list (o, entry)) c.in_ok-origin-in-Some.ensures)
