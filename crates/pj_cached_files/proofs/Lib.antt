@@ -7,3 +7,8 @@ pub mod NewResults
 pub mod OneAsked
 pub mod Reusing
 pub mod Rules
+-- files one after the other
+pub mod OneMore
+pub mod Naming
+pub mod CacheLeft
+pub mod Gathering

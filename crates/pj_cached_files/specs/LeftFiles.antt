@@ -2,6 +2,7 @@
 use Rattle.std.specs.Prelude.{◌≡◌, ◌++◌, List, filter, map, not}
 use Rattle.std.specs.FinSet.{union}
 use Rattle.pj_cache.specs.declared.cache.Cache.{Cache}
+use Rattle.pj_cache_format.specs.Ordered.{HasItsName}
 use Rattle.pj_cache_laws.specs.Reported.{all_rows}
 use Rattle.pj_cache_laws.specs.Written.{WrittenRule}
 use Rattle.pj_cached_files.specs.LeftFile.{IsRun}
@@ -9,7 +10,7 @@ use Rattle.pj_cached_files.specs.declared.files.LeftFiles.{LeftFiles}
 use Rattle.pj_fitting.specs.Left.{File, IsLeftCache}
 use Rattle.pj_fitting.specs.Looked.{Looked, is_reusable}
 use Rattle.pj_fitting.specs.Right.{Files}
-use Rattle.pj_names.specs.ClassName.{NameSet}
+use Rattle.pj_names.specs.ClassName.{Name, NameSet}
 use Rattle.pj_names.specs.Held.{NeedThemselves}
 use Rattle.pj_names.specs.Told.{Told}
 use Rattle.pj_outside.specs.Files.{Bytes}
@@ -32,11 +33,15 @@ pub record IsDone (files : Files WrittenRule) (world : World) (found : Cache) (h
   pub reused : after.reused ≡ before.reused ++ paths_of (filter (is_reusable files found world held) list)
   pub analysed : after.analysed ≡ before.analysed ++ paths_of (filter (λ file. not (is_reusable files found world held file)) list)
 
+-- A world has each class under its name, as class folders have: else a cache of its answers would not be in order.
+abbrev pub HasClassesByName : World → Type 0
+HasClassesByName world = (name : Name) → HasItsName name (world name)
+
 -- in every run over the oracle
 
 abbrev pub LeavesAll : {K : Type 0} → Told K → EffectiveRules → Cache → List File → LeftFiles → Type 0
 LeavesAll told set found list left =
-    (files : Files WrittenRule) (world : World) (rules : List Rule) (held : List WrittenRule) → IsRun told set found files world rules held → AreLeftFiles files world found held list left
+    (files : Files WrittenRule) (world : World) (rules : List Rule) (held : List WrittenRule) → IsRun told set found files world rules held → HasClassesByName world → AreLeftFiles files world found held list left
 
 abbrev pub Does : {K : Type 0} → Told K → EffectiveRules → Cache → List File → Work → Work → Type 0
 Does told set found list before after =

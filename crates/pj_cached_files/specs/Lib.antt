@@ -5,3 +5,4 @@ pub mod LeftFile
 pub mod LeftFiles
 -- for private clauses
 pub mod Completed
+pub mod Gathered

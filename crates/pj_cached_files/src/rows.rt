@@ -1,8 +1,7 @@
 //! The rows of a file by its entry.
 ghost use Rattle.std.specs.Prelude.{◌≡◌, IfOk, map};
-ghost use Rattle.pj_findings.specs.Merged.{merge};
-ghost use Rattle.pj_left_cache.specs.Said.{said_of_rules};
-ghost use Rattle.pj_cached_files.specs.Asked.{activity, keys_of_set};
+ghost use Rattle.pj_cached_files.specs.Asked.{keys_of_set};
+ghost use Rattle.pj_cached_files.specs.Gathered.{HasText, rows_said};
 
 use crate::entry::copied_head;
 use crate::run::Run;
@@ -29,19 +28,27 @@ fn nameless_runs(alloc: Global, said: ListOf<Ruled>) -> Result<RuleRuns, NoMemor
     Ok(runs)
 }
 
-/// The rows of a file by its entry: its head with what its results say of each rule, merged.
+/// The path of an entry. Its bytes are those of a text, as contracts see only where it is read.
+fn path_text(entry: &Entry) -> &str
+    ensures value { result.now ≡ entry.now.path }
+    ensures text { HasText entry.now }
+{
+    entry.path.as_str()
+}
+
+/// The rows of a file by its entry: its head with what its results say of each rule, merged. The condition is that the keys are those of the rules, in
+/// their order.
 pub fn rows_by(alloc: Global, run: &Run<'_>, entry: &Entry) -> Result<FileRows, NoMemory>
     requires { run.now.keys.now ≡ keys_of_set run.now.rules.now }
-    ensures { IfOk result (λ rows. rows ≡ merge entry.now.head (said_of_rules entry.now.results (keys_of_set run.now.rules.now) (activity run.now.rules.now entry.now.path))) }
+    ensures rows { IfOk result (λ rows. rows ≡ rows_said run.now.rules.now entry.now) }
+    ensures text { HasText entry.now }
 {
     let rules = run.rules.rules().as_slice();
-    let is_active = which_are_active(alloc, rules, entry.path.as_str())?;
-    let said = rows_of_rules(
-        alloc,
-        entry.results.as_slice(),
-        run.keys.as_slice(),
-        is_active.as_slice(),
-    )?;
+    let is_active = which_are_active(alloc, rules, path_text(entry))?;
+    let results = entry.results.as_slice();
+    let keys = run.keys.as_slice();
+    let said = rows_of_rules(alloc, results, keys, is_active.as_slice())?;
     let runs = nameless_runs(alloc, said)?;
-    file_rows(alloc, copied_head(&entry.head)?, &runs)
+    let head = copied_head(&entry.head)?;
+    file_rows(alloc, head, &runs)
 }
