@@ -1,0 +1,10 @@
+use Rattle.pj_cached_files.proofs.files.next_entry.Goals as goal
+
+pub returns-clause-asks : goal.returns-clause-asks
+returns-clause-asks g c = λ meant are. c.file_entry.ensures.asks meant are
+
+pub returns-clause-left : goal.returns-clause-left
+returns-clause-left g c = c.file_entry.ensures.left
+
+pub returns-clause-looked : goal.returns-clause-looked
+returns-clause-looked g c = c.file_entry.ensures.looked

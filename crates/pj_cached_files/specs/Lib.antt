@@ -1,0 +1,8 @@
+-- definitions
+pub mod Made
+pub mod Asked
+pub mod LeftFile
+pub mod LeftFiles
+-- for private clauses
+pub mod Completed
+pub mod Gathered
