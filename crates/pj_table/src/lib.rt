@@ -2,6 +2,7 @@
 //! rule holds between any two steps of any threads.
 #![tactic(auto)]
 
+mod class_finder;
 mod door_oracle;
 mod law;
 mod name_part;
@@ -12,6 +13,7 @@ mod steps;
 mod type_table;
 mod view;
 
+pub use class_finder::ClassFinder;
 pub use door_oracle::DoorOracle;
 pub use part::Part;
 pub use seat::{TableSeat, TypeTable};

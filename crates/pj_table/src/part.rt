@@ -8,11 +8,11 @@ ghost use Rattle.pj_table.specs.Book.{IsSound, Grows, asked, Lacks, Stands};
 ghost use Rattle.pj_table.specs.Index.{IsIndex};
 ghost use Rattle.pj_table.specs.declared.view.Entry.{Entry};
 
+use crate::class_finder::ClassFinder;
 use crate::reading::read_answer;
 use crate::view::{Entry, Look};
 use pj_base::Copied;
 use pj_names::{Answer, AskFault, ClassName};
-use pj_outside::ClassDoor;
 use std::alloc::Global;
 use std::collections::BTreeMap;
 use std::sync::Arc;
@@ -53,7 +53,7 @@ impl Part {
     }
 
     /// One look: at the place of the name, or at a new one with the door's answer.
-    pub(crate) fn look_up<D: ClassDoor>(
+    pub(crate) fn look_up<D: ClassFinder>(
         &mut self,
         alloc: Global,
         door: &mut D,
@@ -89,7 +89,7 @@ impl Part {
     }
 
     /// A look that fills: the name gets the next place, with the answer of the door.
-    fn fill<D: ClassDoor>(
+    fn fill<D: ClassFinder>(
         &mut self,
         alloc: Global,
         door: &mut D,

@@ -5,10 +5,11 @@ ghost use Rattle.pj_outside.specs.Files.{IsAtMost};
 ghost use Rattle.pj_classfile.specs.ClassOf.{AnswerOf};
 ghost use Rattle.pj_table.specs.Worlds.{CountsFaults, IsAnswer};
 
+use crate::class_finder::ClassFinder;
 use pj_base::NoMemory;
 use pj_classfile::answer_of;
 use pj_names::{Answer, AskFault, ClassName};
-use pj_outside::{ClassDoor, Reading, Refused};
+use pj_outside::{Reading, Refused};
 use std::alloc::Global;
 use std::sync::Arc;
 
@@ -17,7 +18,7 @@ pub(crate) const CLASS_BYTES: u64 = 4_194_304;
 
 /// The answer that the folders of the door have for a name, by one find.
 #[tactic(auto, using(crate::proofs::Readings::short_enough, crate::proofs::Readings::is_answer))]
-pub(crate) fn read_answer<D: ClassDoor>(
+pub(crate) fn read_answer<D: ClassFinder>(
     alloc: Global,
     door: &mut D,
     name: &ClassName,
@@ -27,7 +28,7 @@ pub(crate) fn read_answer<D: ClassDoor>(
     ensures faults { CountsFaults (D.faults door.old) (D.faults door.new) result }
     ensures answer { IfOk result (λ answer. IsAnswer (D.holds door.old) name.now answer) }
 {
-    let reading = match door.find(name, CLASS_BYTES) {
+    let reading = match door.find_class_file(name, CLASS_BYTES) {
         Ok(reading) => reading,
         Err(Refused::Failed) => return Err(AskFault::Failed),
         Err(Refused::Memory) => return Err(AskFault::Memory),

@@ -8,11 +8,11 @@ ghost use Rattle.pj_table.specs.Plays.{Shaped, Turns, waiting, entering, idle, A
 ghost use Rattle.pj_table.specs.declared.view.Asked.{Asked};
 ghost use Rattle.pj_table.specs.declared.part.Part.{Part};
 
+use crate::class_finder::ClassFinder;
 use crate::law::{Draw, Enter, Law, Serve, Turn};
 use crate::part::Part;
 use crate::view::View;
 use pj_names::{Answer, AskFault, ClassName};
-use pj_outside::ClassDoor;
 use std::alloc::Global;
 use std::sync::{Arc, Wait};
 use std::thread::yield_now;
@@ -77,7 +77,7 @@ fn serve(table: &Shared, seat: &mut Place, part: usize)
 }
 
 /// One look at the part that the seat has.
-fn visit<D: ClassDoor>(
+fn visit<D: ClassFinder>(
     table: &Shared,
     seat: &mut Place,
     alloc: Global,
@@ -100,7 +100,7 @@ fn visit<D: ClassDoor>(
 }
 
 /// A look at one part, from ticket to ticket.
-pub(crate) fn look<D: ClassDoor, R: Wait>(
+pub(crate) fn look<D: ClassFinder, R: Wait>(
     rt: &R,
     table: &Shared,
     seat: &mut Place,

@@ -13,6 +13,7 @@ ghost use Rattle.pj_table.specs.Rule.{newcomer, HasAll, Shows, marks, claimed, o
 ghost use Rattle.pj_table.specs.Seats.{AreOfOneTable, IsOf, IsOpening, IsSameSeat, HasEnded, HasNotEnded, files_of, view_of, world_of};
 ghost use Rattle.pj_table.specs.Plays.{Shaped, AddsLook, AddsNothing, with_claim, with_end, with_number_given, new_view, united};
 
+use crate::class_finder::ClassFinder;
 use crate::law::{Claim, Give, Learn, Naming, Unite};
 use crate::name_part::part_of;
 use crate::part::Part;
@@ -98,7 +99,7 @@ impl TypeTable {
     /// The door is called exactly where the name is not filled. `Failed` comes only where the door's count of faults rose,
     /// and after a refusal the part is as it was. A hit takes memory for its entry in the history and for its copy of the
     /// answer alone, before the entry is made.
-    pub fn ask<D: ClassDoor, R: Wait>(
+    pub fn ask<D: ClassFinder, R: Wait>(
         &self,
         rt: &R,
         alloc: Global,

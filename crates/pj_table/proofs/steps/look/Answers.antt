@@ -12,7 +12,7 @@ abbrev M : Type 0
 M = Me Part View
 
 pub visit-requires-clause-part : goal.visit-requires-clause-part
-visit-requires-clause-part g c = λ κs under. let drawn = c.draw-ticket.ensures.seat in let turn = c.wait_turn.ensures.seat in (
+visit-requires-clause-part g c = let drawn = c.draw-ticket.ensures.seat in let turn = c.wait_turn.ensures.seat in (
   (turn.0, ap (λ (m : M). m.1) turn.1 ∙ ap (λ (m : M). (c.args.part, turn.0) ∷ m.1) drawn.2, sym (ap (λ (m : M). m.0.entries) turn.1), sym (ap (λ (m : M). m.0.looks) turn.1)),
   subst (λ (m : M). IsSound m.0.world m.0.entries m.0.looks) (sym turn.1) turn.2,
 )

@@ -15,7 +15,7 @@ slot_mut-requires g c = let p = c.requires.part.0 in (c.requires.table, (p.0, p.
 
 pub returns-clause-ok : goal.returns-clause-ok
 returns-clause-ok g c = let me = c.args.seat.now.me in let p = c.requires.part.0 in let part = c.args.part in let name = c.args.name.now in let found : Part = c.slot_mut.result.now in let new : Part = c.look_up.new.self in
-    let finds = g.D.ClassDoor.finds in let world = g.D.ClassDoor.holds c.args.door.now in
+    let finds = g.D.ClassFinder.finds in let world = g.D.ClassFinder.holds c.args.door.now in
     let same : p.0 ≡ found = ap (λ (l : List (ℕ × Part)). (get_or l 0 (0, p.0)).1) (sym p.1 ∙ c.slot_mut.ensures.value) in
     let es : found.entries.items ≡ me.0.entries = ap (λ (y : Part). y.entries.items) (sym same) ∙ p.2 in let ls : found.looks.items ≡ me.0.looks = ap (λ (y : Part). y.looks.items) (sym same) ∙ p.3 in
     if_ok

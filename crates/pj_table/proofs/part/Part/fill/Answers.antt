@@ -10,7 +10,7 @@ use Rattle.pj_table.proofs.Indexes.{index_push}
 use Rattle.pj_table.proofs.part.Part.fill.Goals as goal
 
 pub returns-clause-ok : goal.returns-clause-ok
-returns-clause-ok g c = let world = g.D.ClassDoor.holds c.args.door.now in let es = c.args.self.now.entries.items in let ls = c.args.self.now.looks.items in let name = c.args.name.now in let seat = c.args.seat in
+returns-clause-ok g c = let world = g.D.ClassFinder.holds c.args.door.now in let es = c.args.self.now.entries.items in let ls = c.args.self.now.looks.items in let name = c.args.name.now in let seat = c.args.seat in
     let e : Entry = record { name = name; answer = c.in-Ok-new.answer } in
     let place : c.len-place.result ≡ length es = (let f = c.reserve.new.self.ok in let r = ap (λ (l : List Entry). length l) c.reserve.ensures.items in let h = c.len-place.ensures in omega arith) in
     let right : IsAnswer world name (arc_value c.in-Ok-new.answer) = subst (λ (a : Answer). IsAnswer world name a) (sym c.in-Ok-new.ensures.ok) c.in-Ok-read_answer.ensures.answer in

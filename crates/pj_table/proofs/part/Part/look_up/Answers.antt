@@ -14,7 +14,7 @@ pub index-requires : goal.index-requires
 index-requires g c = let b = c.in-Some.ensures.some in let a = at_there c.args.self.now.entries.items c.in-Some.at b.0 b.1 in let f = c.args.self.now.entries.ok in omega arith
 
 pub returns-in-Ok-clause-ok : goal.returns-in-Ok-clause-ok
-returns-in-Ok-clause-ok g c = let world = g.D.ClassDoor.holds c.args.door.now in let es = c.args.self.now.entries.items in let ls = c.args.self.now.looks.items in let name = c.args.name.now in let seat = c.args.seat in
+returns-in-Ok-clause-ok g c = let world = g.D.ClassFinder.holds c.args.door.now in let es = c.args.self.now.entries.items in let ls = c.args.self.now.looks.items in let name = c.args.name.now in let seat = c.args.seat in
     let there = c.in-Some.ensures.some in let at = c.in-Some.at in
     let read = at_index es at c.index.result.now (at_there es at there.0 there.1) c.index.ensures in
     let same : there.0 ≡ c.index.result.now = same_entry es at at there.0 c.index.result.now there.1 read (λ _. at) in
@@ -32,8 +32,8 @@ returns-in-Ok-clause-ok g c = let world = g.D.ClassDoor.holds c.args.door.now in
     )
 
 pub returns-in-None-clause-ok : goal.returns-in-None-clause-ok
-returns-in-None-clause-ok g c = let world = g.D.ClassDoor.holds c.args.door.now in let es = c.args.self.now.entries.items in let old = c.args.self.now.looks.items in let name = c.args.name.now in let seat = c.args.seat in
-    let new = c.fill.new.self in let finds = g.D.ClassDoor.finds in
+returns-in-None-clause-ok g c = let world = g.D.ClassFinder.holds c.args.door.now in let es = c.args.self.now.entries.items in let old = c.args.self.now.looks.items in let name = c.args.name.now in let seat = c.args.seat in
+    let new = c.fill.new.self in let finds = g.D.ClassFinder.finds in
     if_ok
     (λ r. (IsAnswer world name (arc_value r)) × ((CountsFind (finds c.args.door.now) (finds c.fill.new.door) true) × ((part : ℕ) → Grows world seat es c.reserve.new.self.items (asked part (length es) true name) new.entries.items new.looks.items)) × (length new.looks.items < 2 ^ 64))
     (λ r. (IsAnswer world name (arc_value r)) × ((place : ℕ) × (fill : Bool) × (CountsFind (finds c.args.door.now) (finds c.fill.new.door) fill) × ((part : ℕ) → Grows world seat es old (asked part place fill name) new.entries.items new.looks.items)) × (length new.looks.items < 2 ^ 64))
