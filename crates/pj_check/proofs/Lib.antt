@@ -4,9 +4,14 @@ mod Gathering
 mod DoorCounting
 mod Ending
 mod Excluding
+mod OverCache
+mod Finishing
+mod Caches
+mod Fitting
 mod OneRefusal
 mod Once
 mod SomeRun
 pub mod Pieces
+mod Lines
 pub mod Emptiness
 pub mod InOrder

@@ -1,9 +1,9 @@
 -- What follows from the definitions.
-use Rattle.std.specs.Prelude.{◌≡◌, ◌⊎◌, ℕ, Bool, List, map}
+use Rattle.std.specs.Prelude.{◌≡◌, ◌⊎◌, ℕ, Bool, List, map, Option, Some, IfSome}
 use Rattle.std.specs.List.{AllByRecursion, AllZip}
 use Rattle.std.specs.List.Sorted.{IsStrictlySortedBy}
 use Rattle.pj_outside.specs.Doors.{ClassFolders}
-use Rattle.pj_outside.specs.Files.{Files, Bytes}
+use Rattle.pj_outside.specs.Files.{Files, Bytes, bytes_at}
 use Rattle.pj_reports.specs.declared.report.Report.{Report}
 use Rattle.pj_reports.specs.declared.rows.FileRows.{FileRows}
 use Rattle.pj_rule_sets.specs.Rules.{EffectiveRules}
@@ -18,9 +18,13 @@ use Rattle.pj_workers.specs.JavaReplies.{java_replies}
 use Rattle.pj_workers.specs.Laws.{AreInOrder, FindWhatIsDenoted}
 use Rattle.pj_workers.specs.Rules.{AreRulesOf, Rule}
 use Rattle.pj_xexpressions.specs.declared.pmd_function.PmdFunction.{PmdFunction}
+use Rattle.pj_workers.specs.declared.work.Work.{Work}
+use Rattle.pj_check.specs.Caching.{ContentFits, FindsFitting}
 use Rattle.pj_check.specs.Cold.{IsColdOf, world_of}
+use Rattle.pj_check.specs.Kept.{SaysOfCache}
 use Rattle.pj_check.specs.Refused.{IsRefused}
 use Rattle.pj_check.specs.Run.{HasRules, IsRun, Run}
+use Rattle.pj_check.specs.declared.cache.CacheNotes.{CacheNotes}
 use Rattle.pj_check.specs.declared.outcome.Outcome.{Outcome}
 
 -- Words and files that have a run have no cause of refusal. So a run over a tree that tells its files comes to its report, or the tree,
@@ -80,3 +84,16 @@ RunOrRefusal = (words : List Bytes) (held : Files) (classes : ClassFolders) → 
 abbrev pub RunOrRefusalWithoutTypes : Type 0
 RunOrRefusalWithoutTypes = (words : List Bytes) (held : Files) (classes : ClassFolders) → ((settings : Settings) (listing : Listing) (rules : EffectiveRules) → HasRules words held settings listing rules → SetCallsOnly asks_nothing rules)
     → ((run : Run) × IsRun words held classes run) ⊎ ((outcome : Outcome) × IsRefused words held outcome)
+
+-- What stands under each name of a keeper fits: so it is of an empty one.
+abbrev pub KeeperFits : Files → Type 0
+KeeperFits kept = (name : Bytes) → ContentFits (bytes_at kept name)
+
+-- It does so again after a run, whatever came of it, also where the new cache was not put in its place. So it does after every list of runs, whatever is changed between them.
+abbrev pub KeepersStayFit : Type 0
+KeepersStayFit = (outcome : Outcome) (words : List Bytes) (held : Files) (classes : ClassFolders) (kept : Files) (new : Option Files) (before after : Work) (told : CacheNotes)
+    → SaysOfCache outcome words (Some held) (Some classes) (Some kept) new before after told → KeeperFits kept → IfSome new KeeperFits
+
+-- A keeper of which that holds has a cache that fits under every name: so the report of each run is that of a run without a cache.
+abbrev pub FitKeepersServe : Type 0
+FitKeepersServe = (words : List Bytes) (kept : Files) → KeeperFits kept → FindsFitting words (Some kept)
