@@ -1,15 +1,16 @@
 -- From what a run has made to what its outcome says of its cache.
 use Rattle.std.proofs.Common.{◌≡◌, ◌∙◌, ◌++◌, ℕ, Bool, true, false, List, map, Option, None, Some, IfSome, Result, Ok, Err, OnOk, OnErr, IfOk, IfErr, inl, inr, ap, sym, subst, refl}
 use Rattle.pj_cache_store.specs.declared.loading.Unused.{Unused}
+use Rattle.pj_cached_files.specs.LeftFiles.{ArePartedBy}
 use Rattle.pj_outside.specs.Doors.{ClassFolders}
 use Rattle.pj_outside.specs.Files.{Bytes, Files}
 use Rattle.pj_settings.specs.Job.{job}
 use Rattle.pj_settings.specs.declared.settings.Settings.{Settings}
 use Rattle.pj_sources.specs.Reading.{AreWithin}
 use Rattle.pj_workers.specs.declared.work.Work.{Work}
-use Rattle.pj_check.specs.Caching.{FindsFitting, FitsUnder, IsKept, IsLeftText}
+use Rattle.pj_check.specs.Caching.{FindsFitting, FitsUnder, IsDoneOver, IsKept, IsLeftText}
 use Rattle.pj_check.specs.Cold.{world_of}
-use Rattle.pj_check.specs.Kept.{IsLeft, IsLeftBy, IsToldOf, IsUntouched, LeavesCache, SaysOfCache}
+use Rattle.pj_check.specs.Kept.{IsBeforeLoading, IsDoneAt, IsDoneBy, IsLeft, IsLeftBy, IsToldOf, IsUntouched, LeavesCache, SaysOfCache}
 use Rattle.pj_check.specs.Outcome.{IsAnalysed}
 use Rattle.pj_check.specs.Run.{Run}
 use Rattle.pj_check.specs.Steps.{Explains, HasCacheText, IsKeptIf, IsLeaving, IsMade, IsOfClasses, IsOfSome, IsPrepared, IsReportOf, IsSomeReport, IsTextBy, IsToldAt, IsToldBefore, SaysNotPut, WorkedBy, judged, outcome_of, refused}
@@ -32,13 +33,17 @@ worked_none ready (Some name) before after worked is = absurd (cc)
 
 skipped_by : (ready : Ready) (name : Option Bytes) (before after : Work) → WorkedBy name ready before after → after.skipped ≡ ready.listing.skipped
 skipped_by ready None before after worked = ap (λ (w : Work). w.skipped) worked
-skipped_by ready (Some name) before after worked = worked
+skipped_by ready (Some name) before after worked = worked.1
 
 with_paths : (ready : Ready) (before after : Work) → AreWithin ready.listing.paths ready.sources → WorkedBy ready.settings.cache ready before after → ready.settings.cache ≡ None
     → after ≡ record { analysed = before.analysed ++ ready.listing.paths; reused = before.reused; skipped = ready.listing.skipped }
 with_paths ready before after within worked is =
     worked_none ready ready.settings.cache before after worked is
     ∙ ap (λ (paths : List Bytes). let w : Work = record { analysed = before.analysed ++ paths; reused = before.reused; skipped = ready.listing.skipped } in w) within.paths_are
+
+parts_of : (ready : Ready) (name : Option Bytes) (before after : Work) → AreWithin ready.listing.paths ready.sources → WorkedBy name ready before after → IfSome name (λ n. ArePartedBy ready.listing.paths before after)
+parts_of ready None before after within worked = tt
+parts_of ready (Some name) before after within worked = subst (λ (paths : List Bytes). ArePartedBy paths before after) within.paths_are worked.0
 
 pub reused_on : (ready : Ready) (before after : Work) (r : Result Made Refusal) → OnOk r (WorkedBy ready.settings.cache ready before after) → OnErr r (after ≡ before) → ready.settings.cache ≡ None → after.reused ≡ before.reused
 reused_on ready before after (Ok made) worked same is = ap (λ (w : Work). w.reused) (worked_none ready ready.settings.cache before after worked is)
@@ -82,6 +87,7 @@ is_analysed_by words told ready before after (Ok made) within prepared worked =
       has_rules = is.has_rules;
       read = is.read;
       worked = with_paths ready before after within worked;
+      parts = parts_of ready ready.settings.cache before after within worked;
       skipped = skipped_by ready ready.settings.cache before after worked;
     })
     prepared
@@ -102,10 +108,10 @@ leaving_by words told classes kept ready before after made why (Some name) (Some
   name_is = left.name_is;
   found = left.found;
   taken = left.taken;
-  left = told_so told (λ held. IsPrepared words held ready) (λ held. IfSome classes (λ folders. FindsFitting words kept → IsLeftBy words held folders left.found before after text.text))
+  left = told_so told (λ held. IsPrepared words held ready) (λ held. IfSome classes (λ folders. FindsFitting words kept → IsLeftBy words held folders left.found text.text))
       (λ held of_words. told_both classes classes (λ folders. FitsUnder ready.settings.cache kept → IsReportOf ready (world_of folders ready.settings.classes) made.report)
-      (λ folders. FitsUnder (Some name) kept → IsLeftText left.found (world_of folders ready.settings.classes) ready.sources ready.rules before after text.text)
-      (λ folders. FindsFitting words kept → IsLeftBy words held folders left.found before after text.text) refl
+      (λ folders. FitsUnder (Some name) kept → IsLeftText left.found (world_of folders ready.settings.classes) ready.sources ready.rules text.text)
+      (λ folders. FindsFitting words kept → IsLeftBy words held folders left.found text.text) refl
       (λ folders of is_text fits.
       let fit = fits ready.settings asked in
       let report = of fit in record {
@@ -114,6 +120,19 @@ leaving_by words told classes kept ready before after made why (Some name) (Some
         left = is_text (subst (λ (n : Option Bytes). FitsUnder n kept) is fit);
       })
       reported left.left)
+      prepared;
+  done = told_so told (λ held. IsPrepared words held ready) (λ held. IfSome classes (λ folders. IsDoneBy words held folders left.found before after))
+      (λ held of_words. told_so classes (λ folders. IsDoneOver left.found (world_of folders ready.settings.classes) ready.sources ready.rules before after) (λ folders. IsDoneBy words held folders left.found before after)
+      (λ folders is_done. record {
+        settings = ready.settings;
+        listing = ready.listing;
+        rules = ready.rules;
+        sources = ready.sources;
+        has_rules = of_words.has_rules;
+        read = of_words.read;
+        done = is_done;
+      })
+      left.done)
       prepared;
 }
 
@@ -179,13 +198,15 @@ left_by words tree classes old new before after told (Some name) (Some text) lea
   text = text.text;
   kept = subst (λ (n : Bytes). IsKept told.is_unwritten old new n text.text) leaving.name_is kept;
   left = leaving.left;
+  done = leaving.done;
 }
 
-loaded_by : (words : List Bytes) (tree : Option Files) (classes : Option ClassFolders) (old : Option Files) (before after : Work) (why : Option Unused) (name : Option Bytes) (text : Option CacheText)
-    → IsLeaving name words tree classes old before after why text → IsToldOf name old why
-loaded_by words tree classes old before after why None text leaving = leaving.0
-loaded_by words tree classes old before after why (Some name) None leaving = absurd leaving
-loaded_by words tree classes old before after why (Some name) (Some text) leaving = (leaving.found, leaving.taken)
+-- what was done is the same where the text is not put
+done_by : (words : List Bytes) (tree : Option Files) (classes : Option ClassFolders) (old : Option Files) (before after : Work) (why : Option Unused) (name : Option Bytes) (text : Option CacheText)
+    → IsLeaving name words tree classes old before after why text → IsDoneAt name words tree classes old before after why
+done_by words tree classes old before after why None text leaving = leaving.0
+done_by words tree classes old before after why (Some name) None leaving = absurd leaving
+done_by words tree classes old before after why (Some name) (Some text) leaving = record { found = leaving.found; taken = leaving.taken; done = leaving.done }
 
 leaves : (words : List Bytes) (tree : Option Files) (classes : Option ClassFolders) (old new : Option Files) (before after : Work) (told : CacheNotes) (text : Option CacheText)
     → HasCacheText words tree classes old before after told.unused text → IsKeptIf told.is_unwritten old new text → LeavesCache words tree classes old new before after told
@@ -213,7 +234,7 @@ cache_put (Err e) words tree classes old mid new before after why told text faul
       record {
         settings = has.settings;
         asked = has.asked;
-        told = subst (λ (w : Option Unused). IsToldOf has.settings.cache old w) (sym same_why) (loaded_by words tree classes old before after why has.settings.cache text has.leaving);
+        done = subst (λ (w : Option Unused). IsDoneAt has.settings.cache words tree classes old before after w) (sym same_why) (done_by words tree classes old before after why has.settings.cache text has.leaving);
       },
     )
 
@@ -226,3 +247,18 @@ no_text words tree classes kept before after why (Some name) text leaving is = a
 pub no_cache_text : (words : List Bytes) (tree : Option Files) (classes : Option ClassFolders) (kept : Option Files) (before after : Work) (why : Option Unused) (text : Option CacheText) → HasCacheText words tree classes kept before after why text
     → ((settings : Settings) → job words ≡ Ok settings → settings.cache ≡ None) → text ≡ None
 no_cache_text words tree classes kept before after why text has none = no_text words tree classes kept before after why has.settings.cache text has.leaving (none has.settings has.asked)
+
+-- ---- before the cache is loaded
+
+-- no refusal of class folders comes before
+pub of_classes_after : {K : Type 0} (old new : K) (r : Result Made Refusal) → IfErr r IsOfClasses → IfErr r (λ refusal. IsBeforeLoading (refused refusal) → new ≡ old)
+of_classes_after old new (Ok made) of = tt
+of_classes_after old new (Err refusal) (inl is) = λ before. absurd (subst (λ (r : Refusal). IsBeforeLoading (refused r)) is before)
+of_classes_after old new (Err refusal) (inr is) = λ before. absurd (subst (λ (r : Refusal). IsBeforeLoading (refused r)) is before)
+
+-- nor one of the sink, nor a report
+pub put_after : {K : Type 0} (old new : K) (r : Result Verdict Refusal) → IfErr r (λ e. e ≡ SinkFault) → IsBeforeLoading (outcome_of r) → new ≡ old
+put_after old new (Ok verdict.Clean) fault before = absurd before
+put_after old new (Ok verdict.Violations) fault before = absurd before
+put_after old new (Ok verdict.Errors) fault before = absurd before
+put_after old new (Err e) fault before = absurd (subst (λ (x : Refusal). IsBeforeLoading (refused x)) fault before)

@@ -5,7 +5,7 @@ use Rattle.pj_cache_store.specs.Loading.{IsLoaded}
 use Rattle.pj_cache_store.specs.declared.loading.Loaded.{Loaded}
 use Rattle.pj_cache_store.specs.declared.loading.Unused.{Unused}
 use Rattle.pj_cache_store.specs.declared.loading.Unused.TheVariants as unused
-use Rattle.pj_cached_files.specs.LeftFiles.{IsDone, paths_of}
+use Rattle.pj_cached_files.specs.LeftFiles.{ArePartedBy, IsDone, paths_of, picked}
 use Rattle.pj_fitting.specs.Fits.{IsFound, limit}
 use Rattle.pj_fitting.specs.Looked.{is_reusable}
 use Rattle.pj_outside.specs.Doors.{ClassFolders}
@@ -13,9 +13,9 @@ use Rattle.pj_outside.specs.Files.{Bytes, Files, bytes_at, reading_of}
 use Rattle.pj_rule_sets.specs.Rules.{EffectiveRules}
 use Rattle.pj_workers.specs.Cold.{World}
 use Rattle.pj_workers.specs.declared.work.Work.{Work}
-use Rattle.pj_check.specs.Caching.{FitsUnder, IsLeftOver, IsLeftText, TakesCache}
+use Rattle.pj_check.specs.Caching.{FitsUnder, IsDoneOver, IsLeftOver, IsLeftText, TakesCache}
 use Rattle.pj_check.specs.Cold.{IsColdOf, world_of}
-use Rattle.pj_check.specs.Steps.{FitsIfFound, IsLeftIfFound, IsOver, IsTakenBy, IsTextBy, IsTextOf, IsToldAt, WorkedBy, WorkedOver}
+use Rattle.pj_check.specs.Steps.{DoneOver, FitsIfFound, IsLeftIfFound, IsOver, IsTakenBy, IsTextBy, IsTextOf, IsToldAt, WorkedBy, WorkedOver}
 use Rattle.pj_check.specs.declared.analysing.Analysed.{Analysed}
 use Rattle.pj_check.specs.declared.cache.CacheText.{CacheText}
 use Rattle.pj_check.specs.declared.preparing.Ready.{Ready}
@@ -52,20 +52,19 @@ fits_found law not_read (Some name) (Some kept) (Some found) why taken fits = fi
 
 -- ---- the report
 
-pub over_is_cold : (found : Option Cache) (world : World) (sources : Files) (set : EffectiveRules) (before after : Work) (analysed : Analysed) → IsOver found world sources set before after analysed → IsColdOf world sources set analysed.report
-over_is_cold None world sources set before after analysed over = over
-over_is_cold (Some found) world sources set before after analysed over = over.0
+pub over_is_cold : (found : Option Cache) (world : World) (sources : Files) (set : EffectiveRules) (analysed : Analysed) → IsOver found world sources set analysed → IsColdOf world sources set analysed.report
+over_is_cold None world sources set analysed over = over
+over_is_cold (Some found) world sources set analysed over = over.0
 
 -- ---- the cache
 
 -- what is noted of the work begins with what was there
-left_of_work : (found : Cache) (world : World) (sources : Files) (set : EffectiveRules) (work done after : Work) (left : Cache) → done.analysed ≡ work.analysed → done.reused ≡ work.reused
-    → IsLeftOver found world sources set done after left → IsLeftOver found world sources set work after left
-left_of_work found world sources set work done after left analysed reused is = record {
+done_of_work : (found : Cache) (world : World) (sources : Files) (set : EffectiveRules) (work done after : Work) → done.analysed ≡ work.analysed → done.reused ≡ work.reused
+    → IsDoneOver found world sources set done after → IsDoneOver found world sources set work after
+done_of_work found world sources set work done after analysed reused is = record {
   meant = is.meant;
   held = is.held;
   written = is.written;
-  is_left = is.is_left;
   is_done = λ files are. let done_so = is.is_done files are in record {
     reused = done_so.reused ∙ ap (λ (names : List Bytes). names ++ paths_of (filter (is_reusable files found world is.held) sources)) reused;
     analysed = done_so.analysed ∙ ap (λ (names : List Bytes). names ++ paths_of (filter (λ file. not (is_reusable files found world is.held file)) sources)) analysed;
@@ -75,42 +74,54 @@ left_of_work found world sources set work done after left analysed reused is = r
 pub text_by : FoundLaw → NotReadLaw → (ready : Ready) (name : Option Bytes) (classes : Option ClassFolders) (kept : Option Files) (found : Option Cache) (why : Option Unused) (analysed : Analysed) (text : Option CacheText) (work done after : Work)
     → done.analysed ≡ work.analysed → done.reused ≡ work.reused
     → IsTakenBy name kept found why → IsLeftIfFound found analysed.left → IsTextOf name analysed.left text
-    → IfSome classes (λ folders. FitsIfFound found → IsOver found (world_of folders ready.settings.classes) ready.sources ready.rules done after analysed)
+    → IfSome classes (λ folders. FitsIfFound found → IsOver found (world_of folders ready.settings.classes) ready.sources ready.rules analysed)
+    → IfSome classes (λ folders. DoneOver found (world_of folders ready.settings.classes) ready.sources ready.rules done after)
     → IsTextBy name ready classes kept work after why text
-text_by law not_read ready name classes kept found why analysed text work done after same_analysed same_reused taken left text_is over =
+text_by law not_read ready name classes kept found why analysed text work done after same_analysed same_reused taken left text_is over done_so =
     go name found analysed.left text taken left text_is
-    (told_so classes (λ folders. FitsIfFound found → IsOver found (world_of folders ready.settings.classes) ready.sources ready.rules done after analysed) (λ folders. FitsIfFound found → LeftIs found folders analysed.left) (λ folders is fits. of_over found folders (is fits)) over)
+    (told_so classes (λ folders. FitsIfFound found → IsOver found (world_of folders ready.settings.classes) ready.sources ready.rules analysed) (λ folders. FitsIfFound found → LeftIs found folders analysed.left) (λ folders is fits. of_over found folders (is fits)) over)
+    done_so
   where
     -- of the cache that is left, where one was found
     LeftIs : Option Cache → ClassFolders → Option Cache → Type 0
     LeftIs None folders left = Unit {0}
-    LeftIs (Some found) folders left = IfSome left (IsLeftOver found (world_of folders ready.settings.classes) ready.sources ready.rules done after)
+    LeftIs (Some found) folders left = IfSome left (IsLeftOver found (world_of folders ready.settings.classes) ready.sources ready.rules)
 
-    of_over : (found : Option Cache) (folders : ClassFolders) → IsOver found (world_of folders ready.settings.classes) ready.sources ready.rules done after analysed → LeftIs found folders analysed.left
+    of_over : (found : Option Cache) (folders : ClassFolders) → IsOver found (world_of folders ready.settings.classes) ready.sources ready.rules analysed → LeftIs found folders analysed.left
     of_over None folders is = tt
     of_over (Some found) folders is = is.1
 
     go : (name : Option Bytes) (found left : Option Cache) (text : Option CacheText) → IsTakenBy name kept found why → IsLeftIfFound found left → IsTextOf name left text
-        → IfSome classes (λ folders. FitsIfFound found → LeftIs found folders left) → IsTextBy name ready classes kept work after why text
-    go None None left text taken is_left text_is over = (taken, text_is)
-    go None (Some found) left text taken is_left text_is over = absurd taken
-    go (Some name) None left text taken is_left text_is over = absurd taken
-    go (Some name) (Some found) None text taken is_left text_is over = absurd is_left
-    go (Some name) (Some found) (Some left) None taken is_left text_is over = absurd text_is
-    go (Some name) (Some found) (Some left) (Some text) taken is_left text_is over = record {
+        → IfSome classes (λ folders. FitsIfFound found → LeftIs found folders left) → IfSome classes (λ folders. DoneOver found (world_of folders ready.settings.classes) ready.sources ready.rules done after)
+        → IsTextBy name ready classes kept work after why text
+    go None None left text taken is_left text_is over done_so = (taken, text_is)
+    go None (Some found) left text taken is_left text_is over done_so = absurd taken
+    go (Some name) None left text taken is_left text_is over done_so = absurd taken
+    go (Some name) (Some found) None text taken is_left text_is over done_so = absurd is_left
+    go (Some name) (Some found) (Some left) None taken is_left text_is over done_so = absurd text_is
+    go (Some name) (Some found) (Some left) (Some text) taken is_left text_is over done_so = record {
       name_is = text_is.0;
       found = found;
       taken = taken;
-      left = told_so classes (λ folders. FitsIfFound (Some found) → LeftIs (Some found) folders (Some left)) (λ folders. FitsUnder (Some name) kept → IsLeftText found (world_of folders ready.settings.classes) ready.sources ready.rules work after text.text) (λ folders is fits. record {
+      left = told_so classes (λ folders. FitsIfFound (Some found) → LeftIs (Some found) folders (Some left)) (λ folders. FitsUnder (Some name) kept → IsLeftText found (world_of folders ready.settings.classes) ready.sources ready.rules text.text) (λ folders is fits. record {
         left = left;
-        is_left = left_of_work found (world_of folders ready.settings.classes) ready.sources ready.rules work done after left same_analysed same_reused
-            (is (fits_found law not_read (Some name) kept (Some found) why taken fits));
+        is_left = is (fits_found law not_read (Some name) kept (Some found) why taken fits);
         room = text_is.2;
         text_is = text_is.1;
       }) over;
+      done = told_so classes (λ folders. DoneOver (Some found) (world_of folders ready.settings.classes) ready.sources ready.rules done after) (λ folders. IsDoneOver found (world_of folders ready.settings.classes) ready.sources ready.rules work after)
+          (λ folders is. done_of_work found (world_of folders ready.settings.classes) ready.sources ready.rules work done after same_analysed same_reused is) done_so;
     }
 
 -- ---- the work
+
+parts_of_work : (work done after : Work) → done.analysed ≡ work.analysed → done.reused ≡ work.reused → (paths : List Bytes) → ArePartedBy paths done after → ArePartedBy paths work after
+parts_of_work work done after analysed reused paths parts = record {
+  flags = parts.flags;
+  as_many = parts.as_many;
+  reused = parts.reused ∙ ap (λ (names : List Bytes). names ++ picked parts.flags paths) reused;
+  analysed = parts.analysed ∙ ap (λ (names : List Bytes). names ++ picked (map not parts.flags) paths) analysed;
+}
 
 pub worked_by : (ready : Ready) (name : Option Bytes) (kept : Option Files) (found : Option Cache) (why : Option Unused) (work done after : Work) → done ≡ record { analysed = work.analysed; reused = work.reused; skipped = ready.listing.skipped }
     → IsTakenBy name kept found why → WorkedOver found ready.sources done after → after.skipped ≡ done.skipped → WorkedBy name ready work after
@@ -120,7 +131,11 @@ worked_by ready None kept None why work done after begun taken worked skipped = 
   skipped = (skipped ∙ ap (λ (w : Work). w.skipped) begun) i;
 }
 worked_by ready None kept (Some found) why work done after begun taken worked skipped = absurd taken
-worked_by ready (Some name) kept found why work done after begun taken worked skipped = skipped ∙ ap (λ (w : Work). w.skipped) begun
+worked_by ready (Some name) kept None why work done after begun taken worked skipped = absurd taken
+worked_by ready (Some name) kept (Some found) why work done after begun taken worked skipped = (
+  parts_of_work work done after (ap (λ (w : Work). w.analysed) begun) (ap (λ (w : Work). w.reused) begun) (map (λ (file : Bytes × Bytes). file.0) ready.sources) worked,
+  skipped ∙ ap (λ (w : Work). w.skipped) begun,
+)
 
 -- ---- what is told
 

@@ -5,8 +5,8 @@ use Rattle.std.proofs.lemmas.List.Elements.{All-head, All-nil, All-weaker}
 use Rattle.pj_cache.specs.declared.cache.Cache.{Cache}
 use Rattle.pj_cache_laws.specs.Reported.{report_of, rules_of}
 use Rattle.pj_cache_laws.specs.Written.{AreFiles, AreWrittenRules, WrittenRule}
-use Rattle.pj_cached_files.specs.LeftFile.{IsRun}
-use Rattle.pj_cached_files.specs.LeftFiles.{Does, HasClassesByName, LeavesAll}
+use Rattle.pj_cached_files.specs.LeftFile.{IsRun, StandsOver}
+use Rattle.pj_cached_files.specs.LeftFiles.{DoesAtAll, HasClassesByName, LeavesAll}
 use Rattle.pj_cached_files.specs.declared.files.LeftFiles.{LeftFiles}
 use Rattle.pj_fitting.specs.Fits.{CacheFits, IsFound}
 use Rattle.pj_fitting.specs.Left.{IsLeftCache}
@@ -26,9 +26,9 @@ use Rattle.pj_workers.specs.FileMeaning.{Replies}
 use Rattle.pj_workers.specs.JavaReplies.{java_replies}
 use Rattle.pj_workers.specs.Rules.{AreRulesOf, IsRuleOf, Rule}
 use Rattle.pj_workers.specs.declared.work.Work.{Work}
-use Rattle.pj_check.specs.Caching.{IsFitting, IsLeftOver}
+use Rattle.pj_check.specs.Caching.{IsDoneOver, IsFitting, IsLeftOver}
 use Rattle.pj_check.specs.Cold.{IsColdOf}
-use Rattle.pj_check.specs.Steps.{IsLeftFiles}
+use Rattle.pj_check.specs.Steps.{AreDoneFiles, IsLeftFiles}
 use Rattle.pj_check.proofs.Gathering.{rows_are}
 
 -- ---- laws of the layers below
@@ -76,12 +76,12 @@ held_of set meant are room law = held_by set set.rules meant refl are room law
 -- ---- over a door
 
 -- over a door that tells its folders, what is left of files is what is left in their world
-pub left_over_door : {K : Type 0} (folders : Option (List Files)) (kept : K) (asked : NameSet) (faults : ℕ) (t : Told K) (set : EffectiveRules) (found : Cache) (sources : Files) (before after : Work) (r : Result LeftFiles AskFault)
-    → NamedLaw → t ≡ tells_of kept folders asked faults → IfOk r (LeavesAll t set found sources) → OnOk r (Does t set found sources before after)
-    → IfSome folders (λ held. IfOk r (IsLeftFiles (folders_world held).answer set found sources before after))
-left_over_door None kept asked faults t set found sources before after r named tells leaves does = tt
-left_over_door (Some folders) kept asked faults t set found sources before after (Err fault) named tells leaves does = tt
-left_over_door {K} (Some folders) kept asked faults t set found sources before after (Ok left) named tells leaves does =
+pub left_over_door : {K : Type 0} (folders : Option (List Files)) (kept : K) (asked : NameSet) (faults : ℕ) (t : Told K) (set : EffectiveRules) (found : Cache) (sources : Files) (r : Result LeftFiles AskFault)
+    → NamedLaw → t ≡ tells_of kept folders asked faults → IfOk r (LeavesAll t set found sources)
+    → IfSome folders (λ held. IfOk r (IsLeftFiles (folders_world held).answer set found sources))
+left_over_door None kept asked faults t set found sources r named tells leaves = tt
+left_over_door (Some folders) kept asked faults t set found sources (Err fault) named tells leaves = tt
+left_over_door {K} (Some folders) kept asked faults t set found sources (Ok left) named tells leaves =
     λ files rules held are written is_right.
     let is : IsRun t set found files (folders_world folders).answer rules held = record {
       files_are = are;
@@ -89,7 +89,7 @@ left_over_door {K} (Some folders) kept asked faults t set found sources before a
       is_told = λ i. (tells i).is_told;
       one_world = λ depth far. (λ i. ((tells i).world depth).answer);
       right = is_right;
-    } in (leaves files (folders_world folders).answer rules held is (named folders), does files (folders_world folders).answer rules held is)
+    } in leaves files (folders_world folders).answer rules held is (named folders)
 
 -- ---- the report
 
@@ -97,16 +97,16 @@ same_report : (a b : Report) → a.rules ≡ b.rules → a.files ≡ b.files →
 same_report a b rules files errors = λ i. record { rules = rules i; files = files i; errors = errors i }
 
 -- what is made of what is left is the cold report
-pub over_cache : (set : EffectiveRules) (found : Cache) (world : World) (sources : Files) (before after : Work) (left : LeftFiles) (report : Report) (meant : List Rule) (held : List WrittenRule) (files : right.Files WrittenRule)
-    → AreRulesOf set meant → AreWrittenRules set meant held → AreFiles java_replies files → ColdLaw → IsLeftFiles world set found sources before after left
+pub over_cache : (set : EffectiveRules) (found : Cache) (world : World) (sources : Files) (left : LeftFiles) (report : Report) (meant : List Rule) (held : List WrittenRule) (files : right.Files WrittenRule)
+    → AreRulesOf set meant → AreWrittenRules set meant held → AreFiles java_replies files → ColdLaw → IsLeftFiles world set found sources left
     → report.rules ≡ map (λ (rule : EffectiveRule). rule.row) set.rules → report.files ≡ left.rows → report.errors ≡ set.unusable → IsFitting found
-    → IsColdOf world sources set report × IsLeftOver found world sources set before after left.cache
-over_cache set found world sources before after left report meant held files are written of_files law leaves rules_are files_are errors_are fitting =
-    let both = leaves files meant held of_files written (right_of found fitting files of_files) in
-    let cold = law java_replies files of_files world fitting.content found held set.unusable sources left.cache (fitting.fits files of_files) fitting.is_found both.0.cache in
+    → IsColdOf world sources set report × IsLeftOver found world sources set left.cache
+over_cache set found world sources left report meant held files are written of_files law leaves rules_are files_are errors_are fitting =
+    let leaving = leaves files meant held of_files written (right_of found fitting files of_files) in
+    let cold = law java_replies files of_files world fitting.content found held set.unusable sources left.cache (fitting.fits files of_files) fitting.is_found leaving.cache in
     let rows : report.rules ≡ map (λ (rule : Rule). rule.source.texts.row) (rules_of held) =
     rules_are ∙ rows_are set.marker set.rules meant are ∙ ap (map (λ (rule : Rule). rule.source.texts.row)) (sym written.rules) in
-    let same : report ≡ report_of files held set.unusable sources left.cache = same_report report (report_of files held set.unusable sources left.cache) rows (files_are ∙ both.0.rows) errors_are in (
+    let same : report ≡ report_of files held set.unusable sources left.cache = same_report report (report_of files held set.unusable sources left.cache) rows (files_are ∙ leaving.rows) errors_are in (
       record {
         rules = meant;
         are_rules = are;
@@ -117,17 +117,44 @@ over_cache set found world sources before after left report meant held files are
         meant = meant;
         held = held;
         written = written;
-        is_left = λ fs are_fs. (leaves fs meant held are_fs written (right_of found fitting fs are_fs)).0.cache;
-        is_done = λ fs are_fs. (leaves fs meant held are_fs written (right_of found fitting fs are_fs)).1;
+        is_left = λ fs are_fs. (leaves fs meant held are_fs written (right_of found fitting fs are_fs)).cache;
       },
     )
 
 -- so it is over a door
-pub over_door : (folders : Option (List Files)) (set : EffectiveRules) (found : Cache) (sources listed : Files) (before after : Work) (left : LeftFiles) (report : Report) (meant : List Rule) (held : List WrittenRule) (files : right.Files WrittenRule)
-    → listed ≡ sources → AreRulesOf set meant → AreWrittenRules set meant held → AreFiles java_replies files → ColdLaw → IfSome folders (λ held. IsLeftFiles (folders_world held).answer set found listed before after left)
+pub over_door : (folders : Option (List Files)) (set : EffectiveRules) (found : Cache) (sources listed : Files) (left : LeftFiles) (report : Report) (meant : List Rule) (held : List WrittenRule) (files : right.Files WrittenRule)
+    → listed ≡ sources → AreRulesOf set meant → AreWrittenRules set meant held → AreFiles java_replies files → ColdLaw → IfSome folders (λ held. IsLeftFiles (folders_world held).answer set found listed left)
     → report.rules ≡ map (λ (rule : EffectiveRule). rule.row) set.rules → report.files ≡ left.rows → report.errors ≡ set.unusable
-    → IfSome folders (λ held. IsFitting found → IsColdOf (folders_world held).answer sources set report × IsLeftOver found (folders_world held).answer sources set before after left.cache)
-over_door None set found sources listed before after left report meant held files same are written of_files law leaves rules_are files_are errors_are = tt
-over_door (Some folders) set found sources listed before after left report meant held files same are written of_files law leaves rules_are files_are errors_are = λ fitting.
-    over_cache set found (folders_world folders).answer sources before after left report meant held files are written of_files law
-    (subst (λ (list : Files). IsLeftFiles (folders_world folders).answer set found list before after left) same leaves) rules_are files_are errors_are fitting
+    → IfSome folders (λ held. IsFitting found → IsColdOf (folders_world held).answer sources set report × IsLeftOver found (folders_world held).answer sources set left.cache)
+over_door None set found sources listed left report meant held files same are written of_files law leaves rules_are files_are errors_are = tt
+over_door (Some folders) set found sources listed left report meant held files same are written of_files law leaves rules_are files_are errors_are = λ fitting.
+    over_cache set found (folders_world folders).answer sources left report meant held files are written of_files law
+    (subst (λ (list : Files). IsLeftFiles (folders_world folders).answer set found list left) same leaves) rules_are files_are errors_are fitting
+
+-- ---- what was done
+
+-- over a door that tells its folders, what was done with files is what is done in their world
+pub done_over_door : {K : Type 0} (folders : Option (List Files)) (kept : K) (asked : NameSet) (faults : ℕ) (t : Told K) (set : EffectiveRules) (found : Cache) (sources : Files) (before after : Work) (r : Result LeftFiles AskFault)
+    → t ≡ tells_of kept folders asked faults → OnOk r (DoesAtAll t set found sources before after)
+    → IfSome folders (λ held. OnOk r (AreDoneFiles (folders_world held).answer set found sources before after))
+done_over_door None kept asked faults t set found sources before after r tells does = tt
+done_over_door (Some folders) kept asked faults t set found sources before after (Err fault) tells does = tt
+done_over_door {K} (Some folders) kept asked faults t set found sources before after (Ok left) tells does =
+    λ files rules held are written.
+    let stands : StandsOver t set files (folders_world folders).answer rules held = record {
+      files_are = are;
+      rules_are = written;
+      is_told = λ i. (tells i).is_told;
+      one_world = λ depth far. (λ i. ((tells i).world depth).answer);
+    } in does files (folders_world folders).answer rules held stands
+
+-- so it is noted of the sources, by rules as they are written
+pub done_at_door : (folders : Option (List Files)) (set : EffectiveRules) (found : Cache) (sources listed : Files) (before after : Work) (meant : List Rule) (held : List WrittenRule) → listed ≡ sources → AreWrittenRules set meant held
+    → IfSome folders (λ held. AreDoneFiles (folders_world held).answer set found listed before after) → IfSome folders (λ held. IsDoneOver found (folders_world held).answer sources set before after)
+done_at_door None set found sources listed before after meant held same written done = tt
+done_at_door (Some folders) set found sources listed before after meant held same written done = record {
+  meant = meant;
+  held = held;
+  written = written;
+  is_done = λ files are. (subst (λ (list : Files). AreDoneFiles (folders_world folders).answer set found list before after) same done) files meant held are written;
+}

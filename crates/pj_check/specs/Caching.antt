@@ -51,18 +51,17 @@ TakesCache kept name found unused = IfSome kept (λ held. IsLoaded (read_at held
 
 -- ---- what is left
 
--- The cache that a run of some rules leaves over a world of classes, in place of the one that it found, with what it notes of its work.
-pub record IsLeftOver (found : Cache) (world : World) (sources : Files) (set : EffectiveRules) (before after : Work) (left : Cache) : Type 0 where
+-- The cache that a run of some rules leaves over a world of classes, in place of the one that it found.
+pub record IsLeftOver (found : Cache) (world : World) (sources : Files) (set : EffectiveRules) (left : Cache) : Type 0 where
   pub meant : List Rule
   pub held : List WrittenRule
   pub written : AreWrittenRules set meant held
   pub is_left : (files : right.Files WrittenRule) → AreFiles java_replies files → IsLeftCache files world found held sources left
-  pub is_done : (files : right.Files WrittenRule) → AreFiles java_replies files → IsDone files world found held sources before after
 
 -- Its text is left, or that of the cache without entries, if it is too long.
-pub record IsLeftText (found : Cache) (world : World) (sources : Files) (set : EffectiveRules) (before after : Work) (text : Bytes) : Type 0 where
+pub record IsLeftText (found : Cache) (world : World) (sources : Files) (set : EffectiveRules) (text : Bytes) : Type 0 where
   pub left : Cache
-  pub is_left : IsLeftOver found world sources set before after left
+  pub is_left : IsLeftOver found world sources set left
   pub room : FitsFields left
   pub text_is : text ≡ text_to_leave left
 
@@ -70,6 +69,15 @@ pub record IsLeftText (found : Cache) (world : World) (sources : Files) (set : E
 abbrev pub IsKept : Bool → Option Files → Option Files → Bytes → Bytes → Type 0
 IsKept false old new name text = Replaces old new name text
 IsKept true old new name text = MayReplace old new name text
+
+-- ---- what is noted of the work
+
+-- The files that can be used again as they are, over a world of classes and the cache that was found, were used again, and the others analysed. The cache may be any, right or not.
+pub record IsDoneOver (found : Cache) (world : World) (sources : Files) (set : EffectiveRules) (before after : Work) : Type 0 where
+  pub meant : List Rule
+  pub held : List WrittenRule
+  pub written : AreWrittenRules set meant held
+  pub is_done : (files : right.Files WrittenRule) → AreFiles java_replies files → IsDone files world found held sources before after
 
 -- ---- what is counted and told
 

@@ -1,6 +1,6 @@
 -- What follows from the definitions.
-use Rattle.std.specs.Prelude.{◌≡◌, ◌⊎◌, ℕ, Bool, List, map, Option, Some, IfSome}
-use Rattle.std.specs.List.{AllByRecursion, AllZip}
+use Rattle.std.specs.Prelude.{⊤, ◌≡◌, ◌⊎◌, ℕ, Bool, List, [], ◌∷◌, map, Option, Some, IfSome, Ok}
+use Rattle.std.specs.List.{All, AllByRecursion, AllZip}
 use Rattle.std.specs.List.Sorted.{IsStrictlySortedBy}
 use Rattle.pj_outside.specs.Doors.{ClassFolders}
 use Rattle.pj_outside.specs.Files.{Files, Bytes, bytes_at}
@@ -8,6 +8,7 @@ use Rattle.pj_reports.specs.declared.report.Report.{Report}
 use Rattle.pj_reports.specs.declared.rows.FileRows.{FileRows}
 use Rattle.pj_rule_sets.specs.Rules.{EffectiveRules}
 use Rattle.pj_rules.specs.Load.{IsEffective}
+use Rattle.pj_settings.specs.Job.{job}
 use Rattle.pj_settings.specs.declared.settings.Settings.{Settings}
 use Rattle.pj_sources.specs.Paths.{byte_order}
 use Rattle.pj_sources.specs.Reading.{AreRead}
@@ -85,15 +86,31 @@ abbrev pub RunOrRefusalWithoutTypes : Type 0
 RunOrRefusalWithoutTypes = (words : List Bytes) (held : Files) (classes : ClassFolders) → ((settings : Settings) (listing : Listing) (rules : EffectiveRules) → HasRules words held settings listing rules → SetCallsOnly asks_nothing rules)
     → ((run : Run) × IsRun words held classes run) ⊎ ((outcome : Outcome) × IsRefused words held outcome)
 
--- What stands under each name of a keeper fits: so it is of an empty one.
-abbrev pub KeeperFits : Files → Type 0
-KeeperFits kept = (name : Bytes) → ContentFits (bytes_at kept name)
-
--- It does so again after a run, whatever came of it, also where the new cache was not put in its place. So it does after every list of runs, whatever is changed between them.
+-- What stands under a name of a keeper fits again after a run over a tree and a class path that tell what they hold, if it did before: whatever came of the run, whether the name
+-- is that of its cache or another, and also where the new cache was not put in its place.
 abbrev pub KeepersStayFit : Type 0
-KeepersStayFit = (outcome : Outcome) (words : List Bytes) (held : Files) (classes : ClassFolders) (kept : Files) (new : Option Files) (before after : Work) (told : CacheNotes)
-    → SaysOfCache outcome words (Some held) (Some classes) (Some kept) new before after told → KeeperFits kept → IfSome new KeeperFits
+KeepersStayFit = (outcome : Outcome) (words : List Bytes) (held : Files) (classes : ClassFolders) (kept : Files) (new : Option Files) (before after : Work) (told : CacheNotes) (name : Bytes)
+    → SaysOfCache outcome words (Some held) (Some classes) (Some kept) new before after told → ContentFits (bytes_at kept name) → IfSome new (λ now. ContentFits (bytes_at now name))
 
--- A keeper of which that holds has a cache that fits under every name: so the report of each run is that of a run without a cache.
+-- So it does after every list of such runs, whatever is changed between them: the files, the class folders, the rulesets and the words.
+pub record RunOver (old new : Files) : Type 0 where
+  pub outcome : Outcome
+  pub words : List Bytes
+  pub held : Files
+  pub classes : ClassFolders
+  pub before : Work
+  pub after : Work
+  pub told : CacheNotes
+  pub says : SaysOfCache outcome words (Some held) (Some classes) (Some old) (Some new) before after told
+
+-- what a keeper holds before and after a list of runs
+abbrev pub RunsOver : Files → List Files → Type 0
+RunsOver old [] = ⊤
+RunsOver old (new ∷ later) = RunOver old new × RunsOver new later
+
+abbrev pub KeepersStayFitForever : Type 0
+KeepersStayFitForever = (kept : Files) (later : List Files) (name : Bytes) → RunsOver kept later → ContentFits (bytes_at kept name) → All (λ (held : Files). ContentFits (bytes_at held name)) later
+
+-- Where what stands under the name of the cache fits, the run finds what fits: so its report is that of a run without a cache.
 abbrev pub FitKeepersServe : Type 0
-FitKeepersServe = (words : List Bytes) (kept : Files) → KeeperFits kept → FindsFitting words (Some kept)
+FitKeepersServe = (words : List Bytes) (settings : Settings) (name : Bytes) (kept : Files) → job words ≡ Ok settings → settings.cache ≡ Some name → ContentFits (bytes_at kept name) → FindsFitting words (Some kept)

@@ -1,5 +1,6 @@
 -- What each outcome of a run says.
 use Rattle.std.specs.Prelude.{⊤, ◌≡◌, ◌⊎◌, ◌++◌, ℕ, List, Contains, Option, None, IfSome, Ok, Err}
+use Rattle.pj_cached_files.specs.LeftFiles.{ArePartedBy}
 use Rattle.pj_outside.specs.Doors.{ClassFolders, count_and}
 use Rattle.pj_outside.specs.Faults.{Rises, next_count}
 use Rattle.pj_outside.specs.Files.{Files, Bytes}
@@ -68,7 +69,7 @@ Says (Missing path) words held told kept old new before after = IsRefused words 
 Says (Limit kind) words held told kept old new before after = IsRefused words held (Limit kind)
 Says Memory words held told kept old new before after = ⊤
 
--- The sources were read and analysed by the rules of the rulesets, and nothing was used again where no cache is asked for.
+-- The sources were read and analysed by the rules of the rulesets, or used again where a cache is asked for: each one or the other, in their order.
 pub record IsAnalysed (words : List Bytes) (held : Files) (before after : Work) : Type 0 where
   pub settings : Settings
   pub listing : Listing
@@ -77,6 +78,7 @@ pub record IsAnalysed (words : List Bytes) (held : Files) (before after : Work) 
   pub has_rules : HasRules words held settings listing rules
   pub read : AreRead held listing.paths sources
   pub worked : settings.cache ≡ None → after ≡ record { analysed = before.analysed ++ listing.paths; reused = before.reused; skipped = listing.skipped }
+  pub parts : IfSome settings.cache (λ name. ArePartedBy listing.paths before after)
   pub skipped : after.skipped ≡ listing.skipped
 
 -- What an outcome says of the words and the files of a tree that tells them, also where nothing is known of the class folders: nothing

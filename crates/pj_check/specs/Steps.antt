@@ -8,7 +8,7 @@ use Rattle.pj_cache_format.specs.Fitting.{FitsFields}
 use Rattle.pj_cache_laws.specs.Written.{AreFiles, AreWrittenRules, WrittenRule}
 use Rattle.pj_cache_store.specs.Leaving.{text_to_leave}
 use Rattle.pj_cache_store.specs.declared.loading.Unused.{Unused}
-use Rattle.pj_cached_files.specs.LeftFiles.{AreLeftFiles, IsDone}
+use Rattle.pj_cached_files.specs.LeftFiles.{AreLeftFiles, ArePartedBy, IsDone}
 use Rattle.pj_cached_files.specs.declared.files.LeftFiles.{LeftFiles}
 use Rattle.pj_fitting.specs.Right as right
 use Rattle.pj_names.specs.ClassName.{Name}
@@ -39,10 +39,10 @@ use Rattle.pj_workers.specs.Cold.{AreRowsOf, World}
 use Rattle.pj_workers.specs.JavaReplies.{java_replies}
 use Rattle.pj_workers.specs.Rules.{AreRulesOf, Rule}
 use Rattle.pj_workers.specs.declared.work.Work.{Work}
-use Rattle.pj_check.specs.Caching.{FindsFitting, FitsUnder, IsFitting, IsKept, IsLeftOver, IsLeftText, TakesCache}
+use Rattle.pj_check.specs.Caching.{FindsFitting, FitsUnder, IsDoneOver, IsFitting, IsKept, IsLeftOver, IsLeftText, TakesCache}
 use Rattle.pj_check.specs.Cold.{IsColdOf, world_of}
 use Rattle.pj_check.specs.Formats.{report_text}
-use Rattle.pj_check.specs.Kept.{HasLoaded, IsLeftBy, IsToldOf}
+use Rattle.pj_check.specs.Kept.{DoesBy, HasLoaded, IsLeftBy, IsToldOf}
 use Rattle.pj_check.specs.Verdicts.{verdict_of}
 use Rattle.pj_check.specs.declared.verdict.Verdict.{Verdict}
 use Rattle.pj_check.specs.declared.verdict.Verdict.TheVariants as verdict
@@ -211,10 +211,15 @@ pub record IsPrepared (words : List Bytes) (held : Files) (ready : Ready) : Type
 -- ---- over the cache that was found
 
 -- what is made of sources over a world of classes and a cache that was found, of files as they are, where the cache is right
-abbrev pub IsLeftFiles : World → EffectiveRules → Cache → Files → Work → Work → LeftFiles → Type 0
-IsLeftFiles world set found sources before after left =
+abbrev pub IsLeftFiles : World → EffectiveRules → Cache → Files → LeftFiles → Type 0
+IsLeftFiles world set found sources left =
     (files : right.Files WrittenRule) (rules : List Rule) (held : List WrittenRule) → AreFiles java_replies files → AreWrittenRules set rules held → right.IsRightCache files found
-    → AreLeftFiles files world found held sources left × IsDone files world found held sources before after
+    → AreLeftFiles files world found held sources left
+
+-- what was done with sources over a world of classes and a cache that was found, right or not
+abbrev pub AreDoneFiles : World → EffectiveRules → Cache → Files → Work → Work → Type 0
+AreDoneFiles world set found sources before after =
+    (files : right.Files WrittenRule) (rules : List Rule) (held : List WrittenRule) → AreFiles java_replies files → AreWrittenRules set rules held → IsDone files world found held sources before after
 
 -- it is what a run finds where that fits, if there is one
 abbrev pub FitsIfFound : Option Cache → Type 0
@@ -222,14 +227,19 @@ FitsIfFound None = ⊤
 FitsIfFound (Some found) = IsFitting found
 
 -- what is made of sources over a world of classes, and over the cache that was found, if there is one: the cold report, and the cache that is left
-abbrev pub IsOver : Option Cache → World → Files → EffectiveRules → Work → Work → Analysed → Type 0
-IsOver None world sources set before after analysed = IsColdOf world sources set analysed.report
-IsOver (Some found) world sources set before after analysed = IsColdOf world sources set analysed.report × IfSome analysed.left (IsLeftOver found world sources set before after)
+abbrev pub IsOver : Option Cache → World → Files → EffectiveRules → Analysed → Type 0
+IsOver None world sources set analysed = IsColdOf world sources set analysed.report
+IsOver (Some found) world sources set analysed = IsColdOf world sources set analysed.report × IfSome analysed.left (IsLeftOver found world sources set)
 
--- what is noted of the work: where there is no cache, all sources were analysed
+-- what is noted of the work: where there is no cache, all sources were analysed; over a cache each was analysed or used again
 abbrev pub WorkedOver : Option Cache → Files → Work → Work → Type 0
 WorkedOver None sources before after = (after.analysed ≡ before.analysed ++ map (λ (file : Bytes × Bytes). file.0) sources) × (after.reused ≡ before.reused)
-WorkedOver (Some found) sources before after = ⊤
+WorkedOver (Some found) sources before after = ArePartedBy (map (λ (file : Bytes × Bytes). file.0) sources) before after
+
+-- and which of them, over a world of classes
+abbrev pub DoneOver : Option Cache → World → Files → EffectiveRules → Work → Work → Type 0
+DoneOver None world sources set before after = ⊤
+DoneOver (Some found) world sources set before after = IsDoneOver found world sources set before after
 
 -- a cache is left where one was found, with its answers in the order of their names
 abbrev pub IsLeftIfFound : Option Cache → Option Cache → Type 0
@@ -258,7 +268,8 @@ pub record IsTextUnder (name : Bytes) (ready : Ready) (classes : Option ClassFol
   pub name_is : text.name ≡ name
   pub found : Cache
   pub taken : TakesCache kept name found unused
-  pub left : IfSome classes (λ folders. FitsUnder (Some name) kept → IsLeftText found (world_of folders ready.settings.classes) ready.sources ready.rules before after text.text)
+  pub left : IfSome classes (λ folders. FitsUnder (Some name) kept → IsLeftText found (world_of folders ready.settings.classes) ready.sources ready.rules text.text)
+  pub done : IfSome classes (λ folders. IsDoneOver found (world_of folders ready.settings.classes) ready.sources ready.rules before after)
 
 abbrev pub IsTextBy : Option Bytes → Ready → Option ClassFolders → Option Files → Work → Work → Option Unused → Option CacheText → Type 0
 IsTextBy None ready classes kept before after unused text = (unused ≡ None) × (text ≡ None)
@@ -268,7 +279,7 @@ IsTextBy (Some name) ready classes kept before after unused (Some text) = IsText
 -- what is noted of the work by the name of the cache
 abbrev pub WorkedBy : Option Bytes → Ready → Work → Work → Type 0
 WorkedBy None ready before after = after ≡ record { analysed = before.analysed ++ map (λ (file : Bytes × Bytes). file.0) ready.sources; reused = before.reused; skipped = ready.listing.skipped }
-WorkedBy (Some name) ready before after = after.skipped ≡ ready.listing.skipped
+WorkedBy (Some name) ready before after = ArePartedBy (map (λ (file : Bytes × Bytes). file.0) ready.sources) before after × (after.skipped ≡ ready.listing.skipped)
 
 -- what is told of the cache at a refusal once the sources are read
 abbrev pub IsToldAt : Refusal → Option Bytes → Option Files → Option Unused → Type 0
@@ -294,7 +305,8 @@ pub record IsLeavingUnder (name : Bytes) (words : List Bytes) (tree : Option Fil
   pub name_is : text.name ≡ name
   pub found : Cache
   pub taken : TakesCache kept name found unused
-  pub left : IfSome tree (λ held. IfSome classes (λ folders. FindsFitting words kept → IsLeftBy words held folders found before after text.text))
+  pub left : IfSome tree (λ held. IfSome classes (λ folders. FindsFitting words kept → IsLeftBy words held folders found text.text))
+  pub done : DoesBy words tree classes found before after
 
 -- by the words: the text that is to be left, if they ask for a cache
 abbrev pub IsLeaving : Option Bytes → List Bytes → Option Files → Option ClassFolders → Option Files → Work → Work → Option Unused → Option CacheText → Type 0

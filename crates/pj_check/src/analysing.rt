@@ -5,11 +5,13 @@ ghost use Rattle.std.specs.List.Sorted.{IsStrictlySortedBy};
 ghost use Rattle.pj_cache.specs.Places.{byte_order};
 ghost use Rattle.pj_cache_format.specs.Ordered.{IsInOrder};
 ghost use Rattle.pj_cached_files.specs.Asked.{keys_of_set};
+ghost use Rattle.pj_cached_files.specs.LeftFiles.{ArePartedBy};
 ghost use Rattle.pj_grammar.specs.Java17.{java_17_forms};
 ghost use Rattle.pj_peg_grammar.specs.Form.{forms_of};
 ghost use Rattle.pj_rule_keys.specs.Keys.{FitsKey, HasRoom};
 ghost use Rattle.pj_table.specs.ClassWorld.{folders_world};
-ghost use Rattle.pj_check.specs.Steps.{CountsDoorFaults, FitsIfFound, IsLeftFiles, IsLeftIfFound, IsOver, WorkedOver};
+ghost use Rattle.pj_check.specs.Caching.{IsDoneOver};
+ghost use Rattle.pj_check.specs.Steps.{AreDoneFiles, CountsDoorFaults, DoneOver, FitsIfFound, IsLeftFiles, IsLeftIfFound, IsOver, WorkedOver};
 
 use crate::cold::{cold_report, door_of, report_of};
 use pj_base::{Bytes, NoMemory, Text};
@@ -66,7 +68,9 @@ fn files_over_door<D: ClassDoor>(
     requires in_order { IsInOrder run.now.found.now }
     requires keys { run.now.keys.now ≡ keys_of_set run.now.rules.now }
     requires paths { IsStrictlySortedBy byte_order (map (λ file. file.0) files.now) }
-    ensures left { IfSome (D.holds door.old) (λ folders. IfOk result (IsLeftFiles (folders_world folders).answer run.now.rules.now run.now.found.now files.now work.old work.new)) }
+    ensures left { IfSome (D.holds door.old) (λ folders. IfOk result (IsLeftFiles (folders_world folders).answer run.now.rules.now run.now.found.now files.now)) }
+    ensures done { IfSome (D.holds door.old) (λ folders. OnOk result (AreDoneFiles (folders_world folders).answer run.now.rules.now run.now.found.now files.now work.old work.new)) }
+    ensures parts { OnOk result (ArePartedBy (map (λ file. file.0) files.now) work.old work.new) }
     ensures ascending { IfOk result (λ left. IsStrictlySortedBy byte_order (map (λ answer. answer.0) left.cache.answers)) }
     ensures faults { CountsDoorFaults (D.faults door.old) (D.faults door.new) result }
     ensures skipped { work.new.skipped ≡ work.old.skipped }
@@ -90,7 +94,9 @@ fn cached_report<D: ClassDoor>(
 ) -> Result<Analysed, AskFault>
     requires in_order { IsInOrder found.now }
     requires paths { IsStrictlySortedBy byte_order (map (λ file. file.0) sources.now) }
-    ensures over { IfSome (D.holds door.old) (λ folders. FitsIfFound (Some found.now) → IfOk result (IsOver (Some found.now) (folders_world folders).answer sources.now rules.now work.old work.new)) }
+    ensures over { IfSome (D.holds door.old) (λ folders. FitsIfFound (Some found.now) → IfOk result (IsOver (Some found.now) (folders_world folders).answer sources.now rules.now)) }
+    ensures done { IfSome (D.holds door.old) (λ folders. OnOk result (IsDoneOver found.now (folders_world folders).answer sources.now rules.now work.old work.new)) }
+    ensures parts { OnOk result (ArePartedBy (map (λ file. file.0) sources.now) work.old work.new) }
     ensures left { IfOk result (λ analysed. IsLeftIfFound (Some found.now) analysed.left) }
     ensures faults { CountsDoorFaults (D.faults door.old) (D.faults door.new) result }
     ensures skipped { work.new.skipped ≡ work.old.skipped }
@@ -127,7 +133,8 @@ pub fn analyse_over<D: ClassDoor>(
 ) -> Result<Analysed, AskFault>
     requires in_order { IfSome found.now IsInOrder }
     requires paths { IsStrictlySortedBy byte_order (map (λ file. file.0) sources.now) }
-    ensures over { IfSome (D.holds door.old) (λ folders. FitsIfFound found.now → IfOk result (IsOver found.now (folders_world folders).answer sources.now rules.now work.old work.new)) }
+    ensures over { IfSome (D.holds door.old) (λ folders. FitsIfFound found.now → IfOk result (IsOver found.now (folders_world folders).answer sources.now rules.now)) }
+    ensures done { IfSome (D.holds door.old) (λ folders. OnOk result (DoneOver found.now (folders_world folders).answer sources.now rules.now work.old work.new)) }
     ensures left { IfOk result (λ analysed. IsLeftIfFound found.now analysed.left) }
     ensures worked { OnOk result (WorkedOver found.now sources.now work.old work.new) }
     ensures faults { CountsDoorFaults (D.faults door.old) (D.faults door.new) result }

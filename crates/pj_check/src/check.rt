@@ -4,9 +4,9 @@ ghost use Rattle.pj_cache_store.specs.Loading.{CountsLoad};
 ghost use Rattle.pj_outside.specs.Faults.{Rises};
 ghost use Rattle.pj_outside.specs.Putting.{Gets, GetsPrefix};
 ghost use Rattle.pj_check.specs.Caching.{CountsKeeper, CountsWrite, FindsFitting, nothing_told};
-ghost use Rattle.pj_check.specs.Kept.{AsksForNoCache, KeepsCache, SaysOfCache};
+ghost use Rattle.pj_check.specs.Kept.{AsksForNoCache, IsBeforeLoading, KeepsCache, SaysOfCache};
 ghost use Rattle.pj_check.specs.Outcome.{CountsClassFaults, CountsDoors, CountsSinkFaults, CountsTreeFaults, IsAnalysed, KeepsWork, Says, SaysOfFiles, SaysOfSink, SaysOfWords};
-ghost use Rattle.pj_check.specs.Steps.{CountsDoor, CountsFaults, CountsOfClasses, HasCacheText, HasNoReport, IsKeptIf, IsMade, IsOfSome, IsToldBefore, outcome_of};
+ghost use Rattle.pj_check.specs.Steps.{CountsDoor, CountsFaults, CountsOfClasses, HasCacheText, HasNoReport, IsKeptIf, IsMade, IsOfSome, IsToldBefore, outcome_of, refused};
 
 use crate::cache::{CacheNotes, leave_cache};
 use crate::making::{Made, finish};
@@ -41,6 +41,7 @@ fn make_report<T: Tree, C: ClassPath, K: Keeper>(
     ensures same_names { K.holds keeper.new ≡ K.holds keeper.old }
     ensures counts { CountsLoad (K.faults keeper.old) (K.faults keeper.new) told.new.unused }
     ensures same_keeper { AsksForNoCache words.now → keeper.new ≡ keeper.old }
+    ensures not_called { IfErr result (λ refusal. IsBeforeLoading (refused refusal) → keeper.new ≡ keeper.old) }
     ensures same_files { T.holds tree.new ≡ T.holds tree.old }
     ensures counts_faults { CountsFaults (T.faults tree.old) (T.faults tree.new) result }
     ensures steady { T.never_fails tree.old → T.never_fails tree.new × (result ≢ Err Refusal.TreeFault) }
@@ -115,6 +116,7 @@ fn run<T: Tree, C: ClassPath, K: Keeper, S: Sink>(
     ensures of_cache { SaysOfCache (outcome_of result) words.now (T.holds tree.old) (C.holds classes.old) (K.holds keeper.old) (K.holds keeper.new) work.old work.new told.new }
     ensures counts_keeper { CountsKeeper (K.faults keeper.old) (K.faults keeper.new) told.new }
     ensures same_keeper { AsksForNoCache words.now → keeper.new ≡ keeper.old }
+    ensures not_called { IsBeforeLoading (outcome_of result) → keeper.new ≡ keeper.old }
     ensures same_files { T.holds tree.new ≡ T.holds tree.old }
     ensures tree_faults { CountsTreeFaults (outcome_of result) (T.faults tree.old) (T.faults tree.new) }
     ensures steady { T.never_fails tree.old → T.never_fails tree.new × (outcome_of result ≢ Outcome.TreeFault) }
@@ -135,8 +137,8 @@ fn run<T: Tree, C: ClassPath, K: Keeper, S: Sink>(
 ///
 /// The words are read, the sources listed and counted, the rulesets loaded and the sources read. If the words ask for a cache, it is loaded then. One door to the
 /// class folders is opened, the sources are analysed, and the door is shut, also after a fault. The report is made whole in memory before anything of it is
-/// put; then the new cache is put in its place. The first refusal in this order is the outcome; it leaves one line in the notes, and the keeper and `work` as they
-/// were. A fault of the notes changes nothing else.
+/// put; then the new cache is put in its place. The first refusal in this order is the outcome. It leaves its line in the notes, behind that of the cache that was found, and what the
+/// keeper holds as it was; each refusal but that of the sink leaves `work` as it was. A fault of the notes changes nothing else.
 ///
 /// The report is that of a run without a cache, if what the keeper has under the name of the cache fits: nothing is there, or what an earlier run left. A keeper that
 /// fails, and what is no cache, are a run without one; a line in the notes tells it. Words without a cache call the keeper not.
@@ -156,6 +158,7 @@ pub fn check_alone<T: Tree, C: ClassPath, K: Keeper, S: Sink, N: Sink>(
     ensures of_sink { SaysOfSink result words.now (S.held out.old) (S.held out.new) }
     ensures cache { KeepsCache result words.now (T.holds tree.old) (C.holds classes.old) (record { holds = K.holds keeper.old; faults = K.faults keeper.old }) (record { holds = K.holds keeper.new; faults = K.faults keeper.new }) work.old work.new (record { held = N.held notes.old; faults = N.faults notes.old }) (record { held = N.held notes.new; faults = N.faults notes.new }) }
     ensures same_keeper { AsksForNoCache words.now → keeper.new ≡ keeper.old }
+    ensures not_called { IsBeforeLoading result → keeper.new ≡ keeper.old }
     ensures same_files { T.holds tree.new ≡ T.holds tree.old }
     ensures tree_faults { CountsTreeFaults result (T.faults tree.old) (T.faults tree.new) }
     ensures steady { T.never_fails tree.old → T.never_fails tree.new × (result ≢ Outcome.TreeFault) }

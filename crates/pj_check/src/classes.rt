@@ -8,7 +8,7 @@ ghost use Rattle.pj_outside.specs.Doors.{opened};
 ghost use Rattle.pj_outside.specs.Faults.{next_count};
 ghost use Rattle.pj_table.specs.ClassWorld.{folders_world};
 ghost use Rattle.pj_check.specs.Cold.{world_of};
-ghost use Rattle.pj_check.specs.Steps.{CountsDoor, CountsOfClasses, FitsIfFound, IsLeftIfFound, IsOfClasses, IsOver, WorkedOver};
+ghost use Rattle.pj_check.specs.Steps.{CountsDoor, CountsOfClasses, DoneOver, FitsIfFound, IsLeftIfFound, IsOfClasses, IsOver, WorkedOver};
 
 use crate::analysing::{Analysed, analyse_over};
 use crate::refusal::{Refusal, after_asking, after_opening};
@@ -52,7 +52,8 @@ fn report_over<D: ClassDoor>(
 ) -> Result<Analysed, Refusal>
     requires in_order { IfSome found.now IsInOrder }
     requires paths { IsStrictlySortedBy byte_order (map (λ file. file.0) sources.now) }
-    ensures over { IfSome (D.holds door.old) (λ folders. FitsIfFound found.now → IfOk result (IsOver found.now (folders_world folders).answer sources.now rules.now work.old work.new)) }
+    ensures over { IfSome (D.holds door.old) (λ folders. FitsIfFound found.now → IfOk result (IsOver found.now (folders_world folders).answer sources.now rules.now)) }
+    ensures done { IfSome (D.holds door.old) (λ folders. OnOk result (DoneOver found.now (folders_world folders).answer sources.now rules.now work.old work.new)) }
     ensures refused { IfErr result IsOfClasses }
     ensures faults { CountsOfClasses (D.faults door.old) (D.faults door.new) result }
     ensures left { IfOk result (λ analysed. IsLeftIfFound found.now analysed.left) }
@@ -79,7 +80,8 @@ fn report_over_classes<C: ClassPath, V: Knowing + Send>(
     requires in_order { IfSome found.now IsInOrder }
     requires paths { IsStrictlySortedBy byte_order (map (λ file. file.0) sources.now) }
     requires known { V.never_fails → C.never_fails classes.old }
-    ensures over { IfSome (C.holds classes.old) (λ held. FitsIfFound found.now → IfOk result (IsOver found.now (world_of held folders.now) sources.now rules.now work.old work.new)) }
+    ensures over { IfSome (C.holds classes.old) (λ held. FitsIfFound found.now → IfOk result (IsOver found.now (world_of held folders.now) sources.now rules.now)) }
+    ensures done { IfSome (C.holds classes.old) (λ held. OnOk result (DoneOver found.now (world_of held folders.now) sources.now rules.now work.old work.new)) }
     ensures refused { IfErr result IsOfClasses }
     ensures same_folders { C.holds classes.new ≡ C.holds classes.old }
     ensures class_faults { CountsOfClasses (C.faults classes.old) (C.faults classes.new) result }
@@ -109,7 +111,8 @@ pub fn analyse_sources<C: ClassPath>(
 ) -> Result<Analysed, Refusal>
     requires in_order { IfSome found.now IsInOrder }
     requires paths { IsStrictlySortedBy byte_order (map (λ file. file.0) sources.now) }
-    ensures over { IfSome (C.holds classes.old) (λ held. FitsIfFound found.now → IfOk result (IsOver found.now (world_of held folders.now) sources.now rules.now work.old work.new)) }
+    ensures over { IfSome (C.holds classes.old) (λ held. FitsIfFound found.now → IfOk result (IsOver found.now (world_of held folders.now) sources.now rules.now)) }
+    ensures done { IfSome (C.holds classes.old) (λ held. OnOk result (DoneOver found.now (world_of held folders.now) sources.now rules.now work.old work.new)) }
     ensures refused { IfErr result IsOfClasses }
     ensures same_folders { C.holds classes.new ≡ C.holds classes.old }
     ensures class_faults { CountsOfClasses (C.faults classes.old) (C.faults classes.new) result }

@@ -1,5 +1,5 @@
 //! Laws of the definitions, each the contract of a function that does nothing.
-ghost use Rattle.pj_check.specs.Laws.{FitKeepersServe, KeepersStayFit, OneRefusal, OneRun, ReportFindsWhatIsDenoted, ReportIsInOrder, RunIsNotRefused, RunOrRefusal, RunOrRefusalWithoutTypes, SetSettlesByReplies, SetSettlesWithoutTypes, SomeReport};
+ghost use Rattle.pj_check.specs.Laws.{FitKeepersServe, KeepersStayFit, KeepersStayFitForever, OneRefusal, OneRun, ReportFindsWhatIsDenoted, ReportIsInOrder, RunIsNotRefused, RunOrRefusal, RunOrRefusalWithoutTypes, SetSettlesByReplies, SetSettlesWithoutTypes, SomeReport};
 
 use pj_cache_store::what_is_loaded_is_found;
 use pj_outside::one_name_is_replaced;
@@ -95,10 +95,12 @@ pub fn some_run_or_refusal_without_types()
     some_run_or_refusal();
 }
 
-/// What stands under the names of a keeper fits after each run, if it did before (`stay`); then the report of a run is that of a run without a cache (`serve`). An empty
-/// keeper fits. So it is with every list of runs, whatever words they have, and whatever is changed in files, rulesets and classes between them.
+/// What stands under a name of a keeper fits after a run, if it did before (`stay`), and so after each of a list of runs, whatever their words are, and whatever is changed in files,
+/// rulesets and classes between them (`forever`). Where what stands under the name of the cache fits, the report is that of a run without a cache (`serve`). A name under which
+/// nothing stands fits. The runs are over trees and class paths that tell what they hold.
 pub fn keepers_stay_fit()
     ensures stay { KeepersStayFit }
+    ensures forever { KeepersStayFitForever }
     ensures serve { FitKeepersServe }
 {
     what_is_loaded_is_found();

@@ -1,12 +1,14 @@
-use Rattle.std.proofs.Common.{Result, refl}
+use Rattle.std.proofs.Common.{Result, map, refl, subst}
 use Rattle.std.proofs.lemmas.Result.{err_from_is_err_and}
+use Rattle.pj_cached_files.specs.LeftFiles.{ArePartedBy}
 use Rattle.pj_names.specs.declared.oracle.AskFault.{AskFault}
 use Rattle.pj_names.specs.declared.oracle.AskFault.TheVariants.{Memory}
+use Rattle.pj_outside.specs.Files.{Bytes, Files}
 use Rattle.pj_workers.specs.JavaReplies.{java_replies}
 use Rattle.pj_check.specs.Steps.{CountsDoorFaults}
 use Rattle.pj_check.specs.declared.analysing.Analysed.{Analysed}
 use Rattle.pj_check.proofs.Ending.{result_on}
-use Rattle.pj_check.proofs.OverCache.{held_of, over_door}
+use Rattle.pj_check.proofs.OverCache.{done_at_door, held_of, over_door}
 use Rattle.pj_check.proofs.analysing.cached_report.Goals as goal
 
 pub returns-in_err-grammar-clause-faults : goal.returns-in_err-grammar-clause-faults
@@ -40,5 +42,16 @@ returns-clause-over g c =
     let are = c.sets_have_rules.ensures.1 in
     let files = c.written_rules_have_files.ensures java_replies in
     let held = held_of set meant are c.in_ok-keys.ensures.room c.rules_of_sets_are_written.ensures in
-    over_door (g.D.ClassDoor.holds c.args.door.now) set c.args.found.now c.args.sources.now c.as_slice.result.now c.args.work.now c.files_over_door.new.work c.in_ok-left.left c.in_ok-report.report meant held.0 files.0
+    over_door (g.D.ClassDoor.holds c.args.door.now) set c.args.found.now c.args.sources.now c.as_slice.result.now c.in_ok-left.left c.in_ok-report.report meant held.0 files.0
     c.as_slice.ensures are held.1 files.1 c.left_caches_make_cold_reports.ensures.cold c.in_ok-left.ensures.left c.in_ok-report.ensures.rules c.in_ok-report.ensures.files c.in_ok-report.ensures.errors
+
+pub returns-clause-done : goal.returns-clause-done
+returns-clause-done g c =
+    let set = c.args.rules.now in
+    let meant = c.sets_have_rules.ensures.0 in
+    let held = held_of set meant c.sets_have_rules.ensures.1 c.in_ok-keys.ensures.room c.rules_of_sets_are_written.ensures in
+    done_at_door (g.D.ClassDoor.holds c.args.door.now) set c.args.found.now c.args.sources.now c.as_slice.result.now c.args.work.now c.files_over_door.new.work meant held.0 c.as_slice.ensures held.1 c.in_ok-left.ensures.done
+
+pub returns-clause-parts : goal.returns-clause-parts
+returns-clause-parts g c =
+    subst (λ (list : Files). ArePartedBy (map (λ (file : Bytes × Bytes). file.0) list) c.args.work.now c.files_over_door.new.work) c.as_slice.ensures c.in_ok-left.ensures.parts

@@ -1,13 +1,18 @@
 use Rattle.std.proofs.Common.{◌≡◌, ◌∙◌, ap, rules, subst, sym}
 use Rattle.pj_check.specs.Steps.{CountsDoorFaults}
 use Rattle.pj_check.proofs.Gathering.{asked_faults}
-use Rattle.pj_check.proofs.OverCache.{left_over_door}
+use Rattle.pj_check.proofs.OverCache.{done_over_door, left_over_door}
 use Rattle.pj_check.proofs.analysing.files_over_door.Goals as goal
 
 pub returns-clause-left : goal.returns-clause-left
 returns-clause-left g c =
-    left_over_door (g.D.ClassDoor.holds c.args.door.now) _ _ _ _ c.args.run.now.rules.now c.args.run.now.found.now c.args.files.now c.args.work.now c.files_over_cache-left.new.work c.files_over_cache-left.result
-    (λ folders name. c.class_folders_answer_by_name.ensures _ folders name) c.new-oracle.ensures.tells c.files_over_cache-left.ensures.left c.files_over_cache-left.ensures.done
+    left_over_door (g.D.ClassDoor.holds c.args.door.now) _ _ _ _ c.args.run.now.rules.now c.args.run.now.found.now c.args.files.now c.files_over_cache-left.result
+    (λ folders name. c.class_folders_answer_by_name.ensures _ folders name) c.new-oracle.ensures.tells c.files_over_cache-left.ensures.left
+
+pub returns-clause-done : goal.returns-clause-done
+returns-clause-done g c =
+    done_over_door (g.D.ClassDoor.holds c.args.door.now) _ _ _ _ c.args.run.now.rules.now c.args.run.now.found.now c.args.files.now c.args.work.now c.files_over_cache-left.new.work c.files_over_cache-left.result
+    c.new-oracle.ensures.tells c.files_over_cache-left.ensures.worked
 
 -- the door is the one that was lent to the oracle
 pub returns-clause-faults : goal.returns-clause-faults

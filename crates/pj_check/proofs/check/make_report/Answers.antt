@@ -8,7 +8,7 @@ use Rattle.pj_check.specs.Steps.{CountsDoor, CountsOfClasses, HasNoReport, IsMad
 use Rattle.pj_check.specs.declared.making.Made.{Made}
 use Rattle.pj_check.specs.declared.refusal.Refusal.{Refusal}
 use Rattle.pj_check.specs.declared.refusal.Refusal.TheVariants.{ClassFault}
-use Rattle.pj_check.proofs.Caches.{has_cache_text, is_analysed_by, is_made_by, is_of_some, reused_on, told_before, told_nothing}
+use Rattle.pj_check.proofs.Caches.{has_cache_text, is_analysed_by, is_made_by, is_of_some, of_classes_after, reused_on, told_before, told_nothing}
 use Rattle.pj_check.proofs.Ending.{classes_idle, classes_steady, doors_idle, no_report, no_report_on, no_tree_on, nothing_done, nothing_over, refused_on, result_on, tree_on}
 use Rattle.pj_check.proofs.Told.{told_so}
 use Rattle.pj_check.proofs.check.make_report.Goals as goal
@@ -104,6 +104,9 @@ returns-clause-counts_faults g c = tree_on c.finish.result (g.T.Tree.faults c.ar
 
 pub returns-clause-steady : goal.returns-clause-steady
 returns-clause-steady g c = λ never. ((c.in_ok-ready.ensures.steady never).0, no_tree_on c.finish.result c.finish.ensures.refused)
+
+pub returns-clause-not_called : goal.returns-clause-not_called
+returns-clause-not_called g c = of_classes_after c.args.keeper.now c.finish.new.keeper c.finish.result c.finish.ensures.refused
 
 pub returns-clause-same_keeper : goal.returns-clause-same_keeper
 returns-clause-same_keeper g c = λ none. c.finish.ensures.same_keeper (none c.in_ok-ready.ready.settings c.in_ok-ready.ensures.asked)

@@ -1,16 +1,16 @@
-use Rattle.std.proofs.Common.{◌≢◌, ◌∙◌, Bool, Err, IfSome, Option, ap, refl, subst, sym}
+use Rattle.std.proofs.Common.{◌≡◌, ◌≢◌, ◌∙◌, Bool, Err, IfSome, Option, ap, refl, subst, sym}
 use Rattle.std.proofs.lemmas.Result.{err_from_is_err_and}
 use Rattle.pj_cache_store.specs.Loading.{CountsLoad}
 use Rattle.pj_cache_store.specs.declared.loading.Unused.{Unused}
 use Rattle.pj_check.specs.Caching.{CountsWrite}
-use Rattle.pj_check.specs.Kept.{SaysOfCache}
+use Rattle.pj_check.specs.Kept.{IsBeforeLoading, SaysOfCache}
 use Rattle.pj_check.specs.Outcome.{CountsClassFaults, CountsDoors, CountsSinkFaults, CountsTreeFaults, DoorCounts, KeepsWork, Says, SaysOfFiles, SaysOfSink, SaysOfWords}
 use Rattle.pj_check.specs.declared.outcome.Outcome.{Outcome}
 use Rattle.pj_check.specs.declared.outcome.Outcome.TheVariants.{ClassFault, TreeFault}
 use Rattle.pj_check.specs.declared.refusal.Refusal.{Refusal}
 use Rattle.pj_check.specs.declared.making.Made.{Made}
 use Rattle.pj_check.proofs.Ending.{all_say_before, counts_before, ends_before, files_before, no_class_before, no_fault_before, put_classes, put_classes_steady, put_counts, put_doors, put_files, put_says, put_sink, put_steady, put_tree, put_words, put_work, sink_before, tree_counts_before, words_before, work_before}
-use Rattle.pj_check.proofs.Caches.{cache_before, cache_put, no_cache_text}
+use Rattle.pj_check.proofs.Caches.{cache_before, cache_put, no_cache_text, put_after}
 use Rattle.pj_check.proofs.check.run.Goals as goal
 
 -- ---- the report is not made
@@ -121,6 +121,11 @@ returns-in_err-made-clause-counts_keeper g c = record {
   at_end = subst (λ (b : Bool). CountsWrite b (g.K.Keeper.faults c.make_report.new.keeper) (g.K.Keeper.faults c.make_report.new.keeper)) (sym c.in_err-made.ensures.unwritten) refl;
 }
 
+pub returns-in_err-made-clause-not_called : goal.returns-in_err-made-clause-not_called
+returns-in_err-made-clause-not_called g c =
+    let exit = err_from_is_err_and c.from_residual.result c.from_residual.ensures.1 in
+    ends_before (λ (o : Outcome). IsBeforeLoading o → c.make_report.new.keeper ≡ c.args.keeper.now) c.from_residual.result exit.0 c.in_err-made.field-0.0 exit.1 exit.2 c.in_err-made.ensures.not_called
+
 -- ---- the report is put
 
 pub returns-clause-says : goal.returns-clause-says
@@ -178,6 +183,9 @@ returns-clause-counts_keeper g c = record {
   at_load = subst (λ (why : Option Unused). CountsLoad (g.K.Keeper.faults c.args.keeper.now) (g.K.Keeper.faults c.make_report.new.keeper) why) (sym c.put_made.ensures.same_told) c.in_ok-made.ensures.counts;
   at_end = c.put_made.ensures.counts;
 }
+
+pub returns-clause-not_called : goal.returns-clause-not_called
+returns-clause-not_called g c = put_after c.args.keeper.now c.put_made.new.keeper c.put_made.result c.put_made.ensures.refused
 
 pub returns-clause-same_keeper : goal.returns-clause-same_keeper
 returns-clause-same_keeper g c = λ none.

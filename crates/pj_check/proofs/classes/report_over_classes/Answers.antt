@@ -1,8 +1,8 @@
-use Rattle.std.proofs.Common.{◌≢◌, ◌∙◌, Err, IfOk, Result}
+use Rattle.std.proofs.Common.{◌≢◌, ◌∙◌, Err, IfOk, OnOk, Result}
 use Rattle.std.proofs.lemmas.Result.{err_from_is_err_and}
 use Rattle.pj_workers.specs.Cold.{World}
 use Rattle.pj_check.specs.Outcome.{DoorCounts}
-use Rattle.pj_check.specs.Steps.{CountsDoor, CountsOfClasses, FitsIfFound, IsOfClasses, IsOver}
+use Rattle.pj_check.specs.Steps.{CountsDoor, CountsOfClasses, DoneOver, FitsIfFound, IsOfClasses, IsOver}
 use Rattle.pj_check.specs.declared.analysing.Analysed.{Analysed}
 use Rattle.pj_check.specs.declared.refusal.Refusal.{Refusal}
 use Rattle.pj_check.specs.declared.refusal.Refusal.TheVariants.{ClassFault}
@@ -51,8 +51,13 @@ returns-clause-steady g c = λ known.
 
 pub returns-clause-over : goal.returns-clause-over
 returns-clause-over g c =
-    cold_of_classes (g.C.ClassPath.holds c.args.classes.now) _ c.args.folders.now (λ (world : World). FitsIfFound c.args.found.now → IfOk c.report_over-analysed.result (IsOver c.args.found.now world c.args.sources.now c.args.rules.now c.args.work.now c.report_over-analysed.new.work))
+    cold_of_classes (g.C.ClassPath.holds c.args.classes.now) _ c.args.folders.now (λ (world : World). FitsIfFound c.args.found.now → IfOk c.report_over-analysed.result (IsOver c.args.found.now world c.args.sources.now c.args.rules.now))
     (c.new-door.ensures.holds ∙ c.in_ok-opened.ensures.door) c.report_over-analysed.ensures.over
+
+pub returns-clause-done : goal.returns-clause-done
+returns-clause-done g c =
+    cold_of_classes (g.C.ClassPath.holds c.args.classes.now) _ c.args.folders.now (λ (world : World). OnOk c.report_over-analysed.result (DoneOver c.args.found.now world c.args.sources.now c.args.rules.now c.args.work.now c.report_over-analysed.new.work))
+    (c.new-door.ensures.holds ∙ c.in_ok-opened.ensures.door) c.report_over-analysed.ensures.done
 
 pub returns-clause-class_faults : goal.returns-clause-class_faults
 returns-clause-class_faults g c =

@@ -140,11 +140,11 @@ returns-clause-made g c =
     let found = c.in_ok-begun.begun.found in
     let analysed = c.in_ok-analysed.analysed in
     let world = λ folders. world_of folders ready.settings.classes in
-    told_so (g.C.ClassPath.holds c.args.classes.now) (λ folders. FitsIfFound found → IsOver found (world folders) ready.sources ready.rules c.in_ok-begun.begun.done c.analyse_sources.new.work analysed)
+    told_so (g.C.ClassPath.holds c.args.classes.now) (λ folders. FitsIfFound found → IsOver found (world folders) ready.sources ready.rules analysed)
     (λ folders. FitsUnder name kept → IsReportOf ready (world folders) c.in_ok-made.made.report)
     (λ folders over fits. record {
       report = analysed.report;
-      cold = over_is_cold found (world folders) ready.sources ready.rules c.in_ok-begun.begun.done c.analyse_sources.new.work analysed
+      cold = over_is_cold found (world folders) ready.sources ready.rules analysed
           (over (fits_found c.what_is_loaded_is_found.ensures.read c.what_is_loaded_is_found.ensures.not_read name kept found c.begin.new.told.unused c.in_ok-begun.ensures.taken fits));
       text = c.in_ok-made.ensures.text;
       comes_to = c.in_ok-made.ensures.verdict;
@@ -160,7 +160,7 @@ returns-clause-left g c =
     text_by c.what_is_loaded_is_found.ensures.read c.what_is_loaded_is_found.ensures.not_read ready ready.settings.cache (g.C.ClassPath.holds c.args.classes.now) (g.K.Keeper.holds c.args.keeper.now) c.in_ok-begun.begun.found c.begin.new.told.unused
     c.in_ok-analysed.analysed c.in_ok-made.made.left c.args.work.now c.in_ok-begun.begun.done c.analyse_sources.new.work
     (ap (λ (w : Work). w.analysed) c.in_ok-begun.ensures.done) (ap (λ (w : Work). w.reused) c.in_ok-begun.ensures.done)
-    c.in_ok-begun.ensures.taken c.in_ok-analysed.ensures.left c.in_ok-made.ensures.left c.in_ok-analysed.ensures.over
+    c.in_ok-begun.ensures.taken c.in_ok-analysed.ensures.left c.in_ok-made.ensures.left c.in_ok-analysed.ensures.over c.in_ok-analysed.ensures.done
 
 pub returns-clause-worked : goal.returns-clause-worked
 returns-clause-worked g c =
