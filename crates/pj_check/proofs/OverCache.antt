@@ -5,8 +5,8 @@ use Rattle.std.proofs.lemmas.List.Elements.{All-head, All-nil, All-weaker}
 use Rattle.pj_cache.specs.declared.cache.Cache.{Cache}
 use Rattle.pj_cache_laws.specs.Reported.{report_of, rules_of}
 use Rattle.pj_cache_laws.specs.Written.{AreFiles, AreWrittenRules, WrittenRule}
-use Rattle.pj_cached_files.specs.LeftFile.{IsRun, StandsOver}
-use Rattle.pj_cached_files.specs.LeftFiles.{DoesAtAll, HasClassesByName, LeavesAll}
+use Rattle.pj_cached_files.specs.LeftFile.{IsRun, StandsIn}
+use Rattle.pj_cached_files.specs.LeftFiles.{Lists, HasClassesByName, LeavesAll}
 use Rattle.pj_cached_files.specs.declared.files.LeftFiles.{LeftFiles}
 use Rattle.pj_fitting.specs.Fits.{CacheFits, IsFound}
 use Rattle.pj_fitting.specs.Left.{IsLeftCache}
@@ -135,13 +135,13 @@ over_door (Some folders) set found sources listed left report meant held files s
 
 -- over a door that tells its folders, what was done with files is what is done in their world
 pub done_over_door : {K : Type 0} (folders : Option (List Files)) (kept : K) (asked : NameSet) (faults : ℕ) (t : Told K) (set : EffectiveRules) (found : Cache) (sources : Files) (before after : Work) (r : Result LeftFiles AskFault)
-    → t ≡ tells_of kept folders asked faults → OnOk r (DoesAtAll t set found sources before after)
+    → t ≡ tells_of kept folders asked faults → OnOk r (Lists t set found sources before after)
     → IfSome folders (λ held. OnOk r (AreDoneFiles (folders_world held).answer set found sources before after))
 done_over_door None kept asked faults t set found sources before after r tells does = tt
 done_over_door (Some folders) kept asked faults t set found sources before after (Err fault) tells does = tt
 done_over_door {K} (Some folders) kept asked faults t set found sources before after (Ok left) tells does =
     λ files rules held are written.
-    let stands : StandsOver t set files (folders_world folders).answer rules held = record {
+    let stands : StandsIn t set files (folders_world folders).answer rules held = record {
       files_are = are;
       rules_are = written;
       is_told = λ i. (tells i).is_told;

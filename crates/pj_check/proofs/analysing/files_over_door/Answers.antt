@@ -12,7 +12,7 @@ returns-clause-left g c =
 pub returns-clause-done : goal.returns-clause-done
 returns-clause-done g c =
     done_over_door (g.D.ClassDoor.holds c.args.door.now) _ _ _ _ c.args.run.now.rules.now c.args.run.now.found.now c.args.files.now c.args.work.now c.files_over_cache-left.new.work c.files_over_cache-left.result
-    c.new-oracle.ensures.tells c.files_over_cache-left.ensures.worked
+    c.new-oracle.ensures.tells c.files_over_cache-left.ensures.listed
 
 -- the door is the one that was lent to the oracle
 pub returns-clause-faults : goal.returns-clause-faults
