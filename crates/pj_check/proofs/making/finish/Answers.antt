@@ -1,7 +1,6 @@
-use Rattle.std.proofs.Common.{◌≢◌, Err, Result, ap, inl, inr, refl}
+use Rattle.std.proofs.Common.{◌≢◌, Err, Result, inl, inr, refl}
 use Rattle.std.proofs.lemmas.Result.{err_from_is_err_and}
-use Rattle.pj_workers.specs.Cold.{World}
-use Rattle.pj_workers.specs.declared.work.Work.{Work}
+use Rattle.pj_outside.specs.Doors.{ClassFolders}
 use Rattle.pj_check.specs.Caching.{FitsUnder}
 use Rattle.pj_check.specs.Cold.{world_of}
 use Rattle.pj_check.specs.Outcome.{DoorCounts}
@@ -139,7 +138,7 @@ returns-clause-made g c =
     let kept = g.K.Keeper.holds c.args.keeper.now in
     let found = c.in_ok-begun.begun.found in
     let analysed = c.in_ok-analysed.analysed in
-    let world = λ folders. world_of folders ready.settings.classes in
+    let world = λ (folders : ClassFolders). world_of folders ready.settings.classes in
     told_so (g.C.ClassPath.holds c.args.classes.now) (λ folders. FitsIfFound found → IsOver found (world folders) ready.sources ready.rules analysed)
     (λ folders. FitsUnder name kept → IsReportOf ready (world folders) c.in_ok-made.made.report)
     (λ folders over fits. record {
@@ -159,7 +158,7 @@ returns-clause-left g c =
     let ready = c.args.ready.now in
     text_by c.what_is_loaded_is_found.ensures.read c.what_is_loaded_is_found.ensures.not_read ready ready.settings.cache (g.C.ClassPath.holds c.args.classes.now) (g.K.Keeper.holds c.args.keeper.now) c.in_ok-begun.begun.found c.begin.new.told.unused
     c.in_ok-analysed.analysed c.in_ok-made.made.left c.args.work.now c.in_ok-begun.begun.done c.analyse_sources.new.work
-    (ap (λ (w : Work). w.analysed) c.in_ok-begun.ensures.done) (ap (λ (w : Work). w.reused) c.in_ok-begun.ensures.done)
+    (λ i. (c.in_ok-begun.ensures.done i).analysed) (λ i. (c.in_ok-begun.ensures.done i).reused)
     c.in_ok-begun.ensures.taken c.in_ok-analysed.ensures.left c.in_ok-made.ensures.left c.in_ok-analysed.ensures.over c.in_ok-analysed.ensures.done
 
 pub returns-clause-worked : goal.returns-clause-worked
