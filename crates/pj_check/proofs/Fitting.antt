@@ -95,7 +95,7 @@ stay law not_read new_law rest Memory words held classes kept new before after t
 
 -- so it is after each of a list of runs
 pub stay_forever : KeepersStayFit → KeepersStayFitForever
-stay_forever law kept [] name runs fits = All-nil _
+stay_forever law kept [] name runs fits = All-nil (λ (held : Files). ContentFits (bytes_at held name))
 stay_forever law kept (new ∷ later) name runs fits =
     let run = runs.0 in
     let now = law run.outcome run.words run.held run.classes kept (Some new) run.before run.after run.told name run.says fits in
