@@ -1,5 +1,5 @@
 -- From what a run has made to what its outcome says of its cache.
-use Rattle.std.proofs.Common.{◌≡◌, ◌∙◌, ◌++◌, ℕ, Bool, true, false, List, map, Option, None, Some, IfSome, Result, Ok, Err, OnOk, OnErr, IfOk, IfErr, inl, inr, ap, sym, subst, refl}
+use Rattle.std.proofs.Common.{◌≡◌, ◌∙◌, ◌++◌, false, List, map, Option, None, Some, IfSome, Result, Ok, Err, OnOk, OnErr, IfOk, IfErr, inl, inr, ap, sym, subst, refl}
 use Rattle.pj_cache_store.specs.declared.loading.Unused.{Unused}
 use Rattle.pj_cached_files.specs.LeftFiles.{ArePartedBy}
 use Rattle.pj_outside.specs.Doors.{ClassFolders}

@@ -1,6 +1,6 @@
 -- From the steps of a run to what its outcome says.
 use Rattle.std.specs.Prelude.{⊤}
-use Rattle.std.proofs.Common.{◌≡◌, ◌≢◌, ◌∙◌, ◌++◌, ℕ, List, map, Option, IfSome, Result, Ok, Err, OnOk, OnErr, IfOk, IfErr, inl, inr, ap, sym, subst, refl}
+use Rattle.std.proofs.Common.{◌≡◌, ◌≢◌, ◌∙◌, ℕ, List, Option, IfSome, Result, Ok, Err, OnOk, OnErr, IfOk, IfErr, inl, inr, ap, sym, subst, refl}
 use Rattle.pj_outside.specs.Doors.{ClassFolders}
 use Rattle.pj_outside.specs.Faults.{Rises}
 use Rattle.pj_outside.specs.Files.{Bytes, Files}
@@ -11,14 +11,12 @@ use Rattle.pj_settings.specs.declared.settings.Settings.{Settings}
 use Rattle.pj_sources.specs.Reading.{AreRead}
 use Rattle.pj_sources.specs.declared.listing.Listing.{Listing}
 use Rattle.pj_workers.specs.declared.work.Work.{Work}
-use Rattle.pj_check.specs.Formats.{report_text}
-use Rattle.pj_check.specs.Verdicts.{verdict_of}
 use Rattle.pj_check.specs.declared.verdict.Verdict.{Verdict}
 use Rattle.pj_check.specs.declared.verdict.Verdict.TheVariants as verdict
 use Rattle.pj_check.specs.declared.report_rendering.Written.{Written}
 use Rattle.pj_check.specs.Caching.{FindsFitting}
 use Rattle.pj_check.specs.Outcome.{CountsClassFaults, CountsDoors, CountsSinkFaults, CountsTreeFaults, DoorCounts, GetsSome, IsAnalysed, IsCut, IsReported, KeepsWork, OneDoor, Says, SaysOfFiles, SaysOfSink, SaysOfWords}
-use Rattle.pj_check.specs.Run.{HasRules, Run}
+use Rattle.pj_check.specs.Run.{HasRules}
 use Rattle.pj_check.specs.Steps.{CountsFaults, Explains, HasNoReport, IsMade, IsOfClasses, IsOfSome, SaysNoReport, SaysNotPut, SaysRefusal, outcome_of, refused}
 use Rattle.pj_check.specs.declared.outcome.Outcome.{Outcome}
 use Rattle.pj_check.specs.declared.outcome.Outcome.TheVariants as outcome

@@ -5,7 +5,7 @@ use Rattle.pj_cache_store.specs.Loading.{IsLoaded}
 use Rattle.pj_cache_store.specs.declared.loading.Loaded.{Loaded}
 use Rattle.pj_cache_store.specs.declared.loading.Unused.{Unused}
 use Rattle.pj_cache_store.specs.declared.loading.Unused.TheVariants as unused
-use Rattle.pj_cached_files.specs.LeftFiles.{ArePartedBy, IsDone, paths_of, picked}
+use Rattle.pj_cached_files.specs.LeftFiles.{ArePartedBy, paths_of, picked}
 use Rattle.pj_fitting.specs.Fits.{IsFound, limit}
 use Rattle.pj_fitting.specs.Looked.{is_reusable}
 use Rattle.pj_outside.specs.Doors.{ClassFolders}
@@ -20,7 +20,6 @@ use Rattle.pj_check.specs.declared.analysing.Analysed.{Analysed}
 use Rattle.pj_check.specs.declared.cache.CacheText.{CacheText}
 use Rattle.pj_check.specs.declared.preparing.Ready.{Ready}
 use Rattle.pj_check.specs.declared.refusal.Refusal.{Refusal}
-use Rattle.pj_check.specs.declared.refusal.Refusal.TheVariants.{ClassFault, Memory}
 use Rattle.pj_check.specs.Kept.{IsToldOf}
 use Rattle.pj_check.specs.Steps as steps
 use Rattle.pj_check.proofs.Told.{told_so}

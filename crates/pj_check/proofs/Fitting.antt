@@ -1,5 +1,5 @@
 -- What runs leave in a keeper fits again.
-use Rattle.std.proofs.Common.{◌≡◌, ◌≢◌, ◌∙◌, ℕ, Bool, true, false, List, [], ◌∷◌, Option, None, Some, IfSome, Ok, inl, inr, ap, sym, subst, refl}
+use Rattle.std.proofs.Common.{◌≡◌, ◌≢◌, ◌∙◌, Bool, true, false, List, [], ◌∷◌, Option, None, Some, IfSome, Ok, inl, inr, ap, sym, subst, refl}
 use Rattle.std.proofs.lemmas.Bool.{cases_Bool}
 use Rattle.std.proofs.lemmas.List.Elements.{All-cons, All-nil}
 use Rattle.std.proofs.lemmas.Slice.Eq.{bytes_eq-Decides}
@@ -16,7 +16,7 @@ use Rattle.pj_settings.specs.declared.settings.Settings.{Settings}
 use Rattle.pj_workers.specs.Cold.{World}
 use Rattle.pj_workers.specs.declared.work.Work.{Work}
 use Rattle.pj_check.specs.Caching.{ContentFits, FitsUnder, IsKept, IsLeftText, TakesCache}
-use Rattle.pj_check.specs.Kept.{IsLeft, LeavesCache, SaysOfCache}
+use Rattle.pj_check.specs.Kept.{IsLeft, LeavesCache}
 use Rattle.pj_check.specs.Laws.{FitKeepersServe, KeepersStayFit, KeepersStayFitForever}
 use Rattle.pj_check.specs.declared.cache.CacheNotes.{CacheNotes}
 use Rattle.pj_check.specs.declared.outcome.Outcome.TheVariants.{Clean, Violations, Errors, Usage, Rules, TreeFault, ClassFault, SinkFault, Missing, Limit, Memory}

@@ -1,7 +1,5 @@
 use Rattle.std.proofs.Common.{IfSome, subst, sym}
-use Rattle.pj_outside.specs.Files.{Bytes}
 use Rattle.pj_check.specs.Kept.{SaysOfCache}
-use Rattle.pj_check.specs.Notes.{GetNotes, notes_with}
 use Rattle.pj_check.specs.Outcome.{Says, SaysOfFiles}
 use Rattle.pj_check.specs.declared.outcome.Outcome.{Outcome}
 use Rattle.pj_check.proofs.check.check_alone.Goals as goal
