@@ -131,3 +131,15 @@ over_door None set found sources listed before after left report meant held file
 over_door (Some folders) set found sources listed before after left report meant held files same are written of_files law leaves rules_are files_are errors_are = λ fitting.
     over_cache set found (folders_world folders).answer sources before after left report meant held files are written of_files law
     (subst (λ (list : Files). IsLeftFiles (folders_world folders).answer set found list before after left) same leaves) rules_are files_are errors_are fitting
+
+-- ---- where nothing is made
+
+-- nothing is said of a refusal
+pub not_over : {A X E : Type 0} (F : Type 0) (P : A → X → Type 0) (told : Option A) (r : Result X E) (e : E) → r ≡ Err e → IfSome told (λ held. F → IfOk r (P held))
+not_over F P None r e is = tt
+not_over {A} {X} {E} F P (Some held) r e is = λ fits. subst (λ (w : Result X E). IfOk w (P held)) (sym is) tt
+
+-- what is said without a cache is said of none
+pub over_none : {A : Type 0} (F : Type 0) (P : A → Type 0) (told : Option A) → IfSome told P → IfSome told (λ held. F → P held)
+over_none F P None h = tt
+over_none F P (Some held) h = λ fits. h
