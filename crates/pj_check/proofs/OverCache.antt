@@ -8,7 +8,7 @@ use Rattle.pj_cache_laws.specs.Written.{AreFiles, AreWrittenRules, WrittenRule}
 use Rattle.pj_cached_files.specs.LeftFile.{IsRun}
 use Rattle.pj_cached_files.specs.LeftFiles.{Does, HasClassesByName, LeavesAll}
 use Rattle.pj_cached_files.specs.declared.files.LeftFiles.{LeftFiles}
-use Rattle.pj_fitting.specs.Fits.{CacheFits, IsFound}
+use Rattle.pj_fitting.specs.Fits.{CacheFits, IsFound, empty}
 use Rattle.pj_fitting.specs.Left.{IsLeftCache}
 use Rattle.pj_fitting.specs.Right as right
 use Rattle.pj_names.specs.ClassName.{NameSet}
@@ -53,9 +53,9 @@ NamedLaw = (folders : List Files) → HasClassesByName (folders_world folders).a
 -- ---- what fits is right
 
 right_by : (files : right.Files WrittenRule) (content : Option Bytes) (found : Cache) → IsFound content found → CacheFits files content → right.IsRightCache files found
-right_by files None found is fits = subst (λ (c : Cache). right.IsRightCache files c) (sym is) (All-nil _)
+right_by files None found is fits = subst (λ (c : Cache). right.IsRightCache files c) (sym is) (All-nil (right.IsRightEntry files empty.answers))
 right_by files (Some bytes) found (inl readable) fits = fits found readable
-right_by files (Some bytes) found (inr none) fits = subst (λ (c : Cache). right.IsRightCache files c) (sym none.1) (All-nil _)
+right_by files (Some bytes) found (inr none) fits = subst (λ (c : Cache). right.IsRightCache files c) (sym none.1) (All-nil (right.IsRightEntry files empty.answers))
 
 pub right_of : (found : Cache) → IsFitting found → (files : right.Files WrittenRule) → AreFiles java_replies files → right.IsRightCache files found
 right_of found fitting files are = right_by files fitting.content found fitting.is_found (fitting.fits files are)
@@ -64,7 +64,7 @@ right_of found fitting files are = right_by files fitting.content found fitting.
 
 held_by : (set : EffectiveRules) (rules : List EffectiveRule) (meant : List Rule) → set.rules ≡ rules → AllZip (IsRuleOf set.marker) rules meant → All (λ (rule : EffectiveRule). HasRoom set.marker × FitsKey rule) rules → WrittenLaw
     → (held : List WrittenRule) × AreWrittenRules set meant held
-held_by set [] [] is are room law = ([], record { rules = refl; effective = sym is; marker = All-nil _ })
+held_by set [] [] is are room law = ([], record { rules = refl; effective = sym is; marker = All-nil (λ (w : WrittenRule). w.marker ≡ set.marker) })
 held_by set [] (m ∷ ms) is are room law = absurd are
 held_by set (r ∷ rs) meant is are room law =
     law set meant (subst (λ (rules : List EffectiveRule). AllZip (IsRuleOf set.marker) rules meant) (sym is) are) (All-head (λ (rule : EffectiveRule). HasRoom set.marker × FitsKey rule) r rs room).0

@@ -7,7 +7,7 @@ use Rattle.pj_check.proofs.analysing.files_over_door.Goals as goal
 pub returns-clause-left : goal.returns-clause-left
 returns-clause-left g c =
     left_over_door (g.D.ClassDoor.holds c.args.door.now) _ _ _ _ c.args.run.now.rules.now c.args.run.now.found.now c.args.files.now c.args.work.now c.files_over_cache-left.new.work c.files_over_cache-left.result
-    (λ folders name. c.class_folders_answer_by_name.ensures _ folders name) c.new-oracle.ensures.tells c.files_over_cache-left.ensures.left c.files_over_cache-left.ensures.done
+    (λ folders name. c.class_folders_answer_by_name.ensures 4194304 folders name) c.new-oracle.ensures.tells c.files_over_cache-left.ensures.left c.files_over_cache-left.ensures.done
 
 -- the door is the one that was lent to the oracle
 pub returns-clause-faults : goal.returns-clause-faults
