@@ -4,7 +4,9 @@ mod Gathering
 mod DoorCounting
 mod Ending
 mod Excluding
+mod Keys
 mod OverCache
+mod Leaving
 mod Finishing
 mod Caches
 mod Fitting

@@ -1,5 +1,5 @@
 -- Lines that notes get by several calls.
-use Rattle.std.proofs.Common.{◌≡◌, ◌∙◌, ◌≤◌, ◌+◌, ℕ, List, [], ◌∷◌, ◌++◌, Option, Result, Ok, Err, OnErr, OnOk, inl, inr, ap, sym, subst, refl, append-nil, flat_map, length, take, arith}
+use Rattle.std.proofs.Common.{◌≡◌, ◌∙◌, ◌≤◌, ◌+◌, ℕ, List, [], ◌∷◌, ◌++◌, Option, None, Some, MatchOption, Result, Ok, Err, OnErr, OnOk, inl, inr, ap, sym, subst, refl, append-nil, flat_map, length, take, arith}
 use Rattle.std.specs.Option.{option_map}
 use Rattle.std.proofs.lemmas.List.{append_assoc, length-append, take-append-le}
 use Rattle.std.proofs.Math.Seq.{take-append-add}
@@ -8,7 +8,9 @@ use Rattle.pj_outside.specs.Faults.{CountsFailed, Rises}
 use Rattle.pj_outside.specs.Files.{Bytes}
 use Rattle.pj_outside.specs.Putting.{Gets, GetsPrefix}
 use Rattle.pj_outside.specs.declared.refused.Failed.{Failed}
+use Rattle.pj_check.specs.NoteText.{lines_of_note, note_line}
 use Rattle.pj_check.specs.Notes.{GetLines, GetNotes}
+use Rattle.pj_check.specs.declared.note_kind.Note.{Note}
 use Rattle.pj_check.proofs.Pieces.{gets_both}
 
 -- all lines, one behind the other
@@ -57,3 +59,28 @@ pub lines_first : (first second : List Bytes) (failed : Failed) (old new : Optio
 lines_first [] second failed old new before after h = absurd h
 lines_first (l ∷ ls) second failed old new before after h =
     (subst (GetsPrefix old new) (sym (flat_map-append (λ x. x) (l ∷ ls) second)) (front_cut old new (all (l ∷ ls)) (all second) h.0), h.1)
+
+-- lines behind some that were put, which were cut before others
+pub lines_second : (lines first second third : List Bytes) (failed : Failed) (done : Unit {0}) (old mid new : Option Bytes) (before between after : ℕ) → lines ≡ first ++ (second ++ third)
+    → GetLines first (Ok done) old mid before between → GetLines second (Err failed) mid new between after → GetLines lines (Err failed) old new before after
+lines_second lines first second third failed done old mid new before between after are h k =
+    subst (λ (l : List Bytes). GetLines l (Err failed) old new before after) (sym are)
+    (lines_both first (second ++ third) (Err failed) done old mid new before between after h (lines_first second third failed mid new between after k))
+
+-- three lists of lines, one behind the other
+pub lines_three : (lines first second third : List Bytes) (r : Result (Unit {0}) Failed) (done ended : Unit {0}) (old mid next new : Option Bytes) (before between behind after : ℕ) → lines ≡ first ++ (second ++ third)
+    → GetLines first (Ok done) old mid before between → GetLines second (Ok ended) mid next between behind → GetLines third r next new behind after → GetLines lines r old new before after
+lines_three lines first second third r done ended old mid next new before between behind after are h k l =
+    subst (λ (all_lines : List Bytes). GetLines all_lines r old new before after) (sym are)
+    (lines_both first (second ++ third) r done old mid new before between after h (lines_both second third r ended mid next new between behind after k l))
+
+-- the line of one note
+pub line_of_one : (line : Bytes) (r : Result (Unit {0}) Failed) (old new : Option Bytes) (before after : ℕ) → OnOk r (Gets old new (line ++ [])) → OnErr r (GetsPrefix old new (line ++ [])) → CountsFailed before after r
+    → GetLines (line ∷ []) r old new before after
+line_of_one line (Ok done) old new before after got cut counts = (got, counts)
+line_of_one line (Err failed) old new before after got cut counts = (cut, counts)
+
+-- the lines of a note, if there is one
+pub note_lines : (note : Option Note) (lines : List Bytes) → MatchOption note (lines ≡ []) (λ some. lines ≡ note_line some ∷ []) → lines_of_note note ≡ lines
+note_lines None lines are = sym are
+note_lines (Some note) lines are = sym are

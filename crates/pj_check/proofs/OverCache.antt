@@ -8,7 +8,7 @@ use Rattle.pj_cache_laws.specs.Written.{AreFiles, AreWrittenRules, WrittenRule}
 use Rattle.pj_cached_files.specs.LeftFile.{IsRun, StandsIn}
 use Rattle.pj_cached_files.specs.LeftFiles.{Lists, HasClassesByName, LeavesAll}
 use Rattle.pj_cached_files.specs.declared.files.LeftFiles.{LeftFiles}
-use Rattle.pj_fitting.specs.Fits.{CacheFits, IsFound}
+use Rattle.pj_fitting.specs.Fits.{CacheFits, IsFound, empty}
 use Rattle.pj_fitting.specs.Left.{IsLeftCache}
 use Rattle.pj_fitting.specs.Right as right
 use Rattle.pj_names.specs.ClassName.{NameSet}
@@ -53,9 +53,9 @@ NamedLaw = (folders : List Files) → HasClassesByName (folders_world folders).a
 -- ---- what fits is right
 
 right_by : (files : right.Files WrittenRule) (content : Option Bytes) (found : Cache) → IsFound content found → CacheFits files content → right.IsRightCache files found
-right_by files None found is fits = subst (λ (c : Cache). right.IsRightCache files c) (sym is) (All-nil _)
+right_by files None found is fits = subst (λ (c : Cache). right.IsRightCache files c) (sym is) (All-nil (right.IsRightEntry files empty.answers))
 right_by files (Some bytes) found (inl readable) fits = fits found readable
-right_by files (Some bytes) found (inr none) fits = subst (λ (c : Cache). right.IsRightCache files c) (sym none.1) (All-nil _)
+right_by files (Some bytes) found (inr none) fits = subst (λ (c : Cache). right.IsRightCache files c) (sym none.1) (All-nil (right.IsRightEntry files empty.answers))
 
 pub right_of : (found : Cache) → IsFitting found → (files : right.Files WrittenRule) → AreFiles java_replies files → right.IsRightCache files found
 right_of found fitting files are = right_by files fitting.content found fitting.is_found (fitting.fits files are)
@@ -64,7 +64,7 @@ right_of found fitting files are = right_by files fitting.content found fitting.
 
 held_by : (set : EffectiveRules) (rules : List EffectiveRule) (meant : List Rule) → set.rules ≡ rules → AllZip (IsRuleOf set.marker) rules meant → All (λ (rule : EffectiveRule). HasRoom set.marker × FitsKey rule) rules → WrittenLaw
     → (held : List WrittenRule) × AreWrittenRules set meant held
-held_by set [] [] is are room law = ([], record { rules = refl; effective = sym is; marker = All-nil _ })
+held_by set [] [] is are room law = ([], record { rules = refl; effective = sym is; marker = All-nil (λ (w : WrittenRule). w.marker ≡ set.marker) })
 held_by set [] (m ∷ ms) is are room law = absurd are
 held_by set (r ∷ rs) meant is are room law =
     law set meant (subst (λ (rules : List EffectiveRule). AllZip (IsRuleOf set.marker) rules meant) (sym is) are) (All-head (λ (rule : EffectiveRule). HasRoom set.marker × FitsKey rule) r rs room).0
@@ -158,3 +158,15 @@ done_at_door (Some folders) set found sources listed before after meant held sam
   written = written;
   is_done = λ files are. (subst (λ (list : Files). AreDoneFiles (folders_world folders).answer set found list before after) same done) files meant held are written;
 }
+
+-- ---- where nothing is made
+
+-- nothing is said of a refusal
+pub not_over : {A X E : Type 0} (F : Type 0) (P : A → X → Type 0) (told : Option A) (r : Result X E) (e : E) → r ≡ Err e → IfSome told (λ held. F → IfOk r (P held))
+not_over F P None r e is = tt
+not_over {A} {X} {E} F P (Some held) r e is = λ fits. subst (λ (w : Result X E). IfOk w (P held)) (sym is) tt
+
+-- what is said without a cache is said of none
+pub over_none : {A : Type 0} (F : Type 0) (P : A → Type 0) (told : Option A) → IfSome told P → IfSome told (λ held. F → P held)
+over_none F P None h = tt
+over_none F P (Some held) h = λ fits. h

@@ -77,7 +77,10 @@ pub fn text_of_cache(
     requires { IsLeftIfFound found.now left.now }
     ensures { IfOk result (IsTextOf name.now left.now) }
 {
-    let (Some(name), Some(cache)) = (name, left) else {
+    let Some(name) = name else {
+        return Ok(None);
+    };
+    let Some(cache) = left else {
         return Ok(None);
     };
     Ok(Some(CacheText {

@@ -56,7 +56,7 @@ pub fn put_outcome<N: Sink>(notes: &mut N, outcome: &Outcome)
 
 /// The note of what was found under the name of the cache and is not used.
 fn unused_note(told: &CacheNotes) -> Option<Note<'_>>
-    ensures { lines_of_note result.entry ≡ unused_lines told.now.unused }
+    ensures { lines_of_note result ≡ unused_lines told.now.unused }
 {
     match &told.unused {
         None => None,
@@ -66,7 +66,7 @@ fn unused_note(told: &CacheNotes) -> Option<Note<'_>>
 
 /// The note of a cache that was not put in its place.
 fn unwritten_note(told: &CacheNotes) -> Option<Note<'_>>
-    ensures { lines_of_note result.entry ≡ unwritten_lines told.now.is_unwritten }
+    ensures { lines_of_note result ≡ unwritten_lines told.now.is_unwritten }
 {
     if told.is_unwritten {
         return Some(Note::CacheUnwritten);

@@ -24,7 +24,7 @@ fn put_pieces<S: Sink>(notes: &mut S, pieces: &[&str]) -> Result<(), Failed>
 }
 
 /// Why what stands under the name of a cache is not used.
-fn unused_text(why: &Unused) -> &'static str
+fn unused_text(why: &Unused) -> &str
     ensures { result.now ≡ unused_text why.now }
 {
     match why {

@@ -7,7 +7,7 @@ use Rattle.pj_check.proofs.analysing.files_over_door.Goals as goal
 pub returns-clause-left : goal.returns-clause-left
 returns-clause-left g c =
     left_over_door (g.D.ClassDoor.holds c.args.door.now) _ _ _ _ c.args.run.now.rules.now c.args.run.now.found.now c.args.files.now c.files_over_cache-left.result
-    (λ folders name. c.class_folders_answer_by_name.ensures _ folders name) c.new-oracle.ensures.tells c.files_over_cache-left.ensures.left
+    (λ folders name. c.class_folders_answer_by_name.ensures 4194304 folders name) c.new-oracle.ensures.tells c.files_over_cache-left.ensures.left
 
 pub returns-clause-done : goal.returns-clause-done
 returns-clause-done g c =

@@ -6,6 +6,6 @@ use Rattle.pj_check.proofs.analysing.rule_keys.Given as goal
 
 abbrev pub invariant-loop-number : goal.invariant-loop-number
 invariant-loop-number l = record {
-  keys : l.keys ≡ map (λ (rule : EffectiveRule). key_of l.fn.rules.now.marker rule) (take l.number l.fn.rules.now.rules);
-  room : All (λ (rule : EffectiveRule). HasRoom l.fn.rules.now.marker × FitsKey rule) (take l.number l.fn.rules.now.rules);
+  keys : l.keys ≡ map (λ (rule : EffectiveRule). key_of l.rules.marker rule) (take l.number l.rules.rules);
+  room : All (λ (rule : EffectiveRule). HasRoom l.rules.marker × FitsKey rule) (take l.number l.rules.rules);
 }
