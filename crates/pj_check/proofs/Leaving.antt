@@ -1,5 +1,5 @@
 -- What is left in the place of a cache.
-use Rattle.std.proofs.Common.{◌≡◌, ◌∙◌, ℕ, Bool, List, map, Option, None, Some, Result, Ok, Err, OnOk, OnErr, is_err, sym, subst}
+use Rattle.std.proofs.Common.{◌≡◌, ℕ, Bool, map, Option, None, Some, Result, Ok, Err, OnOk, OnErr, is_err, sym, subst}
 use Rattle.std.specs.List.Sorted.{IsStrictlySortedBy}
 use Rattle.pj_cache.specs.Places.{byte_order}
 use Rattle.pj_cache.specs.declared.cache.Cache.{Cache}

@@ -1,5 +1,5 @@
 -- What is made over the cache that was found.
-use Rattle.std.proofs.Common.{◌≡◌, ◌≢◌, ◌∙◌, ◌++◌, ℕ, List, [], ◌∷◌, map, Option, None, Some, IfSome, Result, Ok, Err, IfOk, OnOk, inl, inr, ap, sym, subst, refl}
+use Rattle.std.proofs.Common.{◌≡◌, ◌∙◌, ℕ, List, [], ◌∷◌, map, Option, None, Some, IfSome, Result, Ok, Err, IfOk, OnOk, inl, inr, ap, sym, subst, refl}
 use Rattle.std.specs.List.{All, AllZip}
 use Rattle.std.proofs.lemmas.List.Elements.{All-head, All-nil, All-weaker}
 use Rattle.pj_cache.specs.declared.cache.Cache.{Cache}

@@ -1,7 +1,6 @@
-use Rattle.std.proofs.Common.{◌≡◌, ◌∙◌, ◌≤◌, ◌<◌, ◌++◌, List, ℕ, [], ◌∷◌, length, map, ap, arith, rules, subst, sym}
+use Rattle.std.proofs.Common.{◌≡◌, ◌∙◌, ◌≤◌, ◌<◌, ◌++◌, List, [], ◌∷◌, length, map, ap, arith, rules, subst}
 use Rattle.std.specs.List.{All}
 use Rattle.std.proofs.lemmas.List.{take_all}
-use Rattle.std.proofs.lemmas.List.Elements.{All-nil}
 use Rattle.pj_rule_keys.specs.Keys.{FitsKey, HasRoom, key_of}
 use Rattle.pj_rule_sets.specs.Rules.{EffectiveRule}
 use Rattle.pj_check.proofs.Keys.{one_key_more, room_more}

@@ -1,4 +1,4 @@
-use Rattle.std.proofs.Common.{◌≡◌, ◌++◌, List, Err, Result, ap, subst, sym}
+use Rattle.std.proofs.Common.{◌≡◌, ◌++◌, List, Err, Result, subst, sym}
 use Rattle.std.proofs.lemmas.Result.{err_from_is_err_and}
 use Rattle.pj_outside.specs.Files.{Bytes}
 use Rattle.pj_outside.specs.declared.refused.Failed.{Failed}
@@ -30,7 +30,7 @@ returns-in_err-put_optional-2 g c =
     let exit = err_from_is_err_and c.from_residual-in_err-put_optional-2.result c.from_residual-in_err-put_optional-2.ensures.1 in
     let noted = note_lines c.note_of.result (notes_of outcome) c.note_of.ensures in
     let same : notes_with outcome told ≡ lines_of_note c.unused_note.result ++ (lines_of_note c.note_of.result ++ unwritten_lines told.is_unwritten) =
-        λ i. (sym c.unused_note.ensures) i ++ ((sym noted) i ++ unwritten_lines told.is_unwritten) in
+    λ i. (sym c.unused_note.ensures) i ++ ((sym noted) i ++ unwritten_lines told.is_unwritten) in
     result_on (λ (w : Result (Unit {0}) Failed). GetLines (notes_with outcome told) w (held c.args.sink.now) (held c.put_optional-2.new.sink) (faults c.args.sink.now) (faults c.put_optional-2.new.sink))
     c.from_residual-in_err-put_optional-2.result exit.0 failed exit.1 exit.2
     (lines_second (notes_with outcome told) (lines_of_note c.unused_note.result) (lines_of_note c.note_of.result) (unwritten_lines told.is_unwritten) failed _ _ _ _ _ _ _ same
@@ -42,6 +42,6 @@ returns g c =
     let outcome = c.args.outcome.now in
     let noted = note_lines c.note_of.result (notes_of outcome) c.note_of.ensures in
     let same : notes_with outcome told ≡ lines_of_note c.unused_note.result ++ (lines_of_note c.note_of.result ++ lines_of_note c.unwritten_note.result) =
-        λ i. (sym c.unused_note.ensures) i ++ ((sym noted) i ++ (sym c.unwritten_note.ensures) i) in
+    λ i. (sym c.unused_note.ensures) i ++ ((sym noted) i ++ (sym c.unwritten_note.ensures) i) in
     lines_three (notes_with outcome told) (lines_of_note c.unused_note.result) (lines_of_note c.note_of.result) (lines_of_note c.unwritten_note.result) c.put_optional-3.result _ _ _ _ _ _ _ _ _ _ same
     c.in_ok-put_optional.ensures c.in_ok-put_optional-2.ensures c.put_optional-3.ensures
