@@ -1,25 +1,22 @@
 -- From the steps of a run to what its outcome says.
 use Rattle.std.specs.Prelude.{⊤}
-use Rattle.std.proofs.Common.{◌≡◌, ◌≢◌, ◌∙◌, ◌++◌, ℕ, List, map, Option, IfSome, Result, Ok, Err, OnOk, OnErr, IfOk, IfErr, inl, inr, ap, sym, subst, refl}
+use Rattle.std.proofs.Common.{◌≡◌, ◌≢◌, ◌∙◌, ℕ, List, Option, IfSome, Result, Ok, Err, OnOk, OnErr, IfOk, IfErr, inl, inr, ap, sym, subst, refl}
 use Rattle.pj_outside.specs.Doors.{ClassFolders}
 use Rattle.pj_outside.specs.Faults.{Rises}
 use Rattle.pj_outside.specs.Files.{Bytes, Files}
 use Rattle.pj_outside.specs.Putting.{Gets, GetsPrefix}
-use Rattle.pj_reports.specs.declared.report.Report.{Report}
 use Rattle.pj_rule_sets.specs.Rules.{EffectiveRules}
 use Rattle.pj_settings.specs.Job.{job}
 use Rattle.pj_settings.specs.declared.settings.Settings.{Settings}
-use Rattle.pj_sources.specs.Reading.{AreRead, AreWithin}
+use Rattle.pj_sources.specs.Reading.{AreRead}
 use Rattle.pj_sources.specs.declared.listing.Listing.{Listing}
 use Rattle.pj_workers.specs.declared.work.Work.{Work}
-use Rattle.pj_check.specs.Formats.{report_text}
-use Rattle.pj_check.specs.Verdicts.{verdict_of}
 use Rattle.pj_check.specs.declared.verdict.Verdict.{Verdict}
 use Rattle.pj_check.specs.declared.verdict.Verdict.TheVariants as verdict
 use Rattle.pj_check.specs.declared.report_rendering.Written.{Written}
-use Rattle.pj_check.specs.Cold.{IsColdOf, world_of}
-use Rattle.pj_check.specs.Outcome.{CountsClassFaults, CountsDoors, CountsSinkFaults, CountsTreeFaults, DoorCounts, GetsSome, IsAnalysed, IsCut, IsReported, KeepsWork, OneDoor, Says, SaysOfFiles, SaysOfSink, SaysOfWords, Worked}
-use Rattle.pj_check.specs.Run.{HasRules, Run}
+use Rattle.pj_check.specs.Caching.{FindsFitting}
+use Rattle.pj_check.specs.Outcome.{CountsClassFaults, CountsDoors, CountsSinkFaults, CountsTreeFaults, DoorCounts, GetsSome, IsAnalysed, IsCut, IsReported, KeepsWork, OneDoor, Says, SaysOfFiles, SaysOfSink, SaysOfWords}
+use Rattle.pj_check.specs.Run.{HasRules}
 use Rattle.pj_check.specs.Steps.{CountsFaults, Explains, HasNoReport, IsMade, IsOfClasses, IsOfSome, SaysNoReport, SaysNotPut, SaysRefusal, outcome_of, refused}
 use Rattle.pj_check.specs.declared.outcome.Outcome.{Outcome}
 use Rattle.pj_check.specs.declared.outcome.Outcome.TheVariants as outcome
@@ -32,53 +29,9 @@ use Rattle.pj_check.proofs.Told.{all_told, told_both, told_so}
 pub no_memory : (words : List Bytes) (told : Option Files) → Explains words told Memory
 no_memory words told = record { cause = all_told told (λ held. SaysRefusal words held Memory) (λ held. tt); of_words = tt }
 
--- the work of a run, by its parts
-pub worked : (run : Run) (old new : Work) → new.analysed ≡ old.analysed ++ run.listing.paths → new.reused ≡ old.reused → new.skipped ≡ run.listing.skipped → Worked run old new
-worked run old new a r s = λ i. record { analysed = a i; reused = r i; skipped = s i }
-
-worked_on : (listing : Listing) (old new : Work) → new.analysed ≡ old.analysed ++ listing.paths → new.reused ≡ old.reused → new.skipped ≡ listing.skipped →
-    new ≡ record { analysed = old.analysed ++ listing.paths; reused = old.reused; skipped = listing.skipped }
-worked_on listing old new a r s = λ i. record { analysed = a i; reused = r i; skipped = s i }
-
 -- what is said of the same files at another moment
 pub told_later : {A : Type 0} (o p : Option A) (P : A → Type 0) → p ≡ o → IfSome o P → IfSome p P
 told_later o p P e h = subst (λ (w : Option _). IfSome w P) (sym e) h
-
-pub is_made : (words : List Bytes) (told : Option Files) (classes : Option ClassFolders) (settings : Settings) (listing : Listing) (rules : EffectiveRules) (sources : Files) (report : Report) (written : Written) (old new : Work) →
-    IfSome told (λ held. HasRules words held settings listing rules) → IfSome told (λ held. AreRead held listing.paths sources) → AreWithin listing.paths sources → IfSome classes (λ folders. IsColdOf (world_of folders settings.classes) sources rules report) →
-    written.text ≡ report_text settings.format report → written.verdict ≡ verdict_of report →
-    new.analysed ≡ old.analysed ++ map (λ file. file.0) sources → new.reused ≡ old.reused → new.skipped ≡ listing.skipped →
-    IfSome told (λ held. IfSome classes (λ folders. IsMade words held folders old new written))
-is_made words told classes settings listing rules sources report written old new has read within colds text comes analysed reused skipped =
-    let run : Run = record { settings = settings; listing = listing; rules = rules; sources = sources; report = report } in
-    told_both told told (λ held. HasRules words held settings listing rules) (λ held. AreRead held listing.paths sources) (λ held. IfSome classes (λ folders. IsMade words held folders old new written)) refl
-    (λ held h r. told_so classes (λ folders. IsColdOf (world_of folders settings.classes) sources rules report) (λ folders. IsMade words held folders old new written)
-    (λ folders cold. record {
-      run = run;
-      is_run = record { has_rules = h; read = r; reported = cold };
-      text = text;
-      comes_to = comes;
-      worked = worked run old new (analysed ∙ ap (λ paths. old.analysed ++ paths) within.paths_are) reused skipped;
-    })
-    colds)
-    has read
-
-pub is_analysed : (words : List Bytes) (told : Option Files) (settings : Settings) (listing : Listing) (rules : EffectiveRules) (sources : Files) (old new : Work) →
-    IfSome told (λ held. HasRules words held settings listing rules) → IfSome told (λ held. AreRead held listing.paths sources) → AreWithin listing.paths sources →
-    new.analysed ≡ old.analysed ++ map (λ file. file.0) sources → new.reused ≡ old.reused → new.skipped ≡ listing.skipped →
-    IfSome told (λ held. IsAnalysed words held old new)
-is_analysed words told settings listing rules sources old new has read within analysed reused skipped =
-    told_both told told (λ held. HasRules words held settings listing rules) (λ held. AreRead held listing.paths sources) (λ held. IsAnalysed words held old new) refl
-    (λ held h r. record {
-      settings = settings;
-      listing = listing;
-      rules = rules;
-      sources = sources;
-      has_rules = h;
-      read = r;
-      worked = worked_on listing old new (analysed ∙ ap (λ paths. old.analysed ++ paths) within.paths_are) reused skipped;
-    })
-    has read
 
 -- ---- the report is not made
 
@@ -136,19 +89,19 @@ doors_idle words told Memory doors h = inl refl
 
 -- ---- the run ends before the report is put
 
-pub says_before : (r : Refusal) (words : List Bytes) (held : Files) (classes : Option ClassFolders) (old new : Option Bytes) (before after : Work) → SaysNoReport words held r → Says (refused r) words held classes old new before after
-says_before (Usage fault) words held classes old new before after h = h
-says_before (Rules fault) words held classes old new before after h = h
-says_before TreeFault words held classes old new before after h = tt
-says_before ClassFault words held classes old new before after h = h
-says_before SinkFault words held classes old new before after h = absurd h
-says_before (Missing path) words held classes old new before after h = h
-says_before (Limit kind) words held classes old new before after h = h
-says_before Memory words held classes old new before after h = tt
+pub says_before : (r : Refusal) (words : List Bytes) (held : Files) (classes : Option ClassFolders) (kept : Option Files) (old new : Option Bytes) (before after : Work) → SaysNoReport words held r → Says (refused r) words held classes kept old new before after
+says_before (Usage fault) words held classes kept old new before after h = h
+says_before (Rules fault) words held classes kept old new before after h = h
+says_before TreeFault words held classes kept old new before after h = tt
+says_before ClassFault words held classes kept old new before after h = h
+says_before SinkFault words held classes kept old new before after h = absurd h
+says_before (Missing path) words held classes kept old new before after h = h
+says_before (Limit kind) words held classes kept old new before after h = h
+says_before Memory words held classes kept old new before after h = tt
 
-pub all_say_before : (r : Refusal) (words : List Bytes) (told : Option Files) (classes : Option ClassFolders) (old new : Option Bytes) (before after : Work) → HasNoReport words told r → IfSome told (λ held. Says (refused r) words held classes old new before after)
-all_say_before r words told classes old new before after e =
-    told_so told (λ held. SaysNoReport words held r) (λ held. Says (refused r) words held classes old new before after) (λ held h. says_before r words held classes old new before after h) e.cause
+pub all_say_before : (r : Refusal) (words : List Bytes) (told : Option Files) (classes : Option ClassFolders) (kept : Option Files) (old new : Option Bytes) (before after : Work) → HasNoReport words told r → IfSome told (λ held. Says (refused r) words held classes kept old new before after)
+all_say_before r words told classes kept old new before after e =
+    told_so told (λ held. SaysNoReport words held r) (λ held. Says (refused r) words held classes kept old new before after) (λ held h. says_before r words held classes kept old new before after h) e.cause
 
 -- a refusal before the report is put is no fault of the sink
 pub files_before : (r : Refusal) (words : List Bytes) (told : Option Files) (before after : Work) → SaysNotPut r words → IfSome told (λ held. SaysOfFiles (refused r) words held before after)
@@ -234,29 +187,29 @@ no_class_before Memory n e = absurd (cc)
 -- ---- the report is put
 
 -- what the end of a run says whose report was put, or was cut
-reported_so : (v : Verdict) (words : List Bytes) (held : Files) (classes : Option ClassFolders) (written : Written) (old new : Option Bytes) (before after : Work) → v ≡ written.verdict → Gets old new written.text →
-    IfSome classes (λ folders. IsMade words held folders before after written) → IfSome classes (λ folders. IsReported v words held folders old new before after)
-reported_so v words held classes written old new before after is got made =
-    told_so classes (λ folders. IsMade words held folders before after written) (λ folders. IsReported v words held folders old new before after)
-    (λ folders m. record { run = m.run; is_run = m.is_run; comes_to = sym (is ∙ m.comes_to); got = subst (λ (t : Bytes). Gets old new t) m.text got; worked = m.worked }) made
+reported_so : (v : Verdict) (words : List Bytes) (held : Files) (classes : Option ClassFolders) (kept : Option Files) (written : Written) (old new : Option Bytes) (before after : Work) → v ≡ written.verdict → Gets old new written.text →
+    IfSome classes (λ folders. FindsFitting words kept → IsMade words held folders before after written) → IfSome classes (λ folders. FindsFitting words kept → IsReported v words held folders old new before after)
+reported_so v words held classes kept written old new before after is got made =
+    told_so classes (λ folders. FindsFitting words kept → IsMade words held folders before after written) (λ folders. FindsFitting words kept → IsReported v words held folders old new before after)
+    (λ folders make fits. let m = make fits in record { run = m.run; is_run = m.is_run; comes_to = sym (is ∙ m.comes_to); got = subst (λ (t : Bytes). Gets old new t) m.text got; worked = m.worked }) made
 
-pub ends_so : (v : Verdict) (words : List Bytes) (held : Files) (classes : Option ClassFolders) (written : Written) (old new : Option Bytes) (before after : Work) → v ≡ written.verdict → Gets old new written.text →
-    IfSome classes (λ folders. IsMade words held folders before after written) → Says (outcome_of (Ok v)) words held classes old new before after
-ends_so verdict.Clean words held classes written old new before after is got made = reported_so verdict.Clean words held classes written old new before after is got made
-ends_so verdict.Violations words held classes written old new before after is got made = reported_so verdict.Violations words held classes written old new before after is got made
-ends_so verdict.Errors words held classes written old new before after is got made = reported_so verdict.Errors words held classes written old new before after is got made
+pub ends_so : (v : Verdict) (words : List Bytes) (held : Files) (classes : Option ClassFolders) (kept : Option Files) (written : Written) (old new : Option Bytes) (before after : Work) → v ≡ written.verdict → Gets old new written.text →
+    IfSome classes (λ folders. FindsFitting words kept → IsMade words held folders before after written) → Says (outcome_of (Ok v)) words held classes kept old new before after
+ends_so verdict.Clean words held classes kept written old new before after is got made = reported_so verdict.Clean words held classes kept written old new before after is got made
+ends_so verdict.Violations words held classes kept written old new before after is got made = reported_so verdict.Violations words held classes kept written old new before after is got made
+ends_so verdict.Errors words held classes kept written old new before after is got made = reported_so verdict.Errors words held classes kept written old new before after is got made
 
-pub put_says : (r : Result Verdict Refusal) (words : List Bytes) (told : Option Files) (classes : Option ClassFolders) (written : Written) (old new : Option Bytes) (before after : Work) →
+pub put_says : (r : Result Verdict Refusal) (words : List Bytes) (told : Option Files) (classes : Option ClassFolders) (kept : Option Files) (written : Written) (old new : Option Bytes) (before after : Work) →
     IfOk r (λ v. v ≡ written.verdict) → OnOk r (Gets old new written.text) → OnErr r (GetsPrefix old new written.text) → IfErr r (λ e. e ≡ SinkFault) →
-    IfSome told (λ held. IfSome classes (λ folders. IsMade words held folders before after written)) → IfSome told (λ held. Says (outcome_of r) words held classes old new before after)
-put_says (Ok v) words told classes written old new before after is got cut fault made =
-    told_so told (λ held. IfSome classes (λ folders. IsMade words held folders before after written)) (λ held. Says (outcome_of (Ok v)) words held classes old new before after)
-    (λ held m. ends_so v words held classes written old new before after is got m) made
-put_says (Err r) words told classes written old new before after is got cut fault made =
-    told_so told (λ held. IfSome classes (λ folders. IsMade words held folders before after written)) (λ held. Says (refused r) words held classes old new before after)
-    (λ held of_folders. subst (λ (e : Refusal). Says (refused e) words held classes old new before after) (sym fault)
-    (told_so classes (λ folders. IsMade words held folders before after written) (λ folders. IsCut words held folders old new before after)
-    (λ folders m. record { run = m.run; is_run = m.is_run; got = subst (λ (t : Bytes). GetsPrefix old new t) m.text cut; worked = m.worked }) of_folders)) made
+    IfSome told (λ held. IfSome classes (λ folders. FindsFitting words kept → IsMade words held folders before after written)) → IfSome told (λ held. Says (outcome_of r) words held classes kept old new before after)
+put_says (Ok v) words told classes kept written old new before after is got cut fault made =
+    told_so told (λ held. IfSome classes (λ folders. FindsFitting words kept → IsMade words held folders before after written)) (λ held. Says (outcome_of (Ok v)) words held classes kept old new before after)
+    (λ held m. ends_so v words held classes kept written old new before after is got m) made
+put_says (Err r) words told classes kept written old new before after is got cut fault made =
+    told_so told (λ held. IfSome classes (λ folders. FindsFitting words kept → IsMade words held folders before after written)) (λ held. Says (refused r) words held classes kept old new before after)
+    (λ held of_folders. subst (λ (e : Refusal). Says (refused e) words held classes kept old new before after) (sym fault)
+    (told_so classes (λ folders. FindsFitting words kept → IsMade words held folders before after written) (λ folders. FindsFitting words kept → IsCut words held folders old new before after)
+    (λ folders make fits. let m = make fits in record { run = m.run; is_run = m.is_run; got = subst (λ (t : Bytes). GetsPrefix old new t) m.text cut; worked = m.worked }) of_folders)) made
 
 pub put_files : (r : Result Verdict Refusal) (words : List Bytes) (told : Option Files) (before after : Work) → IfErr r (λ e. e ≡ SinkFault) → IfSome told (λ held. IsAnalysed words held before after) →
     IfSome told (λ held. SaysOfFiles (outcome_of r) words held before after)
@@ -341,16 +294,10 @@ module _ {A : Type 0} where
   pub refused_on : (P : Refusal → Type 0) (r : Result A Refusal) (e x : Refusal) → r ≡ Err e → e ≡ x → P x → IfErr r P
   refused_on P r e x is same h = subst (λ (w : Result A Refusal). IfErr w P) (sym is) (subst P (sym same) h)
 
--- no report is made where there is a refusal
-pub nothing_made : (words : List Bytes) (told : Option Files) (classes : Option ClassFolders) (old new : Work) (r : Result Written Refusal) (e : Refusal) → r ≡ Err e →
-    IfSome told (λ held. IfSome classes (λ folders. IfOk r (IsMade words held folders old new)))
-nothing_made words told classes old new r e is =
-    subst (λ (w : Result Written Refusal). IfSome told (λ held. IfSome classes (λ folders. IfOk w (IsMade words held folders old new)))) (sym is)
-    (all_told told (λ held. IfSome classes (λ folders. ⊤)) (λ held. all_told classes (λ folders. ⊤) (λ folders. tt)))
-
-pub nothing_analysed : (words : List Bytes) (told : Option Files) (old new : Work) (r : Result Written Refusal) (e : Refusal) → r ≡ Err e → IfSome told (λ held. OnOk r (IsAnalysed words held old new))
-nothing_analysed words told old new r e is =
-    subst (λ (w : Result Written Refusal). IfSome told (λ held. OnOk w (IsAnalysed words held old new))) (sym is) (all_told told (λ held. ⊤) (λ held. tt))
+module _ {A X : Type 0} where
+  -- nothing is made where there is a refusal
+  pub nothing_on : (P : A → X → Type 0) (told : Option A) (r : Result X Refusal) (e : Refusal) → r ≡ Err e → IfSome told (λ held. IfOk r (P held))
+  nothing_on P told r e is = subst (λ (w : Result X Refusal). IfSome told (λ held. IfOk w (P held))) (sym is) (all_told told (λ held. ⊤) (λ held. tt))
 
 -- the tree's count is the same where the class path refuses
 pub tree_idle : (A : Type 0) (r : Refusal) (old new : ℕ) → IsOfClasses r → new ≡ old → CountsFaults {A = A} old new (Err r)
@@ -379,3 +326,32 @@ module _ {A E : Type 0} where
 
 pub explains_later : (words : List Bytes) (o p : Option Files) (r : Refusal) → p ≡ o → Explains words p r → Explains words o r
 explains_later words o p r e h = subst (λ (w : Option Files). Explains words w r) e h
+
+-- ---- the report is made, or not
+
+module _ {A B X : Type 0} where
+  -- over two things that are told nothing is made where there is a refusal
+  pub nothing_over : (F : Type 0) (P : A → B → X → Type 0) (told : Option A) (classes : Option B) (r : Result X Refusal) (e : Refusal) → r ≡ Err e → IfSome told (λ held. IfSome classes (λ folders. F → IfOk r (P held folders)))
+  nothing_over F P told classes r e is = subst (λ (w : Result X Refusal). IfSome told (λ held. IfSome classes (λ folders. F → IfOk w (P held folders)))) (sym is)
+      (all_told told (λ held. IfSome classes (λ folders. F → ⊤)) (λ held. all_told classes (λ folders. F → ⊤) (λ folders f. tt)))
+
+module _ {A X : Type 0} where
+  pub nothing_under : (F : Type 0) (P : A → X → Type 0) (told : Option A) (r : Result X Refusal) (e : Refusal) → r ≡ Err e → IfSome told (λ held. F → IfOk r (P held))
+  nothing_under F P told r e is = subst (λ (w : Result X Refusal). IfSome told (λ held. F → IfOk w (P held))) (sym is) (all_told told (λ held. F → ⊤) (λ held f. tt))
+
+  pub nothing_done : (P : A → Type 0) (told : Option A) (r : Result X Refusal) (e : Refusal) → r ≡ Err e → IfSome told (λ held. OnOk r (P held))
+  nothing_done P told r e is = subst (λ (w : Result X Refusal). IfSome told (λ held. OnOk w (P held))) (sym is) (all_told told (λ held. ⊤) (λ held. tt))
+
+module _ {X : Type 0} where
+  pub tree_on : (r : Result X Refusal) (old new : ℕ) → IfErr r IsOfClasses → new ≡ old → CountsFaults old new r
+  tree_on (Ok made) old new of same = same
+  tree_on (Err refusal) old new of same = tree_idle X refusal old new of same
+
+  pub no_tree_on : (r : Result X Refusal) → IfErr r IsOfClasses → r ≢ Err TreeFault
+  no_tree_on (Ok made) of e = absurd (cc)
+  no_tree_on (Err refusal) of e = no_tree_fault X refusal of e
+
+  pub no_report_on : (words : List Bytes) (told : Option Files) (settings : Settings) (listing : Listing) (rules : EffectiveRules) (sources : Files) (r : Result X Refusal) → job words ≡ Ok settings →
+      IfSome told (λ held. HasRules words held settings listing rules) → IfSome told (λ held. AreRead held listing.paths sources) → IfErr r IsOfClasses → IfErr r (HasNoReport words told)
+  no_report_on words told settings listing rules sources (Ok made) asked has read of = tt
+  no_report_on words told settings listing rules sources (Err refusal) asked has read of = no_cold words told settings listing rules sources refusal asked has read of

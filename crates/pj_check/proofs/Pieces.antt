@@ -10,7 +10,7 @@ mapped_twice : (a : Option (List ℕ)) (p q : List ℕ) → option_map (λ held.
 mapped_twice None p q = refl
 mapped_twice (Some held) p q = ap (λ (bytes : List ℕ). Some bytes) (append_assoc held p q)
 
-gets_both : (a b c : Option (List ℕ)) (p q : List ℕ) → Gets a b p → Gets b c q → Gets a c (p ++ q)
+pub gets_both : (a b c : Option (List ℕ)) (p q : List ℕ) → Gets a b p → Gets b c q → Gets a c (p ++ q)
 gets_both a b c p q first second = second ∙ ap (option_map (λ (held : List ℕ). held ++ q)) first ∙ mapped_twice a p q
 
 take_behind : (p q rest : List ℕ) (n : ℕ) → n ≤ length q → take (length p + n) (p ++ (q ++ rest)) ≡ p ++ take n q

@@ -1,13 +1,14 @@
 -- What follows from the definitions.
-use Rattle.std.specs.Prelude.{◌≡◌, ◌⊎◌, ℕ, Bool, List, map}
-use Rattle.std.specs.List.{AllByRecursion, AllZip}
+use Rattle.std.specs.Prelude.{⊤, ◌≡◌, ◌⊎◌, ℕ, Bool, List, [], ◌∷◌, map, Option, Some, IfSome, Ok}
+use Rattle.std.specs.List.{All, AllByRecursion, AllZip}
 use Rattle.std.specs.List.Sorted.{IsStrictlySortedBy}
 use Rattle.pj_outside.specs.Doors.{ClassFolders}
-use Rattle.pj_outside.specs.Files.{Files, Bytes}
+use Rattle.pj_outside.specs.Files.{Files, Bytes, bytes_at}
 use Rattle.pj_reports.specs.declared.report.Report.{Report}
 use Rattle.pj_reports.specs.declared.rows.FileRows.{FileRows}
 use Rattle.pj_rule_sets.specs.Rules.{EffectiveRules}
 use Rattle.pj_rules.specs.Load.{IsEffective}
+use Rattle.pj_settings.specs.Job.{job}
 use Rattle.pj_settings.specs.declared.settings.Settings.{Settings}
 use Rattle.pj_sources.specs.Paths.{byte_order}
 use Rattle.pj_sources.specs.Reading.{AreRead}
@@ -18,9 +19,13 @@ use Rattle.pj_workers.specs.JavaReplies.{java_replies}
 use Rattle.pj_workers.specs.Laws.{AreInOrder, FindWhatIsDenoted}
 use Rattle.pj_workers.specs.Rules.{AreRulesOf, Rule}
 use Rattle.pj_xexpressions.specs.declared.pmd_function.PmdFunction.{PmdFunction}
+use Rattle.pj_workers.specs.declared.work.Work.{Work}
+use Rattle.pj_check.specs.Caching.{ContentFits, FindsFitting}
 use Rattle.pj_check.specs.Cold.{IsColdOf, world_of}
+use Rattle.pj_check.specs.Kept.{SaysOfCache}
 use Rattle.pj_check.specs.Refused.{IsRefused}
 use Rattle.pj_check.specs.Run.{HasRules, IsRun, Run}
+use Rattle.pj_check.specs.declared.cache.CacheNotes.{CacheNotes}
 use Rattle.pj_check.specs.declared.outcome.Outcome.{Outcome}
 
 -- Words and files that have a run have no cause of refusal. So a run over a tree that tells its files comes to its report, or the tree,
@@ -80,3 +85,32 @@ RunOrRefusal = (words : List Bytes) (held : Files) (classes : ClassFolders) → 
 abbrev pub RunOrRefusalWithoutTypes : Type 0
 RunOrRefusalWithoutTypes = (words : List Bytes) (held : Files) (classes : ClassFolders) → ((settings : Settings) (listing : Listing) (rules : EffectiveRules) → HasRules words held settings listing rules → SetCallsOnly asks_nothing rules)
     → ((run : Run) × IsRun words held classes run) ⊎ ((outcome : Outcome) × IsRefused words held outcome)
+
+-- What stands under a name of a keeper fits again after a run over a tree and a class path that tell what they hold, if it did before: whatever came of the run, whether the name
+-- is that of its cache or another, and also where the new cache was not put in its place.
+abbrev pub KeepersStayFit : Type 0
+KeepersStayFit = (outcome : Outcome) (words : List Bytes) (held : Files) (classes : ClassFolders) (kept : Files) (new : Option Files) (before after : Work) (told : CacheNotes) (name : Bytes)
+    → SaysOfCache outcome words (Some held) (Some classes) (Some kept) new before after told → ContentFits (bytes_at kept name) → IfSome new (λ now. ContentFits (bytes_at now name))
+
+-- So it does after every list of such runs, whatever is changed between them: the files, the class folders, the rulesets and the words.
+pub record RunOver (old new : Files) : Type 0 where
+  pub outcome : Outcome
+  pub words : List Bytes
+  pub held : Files
+  pub classes : ClassFolders
+  pub before : Work
+  pub after : Work
+  pub told : CacheNotes
+  pub says : SaysOfCache outcome words (Some held) (Some classes) (Some old) (Some new) before after told
+
+-- what a keeper holds before and after a list of runs
+abbrev pub RunsOver : Files → List Files → Type 0
+RunsOver old [] = ⊤
+RunsOver old (new ∷ later) = RunOver old new × RunsOver new later
+
+abbrev pub KeepersStayFitForever : Type 0
+KeepersStayFitForever = (kept : Files) (later : List Files) (name : Bytes) → RunsOver kept later → ContentFits (bytes_at kept name) → All (λ (held : Files). ContentFits (bytes_at held name)) later
+
+-- Where what stands under the name of the cache fits, the run finds what fits: so its report is that of a run without a cache.
+abbrev pub FitKeepersServe : Type 0
+FitKeepersServe = (words : List Bytes) (settings : Settings) (name : Bytes) (kept : Files) → job words ≡ Ok settings → settings.cache ≡ Some name → ContentFits (bytes_at kept name) → FindsFitting words (Some kept)

@@ -1,5 +1,6 @@
 -- What each outcome of a run says.
-use Rattle.std.specs.Prelude.{⊤, ◌≡◌, ◌⊎◌, ◌++◌, ℕ, List, Contains, Option, IfSome, Ok, Err}
+use Rattle.std.specs.Prelude.{⊤, ◌≡◌, ◌⊎◌, ◌++◌, ℕ, List, Contains, Option, None, IfSome, Ok, Err}
+use Rattle.pj_cached_files.specs.LeftFiles.{ArePartedBy}
 use Rattle.pj_outside.specs.Doors.{ClassFolders, count_and}
 use Rattle.pj_outside.specs.Faults.{Rises, next_count}
 use Rattle.pj_outside.specs.Files.{Files, Bytes}
@@ -12,6 +13,7 @@ use Rattle.pj_sources.specs.Listing.{IsSourceOf}
 use Rattle.pj_sources.specs.Reading.{AreRead}
 use Rattle.pj_sources.specs.declared.listing.Listing.{Listing}
 use Rattle.pj_workers.specs.declared.work.Work.{Work}
+use Rattle.pj_check.specs.Caching.{FindsFitting}
 use Rattle.pj_check.specs.Formats.{report_text}
 use Rattle.pj_check.specs.Verdicts.{verdict_of}
 use Rattle.pj_check.specs.declared.verdict.Verdict.{Verdict}
@@ -25,20 +27,22 @@ use Rattle.pj_check.specs.declared.outcome.Outcome.TheVariants.{Clean, Violation
 abbrev pub Worked : Run → Work → Work → Type 0
 Worked run old new = new ≡ record { analysed = old.analysed ++ run.listing.paths; reused = old.reused; skipped = run.listing.skipped }
 
+-- So it is where no cache is asked for. Where one is, the report is the same, and `SaysOfCache` of Kept.antt says which sources were analysed.
+
 -- The run came to this verdict, and the sink got the whole text of its report.
 pub record IsReported (verdict : Verdict) (words : List Bytes) (held : Files) (classes : ClassFolders) (old new : Option Bytes) (before after : Work) : Type 0 where
   pub run : Run
   pub is_run : IsRun words held classes run
   pub comes_to : verdict_of run.report ≡ verdict
   pub got : Gets old new (text_of run)
-  pub worked : Worked run before after
+  pub worked : run.settings.cache ≡ None → Worked run before after
 
 -- The sink got a prefix of the text of the run's report.
 pub record IsCut (words : List Bytes) (held : Files) (classes : ClassFolders) (old new : Option Bytes) (before after : Work) : Type 0 where
   pub run : Run
   pub is_run : IsRun words held classes run
   pub got : GetsPrefix old new (text_of run)
-  pub worked : Worked run before after
+  pub worked : run.settings.cache ≡ None → Worked run before after
 
 -- Nothing refuses the run before the sources are analysed.
 pub record IsReady (words : List Bytes) (held : Files) : Type 0 where
@@ -50,22 +54,22 @@ pub record IsReady (words : List Bytes) (held : Files) : Type 0 where
   pub read : AreRead held listing.paths sources
 
 -- What an outcome says of the words and the files of a tree that tells them, of the class folders, where the class path tells
--- them, of what the sink held and holds, and of the work. Of a fault of the tree and of want of memory it says nothing. A fault of the
+-- them, of what the sink held and holds, and of the work. The report is that of a run without a cache, if what the keeper has under the name of the cache fits. Of a fault of the tree and of want of memory it says nothing. A fault of the
 -- class path comes once the sources are read.
-abbrev pub Says : Outcome → List Bytes → Files → Option ClassFolders → Option Bytes → Option Bytes → Work → Work → Type 0
-Says Clean words held told old new before after = IfSome told (λ classes. IsReported verdict.Clean words held classes old new before after)
-Says Violations words held told old new before after = IfSome told (λ classes. IsReported verdict.Violations words held classes old new before after)
-Says Errors words held told old new before after = IfSome told (λ classes. IsReported verdict.Errors words held classes old new before after)
-Says (Usage fault) words held told old new before after = IsRefused words held (Usage fault)
-Says (Rules fault) words held told old new before after = IsRefused words held (Rules fault)
-Says TreeFault words held told old new before after = ⊤
-Says ClassFault words held told old new before after = IsReady words held
-Says SinkFault words held told old new before after = IfSome told (λ classes. IsCut words held classes old new before after)
-Says (Missing path) words held told old new before after = IsRefused words held (Missing path)
-Says (Limit kind) words held told old new before after = IsRefused words held (Limit kind)
-Says Memory words held told old new before after = ⊤
+abbrev pub Says : Outcome → List Bytes → Files → Option ClassFolders → Option Files → Option Bytes → Option Bytes → Work → Work → Type 0
+Says Clean words held told kept old new before after = IfSome told (λ classes. FindsFitting words kept → IsReported verdict.Clean words held classes old new before after)
+Says Violations words held told kept old new before after = IfSome told (λ classes. FindsFitting words kept → IsReported verdict.Violations words held classes old new before after)
+Says Errors words held told kept old new before after = IfSome told (λ classes. FindsFitting words kept → IsReported verdict.Errors words held classes old new before after)
+Says (Usage fault) words held told kept old new before after = IsRefused words held (Usage fault)
+Says (Rules fault) words held told kept old new before after = IsRefused words held (Rules fault)
+Says TreeFault words held told kept old new before after = ⊤
+Says ClassFault words held told kept old new before after = IsReady words held
+Says SinkFault words held told kept old new before after = IfSome told (λ classes. FindsFitting words kept → IsCut words held classes old new before after)
+Says (Missing path) words held told kept old new before after = IsRefused words held (Missing path)
+Says (Limit kind) words held told kept old new before after = IsRefused words held (Limit kind)
+Says Memory words held told kept old new before after = ⊤
 
--- The sources were read and analysed by the rules of the rulesets, and nothing was used again.
+-- The sources were read and analysed by the rules of the rulesets, or used again where a cache is asked for: each one or the other, in their order.
 pub record IsAnalysed (words : List Bytes) (held : Files) (before after : Work) : Type 0 where
   pub settings : Settings
   pub listing : Listing
@@ -73,7 +77,9 @@ pub record IsAnalysed (words : List Bytes) (held : Files) (before after : Work) 
   pub sources : Files
   pub has_rules : HasRules words held settings listing rules
   pub read : AreRead held listing.paths sources
-  pub worked : after ≡ record { analysed = before.analysed ++ listing.paths; reused = before.reused; skipped = listing.skipped }
+  pub worked : settings.cache ≡ None → after ≡ record { analysed = before.analysed ++ listing.paths; reused = before.reused; skipped = listing.skipped }
+  pub parts : IfSome settings.cache (λ name. ArePartedBy listing.paths before after)
+  pub skipped : after.skipped ≡ listing.skipped
 
 -- What an outcome says of the words and the files of a tree that tells them, also where nothing is known of the class folders: nothing
 -- refuses a run that comes to a report.

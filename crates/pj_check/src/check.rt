@@ -1,34 +1,47 @@
 //! A run on one thread.
-ghost use Rattle.std.specs.Prelude.{◌≡◌, ◌≢◌, Err, IfOk, IfErr, IfSome, OnErr, OnOk};
+ghost use Rattle.std.specs.Prelude.{◌≡◌, ◌≢◌, Err, IfOk, IfErr, IfSome, OnErr, OnOk, false};
+ghost use Rattle.pj_cache_store.specs.Loading.{CountsLoad};
 ghost use Rattle.pj_outside.specs.Faults.{Rises};
 ghost use Rattle.pj_outside.specs.Putting.{Gets, GetsPrefix};
-ghost use Rattle.pj_check.specs.Notes.{GetNotes, notes_of};
+ghost use Rattle.pj_check.specs.Caching.{CountsKeeper, CountsWrite, FindsFitting, nothing_told};
+ghost use Rattle.pj_check.specs.Kept.{AsksForNoCache, IsBeforeLoading, KeepsCache, SaysOfCache};
 ghost use Rattle.pj_check.specs.Outcome.{CountsClassFaults, CountsDoors, CountsSinkFaults, CountsTreeFaults, IsAnalysed, KeepsWork, Says, SaysOfFiles, SaysOfSink, SaysOfWords};
-ghost use Rattle.pj_check.specs.Steps.{CountsDoor, CountsFaults, CountsOfClasses, HasNoReport, IsMade, IsOfSome, outcome_of};
+ghost use Rattle.pj_check.specs.Steps.{CountsDoor, CountsFaults, CountsOfClasses, HasCacheText, HasNoReport, IsKeptIf, IsMade, IsOfSome, IsToldBefore, outcome_of, refused};
 
-use crate::classes::analyse_sources;
-use crate::note::put_outcome;
+use crate::cache::{CacheNotes, leave_cache};
+use crate::making::{Made, finish};
+use crate::note::put_run;
 use crate::outcome::Outcome;
+use crate::preparing::prepare;
 use crate::refusal::{Refusal, outcome_of};
-use crate::steps::{listing_within_limit, load_rules, read_settings, sources_of};
-use crate::{Verdict, Written, put_report, written_report};
-use pj_base::{Copied, Words};
+use crate::{Verdict, Written, put_report};
+use pj_base::Words;
 use pj_outside::{ClassPath, Keeper, Sink, Tree};
 use pj_workers::Work;
 use std::alloc::Global;
 
-/// The report that the words ask for, made whole in memory.
-fn make_report<T: Tree, C: ClassPath>(
+/// The report that the words ask for, made whole in memory, and the text of the cache that is left, if they ask for one.
+fn make_report<T: Tree, C: ClassPath, K: Keeper>(
     alloc: Global,
     words: &Words,
     tree: &mut T,
     classes: &mut C,
+    keeper: &mut K,
+    told: &mut CacheNotes,
     work: &mut Work,
-) -> Result<Written, Refusal>
-    ensures made { IfSome (T.holds tree.old) (λ held. IfSome (C.holds classes.old) (λ folders. IfOk result (IsMade words.now held folders work.old work.new))) }
+) -> Result<Made, Refusal>
+    requires { told.old ≡ nothing_told }
+    ensures made { IfSome (T.holds tree.old) (λ held. IfSome (C.holds classes.old) (λ folders. FindsFitting words.now (K.holds keeper.old) → IfOk result (λ made. IsMade words.now held folders work.old work.new made.report))) }
     ensures analysed { IfSome (T.holds tree.old) (λ held. OnOk result (IsAnalysed words.now held work.old work.new)) }
-    ensures of_some { IfOk result (IsOfSome words.now) }
+    ensures of_some { IfOk result (λ made. IsOfSome words.now made.report) }
     ensures refused { IfErr result (HasNoReport words.now (T.holds tree.old)) }
+    ensures left { IfOk result (λ made. HasCacheText words.now (T.holds tree.old) (C.holds classes.old) (K.holds keeper.old) work.old work.new told.new.unused made.left) }
+    ensures told { IfErr result (λ refusal. IsToldBefore refusal words.now (K.holds keeper.old) told.new.unused) }
+    ensures unwritten { told.new.is_unwritten ≡ false }
+    ensures same_names { K.holds keeper.new ≡ K.holds keeper.old }
+    ensures counts { CountsLoad (K.faults keeper.old) (K.faults keeper.new) told.new.unused }
+    ensures same_keeper { AsksForNoCache words.now → keeper.new ≡ keeper.old }
+    ensures not_called { IfErr result (λ refusal. IsBeforeLoading (refused refusal) → keeper.new ≡ keeper.old) }
     ensures same_files { T.holds tree.new ≡ T.holds tree.old }
     ensures counts_faults { CountsFaults (T.faults tree.old) (T.faults tree.new) result }
     ensures steady { T.never_fails tree.old → T.never_fails tree.new × (result ≢ Err Refusal.TreeFault) }
@@ -36,26 +49,11 @@ fn make_report<T: Tree, C: ClassPath>(
     ensures steady_classes { C.never_fails classes.old → C.never_fails classes.new × (result ≢ Err Refusal.ClassFault) }
     ensures class_faults { CountsOfClasses (C.faults classes.old) (C.faults classes.new) result }
     ensures doors { CountsDoor (record { given = C.given classes.old; taken = C.taken classes.old; finds = C.finds classes.old }) (record { given = C.given classes.new; taken = C.taken classes.new; finds = C.finds classes.new }) result }
-    ensures reused { work.new.reused ≡ work.old.reused }
+    ensures reused { AsksForNoCache words.now → work.new.reused ≡ work.old.reused }
     ensures keeps_work { OnErr result (work.new ≡ work.old) }
 {
-    let settings = read_settings(alloc, words)?;
-    let listing = listing_within_limit(alloc, tree, &settings)?;
-    let rules = load_rules(alloc, tree, &settings)?;
-    let sources = sources_of(alloc, tree, &listing)?;
-    let mut done = work.copied()?;
-    done.skipped = listing.skipped;
-    let report = analyse_sources(
-        alloc,
-        classes,
-        &settings.classes,
-        &sources,
-        &rules,
-        &mut done,
-    )?;
-    let written = written_report(alloc, settings.format, &report)?;
-    *work = done;
-    Ok(written)
+    let ready = prepare(alloc, words, tree)?;
+    finish(alloc, &ready, classes, keeper, told, work)
 }
 
 /// Puts the report.
@@ -73,19 +71,52 @@ fn put<S: Sink>(out: &mut S, report: &Written) -> Result<Verdict, Refusal>
     }
 }
 
-/// A run without its note: what it comes to, or why it does not come to its report.
-fn run<T: Tree, C: ClassPath, S: Sink>(
+/// Puts the report, and then the cache in its place.
+fn put_made<K: Keeper, S: Sink>(
+    keeper: &mut K,
+    out: &mut S,
+    told: &mut CacheNotes,
+    made: &Made,
+) -> Result<Verdict, Refusal>
+    requires { told.old.is_unwritten ≡ false }
+    ensures verdict { IfOk result (λ verdict. verdict ≡ made.now.report.verdict) }
+    ensures got { OnOk result (Gets (S.held out.old) (S.held out.new) made.now.report.text) }
+    ensures cut { OnErr result (GetsPrefix (S.held out.old) (S.held out.new) made.now.report.text) }
+    ensures refused { IfErr result (λ refusal. refusal ≡ Refusal.SinkFault) }
+    ensures faults { OnOk result (S.faults out.new ≡ S.faults out.old) }
+    ensures rises { OnErr result (Rises (S.faults out.old) (S.faults out.new)) }
+    ensures kept { OnOk result (IsKeptIf told.new.is_unwritten (K.holds keeper.old) (K.holds keeper.new) made.now.left) }
+    ensures not_kept { OnErr result (told.new.is_unwritten ≡ false) }
+    ensures same_names { OnErr result (K.holds keeper.new ≡ K.holds keeper.old) }
+    ensures counts { CountsWrite told.new.is_unwritten (K.faults keeper.old) (K.faults keeper.new) }
+    ensures same_keeper { made.now.left ≡ None → keeper.new ≡ keeper.old }
+    ensures same_told { told.new.unused ≡ told.old.unused }
+{
+    let verdict = put(out, &made.report)?;
+    told.is_unwritten = leave_cache(keeper, &made.left);
+    Ok(verdict)
+}
+
+/// A run without its notes: what it comes to, or why it does not come to its report, with what is told of its cache.
+fn run<T: Tree, C: ClassPath, K: Keeper, S: Sink>(
     alloc: Global,
     words: &Words,
     tree: &mut T,
     classes: &mut C,
+    keeper: &mut K,
     out: &mut S,
+    told: &mut CacheNotes,
     work: &mut Work,
 ) -> Result<Verdict, Refusal>
-    ensures says { IfSome (T.holds tree.old) (λ held. Says (outcome_of result) words.now held (C.holds classes.old) (S.held out.old) (S.held out.new) work.old work.new) }
+    requires { told.old ≡ nothing_told }
+    ensures says { IfSome (T.holds tree.old) (λ held. Says (outcome_of result) words.now held (C.holds classes.old) (K.holds keeper.old) (S.held out.old) (S.held out.new) work.old work.new) }
     ensures of_files { IfSome (T.holds tree.old) (λ held. SaysOfFiles (outcome_of result) words.now held work.old work.new) }
     ensures of_words { SaysOfWords (outcome_of result) words.now }
     ensures of_sink { SaysOfSink (outcome_of result) words.now (S.held out.old) (S.held out.new) }
+    ensures of_cache { SaysOfCache (outcome_of result) words.now (T.holds tree.old) (C.holds classes.old) (K.holds keeper.old) (K.holds keeper.new) work.old work.new told.new }
+    ensures counts_keeper { CountsKeeper (K.faults keeper.old) (K.faults keeper.new) told.new }
+    ensures same_keeper { AsksForNoCache words.now → keeper.new ≡ keeper.old }
+    ensures not_called { IsBeforeLoading (outcome_of result) → keeper.new ≡ keeper.old }
     ensures same_files { T.holds tree.new ≡ T.holds tree.old }
     ensures tree_faults { CountsTreeFaults (outcome_of result) (T.faults tree.old) (T.faults tree.new) }
     ensures steady { T.never_fails tree.old → T.never_fails tree.new × (outcome_of result ≢ Outcome.TreeFault) }
@@ -94,20 +125,23 @@ fn run<T: Tree, C: ClassPath, S: Sink>(
     ensures class_faults { CountsClassFaults (outcome_of result) (C.faults classes.old) (C.faults classes.new) }
     ensures doors { CountsDoors (outcome_of result) (record { given = C.given classes.old; taken = C.taken classes.old; finds = C.finds classes.old }) (record { given = C.given classes.new; taken = C.taken classes.new; finds = C.finds classes.new }) }
     ensures sink_faults { CountsSinkFaults (outcome_of result) (S.faults out.old) (S.faults out.new) }
-    ensures reused { work.new.reused ≡ work.old.reused }
+    ensures reused { AsksForNoCache words.now → work.new.reused ≡ work.old.reused }
     ensures keeps_work { KeepsWork (outcome_of result) work.old work.new }
 {
-    let written = make_report(alloc, words, tree, classes, work)?;
-    put(out, &written)
+    let made = make_report(alloc, words, tree, classes, keeper, told, work)?;
+    put_made(keeper, out, told, &made)
 }
 
-/// The cold run on one thread: analyses the sources that the words name by the rules of the rulesets that they name, and puts the
-/// report, as `pmd check -d SOURCES -R RULESETS -f FORMAT --aux-classpath FOLDERS` does.
+/// The run on one thread: analyses the sources that the words name by the rules of the rulesets that they name, and puts the report, as
+/// `pmd check -d SOURCES -R RULESETS -f FORMAT --aux-classpath FOLDERS --cache CACHE` does.
 ///
-/// The words are read, the sources listed and counted, the rulesets loaded and the sources read. Then one door to the class folders is
-/// opened, the sources are analysed, and the door is shut, also after a fault. The report is made whole in memory before anything of it is
-/// put. The first refusal in this order is the outcome; it leaves one line in the notes, and `work` as it was. A fault of the notes changes
-/// nothing else. Nothing is kept, so that the keeper is not called.
+/// The words are read, the sources listed and counted, the rulesets loaded and the sources read. If the words ask for a cache, it is loaded then. One door to the
+/// class folders is opened, the sources are analysed, and the door is shut, also after a fault. The report is made whole in memory before anything of it is
+/// put; then the new cache is put in its place. The first refusal in this order is the outcome. It leaves its line in the notes, behind that of the cache that was found, and what the
+/// keeper holds as it was; each refusal but that of the sink leaves `work` as it was. A fault of the notes changes nothing else.
+///
+/// The report is that of a run without a cache, if what the keeper has under the name of the cache fits: nothing is there, or what an earlier run left. A keeper that
+/// fails, and what is no cache, are a run without one; a line in the notes tells it. Words without a cache call the keeper not.
 pub fn check_alone<T: Tree, C: ClassPath, K: Keeper, S: Sink, N: Sink>(
     alloc: Global,
     words: &Words,
@@ -118,11 +152,13 @@ pub fn check_alone<T: Tree, C: ClassPath, K: Keeper, S: Sink, N: Sink>(
     notes: &mut N,
     work: &mut Work,
 ) -> Outcome
-    ensures says { IfSome (T.holds tree.old) (λ held. Says result words.now held (C.holds classes.old) (S.held out.old) (S.held out.new) work.old work.new) }
+    ensures says { IfSome (T.holds tree.old) (λ held. Says result words.now held (C.holds classes.old) (K.holds keeper.old) (S.held out.old) (S.held out.new) work.old work.new) }
     ensures of_files { IfSome (T.holds tree.old) (λ held. SaysOfFiles result words.now held work.old work.new) }
     ensures of_words { SaysOfWords result words.now }
     ensures of_sink { SaysOfSink result words.now (S.held out.old) (S.held out.new) }
-    ensures notes { GetNotes (notes_of result) (N.held notes.old) (N.held notes.new) (N.faults notes.old) (N.faults notes.new) }
+    ensures cache { KeepsCache result words.now (T.holds tree.old) (C.holds classes.old) (record { holds = K.holds keeper.old; faults = K.faults keeper.old }) (record { holds = K.holds keeper.new; faults = K.faults keeper.new }) work.old work.new (record { held = N.held notes.old; faults = N.faults notes.old }) (record { held = N.held notes.new; faults = N.faults notes.new }) }
+    ensures same_keeper { AsksForNoCache words.now → keeper.new ≡ keeper.old }
+    ensures not_called { IsBeforeLoading result → keeper.new ≡ keeper.old }
     ensures same_files { T.holds tree.new ≡ T.holds tree.old }
     ensures tree_faults { CountsTreeFaults result (T.faults tree.old) (T.faults tree.new) }
     ensures steady { T.never_fails tree.old → T.never_fails tree.new × (result ≢ Outcome.TreeFault) }
@@ -131,11 +167,11 @@ pub fn check_alone<T: Tree, C: ClassPath, K: Keeper, S: Sink, N: Sink>(
     ensures steady_classes { C.never_fails classes.old → C.never_fails classes.new × (result ≢ Outcome.ClassFault) }
     ensures class_faults { CountsClassFaults result (C.faults classes.old) (C.faults classes.new) }
     ensures doors { CountsDoors result (record { given = C.given classes.old; taken = C.taken classes.old; finds = C.finds classes.old }) (record { given = C.given classes.new; taken = C.taken classes.new; finds = C.finds classes.new }) }
-    ensures same_keeper { keeper.new ≡ keeper.old }
-    ensures reused { work.new.reused ≡ work.old.reused }
+    ensures reused { AsksForNoCache words.now → work.new.reused ≡ work.old.reused }
     ensures keeps_work { KeepsWork result work.old work.new }
 {
-    let outcome = outcome_of(run(alloc, words, tree, classes, out, work));
-    put_outcome(notes, &outcome);
+    let mut told = CacheNotes::none();
+    let outcome = outcome_of(run(alloc, words, tree, classes, keeper, out, &mut told, work));
+    put_run(notes, &outcome, &told);
     outcome
 }

@@ -1,18 +1,21 @@
 //! The step of a run over its class folders.
-ghost use Rattle.std.specs.Prelude.{◌≡◌, ◌≢◌, ◌++◌, Err, IfErr, IfOk, IfSome, OnErr, OnOk, map};
+ghost use Rattle.std.specs.Prelude.{◌≡◌, ◌≢◌, Err, IfErr, IfOk, IfSome, OnErr, OnOk, map};
+ghost use Rattle.std.specs.List.Sorted.{IsStrictlySortedBy};
 ghost use Rattle.std.specs.Option.{option_map};
+ghost use Rattle.pj_cache.specs.Places.{byte_order};
+ghost use Rattle.pj_cache_format.specs.Ordered.{IsInOrder};
 ghost use Rattle.pj_outside.specs.Doors.{opened};
 ghost use Rattle.pj_outside.specs.Faults.{next_count};
 ghost use Rattle.pj_table.specs.ClassWorld.{folders_world};
-ghost use Rattle.pj_check.specs.Cold.{IsColdOf, world_of};
-ghost use Rattle.pj_check.specs.Steps.{CountsDoor, CountsOfClasses, IsOfClasses};
+ghost use Rattle.pj_check.specs.Cold.{world_of};
+ghost use Rattle.pj_check.specs.Steps.{CountsDoor, CountsOfClasses, DoneOver, FitsIfFound, IsLeftIfFound, IsOfClasses, IsOver, WorkedOver};
 
-use crate::cold::cold_report;
+use crate::analysing::{Analysed, analyse_over};
 use crate::refusal::{Refusal, after_asking, after_opening};
 use crate::steady_door::{Knowing, SteadyDoor};
 use pj_base::Names;
+use pj_cache::Cache;
 use pj_outside::{ClassDoor, ClassPath, Files};
-use pj_reports::Report;
 use pj_rules::RuleSet;
 use pj_workers::Work;
 use std::alloc::Global;
@@ -38,23 +41,27 @@ fn open_door<C: ClassPath>(classes: &mut C, folders: &Names) -> Result<C::Door, 
     }
 }
 
-/// The cold report of the rules over the sources and the class folders of a door.
+/// The report of the rules over the sources and the class folders of a door, and the cache that is left, where one was found.
 fn report_over<D: ClassDoor>(
     alloc: Global,
     door: &mut D,
     sources: &Files,
     rules: &RuleSet,
+    found: &Option<Cache>,
     work: &mut Work,
-) -> Result<Report, Refusal>
-    ensures cold { IfSome (D.holds door.old) (λ folders. IfOk result (IsColdOf (folders_world folders).answer sources.now rules.now)) }
+) -> Result<Analysed, Refusal>
+    requires in_order { IfSome found.now IsInOrder }
+    requires paths { IsStrictlySortedBy byte_order (map (λ file. file.0) sources.now) }
+    ensures over { IfSome (D.holds door.old) (λ folders. FitsIfFound found.now → IfOk result (IsOver found.now (folders_world folders).answer sources.now rules.now)) }
+    ensures done { IfSome (D.holds door.old) (λ folders. OnOk result (DoneOver found.now (folders_world folders).answer sources.now rules.now work.old work.new)) }
     ensures refused { IfErr result IsOfClasses }
     ensures faults { CountsOfClasses (D.faults door.old) (D.faults door.new) result }
-    ensures analysed { OnOk result (work.new.analysed ≡ work.old.analysed ++ map (λ file. file.0) sources.now) }
-    ensures reused { work.new.reused ≡ work.old.reused }
+    ensures left { IfOk result (λ analysed. IsLeftIfFound found.now analysed.left) }
+    ensures worked { OnOk result (WorkedOver found.now sources.now work.old work.new) }
     ensures skipped { work.new.skipped ≡ work.old.skipped }
 {
-    match cold_report(alloc, door, sources, rules, work) {
-        Ok(report) => Ok(report),
+    match analyse_over(alloc, door, sources, rules, found, work) {
+        Ok(analysed) => Ok(analysed),
         Err(fault) => Err(after_asking(fault)),
     }
 }
@@ -67,45 +74,53 @@ fn report_over_classes<C: ClassPath, V: Knowing + Send>(
     folders: &Names,
     sources: &Files,
     rules: &RuleSet,
+    found: &Option<Cache>,
     work: &mut Work,
-) -> Result<Report, Refusal>
-    requires { V.never_fails → C.never_fails classes.old }
-    ensures cold { IfSome (C.holds classes.old) (λ held. IfOk result (IsColdOf (world_of held folders.now) sources.now rules.now)) }
+) -> Result<Analysed, Refusal>
+    requires in_order { IfSome found.now IsInOrder }
+    requires paths { IsStrictlySortedBy byte_order (map (λ file. file.0) sources.now) }
+    requires known { V.never_fails → C.never_fails classes.old }
+    ensures over { IfSome (C.holds classes.old) (λ held. FitsIfFound found.now → IfOk result (IsOver found.now (world_of held folders.now) sources.now rules.now)) }
+    ensures done { IfSome (C.holds classes.old) (λ held. OnOk result (DoneOver found.now (world_of held folders.now) sources.now rules.now work.old work.new)) }
     ensures refused { IfErr result IsOfClasses }
     ensures same_folders { C.holds classes.new ≡ C.holds classes.old }
     ensures class_faults { CountsOfClasses (C.faults classes.old) (C.faults classes.new) result }
     ensures steady { V.never_fails → C.never_fails classes.new × (result ≢ Err Refusal.ClassFault) }
     ensures doors { CountsDoor (record { given = C.given classes.old; taken = C.taken classes.old; finds = C.finds classes.old }) (record { given = C.given classes.new; taken = C.taken classes.new; finds = C.finds classes.new }) result }
-    ensures analysed { OnOk result (work.new.analysed ≡ work.old.analysed ++ map (λ file. file.0) sources.now) }
-    ensures reused { work.new.reused ≡ work.old.reused }
+    ensures left { IfOk result (λ analysed. IsLeftIfFound found.now analysed.left) }
+    ensures worked { OnOk result (WorkedOver found.now sources.now work.old work.new) }
     ensures skipped { work.new.skipped ≡ work.old.skipped }
 {
     let opened = open_door(classes, folders)?;
     let mut door = SteadyDoor::<C::Door, V>::new(opened);
-    let report = report_over(alloc, &mut door, sources, rules, work);
+    let analysed = report_over(alloc, &mut door, sources, rules, found, work);
     classes.shut(door.into_door());
-    report
+    analysed
 }
 
-/// The cold report of the rules over the sources and the class folders of these names. One door is opened for it, and shut in every
-/// case.
+/// The report of the rules over the sources and the class folders of these names, and the cache that is left, where one was found. One door is
+/// opened for it, and shut in every case.
 pub fn analyse_sources<C: ClassPath>(
     alloc: Global,
     classes: &mut C,
     folders: &Names,
     sources: &Files,
     rules: &RuleSet,
+    found: &Option<Cache>,
     work: &mut Work,
-) -> Result<Report, Refusal>
-    ensures cold { IfSome (C.holds classes.old) (λ held. IfOk result (IsColdOf (world_of held folders.now) sources.now rules.now)) }
+) -> Result<Analysed, Refusal>
+    requires in_order { IfSome found.now IsInOrder }
+    requires paths { IsStrictlySortedBy byte_order (map (λ file. file.0) sources.now) }
+    ensures over { IfSome (C.holds classes.old) (λ held. FitsIfFound found.now → IfOk result (IsOver found.now (world_of held folders.now) sources.now rules.now)) }
+    ensures done { IfSome (C.holds classes.old) (λ held. OnOk result (DoneOver found.now (world_of held folders.now) sources.now rules.now work.old work.new)) }
     ensures refused { IfErr result IsOfClasses }
     ensures same_folders { C.holds classes.new ≡ C.holds classes.old }
     ensures class_faults { CountsOfClasses (C.faults classes.old) (C.faults classes.new) result }
     ensures steady { C.never_fails classes.old → C.never_fails classes.new × (result ≢ Err Refusal.ClassFault) }
     ensures doors { CountsDoor (record { given = C.given classes.old; taken = C.taken classes.old; finds = C.finds classes.old }) (record { given = C.given classes.new; taken = C.taken classes.new; finds = C.finds classes.new }) result }
-    ensures analysed { OnOk result (work.new.analysed ≡ work.old.analysed ++ map (λ file. file.0) sources.now) }
-    ensures reused { work.new.reused ≡ work.old.reused }
+    ensures left { IfOk result (λ analysed. IsLeftIfFound found.now analysed.left) }
+    ensures worked { OnOk result (WorkedOver found.now sources.now work.old work.new) }
     ensures skipped { work.new.skipped ≡ work.old.skipped }
 {
-    report_over_classes::<C, Brand>(alloc, classes, folders, sources, rules, work)
+    report_over_classes::<C, Brand>(alloc, classes, folders, sources, rules, found, work)
 }

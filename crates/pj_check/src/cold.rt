@@ -37,7 +37,7 @@ fn rows_of(alloc: Global, found: PathResults) -> Result<PathRows, NoMemory>
 }
 
 /// The door of an oracle that is asked no more.
-fn door_of<'a, D: ClassDoor>(oracle: DoorOracle<'a, D>) -> &'a mut D
+pub fn door_of<'a, D: ClassDoor>(oracle: DoorOracle<'a, D>) -> &'a mut D
     ensures same_reference { result.ghost_name ≡ oracle.entry.door.ghost_name }
     ensures same_door { result.now ≡ oracle.entry.door.now }
 {
@@ -87,7 +87,7 @@ fn all_rows<D: ClassDoor>(
 }
 
 /// The report of the rules, with these rows of the files.
-fn report_of(alloc: Global, files: PathRows, rules: &RuleSet) -> Result<Report, NoMemory>
+pub fn report_of(alloc: Global, files: PathRows, rules: &RuleSet) -> Result<Report, NoMemory>
     ensures rules { IfOk result (λ report. report.rules ≡ map (λ rule. rule.row) rules.now.rules) }
     ensures files { IfOk result (λ report. report.files ≡ files) }
     ensures errors { IfOk result (λ report. report.errors ≡ rules.now.unusable) }

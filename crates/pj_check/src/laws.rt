@@ -1,6 +1,8 @@
 //! Laws of the definitions, each the contract of a function that does nothing.
-ghost use Rattle.pj_check.specs.Laws.{OneRefusal, OneRun, ReportFindsWhatIsDenoted, ReportIsInOrder, RunIsNotRefused, RunOrRefusal, RunOrRefusalWithoutTypes, SetSettlesByReplies, SetSettlesWithoutTypes, SomeReport};
+ghost use Rattle.pj_check.specs.Laws.{FitKeepersServe, KeepersStayFit, KeepersStayFitForever, OneRefusal, OneRun, ReportFindsWhatIsDenoted, ReportIsInOrder, RunIsNotRefused, RunOrRefusal, RunOrRefusalWithoutTypes, SetSettlesByReplies, SetSettlesWithoutTypes, SomeReport};
 
+use pj_cache_store::what_is_loaded_is_found;
+use pj_outside::one_name_is_replaced;
 use pj_rule_laws::rules_or_first_fault;
 use pj_rules::{one_first_fault, one_set, rules_are_sound, rules_or_fault};
 use pj_sources::{one_listing, one_reading};
@@ -91,4 +93,16 @@ pub fn some_run_or_refusal_without_types()
 {
     what_sets_mean_settles();
     some_run_or_refusal();
+}
+
+/// What stands under a name of a keeper fits after a run, if it did before (`stay`), and so after each of a list of runs, whatever their words are, and whatever is changed in files,
+/// rulesets and classes between them (`forever`). Where what stands under the name of the cache fits, the report is that of a run without a cache (`serve`). A name under which
+/// nothing stands fits. The runs are over trees and class paths that tell what they hold.
+pub fn keepers_stay_fit()
+    ensures stay { KeepersStayFit }
+    ensures forever { KeepersStayFitForever }
+    ensures serve { FitKeepersServe }
+{
+    what_is_loaded_is_found();
+    one_name_is_replaced();
 }

@@ -4,15 +4,19 @@
 //! A report is written whole in memory before anything of it is put.
 #![tactic(auto)]
 
+mod analysing;
+mod cache;
 mod check;
 mod classes;
 mod cold;
 mod laws;
 mod limit;
+mod making;
 mod note;
 mod note_kind;
 mod note_putting;
 mod outcome;
+mod preparing;
 mod refusal;
 mod report_laws;
 mod report_putting;
@@ -21,14 +25,15 @@ mod steady_door;
 mod steps;
 mod verdict;
 
+pub use cache::CacheNotes;
 pub use check::check_alone;
 pub use laws::{
-    one_refusal, one_run, reports_are_in_order, reports_find_what_is_denoted, rules_have_reports,
-    runs_are_not_refused, some_run_or_refusal, some_run_or_refusal_without_types,
-    what_sets_mean_settles,
+    keepers_stay_fit, one_refusal, one_run, reports_are_in_order, reports_find_what_is_denoted,
+    rules_have_reports, runs_are_not_refused, some_run_or_refusal,
+    some_run_or_refusal_without_types, what_sets_mean_settles,
 };
 pub use limit::LimitKind;
-pub use note::put_outcome;
+pub use note::{put_outcome, put_run};
 pub use note_kind::Note;
 pub use note_putting::{put_note, put_notes};
 pub use outcome::Outcome;

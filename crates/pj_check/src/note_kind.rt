@@ -1,9 +1,10 @@
 //! Notes.
 use crate::limit::LimitKind;
 use pj_base::Text;
+use pj_cache_store::Unused;
 use pj_settings::UsageFault;
 
-/// Why a run has no report, as its user is told.
+/// Why a run has no report, or what is wrong with its cache, as its user is told.
 #[derive(Clone, Copy, Drop)]
 pub enum Note<'a> {
     /// The words ask for nothing.
@@ -22,4 +23,8 @@ pub enum Note<'a> {
     Limit(&'a LimitKind),
     /// Memory ran out.
     Memory,
+    /// What stands under the name of the cache is not used.
+    CacheUnused(&'a Unused),
+    /// The new cache was not put in its place.
+    CacheUnwritten,
 }

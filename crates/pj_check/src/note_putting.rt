@@ -2,10 +2,12 @@
 ghost use Rattle.std.specs.Prelude.{◌≡◌, OnOk, OnErr, flat_map};
 ghost use Rattle.pj_outside.specs.Faults.{CountsFailed};
 ghost use Rattle.pj_outside.specs.Putting.{Gets, GetsPrefix};
-ghost use Rattle.pj_check.specs.NoteText.{joined, note_line, note_text};
+ghost use Rattle.pj_check.specs.NoteText.{joined, note_line, note_text, unused_text};
 
 use crate::limit::LimitKind;
 use crate::note_kind::Note;
+use pj_cache_format::CacheFault;
+use pj_cache_store::Unused;
 use pj_outside::{Failed, Sink};
 use pj_settings::UsageFault;
 
@@ -19,6 +21,20 @@ fn put_pieces<S: Sink>(notes: &mut S, pieces: &[&str]) -> Result<(), Failed>
         notes.put(piece.as_bytes())?;
     }
     Ok(())
+}
+
+/// Why what stands under the name of a cache is not used.
+fn unused_text(why: &Unused) -> &str
+    ensures { result.now ≡ unused_text why.now }
+{
+    match why {
+        Unused::NotRead => "cache not read",
+        Unused::TooLong => "cache refused: long",
+        Unused::Refused(CacheFault::Short) => "cache refused: short",
+        Unused::Refused(CacheFault::Magic) => "cache refused: magic",
+        Unused::Refused(CacheFault::Seal(_, _)) => "cache refused: seal",
+        Unused::Refused(CacheFault::Form(_)) => "cache refused: form",
+    }
 }
 
 /// The text of a note, in pieces.
@@ -41,6 +57,8 @@ fn text_pieces<'n>(note: Note<'n>) -> [&'n str; 4]
         Note::Limit(LimitKind::FileBytes(path)) => ["limit: bytes of ", path.as_str(), "", ""],
         Note::Limit(LimitKind::AllBytes) => ["limit: bytes", "", "", ""],
         Note::Memory => ["out of memory", "", "", ""],
+        Note::CacheUnused(why) => [unused_text(why), "", "", ""],
+        Note::CacheUnwritten => ["cache not written", "", "", ""],
     }
 }
 

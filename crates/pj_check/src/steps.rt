@@ -1,10 +1,12 @@
 //! The steps of a run up to its rules and sources.
 ghost use Rattle.std.specs.Prelude.{◌≡◌, ◌≢◌, List, Ok, Err, Option, IfOk, IfErr, IfSome};
+ghost use Rattle.std.specs.List.Sorted.{IsStrictlySortedBy};
 ghost use Rattle.pj_outside.specs.Files.{Bytes, Files as AnyFiles};
 ghost use Rattle.pj_rule_sets.specs.Rules.{EffectiveRules};
 ghost use Rattle.pj_settings.specs.Job.{job};
 ghost use Rattle.pj_settings.specs.declared.settings.Settings.{Settings as AnySettings};
 ghost use Rattle.pj_sources.specs.Listing.{AreSourcesOf, IsListing};
+ghost use Rattle.pj_sources.specs.Paths.{byte_order};
 ghost use Rattle.pj_sources.specs.Reading.{AreRead, AreWithin};
 ghost use Rattle.pj_sources.specs.declared.listing.Listing.{Listing as AnyListing};
 ghost use Rattle.pj_check.specs.Run.{HasRules, HasSources};
@@ -34,6 +36,7 @@ pub fn read_settings(alloc: Global, words: &Words) -> Result<Settings, Refusal>
 /// The list of the sources that are asked for.
 fn listing_of<T: Tree>(alloc: Global, tree: &mut T, settings: &Settings) -> Result<Listing, Refusal>
     ensures listed { IfSome (T.holds tree.old) (λ held. IfOk result (IsListing held settings.now.dirs)) }
+    ensures ascending { IfOk result (λ listing. IsStrictlySortedBy byte_order listing.paths) }
     ensures sources { IfOk result (λ listing. AreSourcesOf settings.now.dirs listing.paths) }
     ensures refused { (words : List Bytes) → job words ≡ Ok settings.now → IfErr result (Explains words (T.holds tree.old)) }
     ensures same_files { T.holds tree.new ≡ T.holds tree.old }
@@ -53,6 +56,7 @@ pub fn listing_within_limit<T: Tree>(
     settings: &Settings,
 ) -> Result<Listing, Refusal>
     ensures sources { (words : List Bytes) → job words ≡ Ok settings.now → IfSome (T.holds tree.old) (λ held. IfOk result (HasSources words held settings.now)) }
+    ensures ascending { IfOk result (λ listing. IsStrictlySortedBy byte_order listing.paths) }
     ensures of_sources { IfOk result (λ listing. AreSourcesOf settings.now.dirs listing.paths) }
     ensures refused { (words : List Bytes) → job words ≡ Ok settings.now → IfErr result (Explains words (T.holds tree.old)) }
     ensures same_files { T.holds tree.new ≡ T.holds tree.old }

@@ -71,6 +71,13 @@ fn put_of_row(
     Ok(())
 }
 
+/// The files of a row, which gives this.
+pub fn files_of(alloc: Global, shorts: &[Short], given: &str) -> Result<Files, NoMemory> {
+    let mut files = Files::new(alloc);
+    put_of_row(alloc, &mut files, shorts, given)?;
+    Ok(files)
+}
+
 /// The files of a section, and behind them those of a row, which gives this.
 pub fn folder_of(
     alloc: Global,

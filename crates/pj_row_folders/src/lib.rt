@@ -14,7 +14,7 @@ mod tree;
 mod words;
 
 pub use files::put_file;
-pub use folder::{Short, folder_of, split_command};
+pub use folder::{Short, files_of, folder_of, split_command};
 pub use repetition::repeated;
 pub use tree::{failing_call, tree_of};
 pub use words::words_of;

@@ -12,5 +12,6 @@ given_seen g = record {
   threads = g.threads.now;
   minimum = g.minimum.now;
   marker = g.marker.now;
+  cache = option_map (λ word. word.now) g.cache;
   version = g.version.now;
 }

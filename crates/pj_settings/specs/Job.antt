@@ -20,6 +20,7 @@ pub record Given : Type 0 where
   pub threads : Text
   pub minimum : Text
   pub marker : Text
+  pub cache : Option Text
   pub version : Text
 
 abbrev pub value_of : Text → Text → List Row → Text
@@ -34,6 +35,7 @@ given_of rows = record {
   threads = value_of (codes "threads") (codes "1") rows;
   minimum = value_of (codes "minimum-priority") (codes "5") rows;
   marker = value_of (codes "suppress-marker") (codes "NOPMD") rows;
+  cache = first_of (codes "cache") rows;
   version = value_of (codes "use-version") (codes "java-17") rows;
 }
 
@@ -54,7 +56,7 @@ settings_of g =
     and_then (number_value (codes "--minimum-priority") 1 5 g.minimum) (λ minimum.
     and_then (marker_value g.marker) (λ marker.
     and_then (version_value g.version) (λ _.
-    Ok (record { dirs = dirs; rulesets = rulesets; format = form; classes = classes; threads = threads; minimum = minimum; marker = marker })))))))))
+    Ok (record { dirs = dirs; rulesets = rulesets; format = form; classes = classes; threads = threads; minimum = minimum; marker = marker; cache = g.cache })))))))))
 
 abbrev pub rows_job : List Row → Result Settings UsageFault
 rows_job rows = settings_of (given_of rows)

@@ -26,6 +26,6 @@ bare_app = record {
 }
 
 unfoldable pub check_app : App
-check_app = with_rule (with_rule (with_rule (with_rule (with_rule (with_rule (with_rule (with_rule bare_app dir_rule) rulesets_rule)
+check_app = with_rule (with_rule (with_rule (with_rule (with_rule (with_rule (with_rule (with_rule (with_rule bare_app dir_rule) rulesets_rule)
     format_rule) (long_rule (codes "aux-classpath"))) (long_rule (codes "threads"))) (long_rule (codes "minimum-priority")))
-    (long_rule (codes "suppress-marker"))) (long_rule (codes "use-version"))
+    (long_rule (codes "suppress-marker"))) (long_rule (codes "cache"))) (long_rule (codes "use-version"))

@@ -53,6 +53,7 @@ fn check_command<'a>(alloc: Global) -> Result<Command<'a>, AllocError>
     let threads = long_option(alloc, "threads");
     let minimum = long_option(alloc, "minimum-priority");
     let marker = long_option(alloc, "suppress-marker");
+    let cache = long_option(alloc, "cache");
     let version = long_option(alloc, "use-version");
     let command = Command::new(alloc, "check")
         .disable_help_flag(true)
@@ -63,6 +64,7 @@ fn check_command<'a>(alloc: Global) -> Result<Command<'a>, AllocError>
         .arg(threads)?
         .arg(minimum)?
         .arg(marker)?
+        .arg(cache)?
         .arg(version)?;
     Ok(command)
 }

@@ -1,5 +1,5 @@
 //! From words to settings.
-ghost use Rattle.std.specs.Prelude.{◌≡◌, unwrap_or};
+ghost use Rattle.std.specs.Prelude.{◌≡◌, IfOk, unwrap_or};
 ghost use Rattle.std.specs.Option.{option_map};
 ghost use Rattle.clap.specs.Words.{first_of, found_of, rows_of};
 ghost use Rattle.pj_settings.specs.Job.{Gives, given_of, job, rows_job, settings_of};
@@ -13,11 +13,11 @@ use crate::values::{
     version_value,
 };
 use clap::ArgMatches;
-use pj_base::Words;
+use pj_base::{NoMemory, Text, Words};
 use std::alloc::Global;
 use std::convert::AsStr;
 
-/// The word of each option, or its default. The class folders have none.
+/// The word of each option, or its default. The class folders and the cache have none.
 #[derive(Drop)]
 struct Given<'a> {
     dir: &'a str,
@@ -27,6 +27,7 @@ struct Given<'a> {
     threads: &'a str,
     minimum: &'a str,
     marker: &'a str,
+    cache: Option<&'a str>,
     version: &'a str,
 }
 
@@ -59,7 +60,18 @@ fn given_of<'a>(matches: &ArgMatches<'a>) -> Given<'a>
         threads: value_or(matches, "threads", "1"),
         minimum: value_or(matches, "minimum-priority", "5"),
         marker: value_or(matches, "suppress-marker", "NOPMD"),
+        cache: value_of(matches, "cache"),
         version: value_or(matches, "use-version", "java-17"),
+    }
+}
+
+/// The name of the cache, copied.
+fn cache_value(alloc: Global, given: Option<&str>) -> Result<Option<Text>, NoMemory>
+    ensures { IfOk result (λ cache. cache ≡ option_map (λ word. word.now) given.entry) }
+{
+    match given {
+        None => Ok(None),
+        Some(name) => Ok(Some(Text::from_str(alloc, name)?)),
     }
 }
 
@@ -75,6 +87,7 @@ fn settings_of(alloc: Global, given: &Given<'_>) -> Result<Settings, UsageRefuse
     let minimum = minimum_value(alloc, given.minimum)?;
     let marker = marker_value(alloc, given.marker)?;
     version_value(alloc, given.version)?;
+    let cache = cache_value(alloc, given.cache)?;
     Ok(Settings {
         dirs,
         rulesets,
@@ -83,6 +96,7 @@ fn settings_of(alloc: Global, given: &Given<'_>) -> Result<Settings, UsageRefuse
         threads,
         minimum,
         marker,
+        cache,
     })
 }
 

@@ -29,4 +29,6 @@ pub struct Settings {
     pub minimum: u8,
     /// The text in a comment that suppresses the findings that begin on its line.
     pub marker: Text,
+    /// The name of the cache, where one is used.
+    pub cache: Option<Text>,
 }

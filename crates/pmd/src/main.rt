@@ -1,8 +1,8 @@
-//! The program: `pmd check -d SOURCES -R RULESETS --aux-classpath FOLDERS` over the real file system.
+//! The program: `pmd check -d SOURCES -R RULESETS --aux-classpath FOLDERS --cache CACHE` over the real file system.
 #![tactic(auto)]
 
 ghost use Rattle.std.specs.Prelude.{◌≡◌, ◌≢◌, IfSome};
-ghost use Rattle.pj_check.specs.Notes.{GetNotes, notes_of};
+ghost use Rattle.pj_check.specs.Kept.{AsksForNoCache, IsBeforeLoading, KeepsCache};
 ghost use Rattle.pj_check.specs.Outcome.{CountsClassFaults, CountsDoors, CountsSinkFaults, CountsTreeFaults, KeepsWork, Says, SaysOfFiles, SaysOfSink, SaysOfWords};
 
 #[cfg(test)]
@@ -19,7 +19,7 @@ use std::env::Env;
 use std::process::ExitCode;
 use std::{env, io, process};
 
-/// The top call: the cold run on one thread.
+/// The top call: the run on one thread.
 fn run<T: Tree, C: ClassPath, K: Keeper, S: Sink, N: Sink>(
     alloc: Global,
     words: &Words,
@@ -30,11 +30,13 @@ fn run<T: Tree, C: ClassPath, K: Keeper, S: Sink, N: Sink>(
     notes: &mut N,
     work: &mut Work,
 ) -> Outcome
-    ensures says { IfSome (T.holds tree.old) (λ held. Says result words.now held (C.holds classes.old) (S.held out.old) (S.held out.new) work.old work.new) }
+    ensures says { IfSome (T.holds tree.old) (λ held. Says result words.now held (C.holds classes.old) (K.holds keeper.old) (S.held out.old) (S.held out.new) work.old work.new) }
     ensures of_files { IfSome (T.holds tree.old) (λ held. SaysOfFiles result words.now held work.old work.new) }
     ensures of_words { SaysOfWords result words.now }
     ensures of_sink { SaysOfSink result words.now (S.held out.old) (S.held out.new) }
-    ensures notes { GetNotes (notes_of result) (N.held notes.old) (N.held notes.new) (N.faults notes.old) (N.faults notes.new) }
+    ensures cache { KeepsCache result words.now (T.holds tree.old) (C.holds classes.old) (record { holds = K.holds keeper.old; faults = K.faults keeper.old }) (record { holds = K.holds keeper.new; faults = K.faults keeper.new }) work.old work.new (record { held = N.held notes.old; faults = N.faults notes.old }) (record { held = N.held notes.new; faults = N.faults notes.new }) }
+    ensures same_keeper { AsksForNoCache words.now → keeper.new ≡ keeper.old }
+    ensures not_called { IsBeforeLoading result → keeper.new ≡ keeper.old }
     ensures same_files { T.holds tree.new ≡ T.holds tree.old }
     ensures tree_faults { CountsTreeFaults result (T.faults tree.old) (T.faults tree.new) }
     ensures steady { T.never_fails tree.old → T.never_fails tree.new × (result ≢ Outcome.TreeFault) }
@@ -43,8 +45,7 @@ fn run<T: Tree, C: ClassPath, K: Keeper, S: Sink, N: Sink>(
     ensures steady_classes { C.never_fails classes.old → C.never_fails classes.new × (result ≢ Outcome.ClassFault) }
     ensures class_faults { CountsClassFaults result (C.faults classes.old) (C.faults classes.new) }
     ensures doors { CountsDoors result (record { given = C.given classes.old; taken = C.taken classes.old; finds = C.finds classes.old }) (record { given = C.given classes.new; taken = C.taken classes.new; finds = C.finds classes.new }) }
-    ensures same_keeper { keeper.new ≡ keeper.old }
-    ensures reused { work.new.reused ≡ work.old.reused }
+    ensures reused { AsksForNoCache words.now → work.new.reused ≡ work.old.reused }
     ensures keeps_work { KeepsWork result work.old work.new }
 {
     check_alone(alloc, words, tree, classes, keeper, out, notes, work)
@@ -77,7 +78,6 @@ fn main(rt: HostRuntime) -> ExitCode {
     let alloc = rt.alloc();
     let mut tree = RealTree::new(rt);
     let mut classes = RealClassPath::new(rt);
-    // The cold run keeps nothing: this one is not called.
     let mut keeper = RealKeeper::new(rt, process::id(rt.process()));
     let mut out = RealSink::new(io::writer(&rt));
     let mut work = Work::new(alloc);

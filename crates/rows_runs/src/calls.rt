@@ -1,7 +1,7 @@
 //! Which calls of a run fail.
 
 /// The numbers of the calls that fail, of the tree, of those that open a door to the class folders, of the finds of the first door, of the
-/// sink of the report and of that of the notes. 0 is none.
+/// sink of the report and of that of the notes, and of the keeper. 0 is none.
 #[derive(Clone, Copy)]
 pub struct Failing {
     /// Of the tree.
@@ -14,6 +14,8 @@ pub struct Failing {
     pub report: u32,
     /// Of the sink of the notes.
     pub notes: u32,
+    /// Of the keeper.
+    pub keeper: u32,
 }
 
 /// The number behind a name, as in `tree 1, notes 2`; 0 where the name does not stand there.
@@ -36,6 +38,7 @@ impl Failing {
             find: number_of(given, "find"),
             report: number_of(given, "report"),
             notes: number_of(given, "notes"),
+            keeper: number_of(given, "keeper"),
         }
     }
 }

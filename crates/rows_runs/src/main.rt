@@ -1,19 +1,22 @@
-//! The rows of whole runs, each a folder, a command line and what comes; and of the settings, the sources and the notes of a run.
+//! The rows of whole runs, each a folder, a command line and what comes; of runs one after the other with a cache; and of the settings, the sources and the notes of a run.
 #![tactic(auto)]
 
 mod calls;
 mod classes;
+mod kept;
 mod notes;
 mod outcome;
 mod put;
 mod ran;
 mod runs;
+mod sequences;
 mod settings;
 mod sources;
 
 use notes::Notes;
 use pj_rows::Run;
 use runs::Runs;
+use sequences::Sequences;
 use settings::SettingsTable;
 use sources::Sources;
 use std::process::ExitCode;
@@ -39,6 +42,7 @@ fn main(rt: HostRuntime) -> ExitCode {
     for file in RUNS {
         run.table(file, &Runs);
     }
+    run.table("caches.rows", &Sequences);
     run.table("settings.rows", &SettingsTable);
     run.table("notes.rows", &Notes);
     run.table("sources.rows", &Sources);

@@ -3,7 +3,7 @@ use crate::calls::Failing;
 use crate::classes::{CountedClasses, classes_of};
 use pj_base::{NoMemory, Numbers, Words};
 use pj_check::{Outcome, check_alone};
-use pj_outside::{Files, Keeper, MemKeeper, MemSink, MemTree};
+use pj_outside::{Files, Keeper, MemKeeper, MemSink};
 use pj_row_folders::tree_of;
 use pj_workers::Work;
 use std::alloc::Global;
@@ -21,19 +21,16 @@ pub struct Ran {
     pub work: Work,
     /// The class path.
     pub classes: CountedClasses,
-    keeper: MemKeeper,
 }
 
 /// A name of the keeper, and what it has there before a run.
 static KEPT: (&str, &[u8]) = ("c", b"kept");
 
-impl Ran {
-    /// Whether the keeper has what it had before the run.
-    pub fn keeps(&self) -> bool {
-        match self.keeper.get(KEPT.0) {
-            Some(bytes) => bytes.as_slice() == KEPT.1,
-            None => false,
-        }
+/// Whether a keeper has what it had before a run without a cache.
+fn keeps(keeper: &MemKeeper) -> bool {
+    match keeper.get(KEPT.0) {
+        Some(bytes) => bytes.as_slice() == KEPT.1,
+        None => false,
     }
 }
 
@@ -51,42 +48,47 @@ fn sink_of(alloc: Global, call: u32) -> Result<MemSink, NoMemory> {
     Ok(MemSink::new(alloc, fail))
 }
 
-/// What a run of these words over this tree and these class folders leaves in these sinks.
-fn run_into(
+/// What a run of these words over these files leaves, where these calls fail, with this keeper.
+pub fn run_over<K: Keeper>(
     alloc: Global,
+    files: Files,
     words: &Words,
-    tree: &mut MemTree,
-    mut classes: CountedClasses,
-    mut report: MemSink,
-    mut notes: MemSink,
-) -> Ran {
-    let mut keeper = keeper_of(alloc);
+    failing: Failing,
+    keeper: &mut K,
+) -> Result<Ran, NoMemory> {
+    let mut classes = classes_of(alloc, &files, failing)?;
+    let mut tree = tree_of(alloc, files, Some(failing.tree))?;
+    let mut report = sink_of(alloc, failing.report)?;
+    let mut notes = sink_of(alloc, failing.notes)?;
     let mut work = Work::new(alloc);
     let outcome = check_alone(
         alloc,
         words,
-        tree,
+        &mut tree,
         &mut classes,
-        &mut keeper,
+        keeper,
         &mut report,
         &mut notes,
         &mut work,
     );
-    Ran {
+    Ok(Ran {
         outcome,
         report,
         notes,
         work,
         classes,
-        keeper,
-    }
+    })
 }
 
-/// What a run of these words over these files leaves, where these calls fail.
-pub fn run(alloc: Global, files: Files, words: &Words, failing: Failing) -> Result<Ran, NoMemory> {
-    let classes = classes_of(alloc, &files, failing)?;
-    let mut tree = tree_of(alloc, files, Some(failing.tree))?;
-    let report = sink_of(alloc, failing.report)?;
-    let notes = sink_of(alloc, failing.notes)?;
-    Ok(run_into(alloc, words, &mut tree, classes, report, notes))
+/// What a run of these words over these files leaves, where these calls fail, and whether the keeper has what it had before.
+pub fn run(
+    alloc: Global,
+    files: Files,
+    words: &Words,
+    failing: Failing,
+) -> Result<(Ran, bool), NoMemory> {
+    let mut keeper = keeper_of(alloc);
+    let ran = run_over(alloc, files, words, failing, &mut keeper)?;
+    let is_kept = keeps(&keeper);
+    Ok((ran, is_kept))
 }

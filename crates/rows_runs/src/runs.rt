@@ -16,7 +16,7 @@ pub struct Runs;
 
 /// What signs in the texts of rulesets stand for: what stands around the query of a ruleset of one rule `N`, what makes a rule one in
 /// XPath over Java, and properties with a query.
-static SHORTS: [Short; 4] = [
+pub static SHORTS: [Short; 4] = [
     (
         "{",
         "<?xml version=\"1.0\"?><ruleset name=\"own\"><rule name=\"N\" language=\"java\" message=\"m\" class=\"net.sourceforge.pmd.lang.rule.xpath.XPathRule\"><priority>3</priority><properties><property name=\"xpath\"><value><![CDATA[",
@@ -66,21 +66,21 @@ fn put_doors(out: &mut String, ran: &Ran) -> Result<(), NoMemory> {
 }
 
 /// Puts the outcome with the exit status, below it the notes, and below these the report.
-fn put_ran(out: &mut String, ran: &Ran) -> Result<(), NoMemory> {
+pub fn put_ran(out: &mut String, ran: &Ran) -> Result<(), NoMemory> {
     put_outcome(out, &ran.outcome)?;
     put_sink(out, "note: ", &ran.notes)?;
     put_sink(out, "", &ran.report)
 }
 
 /// What a section asks of a run, and below it that the keeper has not what it had, where that is so.
-fn told(alloc: Global, section: &Section, ran: &Ran) -> Result<String, NoMemory> {
+fn told(alloc: Global, section: &Section, ran: &Ran, is_kept: bool) -> Result<String, NoMemory> {
     let mut out = String::new(alloc);
     match section.setting("asks") {
         Some("work") => put_work(&mut out, &ran.work)?,
         Some("doors") => put_doors(&mut out, ran)?,
         _ => put_ran(&mut out, ran)?,
     }
-    if !ran.keeps() {
+    if !is_kept {
         put(&mut out, &["\nkeeper changed"])?;
     }
     Ok(out)
@@ -103,8 +103,8 @@ fn answer_command(
 ) -> Result<String, NoMemory> {
     let files = folder_of(alloc, &SHORTS, section, given)?;
     let words = words_of(alloc, command)?;
-    let ran = run(alloc, files, &words, failing_of(section, given))?;
-    told(alloc, section, &ran)
+    let (ran, is_kept) = run(alloc, files, &words, failing_of(section, given))?;
+    told(alloc, section, &ran, is_kept)
 }
 
 impl Table for Runs {

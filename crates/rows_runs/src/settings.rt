@@ -1,6 +1,6 @@
 //! The words of a check with the settings that they ask for, or with what is wrong with them.
 use crate::outcome::put_usage;
-use pj_base::{Names, NoMemory};
+use pj_base::{Names, NoMemory, Text};
 use pj_row_folders::words_of;
 use pj_rows::{Row, Section, Table, put};
 use pj_settings::{Format, Settings, UsageRefused, read};
@@ -35,7 +35,15 @@ fn put_classes(out: &mut String, classes: &Names) -> Result<(), NoMemory> {
     Ok(())
 }
 
-/// Puts the sources, the rulesets, the format, the number of workers, the least priority, the marker and the class folders.
+/// Puts the name of the cache, if there is one.
+fn put_cache(out: &mut String, cache: Option<&Text>) -> Result<(), NoMemory> {
+    match cache {
+        None => Ok(()),
+        Some(name) => put(out, &[" cache [", name.as_str(), "]"]),
+    }
+}
+
+/// Puts the sources, the rulesets, the format, the number of workers, the least priority, the marker, the class folders and the cache.
 fn put_settings(out: &mut String, settings: &Settings) -> Result<(), NoMemory> {
     put_items(out, &settings.dirs)?;
     put_items(out, &settings.rulesets)?;
@@ -43,7 +51,8 @@ fn put_settings(out: &mut String, settings: &Settings) -> Result<(), NoMemory> {
     put(out, &[format_word(settings.format)])?;
     write!(out, " {threads} {minimum} ")?;
     put(out, &["[", settings.marker.as_str(), "]"])?;
-    put_classes(out, &settings.classes)
+    put_classes(out, &settings.classes)?;
+    put_cache(out, settings.cache.as_ref())
 }
 
 /// Puts what words ask for, or what is wrong with them.

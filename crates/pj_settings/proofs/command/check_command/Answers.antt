@@ -19,4 +19,5 @@ returns c =
     let five = c.in_ok-arg-5.ensures.shape c.long_option-threads.ensures.local ∙ ap₂ with_rule four c.long_option-threads.ensures.rule in
     let six = c.in_ok-arg-6.ensures.shape c.long_option-minimum.ensures.local ∙ ap₂ with_rule five c.long_option-minimum.ensures.rule in
     let seven = c.in_ok-arg-7.ensures.shape c.long_option-marker.ensures.local ∙ ap₂ with_rule six c.long_option-marker.ensures.rule in
-    c.in_ok-command.ensures.shape c.long_option-version.ensures.local ∙ ap₂ with_rule seven c.long_option-version.ensures.rule
+    let eight = c.in_ok-arg-8.ensures.shape c.long_option-cache.ensures.local ∙ ap₂ with_rule seven c.long_option-cache.ensures.rule in
+    c.in_ok-command.ensures.shape c.long_option-version.ensures.local ∙ ap₂ with_rule eight c.long_option-version.ensures.rule
