@@ -15,7 +15,7 @@
 #   without a cache        the same words without `--cache`: each report above has to be the one of this run, and the script says where it is not
 #
 # Beside them stand reading and sealing alone (`cat` of sources and cache, `sha256sum` of the cache), and a run of one rule that looks at the root, which is reading
-# and parsing. A row has seconds of processor time, the peak of resident memory, the bytes of the cache that is left, and the lines of the report.
+# and parsing. A row has seconds of processor time, what part of the cold run's they are, the peak of resident memory, the bytes of the cache that is left, and the lines of the report.
 #
 # The program is that of ./pmd: the proved one where it was built, else the one without proofs, and the first row says which. It wants jimage of the JDK
 # whose sources the folder has, first in PATH.
@@ -81,10 +81,15 @@ def words_of(rules, with_cache):
     return [program, 'check', '-d', sources, '-R', rules, '--aux-classpath', classes] + (['--cache', cache] if with_cache else [])
 
 
+took = {}
+
+
 def say(what, rules, with_cache=True):
     report, status, seconds, most = measured(words_of(rules, with_cache))
+    took[what] = seconds
+    part = ' (%.3f of cold)' % (seconds / took['cold']) if took.get('cold') else ''
     size = os.path.getsize(cache) if with_cache and os.path.exists(cache) else 0
-    print('%s: %.2f s, %d KiB, a cache of %d bytes, %d lines, status %d' % (what, seconds, most, size, report.count(b'\n'), status), flush=True)
+    print('%s: %.2f s%s, %d KiB, a cache of %d bytes, %d lines, status %d' % (what, seconds, part, most, size, report.count(b'\n'), status), flush=True)
     return report
 
 
@@ -104,7 +109,7 @@ for what in ('cold', 'warm', 'warm again'):
 listed = [os.path.join(at, name) for at, _, names in os.walk(sources) for name in names]
 _, _, seconds, _ = measured(['cat'] + listed + [cache])
 _, _, sealing, _ = measured(['sha256sum', cache])
-print('reading sources and cache: %.2f s; sealing the cache: %.2f s' % (seconds, sealing), flush=True)
+print('reading sources and cache: %.2f s; sealing the cache: %.2f s; warm takes %.1f times both' % (seconds, sealing, took['warm again'] / max(seconds + sealing, 0.01)), flush=True)
 
 changed = os.path.join(sources, os.path.relpath(paths[len(paths) // 2], folder))
 with open(changed, 'a') as out:
