@@ -88,7 +88,7 @@ impl Place {
         if path.as_str() == "cache" {
             return self.keeper.change(bytes.as_slice());
         }
-        let is_gone = bytes.as_slice() == b"(gone)";
+        let is_gone = bytes.as_slice() == b"(gone)".as_slice();
         let files = std::mem::replace(&mut self.files, Files::new(alloc));
         let mut files = without(alloc, files, &path)?;
         if !is_gone {
