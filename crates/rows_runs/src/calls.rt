@@ -1,7 +1,7 @@
 //! Which calls of a run fail.
 
 /// The numbers of the calls that fail, of the tree, of those that open a door to the class folders, of the finds of the first door, of the
-/// sink of the report and of that of the notes, and of the keeper. 0 is none.
+/// sink of the report and of that of the notes, and of the keeper, of which two calls may fail. 0 is none.
 #[derive(Clone, Copy)]
 pub struct Failing {
     /// Of the tree.
@@ -16,6 +16,8 @@ pub struct Failing {
     pub notes: u32,
     /// Of the keeper.
     pub keeper: u32,
+    /// A second one of the keeper.
+    pub then: u32,
 }
 
 /// The number behind a name, as in `tree 1, notes 2`; 0 where the name does not stand there.
@@ -39,6 +41,7 @@ impl Failing {
             report: number_of(given, "report"),
             notes: number_of(given, "notes"),
             keeper: number_of(given, "keeper"),
+            then: number_of(given, "then"),
         }
     }
 }

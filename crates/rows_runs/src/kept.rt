@@ -1,4 +1,5 @@
 //! A keeper that rows change between runs.
+use crate::calls::Failing;
 use pj_base::{Bytes, Copied, NoMemory, Numbers};
 use pj_outside::{Failed, Keeper, MemKeeper, Reading, Refused};
 use std::alloc::Global;
@@ -6,23 +7,51 @@ use std::alloc::Global;
 /// The name of the cache in all rows.
 pub static NAME: &str = "c";
 
-/// A keeper in memory whose next load may find too many bytes.
+/// A keeper in memory whose calls fail by their numbers, and whose next load may find too many bytes. The calls of runs are counted from 1, and the
+/// changes of rows do not count.
 #[derive(Drop)]
 pub struct RowKeeper {
     alloc: Global,
     keeper: MemKeeper,
+    failing: Failing,
+    /// How many calls the runs made.
+    calls: u32,
     /// Whether the next load finds more bytes than a cache may have.
-    pub is_longer: bool,
+    is_longer: bool,
+}
+
+/// Puts the number that a call of a run has for a keeper which is as old as so many calls of runs and so many changes.
+fn put_number(fail: &mut Numbers, number: u32, calls: u32, changes: u32) -> Result<(), NoMemory> {
+    if number > calls {
+        fail.push(number.saturating_sub(calls).saturating_add(changes))?;
+    }
+    Ok(())
+}
+
+/// The numbers of the calls that fail, for a keeper that is as old as so many calls of runs and so many changes.
+fn numbers_of(
+    alloc: Global,
+    failing: Failing,
+    calls: u32,
+    changes: u32,
+) -> Result<Numbers, NoMemory> {
+    let mut fail = Numbers::new(alloc);
+    put_number(&mut fail, failing.keeper, calls, changes)?;
+    put_number(&mut fail, failing.then, calls, changes)?;
+    Ok(fail)
 }
 
 impl RowKeeper {
     /// An empty keeper of which these calls fail.
-    pub fn new(alloc: Global, fail: Numbers) -> RowKeeper {
-        RowKeeper {
+    pub fn new(alloc: Global, failing: Failing) -> Result<RowKeeper, NoMemory> {
+        let fail = numbers_of(alloc, failing, 0, 0)?;
+        Ok(RowKeeper {
             alloc,
             keeper: MemKeeper::new(alloc, fail),
+            failing,
+            calls: 0,
             is_longer: false,
-        }
+        })
     }
 
     /// What stands under the name of the cache.
@@ -30,13 +59,20 @@ impl RowKeeper {
         self.keeper.get(NAME)
     }
 
-    /// A keeper that has these bytes under the name of the cache, or nothing, and of which no call fails.
-    fn holding(alloc: Global, bytes: Option<&[u8]>) -> RowKeeper {
-        let mut kept = RowKeeper::new(alloc, Numbers::new(alloc));
-        if let Some(bytes) = bytes {
-            let _ = kept.keeper.replace(NAME, bytes);
-        }
-        kept
+    /// Takes away what stands under the name of the cache.
+    fn take_away(&mut self) -> Result<(), NoMemory> {
+        let fail = numbers_of(self.alloc, self.failing, self.calls, 0)?;
+        self.keeper = MemKeeper::new(self.alloc, fail);
+        Ok(())
+    }
+
+    /// Puts bytes under the name of the cache.
+    pub fn put(&mut self, bytes: &[u8]) -> Result<(), NoMemory> {
+        let fail = numbers_of(self.alloc, self.failing, self.calls, 1)?;
+        let mut keeper = MemKeeper::new(self.alloc, fail);
+        let _ = keeper.replace(NAME, bytes);
+        self.keeper = keeper;
+        Ok(())
     }
 
     /// The bytes of the cache, copied; none where nothing stands there.
@@ -47,30 +83,41 @@ impl RowKeeper {
         }
     }
 
-    /// Changes what stands under the name of the cache: `(gone)` takes it away, `(long)` makes it too long for one load, `(cut 5)` takes the last five bytes
-    /// away, `(flip 40)` changes the lowest bit of the byte 40, and every other text stands there then.
-    pub fn change(&mut self, written: &str) -> Result<(), NoMemory> {
-        if written == "(long)" {
+    /// Leaves only so many first bytes of the cache.
+    pub fn cut_to(&mut self, length: usize) -> Result<(), NoMemory> {
+        let mut bytes = self.copied_bytes()?.into_vec();
+        bytes.truncate(length);
+        self.put(bytes.as_slice())
+    }
+
+    /// Changes the lowest bit of the byte at this place.
+    pub fn flip(&mut self, place: usize) -> Result<(), NoMemory> {
+        let mut bytes = self.copied_bytes()?.into_vec();
+        if place < bytes.len() {
+            bytes[place] ^= 1;
+        }
+        self.put(bytes.as_slice())
+    }
+
+    /// Changes what stands under the name of the cache: `(gone)` takes it away, `(long)` makes it too long for the next load, `(cut 5)` takes the last five bytes
+    /// away, `(flip 40)` changes the lowest bit of the byte 40, and all other bytes stand there then.
+    pub fn change(&mut self, written: &[u8]) -> Result<(), NoMemory> {
+        let text = str::from_utf8(written).unwrap_or("");
+        if text == "(long)" {
             self.is_longer = true;
             return Ok(());
         }
-        if written == "(gone)" {
-            *self = RowKeeper::holding(self.alloc, None);
-            return Ok(());
+        if text == "(gone)" {
+            return self.take_away();
         }
-        let mut bytes = self.copied_bytes()?.into_vec();
-        if let Some(count) = number_in(written, "(cut ") {
-            let length = bytes.len().saturating_sub(count);
-            bytes.truncate(length);
-        } else if let Some(place) = number_in(written, "(flip ") {
-            if place < bytes.len() {
-                bytes[place] ^= 1;
-            }
-        } else {
-            bytes = Vec::from_slice(self.alloc, written.as_bytes())?;
+        if let Some(count) = number_in(text, "(cut ") {
+            let length = self.copied_bytes()?.len().saturating_sub(count);
+            return self.cut_to(length);
         }
-        *self = RowKeeper::holding(self.alloc, Some(bytes.as_slice()));
-        Ok(())
+        if let Some(place) = number_in(text, "(flip ") {
+            return self.flip(place);
+        }
+        self.put(written)
     }
 }
 
@@ -88,6 +135,7 @@ impl Keeper for RowKeeper {
     ghost faults = { λ k. ⟦<MemKeeper as Keeper>⟧.faults k.keeper };
 
     fn load(&mut self, name: &str, most: u64) -> Result<Reading, Refused> {
+        self.calls = self.calls.saturating_add(1);
         let reading = self.keeper.load(name, most)?;
         if self.is_longer {
             self.is_longer = false;
@@ -97,6 +145,7 @@ impl Keeper for RowKeeper {
     }
 
     fn replace(&mut self, name: &str, bytes: &[u8]) -> Result<(), Failed> {
+        self.calls = self.calls.saturating_add(1);
         self.keeper.replace(name, bytes)
     }
 }

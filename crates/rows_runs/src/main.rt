@@ -3,9 +3,11 @@
 
 mod calls;
 mod classes;
+mod damages;
 mod kept;
 mod notes;
 mod outcome;
+mod place;
 mod put;
 mod ran;
 mod runs;
@@ -13,6 +15,7 @@ mod sequences;
 mod settings;
 mod sources;
 
+use damages::Damages;
 use notes::Notes;
 use pj_rows::Run;
 use runs::Runs;
@@ -43,6 +46,7 @@ fn main(rt: HostRuntime) -> ExitCode {
         run.table(file, &Runs);
     }
     run.table("caches.rows", &Sequences);
+    run.table("damages.rows", &Damages);
     run.table("settings.rows", &SettingsTable);
     run.table("notes.rows", &Notes);
     run.table("sources.rows", &Sources);
