@@ -211,9 +211,9 @@ parts_all paths all before after parted reused analysed = record {
 -- the names asked in the end are those of the files
 pub looks_all : {K : Type 0} (t u v : Told K) (set : EffectiveRules) (found : Cache) (list : List File) (entries : List Entry) (c : Cache) → ((meant : List Rule) → AreRulesOf set meant → Asks (asked_at_all found set meant list) t u (Ok tt))
     → NamesAreAskedAt t set found list entries → Asks (left_cache entries) u v (Ok c) → LooksAtAll t u.asked set found list → LooksAtAll t v.asked set found list
-looks_all t u v set found list entries c asks named then looks = λ files world rules held run own.
+looks_all t u v set found list entries c asks named more looks = λ files world rules held run own.
     let are = are_rules set rules held run.rules_are in
     let before = looks files world rules held run own in
     let far : longest ≤ longest = omega arith in
     let first = asks rules are in
-    (before.0, before.1, then.asked_is (first.same_told ∙ run.is_told) longest far ∙ asks_no_more t u set found list entries rules are named first run.is_told longest far ∙ before.2)
+    (before.0, before.1, more.asked_is (first.same_told ∙ run.is_told) longest far ∙ asks_no_more t u set found list entries rules are named first run.is_told longest far ∙ before.2)

@@ -325,39 +325,39 @@ asks_no_more t u set found list entries meant are named asks = λ is_told depth 
 -- What asks no more behind a meaning that asks is as if it were not there, but that it may be refused.
 pub asks_behind : {K A B : Type 0} (m : Asking A) (n : Asking B) (a : A) (t u v : Told K) (r : Result B AskFault) (s : Result A AskFault) → Asks m t u (Ok a) → Asks n u v r
     → (IsTrue t.is_told → (depth : ℕ) → longest ≤ depth → asked_after depth (u.world depth) u.asked n ≡ u.asked) → s ≡ seen (λ b. a) r → Asks m t v s
-asks_behind {K} {A} {B} m n a t u v (Ok b) s first then none is = subst (λ (x : Result A AskFault). Asks m t v x) (sym is) (record {
-  same_told = then.same_told ∙ first.same_told;
-  same_world = then.same_world ∙ first.same_world;
-  same_kept = then.same_kept ∙ first.same_kept;
-  faults_grow = omega (arith, first.faults_grow, then.faults_grow);
-  faults_stay = then.faults_stay ∙ first.faults_stay;
+asks_behind {K} {A} {B} m n a t u v (Ok b) s first more none is = subst (λ (x : Result A AskFault). Asks m t v x) (sym is) (record {
+  same_told = more.same_told ∙ first.same_told;
+  same_world = more.same_world ∙ first.same_world;
+  same_kept = more.same_kept ∙ first.same_kept;
+  faults_grow = omega (arith, first.faults_grow, more.faults_grow);
+  faults_stay = more.faults_stay ∙ first.faults_stay;
   failed = λ fails. absurd (cc);
   value_is = λ told depth far. first.value_is told depth far;
-  asked_is = λ told depth far. then.asked_is (first.same_told ∙ told) depth far ∙ none told depth far ∙ first.asked_is told depth far;
-  asked_stays = within-trans first.asked_stays then.asked_stays;
-  asked_within = λ told depth far. subst (λ (x : NameSet). IsWithin v.asked x) (none told depth far ∙ first.asked_is told depth far) (then.asked_within (first.same_told ∙ told) depth far);
+  asked_is = λ told depth far. more.asked_is (first.same_told ∙ told) depth far ∙ none told depth far ∙ first.asked_is told depth far;
+  asked_stays = within-trans first.asked_stays more.asked_stays;
+  asked_within = λ told depth far. subst (λ (x : NameSet). IsWithin v.asked x) (none told depth far ∙ first.asked_is told depth far) (more.asked_within (first.same_told ∙ told) depth far);
 })
-asks_behind {K} {A} {B} m n a t u v (Err Memory) s first then none is = subst (λ (x : Result A AskFault). Asks m t v x) (sym is) (record {
-  same_told = then.same_told ∙ first.same_told;
-  same_world = then.same_world ∙ first.same_world;
-  same_kept = then.same_kept ∙ first.same_kept;
-  faults_grow = omega (arith, first.faults_grow, then.faults_grow);
-  faults_stay = then.faults_stay ∙ first.faults_stay;
+asks_behind {K} {A} {B} m n a t u v (Err Memory) s first more none is = subst (λ (x : Result A AskFault). Asks m t v x) (sym is) (record {
+  same_told = more.same_told ∙ first.same_told;
+  same_world = more.same_world ∙ first.same_world;
+  same_kept = more.same_kept ∙ first.same_kept;
+  faults_grow = omega (arith, first.faults_grow, more.faults_grow);
+  faults_stay = more.faults_stay ∙ first.faults_stay;
   failed = λ fails. absurd (cc);
   value_is = λ told depth far. tt;
   asked_is = λ told depth far. tt;
-  asked_stays = within-trans first.asked_stays then.asked_stays;
-  asked_within = λ told depth far. subst (λ (x : NameSet). IsWithin v.asked x) (none told depth far ∙ first.asked_is told depth far) (then.asked_within (first.same_told ∙ told) depth far);
+  asked_stays = within-trans first.asked_stays more.asked_stays;
+  asked_within = λ told depth far. subst (λ (x : NameSet). IsWithin v.asked x) (none told depth far ∙ first.asked_is told depth far) (more.asked_within (first.same_told ∙ told) depth far);
 })
-asks_behind {K} {A} {B} m n a t u v (Err Failed) s first then none is = subst (λ (x : Result A AskFault). Asks m t v x) (sym is) (record {
-  same_told = then.same_told ∙ first.same_told;
-  same_world = then.same_world ∙ first.same_world;
-  same_kept = then.same_kept ∙ first.same_kept;
-  faults_grow = omega (arith, first.faults_grow, then.faults_grow);
+asks_behind {K} {A} {B} m n a t u v (Err Failed) s first more none is = subst (λ (x : Result A AskFault). Asks m t v x) (sym is) (record {
+  same_told = more.same_told ∙ first.same_told;
+  same_world = more.same_world ∙ first.same_world;
+  same_kept = more.same_kept ∙ first.same_kept;
+  faults_grow = omega (arith, first.faults_grow, more.faults_grow);
   faults_stay = tt;
-  failed = λ fails. omega (arith, first.faults_grow, then.failed refl);
+  failed = λ fails. omega (arith, first.faults_grow, more.failed refl);
   value_is = λ told depth far. tt;
   asked_is = λ told depth far. tt;
-  asked_stays = within-trans first.asked_stays then.asked_stays;
-  asked_within = λ told depth far. subst (λ (x : NameSet). IsWithin v.asked x) (none told depth far ∙ first.asked_is told depth far) (then.asked_within (first.same_told ∙ told) depth far);
+  asked_stays = within-trans first.asked_stays more.asked_stays;
+  asked_within = λ told depth far. subst (λ (x : NameSet). IsWithin v.asked x) (none told depth far ∙ first.asked_is told depth far) (more.asked_within (first.same_told ∙ told) depth far);
 })
