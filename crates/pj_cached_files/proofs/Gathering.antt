@@ -1,27 +1,25 @@
 -- What is left of files in a run over an oracle, with one more file behind the others.
-use Rattle.std.proofs.Common.{◌≡◌, ◌∙◌, ◌++◌, Bool, not, List, [], ◌∷◌, Ok, ap, filter, map, refl, subst, sym}
-use Rattle.std.proofs.lemmas.List.{map-append}
+use Rattle.std.proofs.Common.{◌≡◌, ◌≤◌, ◌+◌, ◌∙◌, ◌++◌, ℕ, Bool, not, List, [], ◌∷◌, Ok, ap, arith, filter, length, map, refl, subst, sym}
+use Rattle.std.proofs.lemmas.List.{length-append, length-map, map-append}
 use Rattle.std.specs.FinSet as names_in
 use Rattle.std.specs.List.{AllByRecursion, AllZip}
 use Rattle.std.specs.List.Sorted.{IsStrictlySortedBy}
 use Rattle.pj_cache.specs.Places.{byte_order}
 use Rattle.pj_cache.specs.declared.cache.Cache.{Cache}
 use Rattle.pj_cache.specs.declared.cache.Entry.{Entry}
-use Rattle.pj_cache_format.specs.FormatTwo.{names_of}
 use Rattle.pj_cache_laws.specs.Reported.{all_rows, rows_of}
 use Rattle.pj_cache_laws.specs.Written.{AreFiles, AreWrittenRules, WrittenRule}
 use Rattle.pj_cached_files.proofs.CacheLeft.{cache_in, cache_left, cache_told}
-use Rattle.pj_cached_files.proofs.Naming.{AreWithin, cache_asks, names_within}
-use Rattle.pj_cached_files.proofs.OneMore.{all_last, looked_last, passing_last, put_alike, union_apart, union_none}
+use Rattle.pj_cached_files.proofs.Naming.{asks_no_more}
+use Rattle.pj_cached_files.proofs.OneMore.{all_last, looked_last, passing_last, picked_last, put_alike, union_apart, union_none}
 use Rattle.pj_cached_files.proofs.Rules.{activity_are, are_rules, keys_are}
-use Rattle.pj_cached_files.specs.Asked.{activity, keys_of_set}
-use Rattle.pj_cached_files.specs.Gathered.{Gathers, HasText, path_rows, put_if}
-use Rattle.pj_cached_files.specs.LeftFile.{IsRun, Leaves, Looks}
-use Rattle.pj_cached_files.specs.LeftFiles.{Does, LeavesAll, LooksAtAll}
+use Rattle.pj_cached_files.specs.Asked.{activity, asked_at_all, keys_of_set}
+use Rattle.pj_cached_files.specs.Gathered.{AreParted, Gathers, HasText, ListsGathered, NamesAreAskedAt, put_if}
+use Rattle.pj_cached_files.specs.LeftFile.{IsRun, Leaves, Looks, Reuses, StandsIn}
+use Rattle.pj_cached_files.specs.LeftFiles.{ArePartedBy, Does, LeavesAll, Lists, LooksAtAll, path_rows, picked}
 use Rattle.pj_cached_files.specs.declared.entry.LeftFile.{LeftFile}
 use Rattle.pj_cached_files.specs.declared.files.Gathered.{Gathered}
 use Rattle.pj_findings.specs.Merged.{merge}
-use Rattle.pj_fitting.proofs.Sets.{in_rest}
 use Rattle.pj_fitting.specs.Left.{File, IsLeftCache, IsLeftEntry, rows_at}
 use Rattle.pj_fitting.specs.Looked.{is_reusable}
 use Rattle.pj_fitting.specs.Right.{Files, Key, rules_at}
@@ -31,7 +29,7 @@ use Rattle.pj_left_cache.specs.Leaving.{left_cache}
 use Rattle.pj_left_cache.specs.Said.{said_of_rules}
 use Rattle.pj_names.specs.ClassName.{NameSet}
 use Rattle.pj_names.specs.Held.{AreOne, NeedThemselves}
-use Rattle.pj_names.specs.Told.{Asks, Told, Worlds}
+use Rattle.pj_names.specs.Told.{Asks, Told, Worlds, longest}
 use Rattle.pj_outside.specs.Files.{Bytes}
 use Rattle.pj_reports.specs.declared.rows.FileRows.{FileRows}
 use Rattle.pj_reports.specs.declared.ruled.Ruled.{Ruled}
@@ -44,7 +42,21 @@ use Rattle.pj_workers.specs.declared.work.Work.{Work}
 
 -- ---- the run
 
+-- a run over a right cache stands there, whatever cache it found
+pub stands_in : {K : Type 0} (t : Told K) (set : EffectiveRules) (found : Cache) (files : Files WrittenRule) (world : World) (rules : List Rule) (held : List WrittenRule) → IsRun t set found files world rules held → StandsIn t set files world rules held
+stands_in t set found files world rules held run = record { files_are = run.files_are; rules_are = run.rules_are; is_told = run.is_told; one_world = run.one_world }
+
 -- where the oracle still tells the same world, the run still stands there
+pub stands_later : {K : Type 0} (t u : Told K) (set : EffectiveRules) (files : Files WrittenRule) (world : World) (rules : List Rule) (held : List WrittenRule) → u.is_told ≡ t.is_told → u.world ≡ t.world
+    → StandsIn t set files world rules held → StandsIn u set files world rules held
+stands_later t u set files world rules held same_told same_world run = record {
+  files_are = run.files_are;
+  rules_are = run.rules_are;
+  is_told = same_told ∙ run.is_told;
+  one_world = subst (λ (w : Worlds). AreOne w world) (sym same_world) run.one_world;
+}
+
+-- so it is over a right cache
 pub run_later : {K : Type 0} (t u : Told K) (set : EffectiveRules) (found : Cache) (files : Files WrittenRule) (world : World) (rules : List Rule) (held : List WrittenRule) → u.is_told ≡ t.is_told → u.world ≡ t.world
     → IsRun t set found files world rules held → IsRun u set found files world rules held
 run_later t u set found files world rules held same_told same_world run = record {
@@ -62,30 +74,67 @@ StaysTold set t u = (meant : List Rule) → AreRulesOf set meant → (u.is_told 
 -- ---- files
 
 -- nothing was made of no files
-pub gathers_none : {K : Type 0} (t : Told K) (set : EffectiveRules) (found : Cache) (all : Gathered) → all.entries ≡ [] → all.reused ≡ [] → all.analysed ≡ [] → Gathers t set found [] all
-gathers_none t set found all entries reused analysed = λ files world rules held run. record {
+pub gathers_none : {K : Type 0} (t : Told K) (set : EffectiveRules) (found : Cache) (all : Gathered) → all.entries ≡ [] → Gathers t set found [] all
+gathers_none t set found all entries = λ files world rules held run. record {
   entries = subst (λ (es : List Entry). AllZip (IsLeftEntry files world found held) [] es) (sym entries) tt;
   by_bytes = subst (λ (es : List Entry). AllByRecursion (λ (e : Entry). AreByBytesAt e.head e.results) es) (sym entries) tt;
-  reused = reused;
-  analysed = analysed;
 }
 
 -- what is left of one more file is put behind the others
 pub gathers_last : {K : Type 0} (t u : Told K) (set : EffectiveRules) (found : Cache) (list : List File) (file : File) (all more : Gathered) (left : LeftFile) → StaysTold set t u → Gathers t set found list all → Leaves u set found file left
-    → more.entries ≡ all.entries ++ left.entry ∷ [] → more.reused ≡ put_if left.is_reused all.reused left.entry.path → more.analysed ≡ put_if (not left.is_reused) all.analysed left.entry.path → Gathers t set found (list ++ file ∷ []) more
-gathers_last t u set found list file all more left stays so_far leaves entries reused analysed = λ files world rules held run.
+    → more.entries ≡ all.entries ++ left.entry ∷ [] → Gathers t set found (list ++ file ∷ []) more
+gathers_last t u set found list file all more left stays so_far leaves entries = λ files world rules held run.
     let same = stays rules (are_rules set rules held run.rules_are) in
     let one = leaves files world rules held (run_later t u set found files world rules held same.0 same.1 run) in
     let gathered = so_far files world rules held run in
-    let path_of : File → Bytes = λ f. f.0 in
     record {
       entries = subst (λ (es : List Entry). AllZip (IsLeftEntry files world found held) (list ++ file ∷ []) es) (sym entries)
           (zip_last (IsLeftEntry files world found held) list all.entries file left.entry gathered.entries one.entry);
       by_bytes = subst (λ (es : List Entry). AllByRecursion (λ (e : Entry). AreByBytesAt e.head e.results) es) (sym entries)
           (all_last (λ (e : Entry). AreByBytesAt e.head e.results) all.entries left.entry gathered.by_bytes one.by_bytes);
-      reused = reused ∙ put_alike _ _ _ _ _ _ one.reused gathered.reused one.entry.path ∙ sym (passing_last path_of (is_reusable files found world held) file list);
-      analysed = analysed ∙ put_alike _ _ _ _ _ _ (ap not one.reused) gathered.analysed one.entry.path ∙ sym (passing_last path_of (λ (f : File). not (is_reusable files found world held f)) file list);
     }
+
+-- no path of no files stands in a list
+pub lists_none : {K : Type 0} (t : Told K) (set : EffectiveRules) (found : Cache) (all : Gathered) → all.reused ≡ [] → all.analysed ≡ [] → ListsGathered t set found [] all
+lists_none t set found all reused analysed = λ files world rules held run. record { reused = reused; analysed = analysed }
+
+-- the path of one more file is put behind those of the others
+pub lists_last : {K : Type 0} (t u : Told K) (set : EffectiveRules) (found : Cache) (list : List File) (file : File) (all more : Gathered) (left : LeftFile) → StaysTold set t u → ListsGathered t set found list all → Reuses u set found file left
+    → left.entry.path ≡ file.0 → more.reused ≡ put_if left.is_reused all.reused left.entry.path → more.analysed ≡ put_if (not left.is_reused) all.analysed left.entry.path → ListsGathered t set found (list ++ file ∷ []) more
+lists_last t u set found list file all more left stays so_far reuses path reused analysed = λ files world rules held run.
+    let same = stays rules (are_rules set rules held run.rules_are) in
+    let one = reuses files world rules held (stands_later t u set files world rules held same.0 same.1 run) in
+    let listed = so_far files world rules held run in
+    let path_of : File → Bytes = λ f. f.0 in
+    record {
+      reused = reused ∙ put_alike _ _ _ _ _ _ one listed.reused path ∙ sym (passing_last path_of (is_reusable files found world held) file list);
+      analysed = analysed ∙ put_alike _ _ _ _ _ _ (ap not one) listed.analysed path ∙ sym (passing_last path_of (λ (f : File). not (is_reusable files found world held f)) file list);
+    }
+
+-- the paths of no files are parted into nothing
+pub parted_none : (all : Gathered) → all.reused ≡ [] → all.analysed ≡ [] → AreParted [] all
+parted_none all reused analysed = record { flags = []; as_many = refl; reused = reused; analysed = analysed }
+
+-- one more path comes to one of the lists
+pub parted_last : (list : List File) (file : File) (all more : Gathered) (path : Bytes) (b : Bool) → AreParted (map (λ (f : File). f.0) list) all → path ≡ file.0 → more.reused ≡ put_if b all.reused path → more.analysed ≡ put_if (not b) all.analysed path
+    → AreParted (map (λ (f : File). f.0) (list ++ file ∷ [])) more
+parted_last list file all more path b parted is reused analysed =
+    let paths : List Bytes = map (λ (f : File). f.0) list in
+    let none_left : length (map not parted.flags) ≡ length paths = length-map parted.flags not ∙ parted.as_many in
+    subst (λ (ps : List Bytes). AreParted ps more) (sym (map-append (λ (f : File). f.0) list (file ∷ []))) (record {
+      flags = parted.flags ++ b ∷ [];
+      as_many = length-append parted.flags (b ∷ []) ∙ ap (λ (n : ℕ). n + 1) parted.as_many ∙ sym (length-append paths (file.0 ∷ []));
+      reused = reused ∙ put_alike b b all.reused (picked parted.flags paths) path file.0 refl parted.reused is ∙ sym (picked_last parted.flags paths b file.0 parted.as_many);
+      analysed = analysed ∙ put_alike (not b) (not b) all.analysed (picked (map not parted.flags) paths) path file.0 refl parted.analysed is ∙ sym (picked_last (map not parted.flags) paths (not b) file.0 none_left)
+          ∙ ap (λ (bs : List Bool). picked bs (paths ++ file.0 ∷ [])) (sym (map-append not parted.flags (b ∷ [])));
+    })
+
+-- the paths of entries are those of the files
+pub paths_last : (list : List File) (file : File) (entries more : List Entry) (entry : Entry) → map (λ (e : Entry). e.path) entries ≡ map (λ (f : File). f.0) list → more ≡ entries ++ entry ∷ [] → entry.path ≡ file.0
+    → map (λ (e : Entry). e.path) more ≡ map (λ (f : File). f.0) (list ++ file ∷ [])
+paths_last list file entries more entry so_far put is =
+    ap (λ (es : List Entry). map (λ (e : Entry). e.path) es) put ∙ map-append (λ (e : Entry). e.path) entries (entry ∷ [])
+    ∙ (λ i. so_far i ++ is i ∷ []) ∙ sym (map-append (λ (f : File). f.0) list (file ∷ []))
 
 -- so are its rows
 pub rows_last : (set : EffectiveRules) (entries more : List Entry) (rows those : List (Bytes × FileRows)) (entry : Entry) → rows ≡ map (path_rows set) entries → more ≡ entries ++ entry ∷ [] → those ≡ rows ++ path_rows set entry ∷ [] → those ≡ map (path_rows set) more
@@ -101,7 +150,7 @@ pub looks_last : {K : Type 0} (t u : Told K) (asked : NameSet) (set : EffectiveR
 looks_last t u asked set found list file stays so_far looks = λ files world rules held run own.
     let same = stays rules (are_rules set rules held run.rules_are) in
     let before = so_far files world rules held run own in
-    let now = looks files world rules held (run_later t u set found files world rules held same.0 same.1 run) (subst (λ (w : Worlds). NeedThemselves w) (sym same.1) own) in
+    let now = looks files world rules held (stands_later t u set files world rules held same.0 same.1 run) (subst (λ (w : Worlds). NeedThemselves w) (sym same.1) own) in
     (names_in.union before.0 now.0, looked_last files found world held list file before.0 now.0 before.1 now.1, now.2 ∙ ap (λ (s : NameSet). names_in.union s now.0) before.2 ∙ union_apart t.asked before.0 now.0)
 
 -- ---- what is left in the end
@@ -137,22 +186,34 @@ leaves_all t u v set found list all c stays ascending gathers rows texts asks = 
     }
 
 -- the paths are put behind those before
-pub does_all : {K : Type 0} (t : Told K) (set : EffectiveRules) (found : Cache) (list : List File) (all : Gathered) (before after : Work) → Gathers t set found list all → after.reused ≡ before.reused ++ all.reused → after.analysed ≡ before.analysed ++ all.analysed
-    → Does t set found list before after
-does_all t set found list all before after gathers reused analysed = λ files world rules held run.
-    let gathered = gathers files world rules held run in
+pub lists_all : {K : Type 0} (t : Told K) (set : EffectiveRules) (found : Cache) (list : List File) (all : Gathered) (before after : Work) → ListsGathered t set found list all → after.reused ≡ before.reused ++ all.reused → after.analysed ≡ before.analysed ++ all.analysed
+    → Lists t set found list before after
+lists_all t set found list all before after lists reused analysed = λ files world rules held run.
+    let listed = lists files world rules held run in
     record {
-      reused = reused ∙ ap (λ (l : List Bytes). before.reused ++ l) gathered.reused;
-      analysed = analysed ∙ ap (λ (l : List Bytes). before.analysed ++ l) gathered.analysed;
+      reused = reused ∙ ap (λ (l : List Bytes). before.reused ++ l) listed.reused;
+      analysed = analysed ∙ ap (λ (l : List Bytes). before.analysed ++ l) listed.analysed;
     }
 
--- so the names asked in the end are those of the files
-pub looks_all : {K : Type 0} (t u v : Told K) (set : EffectiveRules) (found : Cache) (list : List File) (all : Gathered) (c : Cache) → StaysTold set t u → Gathers t set found list all → Asks (left_cache all.entries) u v (Ok c) → LooksAtAll t u.asked set found list
-    → LooksAtAll t v.asked set found list
-looks_all t u v set found list all c stays gathers asks looks = λ files world rules held run own.
-    let gathered = gathers files world rules held run in
-    let same = stays rules (are_rules set rules held run.rules_are) in
+-- so it is in a run over a right cache
+pub does_all : {K : Type 0} (t : Told K) (set : EffectiveRules) (found : Cache) (list : List File) (before after : Work) → Lists t set found list before after → Does t set found list before after
+does_all t set found list before after lists = λ files world rules held run. lists files world rules held (stands_in t set found files world rules held run)
+
+-- each of them stands in one list
+pub parts_all : (paths : List Bytes) (all : Gathered) (before after : Work) → AreParted paths all → after.reused ≡ before.reused ++ all.reused → after.analysed ≡ before.analysed ++ all.analysed → ArePartedBy paths before after
+parts_all paths all before after parted reused analysed = record {
+  flags = parted.flags;
+  as_many = parted.as_many;
+  reused = reused ∙ ap (λ (l : List Bytes). before.reused ++ l) parted.reused;
+  analysed = analysed ∙ ap (λ (l : List Bytes). before.analysed ++ l) parted.analysed;
+}
+
+-- the names asked in the end are those of the files
+pub looks_all : {K : Type 0} (t u v : Told K) (set : EffectiveRules) (found : Cache) (list : List File) (entries : List Entry) (c : Cache) → ((meant : List Rule) → AreRulesOf set meant → Asks (asked_at_all found set meant list) t u (Ok tt))
+    → NamesAreAskedAt t set found list entries → Asks (left_cache entries) u v (Ok c) → LooksAtAll t u.asked set found list → LooksAtAll t v.asked set found list
+looks_all t u v set found list entries c asks named more looks = λ files world rules held run own.
+    let are = are_rules set rules held run.rules_are in
     let before = looks files world rules held run own in
-    let within : AreWithin u.asked (names_of all.entries) =
-    names_within files world found held list all.entries before.0 u.asked run.right (in_rest t.asked before.0 u.asked before.2) before.1 gathered.entries in
-    (before.0, before.1, cache_asks u v all.entries c (same.0 ∙ run.is_told) (subst (λ (w : Worlds). NeedThemselves w) (sym same.1) own) within asks ∙ before.2)
+    let far : longest ≤ longest = omega arith in
+    let first = asks rules are in
+    (before.0, before.1, more.asked_is (first.same_told ∙ run.is_told) longest far ∙ asks_no_more t u set found list entries rules are named first run.is_told longest far ∙ before.2)

@@ -25,7 +25,7 @@ use Rattle.pj_cached_files.proofs.Reusing.{reused_value}
 use Rattle.pj_cached_files.proofs.Rules.{active_keys_are, activity_are, are_rules, keys_are}
 use Rattle.pj_cached_files.specs.Asked.{active_keys_of, activity, keys_of_set, looked_at, missing_in, missing_numbers, reused_at, reused_by, then_missing}
 use Rattle.pj_cached_files.specs.Completed.{AreMade, AreTogether, IsCompleted, IsUsedAgain, missing_keys}
-use Rattle.pj_cached_files.specs.LeftFile.{IsLeftFile, IsRun, Leaves, Looks}
+use Rattle.pj_cached_files.specs.LeftFile.{IsLeftFile, StandsIn}
 use Rattle.pj_cached_files.specs.Made.{IsClassText, new_result, new_results}
 use Rattle.pj_cached_files.specs.declared.entry.LeftFile.{LeftFile}
 use Rattle.pj_findings.specs.Laws.{IsAscending}
@@ -36,7 +36,7 @@ use Rattle.pj_fitting.proofs.Sorted.{has_in, in_at, none_sorted}
 use Rattle.pj_fitting.proofs.Unserved.{made_is_unserved}
 use Rattle.pj_fitting.specs.Left.{AreLeft, AreLeftBy, File, IsLeftEntry, IsNew, active_keys, entry_at, has_result, kept, missing, results_of, serves}
 use Rattle.pj_fitting.specs.Looked.{AskFor, LookedFile, analysed, has_no_tree, is_reusable, is_served_at, is_there, told as told_of, unserved}
-use Rattle.pj_fitting.specs.Right.{Files, Key, RulesAt, rules_at}
+use Rattle.pj_fitting.specs.Right.{Files, IsRightCache, Key, RulesAt, rules_at}
 use Rattle.pj_left_cache.proofs.ByBytes.{those_that_stay, together}
 use Rattle.pj_left_cache.proofs.MissingLaws.{StandsAt, each_stands, keys_once, missing_keys as keys_missing, none_missing}
 use Rattle.pj_left_cache.specs.Bytes.{AreByBytes, AreByBytesAt, IsByBytes}
@@ -186,7 +186,7 @@ module _ {K : Type 0} (t : Told K) (set : EffectiveRules) (found : Cache) (file 
   pub by_entry : (old : Option Entry) (u : Told K) (r : Result Bool AskFault) → entry_at found file ≡ old → AsksBy old u r → AsksReused u r
   by_entry old u r is asks = subst (λ (o : Option Entry). AsksBy o u r) (sym is) asks
 
-  module _ (files : Files WrittenRule) (world : World) (rules : List Rule) (held : List WrittenRule) (run : IsRun t set found files world rules held) where
+  module _ (files : Files WrittenRule) (world : World) (rules : List Rule) (held : List WrittenRule) (run : StandsIn t set files world rules held) where
     abbrev here : RulesAt WrittenRule
     here = rules_at files file.0 file.1
 
@@ -366,83 +366,85 @@ module _ {K : Type 0} (t : Told K) (set : EffectiveRules) (found : Cache) (file 
 
     -- ---- what is left
 
-    -- of a file without a tree by its old entry
-    pub left_without_tree : (e : Entry) (left : LeftFile) (u : Told K) → entry_at found file ≡ Some e → has_no_tree (Some e) ≡ true → IsUsedAgain file e.head [] left → AsksReused u (Ok left.is_reused) → IsLeftFile files world found held file left
-    left_without_tree e left u is tree again asks =
-        let none : left.entry.results ≡ [] = none_of left.entry.results (length_permutation [] left.entry.results again.results.members) in
-        record {
-          entry = record {
-            path = again.path;
-            bytes = again.bytes;
-            head = again.head_is ∙ old_head files world found held file run.right e is;
-            results = subst (λ (l : List CachedResult). AreLeftBy (files.head file.1) here world found.answers old keys l) (sym none) (left_treeless files world found held file run.right e is tree);
-          };
-          reused = reused_here u left.is_reused asks;
-          by_bytes = subst (λ (h : Head). AreByBytesAt h left.entry.results) (sym (again.head_is ∙ (no_tree_at e tree).1)) none;
-        }
+    -- over a right cache
+    module _ (right : IsRightCache files found) where
+      -- of a file without a tree by its old entry
+      pub left_without_tree : (e : Entry) (left : LeftFile) (u : Told K) → entry_at found file ≡ Some e → has_no_tree (Some e) ≡ true → IsUsedAgain file e.head [] left → AsksReused u (Ok left.is_reused) → IsLeftFile files world found held file left
+      left_without_tree e left u is tree again asks =
+          let none : left.entry.results ≡ [] = none_of left.entry.results (length_permutation [] left.entry.results again.results.members) in
+          record {
+            entry = record {
+              path = again.path;
+              bytes = again.bytes;
+              head = again.head_is ∙ old_head files world found held file right e is;
+              results = subst (λ (l : List CachedResult). AreLeftBy (files.head file.1) here world found.answers old keys l) (sym none) (left_treeless files world found held file right e is tree);
+            };
+            reused = reused_here u left.is_reused asks;
+            by_bytes = subst (λ (h : Head). AreByBytesAt h left.entry.results) (sym (again.head_is ∙ (no_tree_at e tree).1)) none;
+          }
 
-    -- of one whose rules are all served
-    pub left_served : IsInOrder found → (e : Entry) (stay : List CachedResult) (left : LeftFile) (u v : Told K) → entry_at found file ≡ Some e → has_no_tree (Some e) ≡ false → Asks (kept_results found.answers e.results wanted) t u (Ok stay)
-        → missing_numbers set file.0 stay ≡ [] → IsUsedAgain file e.head stay left → AsksReused v (Ok left.is_reused) → IsLeftFile files world found held file left
-    left_served ordered e stay left u v is tree asks none again reused =
-        let kept_asks = subst (λ (o : Option Entry). Asks (kept_results found.answers (results_of o) wanted) t u (Ok stay)) (sym is) asks in
-        let has_tree = ap (λ (o : Option Entry). has_no_tree o) is ∙ tree in
-        let stay_is = stays u stay kept_asks in
-        let no_rules : missing_in set file.0 stay ≡ [] = empty_is (λ (m : ℕ × Key). m.0) (missing_in set file.0 stay) none in
-        record {
-          entry = record {
-            path = again.path;
-            bytes = again.bytes;
-            head = again.head_is ∙ old_head files world found held file run.right e is;
-            results = left_again files world found held file run.right e stay left.entry.results is tree stay_is (missing_here stay ∙ no_rules) again.results.members;
-          };
-          reused = reused_here v left.is_reused reused;
-          by_bytes = subst (λ (h : Head). AreByBytesAt h left.entry.results) (sym (again.head_is ∙ (has_tree_at e tree).1))
-              (all_together stay [] left.entry.results (keys_of_set set) (activity set file.0) (stay_stand ordered has_tree stay stay_is) (All-from_recursion IsByBytes [] tt)
-              (subst (λ (l : List (ℕ × Key)). AllZip (λ (key : Key) (r : CachedResult). keys_of r ≡ key ∷ []) (map (λ (m : ℕ × Key). m.1) l) []) (sym no_rules) tt) again.results);
-        }
+      -- of one whose rules are all served
+      pub left_served : IsInOrder found → (e : Entry) (stay : List CachedResult) (left : LeftFile) (u v : Told K) → entry_at found file ≡ Some e → has_no_tree (Some e) ≡ false → Asks (kept_results found.answers e.results wanted) t u (Ok stay)
+          → missing_numbers set file.0 stay ≡ [] → IsUsedAgain file e.head stay left → AsksReused v (Ok left.is_reused) → IsLeftFile files world found held file left
+      left_served ordered e stay left u v is tree asks none again reused =
+          let kept_asks = subst (λ (o : Option Entry). Asks (kept_results found.answers (results_of o) wanted) t u (Ok stay)) (sym is) asks in
+          let has_tree = ap (λ (o : Option Entry). has_no_tree o) is ∙ tree in
+          let stay_is = stays u stay kept_asks in
+          let no_rules : missing_in set file.0 stay ≡ [] = empty_is (λ (m : ℕ × Key). m.0) (missing_in set file.0 stay) none in
+          record {
+            entry = record {
+              path = again.path;
+              bytes = again.bytes;
+              head = again.head_is ∙ old_head files world found held file right e is;
+              results = left_again files world found held file right e stay left.entry.results is tree stay_is (missing_here stay ∙ no_rules) again.results.members;
+            };
+            reused = reused_here v left.is_reused reused;
+            by_bytes = subst (λ (h : Head). AreByBytesAt h left.entry.results) (sym (again.head_is ∙ (has_tree_at e tree).1))
+                (all_together stay [] left.entry.results (keys_of_set set) (activity set file.0) (stay_stand ordered has_tree stay stay_is) (All-from_recursion IsByBytes [] tt)
+                (subst (λ (l : List (ℕ × Key)). AllZip (λ (key : Key) (r : CachedResult). keys_of r ≡ key ∷ []) (map (λ (m : ℕ × Key). m.1) l) []) (sym no_rules) tt) again.results);
+          }
 
-    -- of one at which rules are looked at
-    abbrev AreResults : Head → List CachedResult → Type 0
-    AreResults head results = AreLeftBy (files.head file.1) here world found.answers old keys results × AreByBytesAt head results
+      -- of one at which rules are looked at
+      abbrev AreResults : Head → List CachedResult → Type 0
+      AreResults head results = AreLeftBy (files.head file.1) here world found.answers old keys results × AreByBytesAt head results
 
-    completed_by : RuleAscends → IsInOrder found → (u : Told K) (stay : List CachedResult) (left : LeftFile) → has_no_tree (entry_at found file) ≡ false → Asks (kept_results found.answers old wanted) t u (Ok stay)
-        → (done : IsCompleted u set file stay left) (o : Result JavaFile FileFault) → outcome_of file.1 ≡ o → AllZip (λ rule came. RestsOn u (rule_meaning java_replies file.0 file.1 rule) came.rows came.names) (rules_in o (chosen (missing_numbers set file.0 stay) rules)) done.are_made.runs
-        → AreResults left.entry.head left.entry.results
-    completed_by up ordered u stay left tree asks done (Ok java) outcome zip =
-        let made = done.made in
-        let runs = done.are_made.runs in
-        let stay_is = stays u stay asks in
-        let came = run_of u asks.same_told asks.same_world stay runs zip in
-        let new = new_of u asks.same_told asks.same_world stay made runs done.are_made.is came in
-        let head : files.head file.1 ≡ heads.Package (package_name java.tree) = run.files_are.head file.1 ∙ ap head_of outcome in
-        let own : left.entry.head ≡ heads.Package (package_name java.tree) = done.head_is ∙ ap head_of outcome in
-        let placed = subst (λ (l : List (ℕ × Key)). AllZip (λ (m : ℕ × Key) r. IsNew here world m.1 r) l made) (missing_here stay) new in (
-          left_with_tree files world found held file run.right (package_name java.tree) left.entry.results head (are_left files world found held file run.right stay made left.entry.results stay_is new done.results.members),
-          subst (λ (h : Head). AreByBytesAt h left.entry.results) (sym own)
-              (all_together stay made left.entry.results (keys_of_set set) (activity set file.0) (stay_stand ordered tree stay stay_is)
-              (made_by_bytes u asks.same_told asks.same_world stay up made runs done.are_made.is came done.are_made.classes) (new_keys u asks.same_told asks.same_world stay made placed) done.results),
-        )
-    completed_by up ordered u stay left tree asks done (Err fault) outcome zip =
-        let head : files.head file.1 ≡ heads.Message (fault_message fault) = run.files_are.head file.1 ∙ ap head_of outcome in
-        let own : left.entry.head ≡ heads.Message (fault_message fault) = done.head_is ∙ ap head_of outcome in
-        let none_old_here : old ≡ [] = none_old files world found held file run.right (fault_message fault) head tree in
-        let no_stay : stay ≡ [] = stays u stay asks ∙ ap (λ (l : List CachedResult). kept found.answers world keys l) none_old_here in
-        let no_runs = none_zipped (λ (rule : Rule) (came : RuleRun). RestsOn u (rule_meaning java_replies file.0 file.1 rule) came.rows came.names) done.are_made.runs zip in
-        let no_made : done.made ≡ [] = done.are_made.is ∙ ap (λ (rs : List RuleRun). new_results (missing_keys set file stay) rs) no_runs ∙ none_made (missing_keys set file stay) in
-        let moved : IsPermutation [] left.entry.results = subst (λ (l : List CachedResult). IsPermutation l left.entry.results) (λ i. no_stay i ++ no_made i) done.results.members in
-        let none : left.entry.results ≡ [] = none_of left.entry.results (length_permutation [] left.entry.results moved) in
-        (subst (λ (h : Head). AreLeftBy h here world found.answers old keys left.entry.results) (sym head) none, subst (λ (h : Head). AreByBytesAt h left.entry.results) (sym own) none)
+      completed_by : RuleAscends → IsInOrder found → (u : Told K) (stay : List CachedResult) (left : LeftFile) → has_no_tree (entry_at found file) ≡ false → Asks (kept_results found.answers old wanted) t u (Ok stay)
+          → (done : IsCompleted u set file stay left) (o : Result JavaFile FileFault) → outcome_of file.1 ≡ o → AllZip (λ rule came. RestsOn u (rule_meaning java_replies file.0 file.1 rule) came.rows came.names) (rules_in o (chosen (missing_numbers set file.0 stay) rules)) done.are_made.runs
+          → AreResults left.entry.head left.entry.results
+      completed_by up ordered u stay left tree asks done (Ok java) outcome zip =
+          let made = done.made in
+          let runs = done.are_made.runs in
+          let stay_is = stays u stay asks in
+          let came = run_of u asks.same_told asks.same_world stay runs zip in
+          let new = new_of u asks.same_told asks.same_world stay made runs done.are_made.is came in
+          let head : files.head file.1 ≡ heads.Package (package_name java.tree) = run.files_are.head file.1 ∙ ap head_of outcome in
+          let own : left.entry.head ≡ heads.Package (package_name java.tree) = done.head_is ∙ ap head_of outcome in
+          let placed = subst (λ (l : List (ℕ × Key)). AllZip (λ (m : ℕ × Key) r. IsNew here world m.1 r) l made) (missing_here stay) new in (
+            left_with_tree files world found held file right (package_name java.tree) left.entry.results head (are_left files world found held file right stay made left.entry.results stay_is new done.results.members),
+            subst (λ (h : Head). AreByBytesAt h left.entry.results) (sym own)
+                (all_together stay made left.entry.results (keys_of_set set) (activity set file.0) (stay_stand ordered tree stay stay_is)
+                (made_by_bytes u asks.same_told asks.same_world stay up made runs done.are_made.is came done.are_made.classes) (new_keys u asks.same_told asks.same_world stay made placed) done.results),
+          )
+      completed_by up ordered u stay left tree asks done (Err fault) outcome zip =
+          let head : files.head file.1 ≡ heads.Message (fault_message fault) = run.files_are.head file.1 ∙ ap head_of outcome in
+          let own : left.entry.head ≡ heads.Message (fault_message fault) = done.head_is ∙ ap head_of outcome in
+          let none_old_here : old ≡ [] = none_old files world found held file right (fault_message fault) head tree in
+          let no_stay : stay ≡ [] = stays u stay asks ∙ ap (λ (l : List CachedResult). kept found.answers world keys l) none_old_here in
+          let no_runs = none_zipped (λ (rule : Rule) (came : RuleRun). RestsOn u (rule_meaning java_replies file.0 file.1 rule) came.rows came.names) done.are_made.runs zip in
+          let no_made : done.made ≡ [] = done.are_made.is ∙ ap (λ (rs : List RuleRun). new_results (missing_keys set file stay) rs) no_runs ∙ none_made (missing_keys set file stay) in
+          let moved : IsPermutation [] left.entry.results = subst (λ (l : List CachedResult). IsPermutation l left.entry.results) (λ i. no_stay i ++ no_made i) done.results.members in
+          let none : left.entry.results ≡ [] = none_of left.entry.results (length_permutation [] left.entry.results moved) in
+          (subst (λ (h : Head). AreLeftBy h here world found.answers old keys left.entry.results) (sym head) none, subst (λ (h : Head). AreByBytesAt h left.entry.results) (sym own) none)
 
-    pub left_completed : RuleAscends → IsInOrder found → (stay : List CachedResult) (left : LeftFile) (u v : Told K) → has_no_tree (entry_at found file) ≡ false → Asks (kept_results found.answers old wanted) t u (Ok stay)
-        → IsCompleted u set file stay left → AsksReused v (Ok left.is_reused) → IsLeftFile files world found held file left
-    left_completed up ordered stay left u v tree asks done reused =
-        let are = completed_by up ordered u stay left tree asks done (outcome_of file.1) refl (done.are_made.rest rules rules_here) in
-        record {
-          entry = record { path = done.path; bytes = done.bytes; head = done.head_is ∙ sym (run.files_are.head file.1); results = are.0 };
-          reused = reused_here v left.is_reused reused;
-          by_bytes = are.1;
-        }
+      pub left_completed : RuleAscends → IsInOrder found → (stay : List CachedResult) (left : LeftFile) (u v : Told K) → has_no_tree (entry_at found file) ≡ false → Asks (kept_results found.answers old wanted) t u (Ok stay)
+          → IsCompleted u set file stay left → AsksReused v (Ok left.is_reused) → IsLeftFile files world found held file left
+      left_completed up ordered stay left u v tree asks done reused =
+          let are = completed_by up ordered u stay left tree asks done (outcome_of file.1) refl (done.are_made.rest rules rules_here) in
+          record {
+            entry = record { path = done.path; bytes = done.bytes; head = done.head_is ∙ sym (run.files_are.head file.1); results = are.0 };
+            reused = reused_here v left.is_reused reused;
+            by_bytes = are.1;
+          }
 
     -- ---- which names are asked
 

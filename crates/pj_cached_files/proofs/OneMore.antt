@@ -1,5 +1,5 @@
 -- Lists and sets of names, with what comes of one more file.
-use Rattle.std.proofs.Common.{◌≡◌, ◌∙◌, ◌++◌, ℕ, Bool, true, false, ◌||◌, List, [], ◌∷◌, ap, filter, map, refl, sym}
+use Rattle.std.proofs.Common.{◌≡◌, ◌∙◌, ◌++◌, ℕ, Bool, true, false, ◌||◌, List, [], ◌∷◌, ap, arith, filter, length, map, refl, sym}
 use Rattle.std.specs.Cmp.Lexicographic.{nat_list_cmp_total}
 use Rattle.std.specs.FinSet as names_in
 use Rattle.std.specs.FinSet.{contains-empty, contains-union}
@@ -7,6 +7,7 @@ use Rattle.std.specs.List.{AllByRecursion}
 use Rattle.std.specs.Prelude.{if◌then◌else◌}
 use Rattle.pj_cache.specs.declared.cache.Cache.{Cache}
 use Rattle.pj_cached_files.specs.Gathered.{put_if}
+use Rattle.pj_cached_files.specs.LeftFiles.{picked}
 use Rattle.pj_fitting.specs.Left.{File}
 use Rattle.pj_fitting.specs.Looked.{Looked, LookedFile}
 use Rattle.pj_fitting.specs.Right.{Files, Together}
@@ -37,6 +38,24 @@ module _ {A : Type 0} (f : A → List ℕ) (p : A → Bool) (x : A) where
   pub passing_last : (xs : List A) → map f (filter p (xs ++ x ∷ [])) ≡ put_if (p x) (map f (filter p xs)) (f x)
   passing_last [] = alone (p x)
   passing_last (y ∷ xs) = behind (p y) y (filter p xs) (filter p (xs ++ x ∷ [])) (passing_last xs)
+
+-- ---- paths in two lists
+
+next_picked : (flag b : Bool) (y x : List ℕ) (more those : List (List ℕ)) → more ≡ put_if b those x → (if flag then y ∷ more else more) ≡ put_if b (if flag then y ∷ those else those) x
+next_picked true true y x more those is = ap (λ (l : List (List ℕ)). y ∷ l) is
+next_picked true false y x more those is = ap (λ (l : List (List ℕ)). y ∷ l) is
+next_picked false b y x more those is = is
+
+one_picked : (b : Bool) (x : List ℕ) → picked (b ∷ []) (x ∷ []) ≡ put_if b [] x
+one_picked true x = refl
+one_picked false x = refl
+
+-- those at whose places `true` stands, with one more
+pub picked_last : (flags : List Bool) (xs : List (List ℕ)) (b : Bool) (x : List ℕ) → length flags ≡ length xs → picked (flags ++ b ∷ []) (xs ++ x ∷ []) ≡ put_if b (picked flags xs) x
+picked_last [] [] b x same = one_picked b x
+picked_last [] (y ∷ ys) b x same = absurd (omega (arith, same))
+picked_last (flag ∷ flags) [] b x same = absurd (omega (arith, same))
+picked_last (flag ∷ flags) (y ∷ ys) b x same = next_picked flag b y x (picked (flags ++ b ∷ []) (ys ++ x ∷ [])) (picked flags ys) (picked_last flags ys b x (omega (arith, same)))
 
 -- paths that are put alike
 pub put_alike : (a b : Bool) (xs ys : List (List ℕ)) (x y : List ℕ) → a ≡ b → xs ≡ ys → x ≡ y → put_if a xs x ≡ put_if b ys y

@@ -7,7 +7,7 @@ use Rattle.pj_fitting.specs.Left.{File, entry_at, results_of}
 use Rattle.pj_fitting.specs.Looked.{has_no_tree, is_there}
 use Rattle.pj_fitting.specs.Right.{Key}
 use Rattle.pj_left_cache.specs.Missing.{keys_of_active, missing_rules}
-use Rattle.pj_names.specs.Asking.{Asking, Return, bind, is_empty}
+use Rattle.pj_names.specs.Asking.{Asking, Return, bind, each, is_empty}
 use Rattle.pj_names.specs.ClassName.{Name}
 use Rattle.pj_names.specs.declared.answer.Answer.{Answer}
 use Rattle.pj_outside.specs.Files.{Bytes}
@@ -59,3 +59,9 @@ reused_by answers set rules file old =
 -- over the cache that was found
 abbrev pub reused_at : Cache → EffectiveRules → List Rule → File → Asking Bool
 reused_at found set rules file = reused_by found.answers set rules file (entry_at found file)
+
+-- ---- files
+
+-- what is asked at files, one after the other, apart from what it comes to
+abbrev pub asked_at_all : Cache → EffectiveRules → List Rule → List File → Asking (Unit {0})
+asked_at_all found set rules list = bind (each (reused_at found set rules) list) (λ reused. Return tt)

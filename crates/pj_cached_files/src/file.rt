@@ -11,7 +11,7 @@ ghost use Rattle.pj_reuse.specs.Serving.{kept_results};
 ghost use Rattle.pj_workers.specs.Rules.{AreRulesOf, Rule as MeantRule};
 ghost use Rattle.pj_cached_files.specs.Asked.{active_keys_of, keys_of_set, looked_at, missing_numbers, reused_at};
 ghost use Rattle.pj_cached_files.specs.Completed.{IsCompleted, IsUsedAgain};
-ghost use Rattle.pj_cached_files.specs.LeftFile.{Leaves, Looks};
+ghost use Rattle.pj_cached_files.specs.LeftFile.{Leaves, Looks, NamesAreAsked, Reuses};
 
 use crate::activity::active_keys;
 use crate::entry::{LeftFile, copied_head, entry_with};
@@ -121,7 +121,10 @@ fn entry_again<O: Oracle>(
     ensures asks { (meant : List MeantRule) → AreRulesOf run.now.rules.now meant
         → Asks (reused_at run.now.found.now run.now.rules.now meant (path.now, bytes.now)) (O.tells oracle.old) (O.tells oracle.new) (seen (λ left. left.is_reused) result) }
     ensures left { IfOk result (Leaves (O.tells oracle.old) run.now.rules.now run.now.found.now (path.now, bytes.now)) }
+    ensures reused { IfOk result (Reuses (O.tells oracle.old) run.now.rules.now run.now.found.now (path.now, bytes.now)) }
     ensures looked { IfOk result (λ _. Looks (O.tells oracle.old) (O.tells oracle.new).asked run.now.rules.now run.now.found.now (path.now, bytes.now)) }
+    ensures named { IfOk result (λ left. NamesAreAsked (O.tells oracle.old) run.now.rules.now run.now.found.now (path.now, bytes.now) left.entry.results) }
+    ensures path { IfOk result (λ left. left.entry.path ≡ path.now) }
 {
     order_is_strict();
     rules_find_nodes();
@@ -152,7 +155,10 @@ fn entry_anew<O: Oracle>(
     ensures asks { (meant : List MeantRule) → AreRulesOf run.now.rules.now meant
         → Asks (reused_at run.now.found.now run.now.rules.now meant (path.now, bytes.now)) (O.tells oracle.old) (O.tells oracle.new) (seen (λ left. left.is_reused) result) }
     ensures left { IfOk result (Leaves (O.tells oracle.old) run.now.rules.now run.now.found.now (path.now, bytes.now)) }
+    ensures reused { IfOk result (Reuses (O.tells oracle.old) run.now.rules.now run.now.found.now (path.now, bytes.now)) }
     ensures looked { IfOk result (λ _. Looks (O.tells oracle.old) (O.tells oracle.new).asked run.now.rules.now run.now.found.now (path.now, bytes.now)) }
+    ensures named { IfOk result (λ left. NamesAreAsked (O.tells oracle.old) run.now.rules.now run.now.found.now (path.now, bytes.now) left.entry.results) }
+    ensures path { IfOk result (λ left. left.entry.path ≡ path.now) }
 {
     order_is_strict();
     rules_find_nodes();
@@ -183,8 +189,13 @@ pub fn file_entry<O: Oracle>(
         → Asks (reused_at run.now.found.now run.now.rules.now meant (path.now, bytes.now)) (O.tells oracle.old) (O.tells oracle.new) (seen (λ left. left.is_reused) result) }
     // Over a right cache the entry is the one that the run has to leave, and the file is used again exactly where it can be.
     ensures left { IfOk result (Leaves (O.tells oracle.old) run.now.rules.now run.now.found.now (path.now, bytes.now)) }
+    // Over any cache, right or not, it is used again where it can be.
+    ensures reused { IfOk result (Reuses (O.tells oracle.old) run.now.rules.now run.now.found.now (path.now, bytes.now)) }
     // The names asked are those by which it is told which results stand, and those for which the other rules ask.
     ensures looked { IfOk result (λ _. Looks (O.tells oracle.old) (O.tells oracle.new).asked run.now.rules.now run.now.found.now (path.now, bytes.now)) }
+    // The classes that the entry names are among them.
+    ensures named { IfOk result (λ left. NamesAreAsked (O.tells oracle.old) run.now.rules.now run.now.found.now (path.now, bytes.now) left.entry.results) }
+    ensures path { IfOk result (λ left. left.entry.path ≡ path.now) }
 {
     order_is_strict();
     match old_entry(run.found, path, bytes) {

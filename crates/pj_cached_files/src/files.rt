@@ -11,10 +11,10 @@ ghost use Rattle.pj_names.specs.Asking.{bind, each};
 ghost use Rattle.pj_names.specs.Told.{Asks, seen};
 ghost use Rattle.pj_peg_grammar.specs.Form.{forms_of};
 ghost use Rattle.pj_workers.specs.Rules.{AreRulesOf, Rule as MeantRule};
-ghost use Rattle.pj_cached_files.specs.Asked.{keys_of_set, reused_at};
-ghost use Rattle.pj_cached_files.specs.Gathered.{Gathers, HasText, apart, asked_at_all, path_rows, put_if};
-ghost use Rattle.pj_cached_files.specs.LeftFile.{Leaves, Looks};
-ghost use Rattle.pj_cached_files.specs.LeftFiles.{Does, LeavesAll, LooksAtAll};
+ghost use Rattle.pj_cached_files.specs.Asked.{asked_at_all, keys_of_set, reused_at};
+ghost use Rattle.pj_cached_files.specs.Gathered.{AreParted, Gathers, HasText, ListsGathered, NamesAreAskedAt, apart, put_if};
+ghost use Rattle.pj_cached_files.specs.LeftFile.{Leaves, Looks, NamesAreAsked, Reuses};
+ghost use Rattle.pj_cached_files.specs.LeftFiles.{ArePartedBy, Does, LeavesAll, Lists, LooksAtAll, path_rows};
 
 use crate::entry::LeftFile;
 use crate::file::file_entry;
@@ -106,7 +106,10 @@ fn next_entry<O: Oracle>(
     ensures asks { (meant : List MeantRule) → AreRulesOf run.now.rules.now meant
         → Asks (reused_at run.now.found.now run.now.rules.now meant file.now) (O.tells oracle.old) (O.tells oracle.new) (seen (λ left. left.is_reused) result) }
     ensures left { IfOk result (Leaves (O.tells oracle.old) run.now.rules.now run.now.found.now file.now) }
+    ensures reused { IfOk result (Reuses (O.tells oracle.old) run.now.rules.now run.now.found.now file.now) }
     ensures looked { IfOk result (λ _. Looks (O.tells oracle.old) (O.tells oracle.new).asked run.now.rules.now run.now.found.now file.now) }
+    ensures named { IfOk result (λ left. NamesAreAsked (O.tells oracle.old) run.now.rules.now run.now.found.now file.now left.entry.results) }
+    ensures path { IfOk result (λ left. left.entry.path ≡ file.now.0) }
 {
     file_entry(alloc, run, oracle, &file.0, &file.1)
 }
@@ -124,9 +127,13 @@ fn gather_files<O: Oracle>(
     ensures asks { (meant : List MeantRule) → AreRulesOf run.now.rules.now meant
         → Asks (asked_at_all run.now.found.now run.now.rules.now meant files.now) (O.tells oracle.old) (O.tells oracle.new) (seen apart result) }
     ensures gathered { IfOk result (Gathers (O.tells oracle.old) run.now.rules.now run.now.found.now files.now) }
+    ensures listed { IfOk result (ListsGathered (O.tells oracle.old) run.now.rules.now run.now.found.now files.now) }
+    ensures parted { IfOk result (AreParted (map (λ file. file.0) files.now)) }
+    ensures paths { IfOk result (λ all. map (λ entry. entry.path) all.entries ≡ map (λ file. file.0) files.now) }
     ensures rows { IfOk result (λ all. all.rows ≡ map (path_rows run.now.rules.now) all.entries) }
     ensures texts { IfOk result (λ all. AllByRecursion HasText all.entries) }
     ensures looked { IfOk result (λ _. LooksAtAll (O.tells oracle.old) (O.tells oracle.new).asked run.now.rules.now run.now.found.now files.now) }
+    ensures named { IfOk result (λ all. NamesAreAskedAt (O.tells oracle.old) run.now.rules.now run.now.found.now files.now all.entries) }
 {
     let mut all = Gathered::new(alloc);
     for file in files {
@@ -168,13 +175,21 @@ pub fn files_over_cache<O: Oracle>(
     // The files are asked about one after the other, and then the answers that are left.
     ensures asks { (meant : List MeantRule) → AreRulesOf run.now.rules.now meant
         → (entries : List EntrySeen) × Asks (bind (each (reused_at run.now.found.now run.now.rules.now meant) files.now) (λ reused. left_cache entries)) (O.tells oracle.old) (O.tells oracle.new) (seen (λ left. left.cache) result) }
+    // The entries name no class that was not asked about at the files, so that the answers are asked for once more, and no other ones: this holds after a refusal, too.
+    ensures asks_files { (meant : List MeantRule) → AreRulesOf run.now.rules.now meant
+        → Asks (asked_at_all run.now.found.now run.now.rules.now meant files.now) (O.tells oracle.old) (O.tells oracle.new) (seen (λ left. tt) result) }
     // Over a right cache, in a world that has classes by their names, the one that is left is the one that the run has to leave, and the rows are what it says.
     ensures left { IfOk result (LeavesAll (O.tells oracle.old) run.now.rules.now run.now.found.now files.now) }
+    // Over any cache, right or not, these are the names asked, and the files that can be used again are.
     ensures looked { IfOk result (λ _. LooksAtAll (O.tells oracle.old) (O.tells oracle.new).asked run.now.rules.now run.now.found.now files.now) }
+    ensures listed { OnOk result (Lists (O.tells oracle.old) run.now.rules.now run.now.found.now files.now work.old work.new) }
     ensures done { OnOk result (Does (O.tells oracle.old) run.now.rules.now run.now.found.now files.now work.old work.new) }
     ensures skipped { work.new.skipped ≡ work.old.skipped }
     ensures err { OnErr result (work.new ≡ work.old) }
-    // This holds also where the oracle tells nothing of its worlds.
+    // What follows holds also where the oracle tells nothing of its worlds.
+    ensures parts { OnOk result (ArePartedBy (map (λ file. file.0) files.now) work.old work.new) }
+    ensures paths { IfOk result (λ left. map (λ entry. entry.path) left.cache.entries ≡ map (λ file. file.0) files.now) }
+    ensures rows { IfOk result (λ left. left.rows ≡ map (path_rows run.now.rules.now) left.cache.entries) }
     ensures ascending { IfOk result (λ left. IsStrictlySortedBy byte_order (map (λ a. a.0) left.cache.answers)) }
 {
     let all = gather_files(alloc, run, oracle, files)?;

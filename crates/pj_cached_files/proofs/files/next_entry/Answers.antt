@@ -8,3 +8,12 @@ returns-clause-left g c = c.file_entry.ensures.left
 
 pub returns-clause-looked : goal.returns-clause-looked
 returns-clause-looked g c = c.file_entry.ensures.looked
+
+pub returns-clause-reused : goal.returns-clause-reused
+returns-clause-reused g c = c.file_entry.ensures.reused
+
+pub returns-clause-named : goal.returns-clause-named
+returns-clause-named g c = c.file_entry.ensures.named
+
+pub returns-clause-path : goal.returns-clause-path
+returns-clause-path g c = c.file_entry.ensures.path
