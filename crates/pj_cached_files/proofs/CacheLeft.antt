@@ -28,12 +28,18 @@ use Rattle.pj_names.proofs.MeaningLaws.{bind-bind}
 use Rattle.pj_names.specs.Asking.{Asking, Return, bind, value_of}
 use Rattle.pj_names.specs.ClassName.{Name}
 use Rattle.pj_names.specs.Held.{AreOne}
-use Rattle.pj_names.specs.Told.{Asks, Told, longest}
+use Rattle.pj_names.specs.Told.{Asks, Told, longest, seen}
 use Rattle.pj_names.specs.declared.answer.Answer.{Answer}
 use Rattle.pj_names.specs.declared.oracle.AskFault.{AskFault}
 
 abbrev World : Type 0
 World = Name → Answer
+
+-- ---- refusals
+
+-- what is asked up to a refusal, whatever is seen of what it is not
+pub asks_up_to : {K A B : Type 0} (meaning : Asking B) (view : A → B) (t u : Told K) (r : Result A AskFault) (e fault : AskFault) → r ≡ Err e → e ≡ fault → Asks meaning t u (Err fault) → Asks meaning t u (seen view r)
+asks_up_to {K} {A} {B} meaning view t u r e fault is same h = subst (λ (w : Result A AskFault). Asks meaning t u (seen view w)) (sym is) (subst (λ (x : AskFault). Asks meaning t u (Err x)) (sym same) h)
 
 -- ---- order
 

@@ -1,10 +1,12 @@
 use Rattle.std.proofs.Common.{◌≡◌, ◌∙◌, List, [], Ok, ap, map, refl, rules, sym}
+use Rattle.std.proofs.lemmas.Result.{err_from_is_err_and}
 use Rattle.pj_cache.specs.declared.cache.Entry.{Entry}
-use Rattle.pj_cached_files.proofs.CacheLeft.{over_refused, over_then}
+use Rattle.pj_cached_files.proofs.CacheLeft.{asks_up_to, over_refused, over_then}
 use Rattle.pj_cached_files.proofs.Gathering.{StaysTold, does_all, leaves_all, lists_all, looks_all, parts_all}
 use Rattle.pj_cached_files.proofs.Naming.{asks_behind, asks_no_more}
 use Rattle.pj_cached_files.specs.Asked.{asked_at_all, reused_at}
 use Rattle.pj_cached_files.specs.LeftFiles.{path_rows}
+use Rattle.pj_cached_files.specs.declared.files.LeftFiles.{LeftFiles}
 use Rattle.pj_fitting.specs.Left.{File}
 use Rattle.pj_left_cache.specs.Leaving.{left_cache}
 use Rattle.pj_names.proofs.Held.{asks-late}
@@ -73,7 +75,10 @@ pub returns-clause-rows : goal.returns-clause-rows
 returns-clause-rows g c = c.in_ok-all.ensures.rows ∙ ap (λ (es : List Entry). map (path_rows c.args.run.now.rules.now) es) (sym c.in_ok-cache.ensures.entries)
 
 pub returns-in_err-all-clause-asks_files : goal.returns-in_err-all-clause-asks_files
-returns-in_err-all-clause-asks_files g c = λ meant are. c.in_err-all.ensures.asks meant are
+returns-in_err-all-clause-asks_files g c = λ meant are.
+    let exit = err_from_is_err_and c.from_residual.result c.from_residual.ensures.1 in
+    asks_up_to (asked_at_all c.args.run.now.found.now c.args.run.now.rules.now meant c.args.files.now) (λ (left : LeftFiles). tt) (g.O.Oracle.tells c.args.oracle.now) (g.O.Oracle.tells c.gather_files.new.oracle)
+    c.from_residual.result exit.0 c.in_err-all.field-0.0 exit.1 exit.2 (c.in_err-all.ensures.asks meant are)
 
 pub returns-in_err-cache-clause-asks_files : goal.returns-in_err-cache-clause-asks_files
 returns-in_err-cache-clause-asks_files g c = λ meant are.

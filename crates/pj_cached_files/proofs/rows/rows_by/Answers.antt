@@ -1,7 +1,7 @@
 use Rattle.std.proofs.Common.{◌≡◌, ◌∙◌, map, subst}
 use Rattle.std.specs.Prelude.{IfOk}
 use Rattle.pj_cached_files.specs.Asked.{activity, keys_of_set}
-use Rattle.pj_cached_files.specs.Gathered.{rows_said}
+use Rattle.pj_cached_files.specs.LeftFiles.{rows_said}
 use Rattle.pj_findings.specs.Merged.{merge}
 use Rattle.pj_findings.specs.declared.run.RuleRun.{RuleRun}
 use Rattle.pj_left_cache.specs.Said.{said_of_rules}
