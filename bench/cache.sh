@@ -143,8 +143,6 @@ def files_by_class(data):
             fault = number(1)
             if fault == 1:
                 number(1), number()
-            elif fault == 2:
-                run()
         return name
 
     def places():
@@ -168,7 +166,7 @@ def files_by_class(data):
     for _ in range(number()):
         run(), run(), run()
         if number(1):
-            run()
+            run(), number()
             continue
         asked = set()
         for _ in range(number()):
@@ -177,6 +175,8 @@ def files_by_class(data):
             for _ in keys:
                 said()
         files.update(names[place] for place in asked)
+    if at != len(data) - 32:
+        sys.exit('the cache does not end where its format says: this script reads it wrong')
     return files
 
 
