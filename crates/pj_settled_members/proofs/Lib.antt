@@ -1,0 +1,4 @@
+pub mod Members
+pub mod Receivers
+pub mod Choosing
+pub mod Tests
