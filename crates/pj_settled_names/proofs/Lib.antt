@@ -1,0 +1,5 @@
+pub mod Outside
+pub mod Resolving
+pub mod Headers
+pub mod Declared
+pub mod FileWorld
