@@ -1,4 +1,4 @@
-//! Types that were found before, and are given again.
+//! Types that were found before, and are given again. What the recursion of types calls here is not inlined, since it would take the stack for it at each level.
 
 ghost use Rattle.std.specs.Prelude.{◌≡◌, ◌≤◌, [], IsTrue, IfOk, IfSome, OnOk};
 ghost use Rattle.std.specs.List.{All};
@@ -147,6 +147,7 @@ impl Typed {
 }
 
 /// Notes the names of a type that was found, and holds it.
+#[inline(never)]
 pub(crate) fn remember(
     noted: &mut ClassNameSet,
     types: &mut Typed,
@@ -179,6 +180,7 @@ fn asked_again<O: Oracle>(oracle: &mut O, ty: &Ty, names: &ClassNames) -> Result
 }
 
 /// A type that is held, for whatever meaning it is held.
+#[inline(never)]
 pub(crate) fn held<O: Oracle>(oracle: &mut O, ty: &Ty, names: &ClassNames) -> Result<Ty, AskFault>
     ensures { (meaning : Asking JavaType)
         → (IsTrue (O.tells oracle.old).is_told → IsHeld (O.tells oracle.old).world meaning (java_type ty.now) (name_set names.now))

@@ -1,6 +1,7 @@
 //! The recursion of types: nodes by their operands, and variables that are declared by `var` by those before them.
 //!
 //! A call recurses as deep as an expression; a variable that is declared by `var` is typed only where those that its own type is made of are held.
+//! What recurses no further is not inlined, since else each level of an expression would take what it needs of the stack.
 
 ghost use Rattle.std.specs.Prelude.{◌≡◌, ◌<◌, ◌≤◌, length, IfOk, IsTrue};
 ghost use Rattle.std.specs.List.{All};
@@ -11,7 +12,9 @@ ghost use Rattle.pj_names.specs.JavaType.{JavaType, java_type, type_list};
 ghost use Rattle.pj_names.specs.Noting.{Notes};
 ghost use Rattle.pj_names.specs.Told.{Asks, seen};
 ghost use Rattle.pj_tree.specs.declared.node.Node.{Node};
+ghost use Rattle.pj_calls.specs.Results.{chosen_result};
 ghost use Rattle.pj_calls.specs.Seen.{candidates_view};
+ghost use Rattle.pj_leaf_types.specs.Variables.{declared_by};
 ghost use Rattle.pj_exprtypes.specs.Calls.{passed_type};
 ghost use Rattle.pj_exprtypes.specs.Seen.{IsVarInside, seen_typing};
 ghost use Rattle.pj_exprtypes.specs.Fits.{Fits};
@@ -22,6 +25,7 @@ use crate::found::Found;
 use crate::held::{Subject, Typed, held, remember};
 use crate::operands::{is_made_of_others, operands, var_operands};
 use crate::variables::{type_with, var_with};
+use pj_base::Numbers;
 use pj_calls::{Candidates, arguments_of, chosen_result, functions_of};
 use pj_leaf_types::declared_by;
 use pj_names::{AskFault, ClassNameSet, ClassNames, Oracle, Recorder, Ty, TyList};
@@ -38,6 +42,36 @@ fn is_to_hold(tree: &SyntaxTree<'_>, left: u32, n: Node) -> bool
         return false;
     }
     is_made_of_others(tree, n)
+}
+
+/// The result of what is chosen among candidates by the types of arguments.
+#[inline(never)]
+fn result_among<O: Oracle>(
+    alloc: Global,
+    oracle: &mut O,
+    candidates: Candidates,
+    arguments: TyList,
+    functions: &Numbers,
+) -> Result<Ty, AskFault>
+    ensures { Asks (chosen_result (candidates_view candidates) (type_list arguments) functions.now) (O.tells oracle.old) (O.tells oracle.new) (seen java_type result) }
+{
+    chosen_result(alloc, oracle, candidates, arguments, functions)
+}
+
+/// The type that the declaration of a variable writes.
+#[inline(never)]
+fn written_type<O: Oracle>(
+    alloc: Global,
+    file: &File<'_>,
+    oracle: &mut O,
+    id: Node,
+    declaration: Node,
+) -> Result<Ty, AskFault>
+    requires id { id.0 < length file.now.nodes }
+    requires declaration { declaration.0 < length file.now.nodes }
+    ensures { Asks (declared_by file.now id declaration) (O.tells oracle.old) (O.tells oracle.new) (seen java_type result) }
+{
+    declared_by(alloc, file, oracle, id, declaration)
 }
 
 /// The type of a node, where nodes are typed at most so deep within one another, and variables by `var` are those before a number.
@@ -187,7 +221,7 @@ fn passed_type<'r, O: Oracle>(
     let nodes = arguments_of(alloc, file.tree(), n)?;
     let arguments = types_of(alloc, file, oracle, types, before, left, nodes.as_slice())?;
     let functions = functions_of(alloc, file.tree(), &nodes)?;
-    chosen_result(alloc, oracle, candidates, arguments, &functions)
+    result_among(alloc, oracle, candidates, arguments, &functions)
 }
 
 /// A type that is held, or is found and then held. An expression is typed where nodes are typed at most so deep within one another.
@@ -293,7 +327,7 @@ fn subject_type<'r, O: Oracle>(
 {
     match subject {
         Subject::Var(id) => var_type(alloc, file, oracle, types, id),
-        Subject::Written { id, declaration } => declared_by(alloc, file, oracle, id, declaration),
+        Subject::Written { id, declaration } => written_type(alloc, file, oracle, id, declaration),
         Subject::Expression { before, n } => {
             by_operands(alloc, file, oracle, types, before, left, n)
         }
@@ -302,6 +336,7 @@ fn subject_type<'r, O: Oracle>(
 
 /// The type of a variable that is declared by `var`, by those before it.
 #[cycle(typing)]
+#[inline(never)]
 #[tactic(auto, using(crate::proofs::Steps::earlier_steps))]
 fn var_type<'r, O: Oracle>(
     alloc: Global,

@@ -185,6 +185,7 @@ fn known_type<O: Oracle>(
 }
 
 /// What tells the type of a node, by its kind and the types of its operands.
+#[inline(never)]
 #[tactic(auto, using(pj_names::proofs::AskingLaws::asking_steps))]
 pub fn type_with<O: Oracle>(
     alloc: Global,
@@ -215,6 +216,7 @@ pub fn type_with<O: Oracle>(
 }
 
 /// The type of a variable that is declared by `var`, by that of its initializer, or of what its enhanced `for` goes through (JLS 14.4.1, 14.14.2).
+#[inline(never)]
 #[tactic(auto, using(pj_names::proofs::AskingLaws::asking_steps))]
 pub fn var_with<O: Oracle>(
     alloc: Global,

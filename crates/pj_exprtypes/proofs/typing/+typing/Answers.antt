@@ -98,11 +98,11 @@ passed_type-returns-clause-asks g t c =
     let nodes : c.as_slice.result.now ≡ arguments_of c.args.file.now c.args.n = search rules in
     let asked = rw nodes at c.in_ok-arguments.ensures.asks in
     let places : c.in_ok-functions.functions ≡ functions_of c.args.file.now c.args.n = search rules in
-    let chosen = rw places at c.chosen_result.ensures in
+    let chosen = rw places at c.result_among.ensures in
     asks-then _ asked chosen
 
 pub passed_type-returns-clause-keeps : goal.passed_type-returns-clause-keeps
-passed_type-returns-clause-keeps g t c = keeps-on c.args.file.now _ c.chosen_result.ensures c.in_ok-arguments.ensures.keeps
+passed_type-returns-clause-keeps g t c = keeps-on c.args.file.now _ c.result_among.ensures c.in_ok-arguments.ensures.keeps
 
 -- ---- nodes, one after the other
 
@@ -200,7 +200,7 @@ pub subject_type-returns-in-Var-clause-asks : goal.subject_type-returns-in-Var-c
 subject_type-returns-in-Var-clause-asks g t c = asks-as (ap (meaning_of c.args.file.now) c.in-Var.is) c.var_type.ensures.asks
 
 pub subject_type-returns-in-Written-clause-asks : goal.subject_type-returns-in-Written-clause-asks
-subject_type-returns-in-Written-clause-asks g t c = asks-as (ap (meaning_of c.args.file.now) c.in-Written.is) c.declared_by.ensures
+subject_type-returns-in-Written-clause-asks g t c = asks-as (ap (meaning_of c.args.file.now) c.in-Written.is) c.written_type.ensures
 
 pub subject_type-returns-in-Expression-clause-asks : goal.subject_type-returns-in-Expression-clause-asks
 subject_type-returns-in-Expression-clause-asks g t c =
