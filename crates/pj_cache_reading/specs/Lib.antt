@@ -1,2 +1,4 @@
+-- bytes without a right seal
+pub mod Unsealed
 -- for private clauses
 pub mod Spelled

@@ -1,0 +1,3 @@
+pub mod ByRule
+pub mod Answering
+pub mod Lone

@@ -1,0 +1,131 @@
+//! Entries carried over.
+ghost use Rattle.std.specs.Prelude.{◌≡◌, ◌<◌, ◌++◌, map, IfOk, OnOk};
+ghost use Rattle.std.specs.List.{All};
+ghost use Rattle.pj_carry.specs.Carried.{carried_entries, carried_entry, key_rows, listed, results_of};
+
+use crate::firsts::First;
+use crate::form::{are_of_rules, lone_message};
+use crate::rows::rows_by_rule;
+use pj_base::{Copied, NoMemory};
+use pj_cache::{
+    CachedResult, Entries, Entry, Group, KeyRows, OldEntries, OldEntry, Results, SharedNames,
+};
+use pj_reports::{FileRows, Head, Ruled};
+use std::alloc::Global;
+
+/// An equal value.
+fn copied_rows(rows: &Ruled) -> Result<Ruled, NoMemory>
+    ensures { IfOk result (λ copy. copy ≡ rows.now) }
+{
+    Ok(match rows {
+        Ruled::Spots(spots) => Ruled::Spots(spots.copied()?),
+        Ruled::Message(message) => Ruled::Message(message.copied()?),
+    })
+}
+
+/// What rows say of the rules of each key: one walk along the rows, and one along the keys.
+fn group_of(
+    alloc: Global,
+    count: usize,
+    firsts: &[First],
+    rows: &FileRows,
+) -> Result<Group, NoMemory>
+    requires { All (λ first. first.1 < count) firsts.now }
+    ensures { IfOk result (λ group. group ≡ map (key_rows rows.now) firsts.now) }
+{
+    let all = rows_by_rule(alloc, count, rows)?;
+    let mut group = Group::new(alloc);
+    for (key, rule) in firsts {
+        let rows = copied_rows(&all[*rule as usize])?;
+        group.push(KeyRows {
+            key: key.copied()?,
+            rows,
+        })?;
+    }
+    Ok(group)
+}
+
+/// One result for all keys, and none without rules.
+fn results_of(
+    alloc: Global,
+    count: usize,
+    firsts: &[First],
+    rows: &FileRows,
+    names: SharedNames,
+) -> Result<Results, NoMemory>
+    requires { All (λ first. first.1 < count) firsts.now }
+    ensures { IfOk result (λ results. results ≡ results_of firsts.now rows.now names) }
+{
+    let mut results = Results::new(alloc);
+    if firsts.is_empty() {
+        return Ok(results);
+    }
+    let group = group_of(alloc, count, firsts, rows)?;
+    results.push(CachedResult { group, names })?;
+    Ok(results)
+}
+
+/// The entry of a file, if its rows are those of a file.
+fn carry_entry(
+    alloc: Global,
+    count: usize,
+    firsts: &[First],
+    old: OldEntry,
+) -> Result<Option<Entry>, NoMemory>
+    requires { All (λ first. first.1 < count) firsts.now }
+    ensures { IfOk result (λ entry. entry ≡ carried_entry firsts.now old) }
+{
+    let OldEntry {
+        path,
+        bytes,
+        names,
+        rows,
+    } = old;
+    if let Some(message) = lone_message(&rows) {
+        let head = Head::Message(message.copied()?);
+        return Ok(Some(Entry {
+            path,
+            bytes,
+            head,
+            results: Results::new(alloc),
+        }));
+    }
+    if !are_of_rules(alloc, &rows)? {
+        return Ok(None);
+    }
+    let results = results_of(alloc, count, firsts, &rows, names)?;
+    let head = Head::Package(rows.package);
+    Ok(Some(Entry {
+        path,
+        bytes,
+        head,
+        results,
+    }))
+}
+
+/// Puts an entry behind others, if there is one.
+fn put_entry(entries: &mut Entries, entry: Option<Entry>) -> Result<(), NoMemory>
+    ensures { OnOk result (entries.new ≡ entries.old ++ listed entry) }
+{
+    if let Some(entry) = entry {
+        entries.push(entry)?;
+    }
+    Ok(())
+}
+
+/// The entries of files whose rows are those of a file.
+pub(crate) fn carry_entries(
+    alloc: Global,
+    count: usize,
+    firsts: &[First],
+    old: OldEntries,
+) -> Result<Entries, NoMemory>
+    requires { All (λ first. first.1 < count) firsts.now }
+    ensures { IfOk result (λ entries. entries ≡ carried_entries firsts.now old) }
+{
+    let mut entries = Entries::new(alloc);
+    for entry in old.into_vec() {
+        put_entry(&mut entries, carry_entry(alloc, count, firsts, entry)?)?;
+    }
+    Ok(entries)
+}

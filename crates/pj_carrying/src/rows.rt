@@ -1,0 +1,121 @@
+//! What the rows of a file say of each rule.
+ghost use Rattle.std.specs.Prelude.{◌≡◌, [], IfOk, OnOk, replicate};
+ghost use Rattle.pj_reports.specs.declared.ruled.Ruled.TheVariants.{Spots};
+ghost use Rattle.pj_carry.specs.Rows.{rows_by_rule, spot_of};
+ghost use Rattle.pj_carrying.specs.ByRule.{with_error, with_errors, with_finding, with_findings, with_message, with_spot, is_message};
+
+use pj_base::{Copied, NoMemory, Text};
+use pj_reports::{FileError, FileRows, Finding, Ruled, Spot, Spots};
+use std::alloc::Global;
+
+/// The node of a finding.
+fn spot_of(finding: &Finding) -> Spot
+    ensures { result ≡ spot_of finding.now }
+{
+    Spot {
+        node: finding.node,
+        begin: finding.begin,
+        end: finding.end,
+        reason: finding.reason,
+    }
+}
+
+/// Puts a node behind those of a rule, unless it has a message.
+fn put_spot(rows: &mut Ruled, spot: Spot) -> Result<(), NoMemory>
+    ensures { OnOk result (rows.new ≡ with_spot rows.old spot) }
+{
+    match rows {
+        Ruled::Spots(spots) => spots.push(spot)?,
+        Ruled::Message(_) => {}
+    }
+    Ok(())
+}
+
+/// Whether a rule has a message.
+fn is_message(rows: &Ruled) -> bool
+    ensures { result ≡ is_message rows.now }
+{
+    match rows {
+        Ruled::Spots(_) => false,
+        Ruled::Message(_) => true,
+    }
+}
+
+/// Puts a message in the place of a rule's nodes, unless it has one.
+fn put_message(rows: &mut Ruled, message: &Text) -> Result<(), NoMemory>
+    ensures { OnOk result (rows.new ≡ with_message rows.old message.now) }
+{
+    if !is_message(rows) {
+        *rows = Ruled::Message(message.copied()?);
+    }
+    Ok(())
+}
+
+/// No nodes, for each of so many rules.
+fn without_rows(alloc: Global, count: usize) -> Result<Vec<Ruled>, NoMemory>
+    ensures { IfOk result (λ all. all.items ≡ replicate count (Spots [])) }
+{
+    let mut all = Vec::new(alloc);
+    for _ in 0..count {
+        all.push(Ruled::Spots(Spots::new(alloc)))?;
+    }
+    Ok(all)
+}
+
+/// Puts a finding to its rule, if it is one of these.
+fn put_finding(all: &mut Vec<Ruled>, finding: &Finding) -> Result<(), NoMemory>
+    ensures { OnOk result (all.new.items ≡ with_finding all.old.items finding.now) }
+{
+    let rule = finding.rule as usize;
+    if rule < all.len() {
+        put_spot(&mut all[rule], spot_of(finding))?;
+    }
+    Ok(())
+}
+
+/// Puts findings to their rules.
+fn put_findings(all: &mut Vec<Ruled>, findings: &[Finding]) -> Result<(), NoMemory>
+    ensures { OnOk result (all.new.items ≡ with_findings all.old.items findings.now) }
+{
+    for finding in findings {
+        put_finding(all, finding)?;
+    }
+    Ok(())
+}
+
+/// Puts an error to its rule, if it has one and it is one of these.
+fn put_error(all: &mut Vec<Ruled>, error: &FileError) -> Result<(), NoMemory>
+    ensures { OnOk result (all.new.items ≡ with_error all.old.items error.now) }
+{
+    if let Some(rule) = error.rule {
+        let rule = rule as usize;
+        if rule < all.len() {
+            put_message(&mut all[rule], &error.message)?;
+        }
+    }
+    Ok(())
+}
+
+/// Puts errors to their rules.
+fn put_errors(all: &mut Vec<Ruled>, errors: &[FileError]) -> Result<(), NoMemory>
+    ensures { OnOk result (all.new.items ≡ with_errors all.old.items errors.now) }
+{
+    for error in errors {
+        put_error(all, error)?;
+    }
+    Ok(())
+}
+
+/// What the rows of a file say of each of so many rules, in one walk along them.
+pub(crate) fn rows_by_rule(
+    alloc: Global,
+    count: usize,
+    rows: &FileRows,
+) -> Result<Vec<Ruled>, NoMemory>
+    ensures { IfOk result (λ all. all.items ≡ rows_by_rule count rows.now) }
+{
+    let mut all = without_rows(alloc, count)?;
+    put_findings(&mut all, rows.findings.as_slice())?;
+    put_errors(&mut all, rows.errors.as_slice())?;
+    Ok(all)
+}

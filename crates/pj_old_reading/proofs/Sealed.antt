@@ -1,0 +1,29 @@
+-- What is read of sealed bytes is what they are as a cache of either format.
+use Rattle.std.proofs.Common.{◌≡◌, ℕ, List, Result, Ok, Err, subst}
+use Rattle.pj_cache.specs.declared.cache.Stored.{Stored}
+use Rattle.pj_cache_format.specs.declared.fault.CacheFault.{CacheFault}
+use Rattle.pj_cache_format.specs.declared.fault.CacheFault.TheVariants as faults
+use Rattle.pj_cache_format.specs.declared.fault.CacheRefused.{CacheRefused}
+use Rattle.pj_cache_format.specs.declared.fault.CacheRefused.TheVariants as refused
+use Rattle.pj_cache_format.specs.Decoded.{content_of, IsSealed}
+use Rattle.pj_cache_reading.specs.Unsealed.{IsUnsealed}
+use Rattle.pj_old_format.specs.AnyStored.{IsAnyDecoded}
+use Rattle.pj_old_reading.specs.Spelled.{IsAnySpelled}
+
+decoded_by : (bytes : List ℕ) (r : Result Stored CacheRefused) → IsSealed bytes → IsAnySpelled (content_of bytes) r → IsAnyDecoded bytes r
+decoded_by bytes (Ok c) s h = record { is_sealed = s; spelled = h }
+decoded_by bytes (Err refused.Memory) s h = tt
+decoded_by bytes (Err (refused.Fault faults.Short)) s h = absurd h
+decoded_by bytes (Err (refused.Fault faults.Magic)) s h = absurd h
+decoded_by bytes (Err (refused.Fault (faults.Seal kept computed))) s h = absurd h
+decoded_by bytes (Err (refused.Fault (faults.Form offset))) s h = (s, h)
+
+pub decoded : (bytes content : List ℕ) (r : Result Stored CacheRefused) → IsSealed bytes → content ≡ content_of bytes → IsAnySpelled content r → IsAnyDecoded bytes r
+decoded bytes content r s e h = decoded_by bytes r s (subst (λ (l : List ℕ). IsAnySpelled l r) e h)
+
+-- what is wrong with the seal is what is wrong with the bytes
+pub not_decoded : (bytes : List ℕ) (f : CacheFault) → IsUnsealed bytes f → IsAnyDecoded bytes (Err (refused.Fault f))
+not_decoded bytes faults.Short h = h
+not_decoded bytes faults.Magic h = h
+not_decoded bytes (faults.Seal kept computed) h = h
+not_decoded bytes (faults.Form offset) h = absurd h

@@ -1,0 +1,3 @@
+-- for private clauses
+pub mod Copied
+pub mod Spelled

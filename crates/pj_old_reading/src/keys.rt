@@ -1,0 +1,217 @@
+//! Reading the key of a list of rules. Each call puts what it reads at the end of a copy, and gives the place behind.
+ghost use Rattle.std.specs.Prelude.{◌≡◌, ◌≤◌, ◌^◌, true, length, map, MatchOption};
+ghost use Rattle.std.specs.Str.{all_ascii_digits};
+ghost use Rattle.pj_format.specs.Format.{first};
+ghost use Rattle.pj_format.specs.Fields.{Gives};
+ghost use Rattle.pj_old_format.specs.ListKeys.{is_number, value_of, is_top, is_priority, tested, all_tested, members, listed, rule, list_key};
+ghost use Rattle.pj_old_reading.specs.Copied.{Copies, test_of};
+
+use pj_base::Bytes;
+use pj_cache_format::put_bytes;
+use pj_cache_reading::{is_text, or_memory, wrong};
+use pj_format::{Refused, sized_of};
+use std::alloc::Global;
+
+/// What a text of a key is to be.
+#[derive(Clone, Copy, Debug)]
+pub(crate) enum Test {
+    /// A text.
+    Word,
+    /// The number of a top ruleset.
+    Top,
+    /// A priority.
+    Priority,
+}
+
+/// Whether each byte is a decimal digit.
+fn are_digits(bytes: &[u8]) -> bool
+    ensures { result ≡ all_ascii_digits bytes.now }
+{
+    for byte in bytes {
+        if !byte.is_ascii_digit() {
+            return false;
+        }
+    }
+    true
+}
+
+/// Whether bytes are decimal digits without leading zeros.
+fn is_number(bytes: &[u8]) -> bool
+    ensures { result ≡ is_number bytes.now }
+{
+    is_text(bytes) && are_digits(bytes) && 0 < bytes.len() && (bytes.len() == 1 || bytes[0] != b'0')
+}
+
+/// The number that digits write, or `None` where it is not below 2^32.
+fn value_of(bytes: &[u8]) -> Option<u32>
+    requires { is_number bytes.now ≡ true }
+    ensures { MatchOption result (2 ^ 32 ≤ value_of bytes.now) (λ n. n ≡ value_of bytes.now) }
+{
+    match str::from_utf8(bytes) {
+        Ok(text) => match text.parse::<u32>() {
+            Ok(number) => Some(number),
+            Err(_) => None,
+        },
+        Err(_) => None,
+    }
+}
+
+/// Whether bytes are the number of a top ruleset.
+fn is_top(bytes: &[u8]) -> bool
+    ensures { result ≡ is_top bytes.now }
+{
+    is_number(bytes) && value_of(bytes).is_some()
+}
+
+/// Whether bytes are a priority.
+fn is_priority(bytes: &[u8]) -> bool
+    ensures { result ≡ is_priority bytes.now }
+{
+    bytes.len() == 1 && b'0' < bytes[0] && bytes[0] < b'6'
+}
+
+/// Whether bytes pass a test.
+fn passes(test: Test, bytes: &[u8]) -> bool
+    ensures { result ≡ test_of test bytes.now }
+{
+    match test {
+        Test::Word => is_text(bytes),
+        Test::Top => is_top(bytes),
+        Test::Priority => is_priority(bytes),
+    }
+}
+
+/// A text that passes a test.
+#[tactic(auto, using(pj_format::proofs::Laws::reads), unfolding(pj_old_format::specs::ListKeys::tested))]
+fn copy_tested(copy: &mut Vec<u8>, bytes: &[u8], at: u32, test: Test) -> Result<u32, Refused>
+    requires { length bytes.now ≤ 4294967294 }
+    ensures { Copies (tested (test_of test)) bytes.now at copy.old.items copy.new.items result }
+{
+    let (found, behind) = sized_of(bytes, at)?;
+    if !passes(test, found) {
+        return Err(wrong(at));
+    }
+    or_memory(put_bytes(copy, found))?;
+    Ok(behind)
+}
+
+/// Texts that pass tests, one behind another.
+fn copy_all(copy: &mut Vec<u8>, bytes: &[u8], at: u32, tests: &[Test]) -> Result<u32, Refused>
+    requires { length bytes.now ≤ 4294967294 }
+    ensures { Copies (all_tested (map test_of tests.now)) bytes.now at copy.old.items copy.new.items result }
+{
+    let mut place = at;
+    for word in tests {
+        let behind = copy_tested(copy, bytes, place, *word)?;
+        place = behind;
+    }
+    Ok(place)
+}
+
+/// So many members, each of texts that pass tests.
+fn copy_members(
+    copy: &mut Vec<u8>,
+    bytes: &[u8],
+    at: u32,
+    count: u32,
+    tests: &[Test],
+) -> Result<u32, Refused>
+    requires { length bytes.now ≤ 4294967294 }
+    ensures { Copies (members (all_tested (map test_of tests.now)) count) bytes.now at copy.old.items copy.new.items result }
+{
+    let mut place = at;
+    for _ in 0..count {
+        let behind = copy_all(copy, bytes, place, tests)?;
+        place = behind;
+    }
+    Ok(place)
+}
+
+/// As many members as a number tells, behind it. Where 32 bits do not tell how many, the bytes end before all of them are read.
+fn copy_list(copy: &mut Vec<u8>, bytes: &[u8], at: u32, tests: &[Test]) -> Result<u32, Refused>
+    requires { length bytes.now ≤ 4294967294 }
+    ensures { Copies (listed (all_tested (map test_of tests.now))) bytes.now at copy.old.items copy.new.items result }
+{
+    let (digits, from) = sized_of(bytes, at)?;
+    if !is_number(digits) {
+        return Err(wrong(at));
+    }
+    or_memory(put_bytes(copy, digits))?;
+    match value_of(digits) {
+        Some(count) => copy_members(copy, bytes, from, count, tests),
+        None => {
+            copy_members(copy, bytes, from, u32::MAX, tests)?;
+            Err(Refused::Memory)
+        }
+    }
+}
+
+/// A rule.
+fn copy_rule(copy: &mut Vec<u8>, bytes: &[u8], at: u32) -> Result<u32, Refused>
+    requires { length bytes.now ≤ 4294967294 }
+    ensures { Copies rule bytes.now at copy.old.items copy.new.items result }
+{
+    let words = [
+        Test::Top,
+        Test::Word,
+        Test::Word,
+        Test::Word,
+        Test::Priority,
+        Test::Word,
+    ];
+    let behind = copy_all(copy, bytes, at, &words)?;
+    let behind = copy_list(copy, bytes, behind, &[Test::Word, Test::Word, Test::Word])?;
+    let behind = copy_list(copy, bytes, behind, &[Test::Word])?;
+    copy_list(copy, bytes, behind, &[Test::Word])
+}
+
+/// So many rules.
+fn copy_rules(copy: &mut Vec<u8>, bytes: &[u8], at: u32, count: u32) -> Result<u32, Refused>
+    requires { length bytes.now ≤ 4294967294 }
+    ensures { Copies (members rule count) bytes.now at copy.old.items copy.new.items result }
+{
+    let mut place = at;
+    for _ in 0..count {
+        let behind = copy_rule(copy, bytes, place)?;
+        place = behind;
+    }
+    Ok(place)
+}
+
+/// As many rules as a number tells, behind it. Where 32 bits do not tell how many, the bytes end before all of them are read.
+fn copy_rule_list(copy: &mut Vec<u8>, bytes: &[u8], at: u32) -> Result<u32, Refused>
+    requires { length bytes.now ≤ 4294967294 }
+    ensures { Copies (listed rule) bytes.now at copy.old.items copy.new.items result }
+{
+    let (digits, from) = sized_of(bytes, at)?;
+    if !is_number(digits) {
+        return Err(wrong(at));
+    }
+    or_memory(put_bytes(copy, digits))?;
+    match value_of(digits) {
+        Some(count) => copy_rules(copy, bytes, from, count),
+        None => {
+            copy_rules(copy, bytes, from, u32::MAX)?;
+            Err(Refused::Memory)
+        }
+    }
+}
+
+/// The marker, and the rules.
+fn copy_key(copy: &mut Vec<u8>, bytes: &[u8], at: u32) -> Result<u32, Refused>
+    requires { length bytes.now ≤ 4294967294 }
+    ensures { Copies list_key bytes.now at copy.old.items copy.new.items result }
+{
+    let behind = copy_all(copy, bytes, at, &[Test::Word])?;
+    copy_rule_list(copy, bytes, behind)
+}
+
+/// The key of a list of rules.
+pub(crate) fn list_key_of(alloc: Global, bytes: &[u8], at: u32) -> Result<(Bytes, u32), Refused>
+    requires { length bytes.now ≤ 4294967294 }
+    ensures { Gives (λ x. x) result (first list_key bytes.now at) }
+{
+    let mut copy = Vec::new(alloc);
+    let behind = copy_key(&mut copy, bytes, at)?;
+    Ok((Bytes::from_vec(copy), behind))
+}
