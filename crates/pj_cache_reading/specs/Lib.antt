@@ -1,4 +1,2 @@
--- bytes without a right seal
-pub mod Unsealed
 -- for private clauses
 pub mod Spelled

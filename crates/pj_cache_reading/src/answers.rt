@@ -220,7 +220,7 @@ fn several_answers_of(
 
 /// The answers by strictly ascending name, behind their number.
 #[tactic(auto, using(pj_format::proofs::Laws::reads), unfolding(pj_cache_format::specs::Answers::answer_list))]
-pub fn answers_of(alloc: Global, bytes: &[u8], at: u32) -> Result<(Answers, u32), Refused>
+pub(crate) fn answers_of(alloc: Global, bytes: &[u8], at: u32) -> Result<(Answers, u32), Refused>
     requires { length bytes.now ≤ 4294967294 }
     ensures { Gives (λ x. x) result (first answer_list bytes.now at) }
 {

@@ -1,13 +1,12 @@
 //! Reading a cache.
-ghost use Rattle.std.specs.Prelude.{◌≡◌, ◌≤◌, ◌↔◌, ◌&&◌, length, map, take, Some, None, IfOk, IsTrue, MatchResult};
+ghost use Rattle.std.specs.Prelude.{◌≡◌, ◌≤◌, ◌↔◌, ◌&&◌, length, map, take, Some, None, IfOk, IsTrue};
 ghost use Rattle.std.specs.Option.{option_copied};
 ghost use Rattle.pj_format.specs.Format.{first, whole};
 ghost use Rattle.pj_format.specs.Fields.{Gives, several_from};
 ghost use Rattle.pj_cache_format.specs.Judges.{is_language};
 ghost use Rattle.pj_cache_format.specs.FormatTwo.{key, key_list, keys_of, names_of, is_same_list, cache};
-ghost use Rattle.pj_cache_format.specs.Decoded.{IsDecoded, IsSealed, magic, content_of, seal_of, stored};
+ghost use Rattle.pj_cache_format.specs.Decoded.{IsDecoded, magic, content_of, seal_of, stored};
 ghost use Rattle.pj_cache_reading.specs.Spelled.{IsSpelled};
-ghost use Rattle.pj_cache_reading.specs.Unsealed.{IsUnsealed};
 
 use crate::answers::answers_of;
 use crate::entries::entries_of;
@@ -93,7 +92,7 @@ fn names_shared(
 }
 
 /// The names of answers, each to be shared.
-pub fn names_in(alloc: Global, answers: &Answers) -> Result<Vec<SharedName>, NoMemory>
+fn names_in(alloc: Global, answers: &Answers) -> Result<Vec<SharedName>, NoMemory>
     ensures { IfOk result (λ names. names.items ≡ map (λ a. a.0) answers.now) }
 {
     names_shared(alloc, answers.as_slice())
@@ -118,7 +117,7 @@ fn are_named(
 
 /// A cache of format 2, behind the number of the format.
 #[tactic(auto, using(pj_format::proofs::Laws::reads, crate::proofs::Ends::ends), unfolding(pj_cache_format::specs::FormatTwo::cache))]
-pub fn cache_of(alloc: Global, bytes: &[u8], at: u32) -> Result<(Cache, u32), Refused>
+fn cache_of(alloc: Global, bytes: &[u8], at: u32) -> Result<(Cache, u32), Refused>
     requires { length bytes.now ≤ 4294967294 }
     ensures { Gives (λ x. x) result (first cache bytes.now at) }
 {
@@ -193,30 +192,7 @@ fn seal_of(bytes: &[u8]) -> Digest32
     seal
 }
 
-/// All but the seal of bytes, borrowed, where they are sealed as caches are; or what is wrong with them, tested in this order: `Short`
-/// where they are fewer than 44, `Magic` where they do not begin as caches do, `Seal` with the last 32 bytes and the SHA-256 of
-/// those before where these differ. `Form` never comes.
-pub fn sealed_content(bytes: &[u8]) -> Result<&[u8], CacheFault>
-    ensures { MatchResult result (λ content. IsSealed bytes.now × (content.now ≡ content_of bytes.now)) (λ fault. IsUnsealed bytes.now fault) }
-{
-    if bytes.len() < 44 {
-        return Err(CacheFault::Short);
-    }
-    let is_begun = has_magic(bytes);
-    if !is_begun {
-        return Err(CacheFault::Magic);
-    }
-    let content = content_of(bytes);
-    let kept = seal_of(bytes);
-    let computed = digest_of(content);
-    let is_right = is_same(&kept, &computed);
-    if !is_right {
-        return Err(CacheFault::Seal(kept, computed));
-    }
-    Ok(content)
-}
-
-/// The cache of format 2 that bytes spell, or what is wrong with them, tested in this order: `Short` where they are fewer than 44,
+/// The cache that bytes spell, or what is wrong with them, tested in this order: `Short` where they are fewer than 44,
 /// `Magic` where they do not begin as caches do, `Seal` with the last 32 bytes and the SHA-256 of those before where these
 /// differ, `Form` with the first byte of the first field that runs into the seal or breaks a rule of the format. An answer or a
 /// key that no result names, and bytes that are left over, are told behind the last entry.
@@ -226,8 +202,19 @@ pub fn decode(alloc: Global, bytes: &[u8]) -> Result<Cache, CacheRefused>
     requires { length bytes.now ≤ 4294967294 }
     ensures { IsDecoded bytes.now result }
 {
-    match sealed_content(bytes) {
-        Ok(content) => cache_in(alloc, content),
-        Err(fault) => Err(CacheRefused::Fault(fault)),
+    if bytes.len() < 44 {
+        return Err(CacheRefused::Fault(CacheFault::Short));
     }
+    let is_begun = has_magic(bytes);
+    if !is_begun {
+        return Err(CacheRefused::Fault(CacheFault::Magic));
+    }
+    let content = content_of(bytes);
+    let kept = seal_of(bytes);
+    let computed = digest_of(content);
+    let is_right = is_same(&kept, &computed);
+    if !is_right {
+        return Err(CacheRefused::Fault(CacheFault::Seal(kept, computed)));
+    }
+    cache_in(alloc, content)
 }

@@ -15,7 +15,7 @@ use pj_reports::Head;
 use std::alloc::Global;
 
 /// Whether bytes are a path behind another one.
-pub fn is_path_behind(before: Option<&[u8]>, bytes: &[u8]) -> bool
+pub(crate) fn is_path_behind(before: Option<&[u8]>, bytes: &[u8]) -> bool
     ensures { result ≡ is_path_behind (option_copied before.entry) bytes.now }
 {
     is_text(bytes) && is_behind(before, bytes)

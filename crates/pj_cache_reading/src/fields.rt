@@ -15,14 +15,14 @@ use pj_format::{Refused, refused, sized_of};
 use std::alloc::Global;
 
 /// The refusal of a field that breaks a rule, at its first byte.
-pub fn wrong(at: u32) -> Refused
+pub(crate) fn wrong(at: u32) -> Refused
     ensures { result ≡ refusals.Fault (fault 1 at) }
 {
     refused(1, at)
 }
 
 /// Whether bytes are a text.
-pub fn is_text(bytes: &[u8]) -> bool
+pub(crate) fn is_text(bytes: &[u8]) -> bool
     ensures { result ≡ is_utf8 bytes.now }
 {
     match str::from_utf8(bytes) {
@@ -32,7 +32,7 @@ pub fn is_text(bytes: &[u8]) -> bool
 }
 
 /// The text of bytes that are one.
-pub fn made_text(alloc: Global, bytes: &[u8]) -> Result<Text, Refused>
+pub(crate) fn made_text(alloc: Global, bytes: &[u8]) -> Result<Text, Refused>
     requires { is_utf8 bytes.now ≡ true }
     ensures value { IfOk result (λ text. text ≡ bytes.now) }
     ensures memory { IfErr result (λ e. e ≡ refusals.Memory) }
@@ -44,7 +44,7 @@ pub fn made_text(alloc: Global, bytes: &[u8]) -> Result<Text, Refused>
 }
 
 /// The value, or that memory ran out.
-pub fn or_memory<T>(value: Result<T, NoMemory>) -> Result<T, Refused>
+pub(crate) fn or_memory<T>(value: Result<T, NoMemory>) -> Result<T, Refused>
     ensures { MatchResult value (λ x. result ≡ Ok x) (λ e. result ≡ Err refusals.Memory) }
 {
     match value {
@@ -55,7 +55,7 @@ pub fn or_memory<T>(value: Result<T, NoMemory>) -> Result<T, Refused>
 
 /// A text.
 #[tactic(auto, using(pj_format::proofs::Laws::reads), unfolding(pj_cache_format::specs::Judges::text))]
-pub fn text_of(alloc: Global, bytes: &[u8], at: u32) -> Result<(Text, u32), Refused>
+pub(crate) fn text_of(alloc: Global, bytes: &[u8], at: u32) -> Result<(Text, u32), Refused>
     requires { length bytes.now ≤ 4294967294 }
     ensures { Gives (λ x. x) result (first text bytes.now at) }
 {
@@ -97,7 +97,7 @@ pub(crate) fn is_number_behind(before: Option<u32>, number: u32) -> bool
 
 /// Bytes behind their number.
 #[tactic(auto, using(pj_format::proofs::Laws::reads))]
-pub fn bytes_of(alloc: Global, bytes: &[u8], at: u32) -> Result<(Bytes, u32), Refused>
+pub(crate) fn bytes_of(alloc: Global, bytes: &[u8], at: u32) -> Result<(Bytes, u32), Refused>
     requires { length bytes.now ≤ 4294967294 }
     ensures { Gives (λ x. x) result (first sized bytes.now at) }
 {

@@ -146,7 +146,7 @@ fn several_names_of(
 
 /// The names behind their number.
 #[tactic(auto, using(pj_format::proofs::Laws::reads), unfolding(pj_cache_format::specs::FormatTwo::name_list))]
-pub fn names_of(
+pub(crate) fn names_of(
     alloc: Global,
     names: &[SharedName],
     bytes: &[u8],

@@ -11,7 +11,7 @@ use pj_tree::Place;
 use std::alloc::Global;
 
 /// Why a node is not reported, if it is not: what a byte means.
-pub fn reason_of(tag: u8) -> Result<Option<Reason>, u8>
+fn reason_of(tag: u8) -> Result<Option<Reason>, u8>
     ensures { result ≡ reason_of tag }
 {
     if tag == 0 {
@@ -31,7 +31,7 @@ pub fn reason_of(tag: u8) -> Result<Option<Reason>, u8>
 
 /// A line and a column.
 #[tactic(auto, using(pj_format::proofs::Laws::reads), unfolding(pj_cache_format::specs::FormatTwo::place))]
-pub fn place_of(bytes: &[u8], at: u32) -> Result<(Place, u32), Refused>
+fn place_of(bytes: &[u8], at: u32) -> Result<(Place, u32), Refused>
     requires { length bytes.now ≤ 4294967294 }
     ensures { Gives (λ x. x) result (first place bytes.now at) }
 {

@@ -7,7 +7,8 @@ ghost use Rattle.pj_old_format.specs.FormatOne.{old_entry, old_entry_list};
 
 use crate::rows::file_rows_of;
 use pj_cache::{OldEntries, OldEntry, SharedName};
-use pj_cache_reading::{bytes_of, is_path_behind, made_text, names_of, wrong};
+use crate::asked::names_of;
+use crate::fields::{bytes_of, is_path_behind, made_text, wrong};
 use pj_format::{Refused, sized_of, u32_of};
 use std::alloc::Global;
 

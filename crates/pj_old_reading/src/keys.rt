@@ -8,7 +8,7 @@ ghost use Rattle.pj_old_reading.specs.Copied.{Copies, test_of};
 
 use pj_base::Bytes;
 use pj_cache_format::put_bytes;
-use pj_cache_reading::{is_text, or_memory, wrong};
+use crate::fields::{is_text, or_memory, wrong};
 use pj_format::{Refused, sized_of};
 use std::alloc::Global;
 

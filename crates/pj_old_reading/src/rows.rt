@@ -4,7 +4,8 @@ ghost use Rattle.pj_format.specs.Format.{first};
 ghost use Rattle.pj_format.specs.Fields.{Gives, several};
 ghost use Rattle.pj_old_format.specs.FormatOne.{finding, finding_list, rule_named, error, error_list, file_rows};
 
-use pj_cache_reading::{place_of, reason_of, text_of, wrong};
+use crate::fields::{text_of, wrong};
+use crate::places::{place_of, reason_of};
 use pj_format::{Refused, u8_of, u32_of};
 use pj_reports::{FileError, FileErrors, FileRows, Finding, Findings};
 use std::alloc::Global;

@@ -12,7 +12,7 @@ use pj_base::{Bytes, NoMemory};
 use pj_cache::{Key, Keys, OldCache, Stored};
 use pj_cache_format::{CacheFault, CacheRefused};
 use pj_carrying::carry;
-use pj_old_format::{any_spelled_is_its_text, old_order_is_strict};
+use pj_old_format::{any_spelled_is_its_text, encode_one, old_order_is_strict};
 use pj_old_reading::decode_any;
 use pj_rows::{Row, Section, Table};
 use std::alloc::Global;
@@ -36,6 +36,7 @@ fn answer(alloc: Global, section: &Section, given: &str) -> Result<String, RowFa
         "cut" => faults_of_range(alloc, &cache, given, true),
         "flipped" => faults_of_range(alloc, &cache, given, false),
         "cache" => decoded_text(alloc, &bytes_of(alloc, given)?),
+        "written" => written_text(alloc, &bytes_of(alloc, given)?),
         "carried" => carried_text(alloc, section, &bytes_of(alloc, given)?),
         _ => Err(RowFault::Unread("no such @shows")),
     }
@@ -62,6 +63,30 @@ fn decoded_text(alloc: Global, bytes: &[u8]) -> Result<String, RowFault> {
         Ok(Stored::Two(cache)) => Ok(cache_text(alloc, &cache)?),
         Err(fault) => fault_text(alloc, fault),
     }
+}
+
+/// Whether the text of a cache of format 1 is these bytes.
+fn is_text(alloc: Global, old: &OldCache, bytes: &[u8]) -> Result<bool, NoMemory>
+    requires { IsStrictlySortedBy byte_order (map (λ a. a.0) old.now.answers) }
+{
+    let text = encode_one(alloc, old)?;
+    Ok(text.as_slice() == bytes)
+}
+
+/// Whether the bytes of a cache of format 1 are written again as they are.
+fn written_text(alloc: Global, bytes: &[u8]) -> Result<String, RowFault> {
+    old_order_is_strict();
+    let old = match read(alloc, bytes)? {
+        Ok(Stored::One(old)) => old,
+        Ok(Stored::Two(_)) => return Err(RowFault::Unread("a cache of format 2")),
+        Err(fault) => return fault_text(alloc, fault),
+    };
+    let word = if is_text(alloc, &old, bytes)? {
+        "the same bytes"
+    } else {
+        "other bytes"
+    };
+    Ok(String::from_str(alloc, word)?)
 }
 
 /// The keys of words, each of which is one.

@@ -1,10 +1,5 @@
-use Rattle.pj_format.proofs.Spelling.{read_means}
-use Rattle.pj_old_format.specs.AnyStored.{any_stored}
+use Rattle.pj_old_reading.proofs.Sealed.{long_of}
 use Rattle.pj_old_reading.proofs.decoding.any_in.Goals as goal
 
-pub returns-in-Ok : goal.returns-in-Ok
-returns-in-Ok c = read_means 1 any_stored c.args.content.now _ c.in-Ok.ensures
-
-pub returns-in-Err-Fault : goal.returns-in-Err-Fault
-returns-in-Err-Fault c =
-    let e = rw c.in-Err-Fault.field-0-is at c.in-Err-Fault.ensures in (_, read_means 1 any_stored c.args.content.now _ e)
+pub version_of-requires : goal.version_of-requires
+version_of-requires c = long_of c.args.bytes.now c.args.content.now c.requires.is_sealed c.requires.content

@@ -1,7 +1,7 @@
 use Rattle.std.proofs.Common.{sym, ap, ◌∙◌, arith}
 use Rattle.sha2.specs.Sha256.{sha256}
 use Rattle.pj_cache.proofs.Paths.{not_both}
-use Rattle.pj_cache_reading.proofs.decoding.sealed_content.Goals as goal
+use Rattle.pj_old_reading.proofs.sealed.sealed_content.Goals as goal
 
 pub returns-then-not-is_begun : goal.returns-then-not-is_begun
 returns-then-not-is_begun c =
