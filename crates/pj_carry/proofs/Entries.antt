@@ -24,7 +24,7 @@ use Rattle.pj_fitting.proofs.Sets.{of_each}
 use Rattle.pj_fitting.proofs.Among.{inside}
 use Rattle.pj_fitting.proofs.Lists.{all_both, all_joined, all_map}
 use Rattle.pj_fitting.proofs.Right.{come_alike}
-use Rattle.pj_carry.specs.RightOld.{IsMerge, IsRightOldEntry, IsRightOldCache}
+use Rattle.pj_carry.specs.RightOld.{IsMerge, IsRightOldEntry, IsRightOldCache, RuleLists}
 use Rattle.pj_carry.specs.RightOld as old
 use Rattle.pj_carry.proofs.Answers.{IsKept, names_kept}
 use Rattle.pj_carry.proofs.Rules.{all_come}
@@ -104,14 +104,21 @@ no_entries = record { answers = []; entries = [] }
 abbrev whole : {R : Type 0} → Files R → OldCache → List R → Cache
 whole files c held = cache_of c.answers (carried_entries (first_rules (map files.key held)) c.entries)
 
-pub carried_right : {R : Type 0} (files : Files R) (list_key : List R → List ℕ) (merge : Head → List Ruled → FileRows) (c : OldCache) (held : List R) → IsMerge merge → IsRightOldCache files list_key merge c → IsRightCache files (carried c (list_key held) (map files.key held))
-carried_right {R} files list_key merge c held is_merge right = by_key (pointwise nat_eq c.rules (list_key held)) refl where
-  by_key : (b : Bool) → pointwise nat_eq c.rules (list_key held) ≡ b → IsRightCache files (carried c (list_key held) (map files.key held))
-  by_key true is =
-      let same : list_key held ≡ c.rules = sym ((bytes_decides c.rules (list_key held)).0 is) in
-      let carried_is : carried c (list_key held) (map files.key held) ≡ whole files c held = ap (λ (b : Bool). if b then whole files c held else no_entries) is in
-      subst (IsRightCache files) (sym carried_is)
-      (cache_right files merge is_merge c.answers held c.entries (recursion_from_All (IsRightOldEntry files merge c.answers held) c.entries (right held same)))
-  by_key false is =
-      let carried_is : carried c (list_key held) (map files.key held) ≡ no_entries = ap (λ (b : Bool). if b then whole files c held else no_entries) is in
-      subst (IsRightCache files) (sym carried_is) (All-nil (IsRightEntry files []))
+module _ {R L : Type 0} (files : Files R) (lists : RuleLists R L) (merge : Head → List Ruled → FileRows) (c : OldCache) (list : L) where
+  abbrev held : List R
+  held = lists.rules list
+
+  abbrev key : List ℕ
+  key = lists.key list
+
+  pub carried_right : IsMerge merge → IsRightOldCache files lists merge c → IsRightCache files (carried c key (map files.key held))
+  carried_right is_merge right = by_key (pointwise nat_eq c.rules key) refl where
+    by_key : (b : Bool) → pointwise nat_eq c.rules key ≡ b → IsRightCache files (carried c key (map files.key held))
+    by_key true is =
+        let same : key ≡ c.rules = sym ((bytes_decides c.rules key).0 is) in
+        let carried_is : carried c key (map files.key held) ≡ whole files c held = ap (λ (b : Bool). if b then whole files c held else no_entries) is in
+        subst (IsRightCache files) (sym carried_is)
+        (cache_right files merge is_merge c.answers held c.entries (recursion_from_All (IsRightOldEntry files merge c.answers held) c.entries (right list same)))
+    by_key false is =
+        let carried_is : carried c key (map files.key held) ≡ no_entries = ap (λ (b : Bool). if b then whole files c held else no_entries) is in
+        subst (IsRightCache files) (sym carried_is) (All-nil (IsRightEntry files []))

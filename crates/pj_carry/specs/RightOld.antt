@@ -46,6 +46,13 @@ pub record IsRightOldEntry {R : Type 0} (files : Files R) (merge : Head → List
   pub ascend : All AreRowsInOrder results
   pub rows_are : e.rows ≡ merge (files.head e.bytes) results
 
--- So each entry of a cache is, for each list of rules that has the cache's key.
-abbrev pub IsRightOldCache : {R : Type 0} → Files R → (List R → List ℕ) → (Head → List Ruled → FileRows) → OldCache → Type 0
-IsRightOldCache {R} files list_key merge c = (held : List R) → list_key held ≡ c.rules → All (IsRightOldEntry files merge c.answers held) c.entries
+-- ---- lists of rules
+
+-- What lists of rules are, as caches of format 1 tell them apart: the rules of each, and its key.
+pub record RuleLists (R L : Type 0) : Type 0 where
+  pub rules : L → List R
+  pub key : L → List ℕ
+
+-- Each entry of a cache is right for each list of rules that has the cache's key.
+abbrev pub IsRightOldCache : {R L : Type 0} → Files R → RuleLists R L → (Head → List Ruled → FileRows) → OldCache → Type 0
+IsRightOldCache {R} {L} files lists merge c = (list : L) → lists.key list ≡ c.rules → All (IsRightOldEntry files merge c.answers (lists.rules list)) c.entries
