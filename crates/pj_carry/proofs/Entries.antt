@@ -5,11 +5,13 @@ use Rattle.std.specs.Cmp.Lexicographic.{bytes_decides, pointwise}
 use Rattle.std.specs.List.{All, AllByRecursion, slice_get}
 use Rattle.std.proofs.lemmas.List.Elements.{All-nil, All-from_recursion, recursion_from_All}
 use Rattle.pj_names.specs.declared.answer.Answer.{Answer}
-use Rattle.pj_names.specs.ClassName.{Name, name_set}
+use Rattle.pj_names.specs.ClassName.{Name, NameSet, name_set}
+use Rattle.pj_names.specs.Meaning.{Source}
 use Rattle.pj_reports.specs.declared.rows.FileRows.{FileRows}
 use Rattle.pj_reports.specs.declared.ruled.Head.{Head}
 use Rattle.pj_reports.specs.declared.ruled.Head.TheVariants as heads
 use Rattle.pj_reports.specs.declared.ruled.Ruled.{Ruled}
+use Rattle.pj_cache_format.specs.Ordered.{AreRowsInOrder}
 use Rattle.pj_cache.specs.declared.cache.CachedResult.{CachedResult}
 use Rattle.pj_cache.specs.declared.cache.Entry.{Entry}
 use Rattle.pj_cache.specs.declared.cache.Cache.{Cache}
@@ -24,14 +26,21 @@ use Rattle.pj_fitting.proofs.Sets.{of_each}
 use Rattle.pj_fitting.proofs.Among.{inside}
 use Rattle.pj_fitting.proofs.Lists.{all_both, all_joined, all_map}
 use Rattle.pj_fitting.proofs.Right.{come_alike}
-use Rattle.pj_carry.specs.RightOld.{IsMerge, IsRightOldEntry, IsRightOldCache, RuleLists}
+use Rattle.pj_carry.specs.RightOld.{ComeToRows, IsMerge, IsRightOldEntry, IsRightOldCache, NodesAscend, RuleLists}
 use Rattle.pj_carry.specs.RightOld as old
 use Rattle.pj_carry.proofs.Answers.{IsKept, names_kept}
 use Rattle.pj_carry.proofs.Rules.{all_come}
 
-module _ {R : Type 0} (files : Files R) (merge : Head → List Ruled → FileRows) (is_merge : IsMerge merge) (answers : List (Name × Answer)) (held : List R) where
+module _ {R : Type 0} (files : Files R) (merge : Head → List Ruled → FileRows) (is_merge : IsMerge merge) (ascend : NodesAscend files) (answers : List (Name × Answer)) (held : List R) where
   abbrev firsts : List First
   firsts = first_rules (map files.key held)
+
+  -- what rules come to has its nodes in order
+  rows_ascend : (path bytes : List ℕ) (source : Source) (rules : List R) (results : List Ruled) (names : NameSet) → ComeToRows (rules_at files path bytes) source rules results names → AllByRecursion AreRowsInOrder results
+  rows_ascend path bytes source [] [] names come = tt
+  rows_ascend path bytes source [] (rows ∷ results) names come = absurd come
+  rows_ascend path bytes source (rule ∷ rules) [] names come = absurd come
+  rows_ascend path bytes source (rule ∷ rules) (rows ∷ results) names come = (ascend path bytes rule source rows come.own come.first, rows_ascend path bytes source rules results come.others come.rest)
 
   module _ (e : OldEntry) (right : IsRightOldEntry files merge answers held e) where
     abbrev here : RulesAt R
@@ -43,7 +52,10 @@ module _ {R : Type 0} (files : Files R) (merge : Head → List Ruled → FileRow
     group_right : (name : List ℕ) → files.head e.bytes ≡ heads.Package name → ComeTo here (old.answers_of answers e) (map (key_rows e.rows) firsts) (name_set e.names)
     group_right name is =
         all_come here (old.answers_of answers e) held right.results (name_set e.names) right.come e.rows
-        (λ i rows at. ap (λ (r : FileRows). rows_of r i) (rows_at (heads.Package name) is) ∙ is_merge.kept name right.results i rows right.ascend at)
+        (λ i rows at. ap (λ (r : FileRows). rows_of r i) (rows_at (heads.Package name) is) ∙ is_merge.kept name right.results i rows in_order at)
+      where
+        in_order : All AreRowsInOrder right.results
+        in_order = All-from_recursion AreRowsInOrder right.results (rows_ascend e.path e.bytes (old.answers_of answers e) held right.results (name_set e.names) right.come)
 
     results_right : (fs : List First) → ComeTo here (old.answers_of answers e) (map (key_rows e.rows) fs) (name_set e.names) → AllByRecursion (IsRight here answers) (results_of fs e.rows e.names)
     results_right [] come = tt
@@ -111,14 +123,14 @@ module _ {R L : Type 0} (files : Files R) (lists : RuleLists R L) (merge : Head 
   abbrev key : List ℕ
   key = lists.key list
 
-  pub carried_right : IsMerge merge → IsRightOldCache files lists merge c → IsRightCache files (carried c key (map files.key held))
-  carried_right is_merge right = by_key (pointwise nat_eq c.rules key) refl where
+  pub carried_right : IsMerge merge → NodesAscend files → IsRightOldCache files lists merge c → IsRightCache files (carried c key (map files.key held))
+  carried_right is_merge ascend right = by_key (pointwise nat_eq c.rules key) refl where
     by_key : (b : Bool) → pointwise nat_eq c.rules key ≡ b → IsRightCache files (carried c key (map files.key held))
     by_key true is =
         let same : key ≡ c.rules = sym ((bytes_decides c.rules key).0 is) in
         let carried_is : carried c key (map files.key held) ≡ whole files c held = ap (λ (b : Bool). if b then whole files c held else no_entries) is in
         subst (IsRightCache files) (sym carried_is)
-        (cache_right files merge is_merge c.answers held c.entries (recursion_from_All (IsRightOldEntry files merge c.answers held) c.entries (right list same)))
+        (cache_right files merge is_merge ascend c.answers held c.entries (recursion_from_All (IsRightOldEntry files merge c.answers held) c.entries (right list same)))
     by_key false is =
         let carried_is : carried c key (map files.key held) ≡ no_entries = ap (λ (b : Bool). if b then whole files c held else no_entries) is in
         subst (IsRightCache files) (sym carried_is) (All-nil (IsRightEntry files []))

@@ -39,14 +39,17 @@ ComeToRows rules source [] (rows ∷ results) names = ⊥
 ComeToRows rules source (rule ∷ held) [] names = ⊥
 ComeToRows rules source (rule ∷ held) (rows ∷ results) names = Together (λ own. Means source (rules.meaning rule) (Gives rows own)) (ComeToRows rules source held results) names
 
--- An entry is right for a list of rules: its rows are what they come to, merged, and the nodes of each ascend.
+-- An entry is right for some rules: its rows are what they come to, merged.
 pub record IsRightOldEntry {R : Type 0} (files : Files R) (merge : Head → List Ruled → FileRows) (answers : List (Name × Answer)) (held : List R) (e : OldEntry) : Type 0 where
   pub results : List Ruled
   pub come : ComeToRows (rules_at files e.path e.bytes) (answers_of answers e) held results (name_set e.names)
-  pub ascend : All AreRowsInOrder results
   pub rows_are : e.rows ≡ merge (files.head e.bytes) results
 
--- ---- lists of rules
+-- ---- rules and their lists
+
+-- What a rule comes to has its nodes in order, over every source.
+abbrev pub NodesAscend : {R : Type 0} → Files R → Type 0
+NodesAscend {R} files = (path bytes : List ℕ) (rule : R) (source : Source) (rows : Ruled) (names : NameSet) → Means source (files.meaning path bytes rule) (Gives rows names) → AreRowsInOrder rows
 
 -- What lists of rules are, as caches of format 1 tell them apart: the rules of each, and its key.
 pub record RuleLists (R L : Type 0) : Type 0 where
