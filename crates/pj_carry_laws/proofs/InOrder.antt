@@ -317,11 +317,11 @@ whole_in_order old keys o =
     let up : IsAscending key_in firsts = firsts_ascend keys in
     let by : AllByRecursion (λ (e : Entry). AreByBytesAt e.head e.results) es = each_is names ascending classes firsts up (λ (e : Entry). AreByBytesAt e.head e.results) None old.entries (λ e x is. is.by) o.entries in
     let there : AllByRecursion (λ (e : Entry). AllByRecursion (λ (r : CachedResult). AllByRecursion (λ n. has_key names n ≡ true) r.names) e.results) es =
-        each_is names ascending classes firsts up (λ (e : Entry). AllByRecursion (λ (r : CachedResult). AllByRecursion (λ n. has_key names n ≡ true) r.names) e.results) None old.entries (λ e x is. is.there) o.entries in
+    each_is names ascending classes firsts up (λ (e : Entry). AllByRecursion (λ (r : CachedResult). AllByRecursion (λ n. has_key names n ≡ true) r.names) e.results) None old.entries (λ e x is. is.there) o.entries in
     let paths : Chain (λ b (e : Entry). is_path_behind b e.path ≡ true) (λ b e. Some e.path) None es = paths_are names ascending classes firsts up None None old.entries tt o.entries in
     let raw : AllByRecursion (λ n. has_key names n ≡ true) (flat_map (λ (r : CachedResult). r.names) (all_results es)) =
-        all_joined (λ n. has_key names n ≡ true) (λ (r : CachedResult). r.names) (all_results es)
-        (all_joined (λ (r : CachedResult). AllByRecursion (λ n. has_key names n ≡ true) r.names) (λ (e : Entry). e.results) es there) in
+    all_joined (λ n. has_key names n ≡ true) (λ (r : CachedResult). r.names) (all_results es)
+    (all_joined (λ (r : CachedResult). AllByRecursion (λ n. has_key names n ≡ true) r.names) (λ (e : Entry). e.results) es there) in
     let all_there : AllByRecursion (λ n. has_key names n ≡ true) (names_of es) = all_more (λ n. has_key names n ≡ true) [] (flat_map (λ (r : CachedResult). r.names) (all_results es)) tt raw in
     let named : AllByRecursion (λ (n : Name). HasItsName n (world old.answers n)) (names_of es) = each_named old.answers (names_of es) (answers_named None old.answers o.answers) in
     subst (λ (l : List Pair). IsInOrder (record { answers = l; entries = es })) (sym (pairs_there old.answers (names_of es) all_there))

@@ -5,10 +5,10 @@ ghost use Rattle.pj_format.specs.Format.{first};
 ghost use Rattle.pj_format.specs.Fields.{Gives, several_from};
 ghost use Rattle.pj_old_format.specs.FormatOne.{old_entry, old_entry_list};
 
-use crate::rows::file_rows_of;
-use pj_cache::{OldEntries, OldEntry, SharedName};
 use crate::asked::names_of;
 use crate::fields::{bytes_of, is_path_behind, made_text, wrong};
+use crate::rows::file_rows_of;
+use pj_cache::{OldEntries, OldEntry, SharedName};
 use pj_format::{Refused, sized_of, u32_of};
 use std::alloc::Global;
 

@@ -6,9 +6,9 @@ ghost use Rattle.pj_format.specs.Fields.{Gives};
 ghost use Rattle.pj_old_format.specs.ListKeys.{is_number, value_of, is_top, is_priority, tested, all_tested, members, listed, rule, list_key};
 ghost use Rattle.pj_old_reading.specs.Copied.{Copies, test_of};
 
+use crate::fields::{is_text, or_memory, wrong};
 use pj_base::Bytes;
 use pj_cache_format::put_bytes;
-use crate::fields::{is_text, or_memory, wrong};
 use pj_format::{Refused, sized_of};
 use std::alloc::Global;
 
