@@ -1,5 +1,5 @@
 -- The first rules of keys.
-use Rattle.std.proofs.Common.{◌≡◌, ℕ, suc, ◌+◌, ◌<◌, ◌≤◌, Bool, true, false, cond, List, [], ◌∷◌, length, refl, arith}
+use Rattle.std.proofs.Common.{◌≡◌, ℕ, ◌+◌, ◌<◌, ◌≤◌, Bool, true, false, cond, List, [], ◌∷◌, length, refl, arith}
 use Rattle.std.specs.Prelude.{is_some}
 use Rattle.std.specs.List.{AllByRecursion, All}
 use Rattle.std.specs.BTreeMap.{insert_entry, is_at}
@@ -30,7 +30,7 @@ module _ (P : First → Type 0) where
 below_from : (n : ℕ) (held : List First) (rule : ℕ) (keys : List Key) → rule + length keys ≤ n → AllByRecursion (λ (f : First). f.1 < n) held → AllByRecursion (λ (f : First). f.1 < n) (with_rules held rule keys)
 below_from n held rule [] le all = all
 below_from n held rule (key ∷ keys) le all =
-    below_from n (with_rule held key rule) (suc rule) keys (omega (arith, le))
+    below_from n (with_rule held key rule) (rule + 1) keys (omega (arith, le))
     (rule_all (λ (f : First). f.1 < n) held key rule (λ e is. omega (arith, le)) (omega (arith, le)) all)
 
 -- each is one of the rules

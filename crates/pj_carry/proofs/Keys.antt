@@ -22,14 +22,14 @@ HasItsKey keys f = slice_get keys f.1 ≡ Some f.0
 none_more : (a : ℕ) → a ≡ a + 0
 none_more a = omega arith
 
-one_on : (a b : ℕ) → suc a + b ≡ a + suc b
+one_on : (a b : ℕ) → (a + 1) + b ≡ a + suc b
 one_on a b = omega arith
 
 its_from : (keys : List Key) (held : List First) (rule : ℕ) (rest : List Key) → ((j : ℕ) → slice_get keys (rule + j) ≡ slice_get rest j) → AllByRecursion (HasItsKey keys) held → AllByRecursion (HasItsKey keys) (with_rules held rule rest)
 its_from keys held rule [] same all = all
 its_from keys held rule (key ∷ rest) same all =
     let here : slice_get keys rule ≡ Some key = ap (slice_get keys) (none_more rule) ∙ same 0 in
-    its_from keys (with_rule held key rule) (suc rule) rest
+    its_from keys (with_rule held key rule) (rule + 1) rest
     (λ j. ap (slice_get keys) (one_on rule j) ∙ same (suc j))
     (rule_all (HasItsKey keys) held key rule (λ e tied. here ∙ ap (λ (k : Key). Some k) (same_name key e.0 (ap is_eq tied))) here all)
 
@@ -84,14 +84,14 @@ rule_here held k v = by_held (is_there held k) refl where
 
 rules_stay : (held : List First) (rule : ℕ) (keys : List Key) (q : Key) → is_there held q ≡ true → is_there (with_rules held rule keys) q ≡ true
 rules_stay held rule [] q here = here
-rules_stay held rule (key ∷ keys) q here = rules_stay (with_rule held key rule) (suc rule) keys q (rule_stays held key rule q here)
+rules_stay held rule (key ∷ keys) q here = rules_stay (with_rule held key rule) (rule + 1) keys q (rule_stays held key rule q here)
 
 there_from : (held : List First) (rule : ℕ) (keys : List Key) (i : ℕ) (q : Key) → slice_get keys i ≡ Some q → is_there (with_rules held rule keys) q ≡ true
 there_from held rule [] i q at = absurd cc
 there_from held rule (key ∷ keys) zero q at =
     let same : key ≡ q = cc in
-    rules_stay (with_rule held key rule) (suc rule) keys q (ap (λ (k : Key). is_there (with_rule held key rule) k) (sym same) ∙ rule_here held key rule)
-there_from held rule (key ∷ keys) (suc i) q at = there_from (with_rule held key rule) (suc rule) keys i q at
+    rules_stay (with_rule held key rule) (rule + 1) keys q (ap (λ (k : Key). is_there (with_rule held key rule) k) (sym same) ∙ rule_here held key rule)
+there_from held rule (key ∷ keys) (suc i) q at = there_from (with_rule held key rule) (rule + 1) keys i q at
 
 pub are_there : (keys : List Key) (i : ℕ) (q : Key) → slice_get keys i ≡ Some q → is_there (first_rules keys) q ≡ true
 are_there keys i q at = there_from [] 0 keys i q at

@@ -1,5 +1,5 @@
 -- What a cache of format 1 becomes in format 2.
-use Rattle.std.specs.Prelude.{ℕ, suc, Bool, true, false, List, [], ◌∷◌, map, flat_map, nat_eq, is_some, Option, Some, None, if◌then◌else◌}
+use Rattle.std.specs.Prelude.{ℕ, ◌+◌, Bool, true, false, List, [], ◌∷◌, map, flat_map, nat_eq, is_some, Option, Some, None, if◌then◌else◌}
 use Rattle.std.specs.Cmp.Lexicographic.{pointwise}
 use Rattle.std.specs.BTreeMap.{insert_entry, is_at}
 use Rattle.std.specs.Map.{lookup}
@@ -36,7 +36,7 @@ with_rule held key rule = if is_some (lookup (is_at (byte_order key)) held) then
 -- with the keys of rules, the first of which has this number
 abbrev pub with_rules : List First → ℕ → List Key → List First
 with_rules held rule [] = held
-with_rules held rule (key ∷ keys) = with_rules (with_rule held key rule) (suc rule) keys
+with_rules held rule (key ∷ keys) = with_rules (with_rule held key rule) (rule + 1) keys
 
 -- the keys of rules in their order, each once, with the number of its first rule
 abbrev pub first_rules : List Key → List First

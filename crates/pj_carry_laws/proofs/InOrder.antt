@@ -1,5 +1,5 @@
 -- What a cache of format 1 becomes is in order.
-use Rattle.std.proofs.Common.{◌≡◌, ℕ, zero, suc, ◌<◌, Bool, true, false, cond, ◌&&◌, ◌||◌, inl, inr, List, [], ◌∷◌, ◌++◌, length, map, Option, Some, None, refl, sym, ap, subst, ◌∙◌, arith}
+use Rattle.std.proofs.Common.{◌≡◌, ℕ, zero, suc, ◌+◌, ◌<◌, Bool, true, false, cond, ◌&&◌, ◌||◌, inl, inr, List, [], ◌∷◌, ◌++◌, length, map, Option, Some, None, refl, sym, ap, subst, ◌∙◌, arith}
 use Rattle.std.specs.Prelude.{◌⊎◌, nat_eq, if◌then◌else◌}
 use Rattle.std.specs.List.{All, AllByRecursion, IsDistinct, flat_map}
 use Rattle.std.specs.List.Sorted.{IsStrictlySortedBy}
@@ -83,7 +83,7 @@ rule_ascends held k v up = by_held (is_some (lookup (is_at (byte_order k)) held)
 
 rules_ascend : (held : List First) (rule : ℕ) (keys : List Key) → IsAscending key_in held → IsAscending key_in (with_rules held rule keys)
 rules_ascend held rule [] up = up
-rules_ascend held rule (key ∷ keys) up = rules_ascend (with_rule held key rule) (suc rule) keys (rule_ascends held key rule up)
+rules_ascend held rule (key ∷ keys) up = rules_ascend (with_rule held key rule) (rule + 1) keys (rule_ascends held key rule up)
 
 firsts_ascend : (keys : List Key) → IsAscending key_in (first_rules keys)
 firsts_ascend keys = rules_ascend [] 0 keys tt

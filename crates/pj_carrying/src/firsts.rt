@@ -44,14 +44,23 @@ fn listed(alloc: Global, held: &BTreeMap<Key, u32>) -> Result<Vec<First>, NoMemo
     Ok(list)
 }
 
-/// The keys of rules in their order, each once, with the number of its first rule.
-pub(crate) fn first_rules(alloc: Global, keys: &[Key]) -> Result<Vec<First>, NoMemory>
-    ensures firsts { IfOk result (λ firsts. firsts.items ≡ first_rules keys.now) }
-    ensures numbers { IfOk result (λ firsts. All (λ first. first.1 < length keys.now) firsts.items) }
+/// The keys of rules, each with the number of its first rule.
+fn noted_rules(alloc: Global, keys: &[Key]) -> Result<BTreeMap<Key, u32>, NoMemory>
+    ensures { IfOk result (λ held. held.entries ≡ first_rules keys.now) }
 {
     let mut held = BTreeMap::new(alloc);
     for (place, key) in keys.iter().enumerate() {
         note_rule(&mut held, key, rule_number(place)?)?;
     }
-    listed(alloc, &held)
+    Ok(held)
+}
+
+/// The keys of rules in their order, each once, with the number of its first rule.
+pub(crate) fn first_rules(alloc: Global, keys: &[Key]) -> Result<Vec<First>, NoMemory>
+    ensures firsts { IfOk result (λ firsts. firsts.items ≡ first_rules keys.now) }
+    ensures numbers { IfOk result (λ firsts. All (λ first. first.1 < length keys.now) firsts.items) }
+{
+    let held = noted_rules(alloc, keys)?;
+    let firsts = listed(alloc, &held)?;
+    Ok(firsts)
 }
