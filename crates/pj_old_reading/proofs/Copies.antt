@@ -119,6 +119,33 @@ one_test test bytes at =
     regroup (Ok x) = inner at x.1 (passing test x.0)
     regroup (Err f) = refl
 
+-- the number of bytes is cut short
+pub test_fails : (e : Refused) (test : Text → Bool) (bytes : List ℕ) (at : ℕ) → Fails e (first sized bytes at) → Fails e (first (tested test) bytes at)
+test_fails refusals.Memory test bytes at h = tt
+test_fails (refusals.Fault f) test bytes at h =
+    one_test test bytes at ∙ ap (λ (r : Read). r and_then λ x. judged at (passing test x.0) and_then λ y. good (string y) x.1) h
+
+test_read : (test : Text → Bool) (bytes : List ℕ) (at end : ℕ) (words : List ℕ) (b : Bool) → first sized bytes at ≡ Ok (words, end) → test words ≡ b → first (tested test) bytes at ≡ (judged at (if b then Ok words else Err 1) and_then λ y. good (string y) end)
+test_read test bytes at end words b read is =
+    one_test test bytes at
+    ∙ ap (λ (r : Read). r and_then λ x. judged at (passing test x.0) and_then λ y. good (string y) x.1) read
+    ∙ ap (λ (c : Bool). judged at (if c then Ok words else Err 1) and_then λ y. good (string y) end) is
+
+-- the text fails the test
+pub test_wrong : (test : Text → Bool) (bytes : List ℕ) (at end : ℕ) (words : List ℕ) → first sized bytes at ≡ Ok (words, end) → test words ≡ false → first (tested test) bytes at ≡ Err (fault 1 at)
+test_wrong test bytes at end words read is = test_read test bytes at end words false read is
+
+-- it passes the test, and stands at the end of the copy
+pub test_copies : (test : Text → Bool) (bytes : List ℕ) (at end : ℕ) (words old new : List ℕ) → first sized bytes at ≡ Ok (words, end) → test words ≡ true → new ≡ old ++ string words → Copies (tested test) bytes at old new (Ok end)
+test_copies test bytes at end words old new read is put =
+    ap (behind_copy old) (test_read test bytes at end words true read is) ∙ ap (λ (l : List ℕ). good l end) (sym put)
+
+-- ---- an empty copy
+
+pub nothing_before : (r : Read) (copy : List ℕ) (end : ℕ) → behind_copy [] r ≡ good copy end → r ≡ good copy end
+nothing_before (Ok x) copy end e = e
+nothing_before (Err f) copy end e = absurd cc
+
 -- ---- members
 
 abbrev flat : List (List ℕ) → List ℕ

@@ -5,7 +5,7 @@ use Rattle.pj_format.specs.Format.{Format, first, ◌and_then◌}
 use Rattle.pj_format.specs.Fields.{Fails}
 use Rattle.pj_format.specs.declared.fault.Fault.{Fault}
 use Rattle.pj_format.specs.declared.fault.Refused.{Refused}
-use Rattle.pj_old_format.specs.ListKeys.{is_top, is_priority}
+use Rattle.pj_old_format.specs.ListKeys.{◌followed_by◌, all_tested, is_priority, is_top, listed, property_tests, word_tests}
 use Rattle.pj_old_reading.specs.declared.keys.Test.{Test}
 use Rattle.pj_old_reading.specs.declared.keys.Test.TheVariants as tests
 
@@ -23,3 +23,11 @@ abbrev pub test_of : Test → List ℕ → Bool
 test_of tests.Word = is_utf8
 test_of tests.Top = is_top
 test_of tests.Priority = is_priority
+
+-- exclude patterns and include patterns of a rule
+abbrev pub patterns : Format (List ℕ)
+patterns = listed (all_tested word_tests) followed_by listed (all_tested word_tests)
+
+-- its properties and these
+abbrev pub lists : Format (List ℕ)
+lists = listed (all_tested property_tests) followed_by patterns

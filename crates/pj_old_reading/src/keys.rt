@@ -3,8 +3,8 @@ ghost use Rattle.std.specs.Prelude.{◌≡◌, ◌≤◌, ◌^◌, true, length,
 ghost use Rattle.std.specs.Str.{all_ascii_digits};
 ghost use Rattle.pj_format.specs.Format.{first};
 ghost use Rattle.pj_format.specs.Fields.{Gives};
-ghost use Rattle.pj_old_format.specs.ListKeys.{is_number, value_of, is_top, is_priority, tested, all_tested, members, listed, rule, list_key};
-ghost use Rattle.pj_old_reading.specs.Copied.{Copies, test_of};
+ghost use Rattle.pj_old_format.specs.ListKeys.{is_number, value_of, is_top, is_priority, tested, all_tested, members, listed, rule, rule_tests, list_key};
+ghost use Rattle.pj_old_reading.specs.Copied.{Copies, lists, patterns, test_of};
 
 use crate::fields::{is_text, or_memory, wrong};
 use pj_base::Bytes;
@@ -146,10 +146,28 @@ fn copy_list(copy: &mut Vec<u8>, bytes: &[u8], at: u32, tests: &[Test]) -> Resul
     }
 }
 
-/// A rule.
-fn copy_rule(copy: &mut Vec<u8>, bytes: &[u8], at: u32) -> Result<u32, Refused>
+/// Exclude patterns, and include patterns.
+fn copy_patterns(copy: &mut Vec<u8>, bytes: &[u8], at: u32) -> Result<u32, Refused>
     requires { length bytes.now ≤ 4294967294 }
-    ensures { Copies rule bytes.now at copy.old.items copy.new.items result }
+    ensures { Copies patterns bytes.now at copy.old.items copy.new.items result }
+{
+    let behind = copy_list(copy, bytes, at, &[Test::Word])?;
+    copy_list(copy, bytes, behind, &[Test::Word])
+}
+
+/// Properties and patterns.
+fn copy_lists(copy: &mut Vec<u8>, bytes: &[u8], at: u32) -> Result<u32, Refused>
+    requires { length bytes.now ≤ 4294967294 }
+    ensures { Copies lists bytes.now at copy.old.items copy.new.items result }
+{
+    let behind = copy_list(copy, bytes, at, &[Test::Word, Test::Word, Test::Word])?;
+    copy_patterns(copy, bytes, behind)
+}
+
+/// The number of a top ruleset, name, ruleset, message, priority and query.
+fn copy_words(copy: &mut Vec<u8>, bytes: &[u8], at: u32) -> Result<u32, Refused>
+    requires { length bytes.now ≤ 4294967294 }
+    ensures { Copies (all_tested rule_tests) bytes.now at copy.old.items copy.new.items result }
 {
     let words = [
         Test::Top,
@@ -159,10 +177,16 @@ fn copy_rule(copy: &mut Vec<u8>, bytes: &[u8], at: u32) -> Result<u32, Refused>
         Test::Priority,
         Test::Word,
     ];
-    let behind = copy_all(copy, bytes, at, &words)?;
-    let behind = copy_list(copy, bytes, behind, &[Test::Word, Test::Word, Test::Word])?;
-    let behind = copy_list(copy, bytes, behind, &[Test::Word])?;
-    copy_list(copy, bytes, behind, &[Test::Word])
+    copy_all(copy, bytes, at, &words)
+}
+
+/// A rule.
+fn copy_rule(copy: &mut Vec<u8>, bytes: &[u8], at: u32) -> Result<u32, Refused>
+    requires { length bytes.now ≤ 4294967294 }
+    ensures { Copies rule bytes.now at copy.old.items copy.new.items result }
+{
+    let behind = copy_words(copy, bytes, at)?;
+    copy_lists(copy, bytes, behind)
 }
 
 /// So many rules.
