@@ -1,6 +1,6 @@
 -- Laws of what readers of the key put at the end of a copy.
 use Rattle.std.proofs.Common.{◌≡◌, ℕ, zero, suc, ◌+◌, ◌-◌, ◌<◌, ◌≤◌, Bool, true, false, List, [], ◌∷◌, ◌++◌, length, map, drop, get_or, Result, Ok, Err, refl, sym, ap, subst, ◌∙◌, append_assoc, arith}
-use Rattle.std.specs.Prelude.{if◌then◌else◌}
+use Rattle.std.specs.Prelude.{MatchResult, if◌then◌else◌}
 use Rattle.std.specs.List.{flat_map}
 use Rattle.std.proofs.lemmas.List.{append-nil, drop_all, drop_more}
 use Rattle.std.proofs.lemmas.List.Concat.{flat_map-cons}
@@ -313,3 +313,8 @@ pub listed_long : (e : Refused) (item : Format (List ℕ)) (bytes : List ℕ) (a
 listed_long e item bytes at from k digits read is le h =
     back e (first (listed item) bytes at) (listed_behind item bytes digits from) (listed_goes item bytes at from digits read is)
     (behind_fails e (string digits) (first (members item (value_of digits)) bytes from) (more_fail e item k (value_of digits) bytes from le h))
+
+-- so it is of a reader that ends by a fault
+pub too_many_copy : (item : Format (List ℕ)) (k n : ℕ) (bytes : List ℕ) (at : ℕ) (old new : List ℕ) (r : Result ℕ Refused) → k ≤ n → MatchResult r (λ end. ⊥) (λ e. Fails e (first (members item k) bytes at)) → Copies (members item n) bytes at old new r
+too_many_copy item k n bytes at old new (Ok end) le h = absurd h
+too_many_copy item k n bytes at old new (Err e) le h = more_fail e item k n bytes at le h

@@ -1,8 +1,10 @@
 //! Reading the key of a list of rules. Each call puts what it reads at the end of a copy, and gives the place behind.
-ghost use Rattle.std.specs.Prelude.{◌≡◌, ◌≤◌, ◌^◌, true, length, map, MatchOption};
+ghost use Rattle.std.specs.Prelude.{⊥, ◌≡◌, ◌≤◌, ◌^◌, ◌++◌, true, length, map, IfErr, MatchOption, MatchResult, OnOk};
 ghost use Rattle.std.specs.Str.{all_ascii_digits};
 ghost use Rattle.pj_format.specs.Format.{first};
-ghost use Rattle.pj_format.specs.Fields.{Gives};
+ghost use Rattle.pj_format.specs.Fields.{Fails, Gives};
+ghost use Rattle.pj_format.specs.declared.fault.Refused.TheVariants as refusals;
+ghost use Rattle.pj_cache_format.specs.Texts.{string};
 ghost use Rattle.pj_old_format.specs.ListKeys.{is_number, value_of, is_top, is_priority, tested, all_tested, members, listed, rule, rule_tests, list_key};
 ghost use Rattle.pj_old_reading.specs.Copied.{Copies, lists, patterns, test_of};
 
@@ -81,17 +83,25 @@ fn passes(test: Test, bytes: &[u8]) -> bool
     }
 }
 
+/// Puts bytes at the end, behind their number.
+fn put(copy: &mut Vec<u8>, bytes: &[u8]) -> Result<(), Refused>
+    ensures put { OnOk result (copy.new.items ≡ copy.old.items ++ string bytes.now) }
+    ensures memory { IfErr result (λ e. e ≡ refusals.Memory) }
+{
+    or_memory(put_bytes(copy, bytes))
+}
+
 /// A text that passes a test.
-#[tactic(auto, using(pj_format::proofs::Laws::reads), unfolding(pj_old_format::specs::ListKeys::tested))]
 fn copy_tested(copy: &mut Vec<u8>, bytes: &[u8], at: u32, test: Test) -> Result<u32, Refused>
     requires { length bytes.now ≤ 4294967294 }
     ensures { Copies (tested (test_of test)) bytes.now at copy.old.items copy.new.items result }
 {
     let (found, behind) = sized_of(bytes, at)?;
-    if !passes(test, found) {
+    let is_right = passes(test, found);
+    if !is_right {
         return Err(wrong(at));
     }
-    or_memory(put_bytes(copy, found))?;
+    put(copy, found)?;
     Ok(behind)
 }
 
@@ -127,23 +137,45 @@ fn copy_members(
     Ok(place)
 }
 
-/// As many members as a number tells, behind it. Where 32 bits do not tell how many, the bytes end before all of them are read.
+/// More members than 32 bits tell: the bytes end before all of them are read.
+fn copy_too_many(copy: &mut Vec<u8>, bytes: &[u8], at: u32, tests: &[Test]) -> Result<u32, Refused>
+    requires { length bytes.now ≤ 4294967294 }
+    ensures { MatchResult result (λ _. ⊥) (λ e. Fails e (first (members (all_tested (map test_of tests.now)) 4294967295) bytes.now at)) }
+{
+    copy_members(copy, bytes, at, u32::MAX, tests)?;
+    Err(Refused::Memory)
+}
+
+/// As many members as digits tell.
+fn copy_counted(
+    copy: &mut Vec<u8>,
+    bytes: &[u8],
+    at: u32,
+    digits: &[u8],
+    tests: &[Test],
+) -> Result<u32, Refused>
+    requires small { length bytes.now ≤ 4294967294 }
+    requires number { is_number digits.now ≡ true }
+    ensures { Copies (members (all_tested (map test_of tests.now)) (value_of digits.now)) bytes.now at copy.old.items copy.new.items result }
+{
+    match value_of(digits) {
+        Some(count) => copy_members(copy, bytes, at, count, tests),
+        None => copy_too_many(copy, bytes, at, tests),
+    }
+}
+
+/// As many members as a number tells, behind it.
 fn copy_list(copy: &mut Vec<u8>, bytes: &[u8], at: u32, tests: &[Test]) -> Result<u32, Refused>
     requires { length bytes.now ≤ 4294967294 }
     ensures { Copies (listed (all_tested (map test_of tests.now))) bytes.now at copy.old.items copy.new.items result }
 {
     let (digits, from) = sized_of(bytes, at)?;
-    if !is_number(digits) {
+    let is_right = is_number(digits);
+    if !is_right {
         return Err(wrong(at));
     }
-    or_memory(put_bytes(copy, digits))?;
-    match value_of(digits) {
-        Some(count) => copy_members(copy, bytes, from, count, tests),
-        None => {
-            copy_members(copy, bytes, from, u32::MAX, tests)?;
-            Err(Refused::Memory)
-        }
-    }
+    put(copy, digits)?;
+    copy_counted(copy, bytes, from, digits, tests)
 }
 
 /// Exclude patterns, and include patterns.
@@ -202,23 +234,44 @@ fn copy_rules(copy: &mut Vec<u8>, bytes: &[u8], at: u32, count: u32) -> Result<u
     Ok(place)
 }
 
-/// As many rules as a number tells, behind it. Where 32 bits do not tell how many, the bytes end before all of them are read.
+/// More rules than 32 bits tell: the bytes end before all of them are read.
+fn copy_too_many_rules(copy: &mut Vec<u8>, bytes: &[u8], at: u32) -> Result<u32, Refused>
+    requires { length bytes.now ≤ 4294967294 }
+    ensures { MatchResult result (λ _. ⊥) (λ e. Fails e (first (members rule 4294967295) bytes.now at)) }
+{
+    copy_rules(copy, bytes, at, u32::MAX)?;
+    Err(Refused::Memory)
+}
+
+/// As many rules as digits tell.
+fn copy_counted_rules(
+    copy: &mut Vec<u8>,
+    bytes: &[u8],
+    at: u32,
+    digits: &[u8],
+) -> Result<u32, Refused>
+    requires small { length bytes.now ≤ 4294967294 }
+    requires number { is_number digits.now ≡ true }
+    ensures { Copies (members rule (value_of digits.now)) bytes.now at copy.old.items copy.new.items result }
+{
+    match value_of(digits) {
+        Some(count) => copy_rules(copy, bytes, at, count),
+        None => copy_too_many_rules(copy, bytes, at),
+    }
+}
+
+/// As many rules as a number tells, behind it.
 fn copy_rule_list(copy: &mut Vec<u8>, bytes: &[u8], at: u32) -> Result<u32, Refused>
     requires { length bytes.now ≤ 4294967294 }
     ensures { Copies (listed rule) bytes.now at copy.old.items copy.new.items result }
 {
     let (digits, from) = sized_of(bytes, at)?;
-    if !is_number(digits) {
+    let is_right = is_number(digits);
+    if !is_right {
         return Err(wrong(at));
     }
-    or_memory(put_bytes(copy, digits))?;
-    match value_of(digits) {
-        Some(count) => copy_rules(copy, bytes, from, count),
-        None => {
-            copy_rules(copy, bytes, from, u32::MAX)?;
-            Err(Refused::Memory)
-        }
-    }
+    put(copy, digits)?;
+    copy_counted_rules(copy, bytes, from, digits)
 }
 
 /// The marker, and the rules.
