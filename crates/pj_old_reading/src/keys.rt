@@ -1,5 +1,5 @@
 //! Reading the key of a list of rules. Each call puts what it reads at the end of a copy, and gives the place behind.
-ghost use Rattle.std.specs.Prelude.{⊥, ◌≡◌, ◌≤◌, ◌^◌, ◌++◌, true, length, map, IfErr, MatchOption, MatchResult, OnOk};
+ghost use Rattle.std.specs.Prelude.{◌≡◌, ◌≤◌, ◌^◌, ◌++◌, true, length, map, IfErr, MatchOption, MatchResult, OnOk};
 ghost use Rattle.std.specs.Str.{all_ascii_digits};
 ghost use Rattle.pj_format.specs.Format.{first};
 ghost use Rattle.pj_format.specs.Fields.{Fails, Gives};
