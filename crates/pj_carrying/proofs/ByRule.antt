@@ -1,17 +1,20 @@
 -- Rows put to their rules one after the other are those of each rule.
 use Rattle.std.proofs.Common.{◌≡◌, ℕ, zero, suc, ◌+◌, ◌<◌, ◌≤◌, Bool, true, false, cond, eqb, List, [], ◌∷◌, ◌++◌, length, map, get_or, set, Option, Some, None, refl, sym, ap, ◌∙◌, append_assoc, arith}
 use Rattle.std.specs.Prelude.{filter, replicate}
-use Rattle.std.specs.List.{range_with_len}
+use Rattle.std.specs.List.{All, AllByRecursion, range_with_len}
 use Rattle.std.proofs.lemmas.Bool.{eqb-true, eqb-false}
 use Rattle.std.proofs.lemmas.List.{append-nil, get_or-replicate, get_or-set_other, get_or-set_same, length-map, length-replicate, length-set, ext_get_or}
+use Rattle.std.proofs.lemmas.List.Elements.{recursion_from_All}
 use Rattle.pj_reports.specs.declared.rows.Finding.{Finding}
 use Rattle.pj_reports.specs.declared.rows.FileError.{FileError}
 use Rattle.pj_reports.specs.declared.rows.FileRows.{FileRows}
 use Rattle.pj_reports.specs.declared.ruled.Ruled.{Ruled}
 use Rattle.pj_reports.specs.declared.ruled.Ruled.TheVariants as ruled
 use Rattle.pj_reports.specs.declared.ruled.Spot.{Spot}
+use Rattle.pj_cache.specs.declared.cache.KeyRows.{KeyRows}
+use Rattle.pj_carry.specs.Carried.{First, key_rows}
 use Rattle.pj_carry.specs.Rows.{spot_of, spots_of, is_of, said_by, rows_of, rows_by_rule}
-use Rattle.pj_carrying.specs.ByRule.{row_at, with_spot, with_message, with_finding, with_findings, with_error_of, with_error, with_errors}
+use Rattle.pj_carrying.specs.ByRule.{row_at, rows_in, with_spot, with_message, with_finding, with_findings, with_error_of, with_error, with_errors}
 
 abbrev none : Ruled
 none = ruled.Spots []
@@ -152,3 +155,26 @@ pub all_is : (count : ℕ) (r : FileRows) → with_errors (with_findings (replic
 all_is count r =
     ext_get_or none (with_errors (found count r) r.errors) (rows_by_rule count r) (all_long count r ∙ sym (listed_long count r))
     (λ i lt. row_is count r i (omega (arith, lt, all_long count r)))
+
+-- ---- rows by their places
+
+-- the row at a place, whatever stands for one past the end
+pub row_here : (all : List Ruled) (i : ℕ) (x : Ruled) → i < length all → x ≡ get_or all i x → x ≡ row_at all i
+row_here [] i x lt is = absurd (omega (arith, lt))
+row_here (y ∷ ys) zero x lt is = is
+row_here (y ∷ ys) (suc i) x lt is = row_here ys i x (omega (arith, lt)) is
+
+pub rows_long : (count : ℕ) (r : FileRows) (all : List Ruled) → all ≡ rows_by_rule count r → length all ≡ count
+rows_long count r all is = ap length is ∙ listed_long count r
+
+pub all_below : (firsts : List First) (count : ℕ) (all : List Ruled) → length all ≡ count → All (λ (f : First). f.1 < count) firsts → All (λ (f : First). f.1 < length all) firsts
+all_below firsts count all long below = λ k d lt. omega (arith, long, below k d lt)
+
+same_group : (all : List Ruled) (count : ℕ) (r : FileRows) (fs : List First) → all ≡ rows_by_rule count r → AllByRecursion (λ (f : First). f.1 < count) fs → map (rows_in all) fs ≡ map (key_rows r) fs
+same_group all count r [] is below = refl
+same_group all count r (f ∷ fs) is below =
+    let one : row_at all f.1 ≡ rows_of r f.1 = ap (λ (l : List Ruled). row_at l f.1) is ∙ in_range (rows_of r) 0 count f.1 none below.0 in
+    λ i. let first : KeyRows = record { key = f.0; rows = one i } in first ∷ same_group all count r fs is below.1 i
+
+pub group_is : (count : ℕ) (r : FileRows) (all : List Ruled) (firsts : List First) → all ≡ rows_by_rule count r → All (λ (f : First). f.1 < count) firsts → map (rows_in all) firsts ≡ map (key_rows r) firsts
+group_is count r all firsts is below = same_group all count r firsts is (recursion_from_All (λ (f : First). f.1 < count) firsts below)

@@ -5,6 +5,8 @@ use Rattle.pj_reports.specs.declared.rows.FileError.{FileError}
 use Rattle.pj_reports.specs.declared.ruled.Ruled.{Ruled}
 use Rattle.pj_reports.specs.declared.ruled.Ruled.TheVariants as ruled
 use Rattle.pj_reports.specs.declared.ruled.Spot.{Spot}
+use Rattle.pj_cache.specs.declared.cache.KeyRows.{KeyRows}
+use Rattle.pj_carry.specs.Carried.{First}
 use Rattle.pj_carry.specs.Rows.{spot_of}
 
 abbrev pub is_message : Ruled → Bool
@@ -21,6 +23,10 @@ with_message (ruled.Message first) message = ruled.Message first
 
 abbrev pub row_at : List Ruled → ℕ → Ruled
 row_at all rule = get_or all rule (ruled.Spots [])
+
+-- the rows of a key: those of its first rule
+abbrev pub rows_in : List Ruled → First → KeyRows
+rows_in all first = record { key = first.0; rows = row_at all first.1 }
 
 abbrev pub with_finding : List Ruled → Finding → List Ruled
 with_finding all f = set all f.rule (with_spot (row_at all f.rule) (spot_of f))

@@ -1,14 +1,15 @@
 //! Entries carried over.
-ghost use Rattle.std.specs.Prelude.{◌≡◌, ◌<◌, ◌++◌, map, IfOk, OnOk};
+ghost use Rattle.std.specs.Prelude.{◌≡◌, ◌<◌, ◌++◌, ◌∷◌, [], length, map, IfOk, OnOk};
 ghost use Rattle.std.specs.List.{All};
 ghost use Rattle.pj_carry.specs.Carried.{carried_entries, carried_entry, key_rows, listed, results_of};
+ghost use Rattle.pj_carrying.specs.ByRule.{row_at, rows_in};
 
 use crate::firsts::First;
 use crate::form::{are_of_rules, lone_message};
 use crate::rows::rows_by_rule;
 use pj_base::{Copied, NoMemory};
 use pj_cache::{
-    CachedResult, Entries, Entry, Group, KeyRows, OldEntries, OldEntry, Results, SharedNames,
+    CachedResult, Entries, Entry, Group, Key, KeyRows, OldEntries, OldEntry, Results, SharedNames,
 };
 use pj_reports::{FileRows, Head, Ruled};
 use std::alloc::Global;
@@ -23,6 +24,30 @@ fn copied_rows(rows: &Ruled) -> Result<Ruled, NoMemory>
     })
 }
 
+/// Puts the rows of a key at the end: those of the rule of this number.
+fn put_rows(group: &mut Group, all: &[Ruled], key: &Key, rule: u32) -> Result<(), NoMemory>
+    requires { rule < length all.now }
+    ensures { OnOk result (group.new ≡ group.old ++ record { key = key.now; rows = row_at all.now rule } ∷ []) }
+{
+    let row = &all[rule as usize];
+    let rows = copied_rows(row)?;
+    let key = key.copied()?;
+    group.push(KeyRows { key, rows })?;
+    Ok(())
+}
+
+/// The rows of each key: those of its first rule.
+fn group_by(alloc: Global, all: &[Ruled], firsts: &[First]) -> Result<Group, NoMemory>
+    requires { All (λ first. first.1 < length all.now) firsts.now }
+    ensures { IfOk result (λ group. group ≡ map (rows_in all.now) firsts.now) }
+{
+    let mut group = Group::new(alloc);
+    for first in firsts {
+        put_rows(&mut group, all, &first.0, first.1)?;
+    }
+    Ok(group)
+}
+
 /// What rows say of the rules of each key: one walk along the rows, and one along the keys.
 fn group_of(
     alloc: Global,
@@ -34,14 +59,7 @@ fn group_of(
     ensures { IfOk result (λ group. group ≡ map (key_rows rows.now) firsts.now) }
 {
     let all = rows_by_rule(alloc, count, rows)?;
-    let mut group = Group::new(alloc);
-    for (key, rule) in firsts {
-        let rows = copied_rows(&all[*rule as usize])?;
-        group.push(KeyRows {
-            key: key.copied()?,
-            rows,
-        })?;
-    }
+    let group = group_by(alloc, all.as_slice(), firsts)?;
     Ok(group)
 }
 

@@ -1,8 +1,8 @@
 //! What the rows of a file say of each rule.
-ghost use Rattle.std.specs.Prelude.{◌≡◌, [], IfOk, OnOk, replicate};
+ghost use Rattle.std.specs.Prelude.{◌≡◌, [], IfOk, OnOk, replicate, set};
 ghost use Rattle.pj_reports.specs.declared.ruled.Ruled.TheVariants.{Spots};
 ghost use Rattle.pj_carry.specs.Rows.{rows_by_rule, spot_of};
-ghost use Rattle.pj_carrying.specs.ByRule.{with_error, with_errors, with_finding, with_findings, with_message, with_spot, is_message};
+ghost use Rattle.pj_carrying.specs.ByRule.{is_message, row_at, with_error, with_errors, with_finding, with_findings, with_message, with_spot};
 
 use pj_base::{Copied, NoMemory, Text};
 use pj_reports::{FileError, FileRows, Finding, Ruled, Spot, Spots};
@@ -62,15 +62,23 @@ fn without_rows(alloc: Global, count: usize) -> Result<Vec<Ruled>, NoMemory>
     Ok(all)
 }
 
+/// Puts a node to the rule of a number, if there is one.
+fn put_spot_at(all: &mut Vec<Ruled>, rule: usize, spot: Spot) -> Result<(), NoMemory>
+    ensures { OnOk result (all.new.items ≡ set all.old.items rule (with_spot (row_at all.old.items rule) spot)) }
+{
+    if rule >= all.len() {
+        return Ok(());
+    }
+    let row = &mut all[rule];
+    put_spot(row, spot)?;
+    Ok(())
+}
+
 /// Puts a finding to its rule, if it is one of these.
 fn put_finding(all: &mut Vec<Ruled>, finding: &Finding) -> Result<(), NoMemory>
     ensures { OnOk result (all.new.items ≡ with_finding all.old.items finding.now) }
 {
-    let rule = finding.rule as usize;
-    if rule < all.len() {
-        put_spot(&mut all[rule], spot_of(finding))?;
-    }
-    Ok(())
+    put_spot_at(all, finding.rule as usize, spot_of(finding))
 }
 
 /// Puts findings to their rules.
@@ -83,17 +91,26 @@ fn put_findings(all: &mut Vec<Ruled>, findings: &[Finding]) -> Result<(), NoMemo
     Ok(())
 }
 
+/// Puts a message to the rule of a number, if there is one.
+fn put_message_at(all: &mut Vec<Ruled>, rule: usize, message: &Text) -> Result<(), NoMemory>
+    ensures { OnOk result (all.new.items ≡ set all.old.items rule (with_message (row_at all.old.items rule) message.now)) }
+{
+    if rule >= all.len() {
+        return Ok(());
+    }
+    let row = &mut all[rule];
+    put_message(row, message)?;
+    Ok(())
+}
+
 /// Puts an error to its rule, if it has one and it is one of these.
 fn put_error(all: &mut Vec<Ruled>, error: &FileError) -> Result<(), NoMemory>
     ensures { OnOk result (all.new.items ≡ with_error all.old.items error.now) }
 {
-    if let Some(rule) = error.rule {
-        let rule = rule as usize;
-        if rule < all.len() {
-            put_message(&mut all[rule], &error.message)?;
-        }
+    match error.rule {
+        None => Ok(()),
+        Some(rule) => put_message_at(all, rule as usize, &error.message),
     }
-    Ok(())
 }
 
 /// Puts errors to their rules.

@@ -1,0 +1,10 @@
+use Rattle.std.proofs.Common.{◌≡◌, ◌++◌, ◌∷◌, [], List, ap, sym, ◌∙◌}
+use Rattle.pj_cache.specs.declared.cache.KeyRows.{KeyRows}
+use Rattle.pj_reports.specs.declared.ruled.Ruled.{Ruled}
+use Rattle.pj_carrying.proofs.ByRule.{row_here}
+use Rattle.pj_carrying.proofs.entries.put_rows.Goals as goal
+
+pub returns : goal.returns
+returns c =
+    let rows = c.in_ok-rows.ensures ∙ row_here c.args.all.now c.args.rule c.index-row.result c.requires c.index-row.is in
+    c.in_ok-push.ensures.ok ∙ (λ i. c.args.group.now ++ record { key = c.in_ok-key.ensures i; rows = rows i } ∷ [])

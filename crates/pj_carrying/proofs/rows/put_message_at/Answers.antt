@@ -1,0 +1,14 @@
+use Rattle.std.proofs.Common.{List, ap, set, sym, ◌∙◌}
+use Rattle.std.proofs.lemmas.List.{set_out}
+use Rattle.pj_reports.specs.declared.ruled.Ruled.{Ruled}
+use Rattle.pj_carrying.specs.ByRule.{row_at, with_message}
+use Rattle.pj_carrying.proofs.ByRule.{row_here}
+use Rattle.pj_carrying.proofs.rows.put_message_at.Goals as goal
+
+pub returns-then-rule-all : goal.returns-then-rule-all
+returns-then-rule-all c = sym (set_out c.args.all.now.items c.args.rule (with_message (row_at c.args.all.now.items c.args.rule) c.args.message.now) c.if-rule-all.true)
+
+pub returns : goal.returns
+returns c =
+    ap (λ (r : Ruled). set c.args.all.now.items c.args.rule r)
+    (c.in_ok-put_message.ensures ∙ ap (λ (r : Ruled). with_message r c.args.message.now) (row_here c.args.all.now.items c.args.rule c.index_mut-row.result.now c.if-rule-all.false c.index_mut-row.ensures.value))
