@@ -1,5 +1,5 @@
 -- Rows put to their rules one after the other are those of each rule.
-use Rattle.std.proofs.Common.{◌≡◌, ℕ, zero, suc, ◌+◌, ◌<◌, ◌≤◌, Bool, true, false, cond, eqb, List, [], ◌∷◌, ◌++◌, length, map, get_or, set, Option, Some, None, refl, sym, ap, ◌∙◌, append_assoc, arith}
+use Rattle.std.proofs.Common.{◌≡◌, ℕ, zero, suc, ◌+◌, ◌<◌, ◌≤◌, Bool, true, false, cond, eqb, List, [], ◌∷◌, ◌++◌, length, map, get_or, set, Option, Some, None, refl, sym, ap, ◌∙◌, append_assoc, zero-add, arith}
 use Rattle.std.specs.Prelude.{filter, replicate}
 use Rattle.std.specs.List.{All, AllByRecursion, range_with_len}
 use Rattle.std.proofs.lemmas.Bool.{eqb-true, eqb-false}
@@ -149,7 +149,7 @@ row_is : (count : ℕ) (r : FileRows) (i : ℕ) → i < count → get_or (with_e
 row_is count r i below =
     errors_at (found count r) r.errors i (spots_of i r.findings) (omega (arith, below, found_long count r))
     (findings_at (replicate count none) r.findings i [] (omega (arith, below, length-replicate count none)) (get_or-replicate count i none none below))
-    ∙ sym (in_range (rows_of r) 0 count i none below)
+    ∙ sym (in_range (rows_of r) 0 count i none below ∙ ap (rows_of r) (zero-add i))
 
 pub all_is : (count : ℕ) (r : FileRows) → with_errors (with_findings (replicate count none) r.findings) r.errors ≡ rows_by_rule count r
 all_is count r =
@@ -173,7 +173,7 @@ all_below firsts count all long below = λ k d lt. omega (arith, long, below k d
 same_group : (all : List Ruled) (count : ℕ) (r : FileRows) (fs : List First) → all ≡ rows_by_rule count r → AllByRecursion (λ (f : First). f.1 < count) fs → map (rows_in all) fs ≡ map (key_rows r) fs
 same_group all count r [] is below = refl
 same_group all count r (f ∷ fs) is below =
-    let one : row_at all f.1 ≡ rows_of r f.1 = ap (λ (l : List Ruled). row_at l f.1) is ∙ in_range (rows_of r) 0 count f.1 none below.0 in
+    let one : row_at all f.1 ≡ rows_of r f.1 = ap (λ (l : List Ruled). row_at l f.1) is ∙ in_range (rows_of r) 0 count f.1 none below.0 ∙ ap (rows_of r) (zero-add f.1) in
     λ i. let first : KeyRows = record { key = f.0; rows = one i } in first ∷ same_group all count r fs is below.1 i
 
 pub group_is : (count : ℕ) (r : FileRows) (all : List Ruled) (firsts : List First) → all ≡ rows_by_rule count r → All (λ (f : First). f.1 < count) firsts → map (rows_in all) firsts ≡ map (key_rows r) firsts
