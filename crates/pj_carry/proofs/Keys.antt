@@ -1,5 +1,5 @@
 -- The first rules of keys: each has its key, and each key is there.
-use Rattle.std.proofs.Common.{◌≡◌, ℕ, zero, suc, ◌+◌, ◌<◌, ◌≤◌, Bool, true, false, cond, List, [], ◌∷◌, length, map, Option, Some, None, refl, sym, ap, ◌∙◌, arith}
+use Rattle.std.proofs.Common.{◌≡◌, ℕ, zero, suc, ◌+◌, ◌<◌, ◌≤◌, Bool, true, false, cond, List, [], ◌∷◌, length, map, Option, Some, None, refl, sym, ap, ◌∙◌, zero-add, arith}
 use Rattle.std.specs.Prelude.{is_some}
 use Rattle.std.specs.List.{AllByRecursion, slice_get}
 use Rattle.std.specs.Cmp.{tied_itself}
@@ -34,7 +34,7 @@ its_from keys held rule (key ∷ rest) same all =
     (rule_all (HasItsKey keys) held key rule (λ e tied. here ∙ ap (λ (k : Key). Some k) (same_name key e.0 (ap is_eq tied))) here all)
 
 pub have_their_keys : (keys : List Key) → AllByRecursion (HasItsKey keys) (first_rules keys)
-have_their_keys keys = its_from keys [] 0 keys (λ j. refl) tt
+have_their_keys keys = its_from keys [] 0 keys (λ j. ap (slice_get keys) (zero-add j)) tt
 
 -- ---- each key is there
 

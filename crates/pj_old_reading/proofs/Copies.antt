@@ -296,7 +296,9 @@ longer item zero more bytes at f h = absurd (none (first (members item 0) bytes 
   none (Ok x) e h = absurd cc
   none (Err g) e h = absurd cc
 longer item (suc k) more bytes at f h =
-    members_is item (k + more) bytes at
+    let more_is : suc k + more ≡ suc (k + more) = omega arith in
+    ap (λ (n : ℕ). first (members item n) bytes at) more_is
+    ∙ members_is item (k + more) bytes at
     ∙ followed_read item (members item (k + more)) bytes at
     ∙ step_fault (first item bytes at) (λ from. first (members item k) bytes from) (λ from. first (members item (k + more)) bytes from) f
     (λ from e. longer item k more bytes from f e)
