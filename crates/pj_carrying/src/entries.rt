@@ -1,13 +1,15 @@
 //! Entries carried over.
-ghost use Rattle.std.specs.Prelude.{◌≡◌, ◌<◌, ◌++◌, ◌∷◌, [], length, map, IfOk, OnOk};
+ghost use Rattle.std.specs.Prelude.{◌≡◌, ◌<◌, ◌++◌, ◌∷◌, [], length, map, None, IfOk, OnOk};
 ghost use Rattle.std.specs.List.{All};
-ghost use Rattle.pj_carry.specs.Carried.{carried_entries, carried_entry, key_rows, listed, results_of};
+ghost use Rattle.pj_carry.specs.Carried.{carried_entries, carried_entry, entry_by, entry_with, key_rows, listed, results_of};
+ghost use Rattle.pj_carry.specs.Form.{are_of_rules, lone_message};
+ghost use Rattle.pj_reports.specs.declared.ruled.Head.TheVariants.{Message, Package};
 ghost use Rattle.pj_carrying.specs.ByRule.{row_at, rows_in};
 
 use crate::firsts::First;
 use crate::form::{are_of_rules, lone_message};
 use crate::rows::rows_by_rule;
-use pj_base::{Copied, NoMemory};
+use pj_base::{Copied, NoMemory, Text};
 use pj_cache::{
     CachedResult, Entries, Entry, Group, Key, KeyRows, OldEntries, OldEntry, Results, SharedNames,
 };
@@ -83,6 +85,73 @@ fn results_of(
     Ok(results)
 }
 
+/// The message of a file without a tree, if these are its rows.
+fn lone_copy(rows: &FileRows) -> Result<Option<Text>, NoMemory>
+    ensures { IfOk result (λ message. message ≡ lone_message rows.now) }
+{
+    match lone_message(rows) {
+        Some(message) => Ok(Some(message.copied()?)),
+        None => Ok(None),
+    }
+}
+
+/// The entry of a file without a tree.
+fn without_tree(alloc: Global, old: OldEntry, message: Text) -> Entry
+    ensures { result ≡ entry_with old (Message message) [] }
+{
+    let OldEntry { path, bytes, .. } = old;
+    Entry {
+        path,
+        bytes,
+        head: Head::Message(message),
+        results: Results::new(alloc),
+    }
+}
+
+/// The entry of a file with a tree.
+fn with_results(
+    alloc: Global,
+    count: usize,
+    firsts: &[First],
+    old: OldEntry,
+) -> Result<Entry, NoMemory>
+    requires { All (λ first. first.1 < count) firsts.now }
+    ensures { IfOk result (λ entry. entry ≡ entry_with old (Package old.rows.«package») (results_of firsts.now old.rows old.names)) }
+{
+    let OldEntry {
+        path,
+        bytes,
+        names,
+        rows,
+    } = old;
+    let results = results_of(alloc, count, firsts, &rows, names)?;
+    let head = Head::Package(rows.package);
+    Ok(Entry {
+        path,
+        bytes,
+        head,
+        results,
+    })
+}
+
+/// The entry of a file with a tree, if its rows are those of rules.
+fn carry_rows(
+    alloc: Global,
+    count: usize,
+    firsts: &[First],
+    old: OldEntry,
+) -> Result<Option<Entry>, NoMemory>
+    requires { All (λ first. first.1 < count) firsts.now }
+    ensures { IfOk result (λ entry. entry ≡ entry_by firsts.now old None (are_of_rules old.rows)) }
+{
+    let of_rules = are_of_rules(alloc, &old.rows)?;
+    if !of_rules {
+        return Ok(None);
+    }
+    let entry = with_results(alloc, count, firsts, old)?;
+    Ok(Some(entry))
+}
+
 /// The entry of a file, if its rows are those of a file.
 fn carry_entry(
     alloc: Global,
@@ -93,32 +162,11 @@ fn carry_entry(
     requires { All (λ first. first.1 < count) firsts.now }
     ensures { IfOk result (λ entry. entry ≡ carried_entry firsts.now old) }
 {
-    let OldEntry {
-        path,
-        bytes,
-        names,
-        rows,
-    } = old;
-    if let Some(message) = lone_message(&rows) {
-        let head = Head::Message(message.copied()?);
-        return Ok(Some(Entry {
-            path,
-            bytes,
-            head,
-            results: Results::new(alloc),
-        }));
+    let lone = lone_copy(&old.rows)?;
+    match lone {
+        Some(message) => Ok(Some(without_tree(alloc, old, message))),
+        None => carry_rows(alloc, count, firsts, old),
     }
-    if !are_of_rules(alloc, &rows)? {
-        return Ok(None);
-    }
-    let results = results_of(alloc, count, firsts, &rows, names)?;
-    let head = Head::Package(rows.package);
-    Ok(Some(Entry {
-        path,
-        bytes,
-        head,
-        results,
-    }))
 }
 
 /// Puts an entry behind others, if there is one.
