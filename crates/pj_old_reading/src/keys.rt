@@ -1,5 +1,5 @@
 //! Reading the key of a list of rules. Each call puts what it reads at the end of a copy, and gives the place behind.
-ghost use Rattle.std.specs.Prelude.{◌≡◌, ◌≤◌, ◌^◌, ◌++◌, true, length, map, IfErr, MatchOption, MatchResult, OnOk};
+ghost use Rattle.std.specs.Prelude.{◌≡◌, ◌<◌, ◌≤◌, ◌^◌, ◌++◌, ◌==◌, ◌&&◌, ◌||◌, not, true, length, map, nat_lt, slice_index, IfErr, IfSome, MatchOption, MatchResult, OnOk};
 ghost use Rattle.std.specs.Str.{all_ascii_digits};
 ghost use Rattle.pj_format.specs.Format.{first};
 ghost use Rattle.pj_format.specs.Fields.{Fails, Gives};
@@ -37,23 +37,40 @@ fn are_digits(bytes: &[u8]) -> bool
     true
 }
 
+/// Whether there are bytes, of which the first one is no `0` before others.
+fn has_no_zero(bytes: &[u8]) -> bool
+    ensures { result ≡ (nat_lt 0 (length bytes.now) && (length bytes.now == 1 || not (slice_index bytes.now 0 == 48))) }
+{
+    0 < bytes.len() && (bytes.len() == 1 || bytes[0] != b'0')
+}
+
 /// Whether bytes are decimal digits without leading zeros.
 fn is_number(bytes: &[u8]) -> bool
     ensures { result ≡ is_number bytes.now }
 {
-    is_text(bytes) && are_digits(bytes) && 0 < bytes.len() && (bytes.len() == 1 || bytes[0] != b'0')
+    is_text(bytes) && (are_digits(bytes) && has_no_zero(bytes))
+}
+
+/// The number that digits write, or `None` where it is not below 2^32.
+fn number_of(text: &str) -> Option<u32>
+    requires { is_number text.now ≡ true }
+    ensures value { MatchOption result (2 ^ 32 ≤ value_of text.now) (λ n. n ≡ value_of text.now) }
+    ensures small { IfSome result (λ n. n < 2 ^ 32) }
+{
+    match text.parse::<u32>() {
+        Ok(number) => Some(number),
+        Err(_) => None,
+    }
 }
 
 /// The number that digits write, or `None` where it is not below 2^32.
 fn value_of(bytes: &[u8]) -> Option<u32>
     requires { is_number bytes.now ≡ true }
-    ensures { MatchOption result (2 ^ 32 ≤ value_of bytes.now) (λ n. n ≡ value_of bytes.now) }
+    ensures value { MatchOption result (2 ^ 32 ≤ value_of bytes.now) (λ n. n ≡ value_of bytes.now) }
+    ensures small { IfSome result (λ n. n < 2 ^ 32) }
 {
     match str::from_utf8(bytes) {
-        Ok(text) => match text.parse::<u32>() {
-            Ok(number) => Some(number),
-            Err(_) => None,
-        },
+        Ok(text) => number_of(text),
         Err(_) => None,
     }
 }
@@ -62,14 +79,21 @@ fn value_of(bytes: &[u8]) -> Option<u32>
 fn is_top(bytes: &[u8]) -> bool
     ensures { result ≡ is_top bytes.now }
 {
-    is_number(bytes) && value_of(bytes).is_some()
+    let is_right = is_number(bytes);
+    if !is_right {
+        return false;
+    }
+    match value_of(bytes) {
+        Some(_) => true,
+        None => false,
+    }
 }
 
 /// Whether bytes are a priority.
 fn is_priority(bytes: &[u8]) -> bool
     ensures { result ≡ is_priority bytes.now }
 {
-    bytes.len() == 1 && b'0' < bytes[0] && bytes[0] < b'6'
+    bytes.len() == 1 && (b'0' < bytes[0] && bytes[0] < b'6')
 }
 
 /// Whether bytes pass a test.
