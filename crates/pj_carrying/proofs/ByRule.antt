@@ -55,7 +55,7 @@ findings_at all (f ∷ fs) i spots lt e = by_rule (eqb f.rule i) refl where
   by_rule : (b : Bool) → eqb f.rule i ≡ b → row_at (with_findings (with_finding all f) fs) i ≡ made (spots ++ spots_of i (f ∷ fs))
   by_rule true is =
       findings_at (with_finding all f) fs i (spots ++ spot_of f ∷ []) long (row_with all f i true is lt ∙ ap (λ (r : Ruled). with_spot r (spot_of f)) e)
-      ∙ ap made append_assoc
+      ∙ ap made (append_assoc spots (spot_of f ∷ []) (spots_of i fs))
       ∙ ap (λ (l : List Spot). made (spots ++ l)) (sym (spots_more i f fs true is))
   by_rule false is =
       findings_at (with_finding all f) fs i spots long (row_with all f i false is lt ∙ e)

@@ -1,3 +1,4 @@
 pub mod ByRule
 pub mod Answering
 pub mod Lone
+pub mod Keyed

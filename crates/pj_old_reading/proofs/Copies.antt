@@ -29,7 +29,7 @@ read_of (Err f) = ([], 0)
 
 -- one copy behind another
 joined : (copy front : List ℕ) (r : Read) → behind_copy copy (behind_copy front r) ≡ behind_copy (copy ++ front) r
-joined copy front (Ok x) = ap (λ (l : List ℕ). good l x.1) (sym append_assoc)
+joined copy front (Ok x) = ap (λ (l : List ℕ). good l x.1) (sym (append_assoc copy front x.0))
 joined copy front (Err f) = refl
 
 -- where both copies come to the same, the fault of one is that of the other

@@ -1,12 +1,12 @@
 use Rattle.std.proofs.Common.{List, ap, set, sym, ◌∙◌}
-use Rattle.std.proofs.lemmas.List.{set_out}
+use Rattle.std.proofs.lemmas.List.{set_past}
 use Rattle.pj_reports.specs.declared.ruled.Ruled.{Ruled}
 use Rattle.pj_carrying.specs.ByRule.{row_at, with_message}
 use Rattle.pj_carrying.proofs.ByRule.{row_here}
 use Rattle.pj_carrying.proofs.rows.put_message_at.Goals as goal
 
 pub returns-then-rule-all : goal.returns-then-rule-all
-returns-then-rule-all c = sym (set_out c.args.all.now.items c.args.rule (with_message (row_at c.args.all.now.items c.args.rule) c.args.message.now) c.if-rule-all.true)
+returns-then-rule-all c = sym (set_past c.args.all.now.items c.args.rule (with_message (row_at c.args.all.now.items c.args.rule) c.args.message.now) c.if-rule-all.true)
 
 pub returns : goal.returns
 returns c =
