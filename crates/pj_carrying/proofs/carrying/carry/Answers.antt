@@ -7,7 +7,7 @@ use Rattle.pj_carrying.proofs.carrying.carry.Goals as goal
 
 pub returns-then-not-is_same : goal.returns-then-not-is_same
 returns-then-not-is_same c =
-    c.empty.ensures
+    (λ i. let cache : Cache = record { answers = c.empty.ensures.answers i; entries = c.empty.ensures.entries i } in cache)
     ∙ sym (carried_other c.args.old c.args.key.now c.args.keys.now (λ same. not_both c.is-is_same.result (c.is-is_same.ensures.1 same) c.if-not-is_same.true))
 
 pub returns : goal.returns
