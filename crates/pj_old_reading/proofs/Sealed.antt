@@ -26,6 +26,13 @@ content_long bytes s =
 pub long_of : (bytes content : List ℕ) → IsSealed bytes → content ≡ content_of bytes → 12 ≤ length content
 long_of bytes content s e = subst (λ (l : List ℕ). 12 ≤ length l) (sym e) (content_long bytes s)
 
+-- it is no longer than the bytes
+pub short_of : (bytes content : List ℕ) (n : ℕ) → content ≡ content_of bytes → length bytes ≤ n → length content ≤ n
+short_of bytes content n e small =
+    let is : length (content_of bytes) ≡ length bytes - 32 = length-take-le (length bytes - 32) bytes (omega arith) in
+    let same : length content ≡ length (content_of bytes) = ap length e in
+    omega (arith, is, same, small)
+
 -- ---- of format 1
 
 pub old_decoded : (bytes content : List ℕ) (old : OldCache) → IsSealed bytes → content ≡ content_of bytes → version_in content ≡ 1 → IsOldSpelled content (Ok old) → IsAnyDecoded bytes (Ok (formats.One old))
