@@ -2,6 +2,7 @@
 pub mod Names
 pub mod Worlds
 pub mod Book
+pub mod Answered
 pub mod Rule
 pub mod Plays
 pub mod Seats

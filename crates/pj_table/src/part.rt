@@ -4,6 +4,7 @@ ghost use mathlib.Core.Option.{some};
 ghost use lib.ListN.{get_elem?};
 ghost use Rattle.std.specs.Arc.{arc_value};
 ghost use Rattle.pj_table.specs.Worlds.{CountsFaults, CountsFind, IsAnswer};
+ghost use Rattle.pj_table.specs.Answered.{HasAnswer};
 ghost use Rattle.pj_table.specs.Book.{IsSound, Grows, asked, Lacks, Stands};
 ghost use Rattle.pj_table.specs.Index.{IsIndex};
 ghost use Rattle.pj_table.specs.declared.view.Entry.{Entry};
@@ -48,6 +49,17 @@ impl Part {
     {
         match self.places.get(name) {
             Some(place) => Some(*place),
+            None => None,
+        }
+    }
+
+    /// The answer of a name, where it was filled. It takes no memory.
+    pub fn answer_of(&self, name: &ClassName) -> Option<&Arc<Answer, Global>>
+        ensures some { IfSome result (λ answer. HasAnswer self.now.entries.items name.now answer.now) }
+        ensures none { IfNone result (Lacks self.now.entries.items name.now) }
+    {
+        match self.place_of(name) {
+            Some(at) => Some(&self.entries[at].answer),
             None => None,
         }
     }

@@ -8,7 +8,8 @@ ghost use Rattle.pj_table.specs.Worlds.{CountsFaults, CountsFind, IsAnswer};
 ghost use Rattle.pj_table.specs.declared.part.Part.{Part};
 ghost use Rattle.pj_table.specs.declared.view.Entry.{Entry};
 ghost use Rattle.std.specs.Arc.{arc_value};
-ghost use Rattle.pj_table.specs.Book.{IsSound, Grows};
+ghost use Rattle.pj_table.specs.Answered.{HasAnswer};
+ghost use Rattle.pj_table.specs.Book.{IsSound, Grows, Lacks};
 ghost use Rattle.pj_table.specs.Rule.{newcomer, HasAll, Shows, marks, claimed, once_below};
 ghost use Rattle.pj_table.specs.Seats.{AreOfOneTable, IsOf, IsOpening, IsSameSeat, HasEnded, HasNotEnded, files_of, view_of, world_of};
 ghost use Rattle.pj_table.specs.Plays.{Shaped, AddsLook, AddsNothing, with_claim, with_end, with_number_given, new_view, united};
@@ -32,6 +33,17 @@ use std::sync::{Arc, Wait};
 pub struct Closed {
     /// The 64 parts, in their order.
     pub parts: Vec<Part>,
+}
+
+impl Closed {
+    /// The answer of a name that was asked. There are 64 parts. It takes no memory.
+    pub fn answer_of(&self, name: &ClassName) -> Option<&Arc<Answer, Global>>
+        requires parts { length self.now.parts.items ≡ 64 }
+        ensures some { IfSome result (λ answer. (x : Part) × (get_elem? self.now.parts.items (part_of name.now) ≡ some x) × HasAnswer x.entries.items name.now answer.now) }
+        ensures none { IfNone result ((x : Part) → get_elem? self.now.parts.items (part_of name.now) ≡ some x → Lacks x.entries.items name.now) }
+    {
+        self.parts[part_of(name)].answer_of(name)
+    }
 }
 
 impl TypeTable {
