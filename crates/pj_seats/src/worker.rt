@@ -27,7 +27,7 @@ pub trait FileWork {
     ghost is_ready: { Self → Type 0 };
 
     /// What comes of the file of a number, from 0, in the worlds of an oracle, and the names that are asked for it.
-    ghost comes: { Self → ℕ → Worlds → NameSet → Made → Type 0 };
+    ghost comes: { Self → ℕ → Worlds → NameSet → Self.Made → Type 0 };
 
     /// What comes of the file of a number, from 0, with the answers of an oracle. Nothing was asked of the oracle before.
     fn work<O: Oracle>(
@@ -45,7 +45,7 @@ pub trait FileWork {
 
 /// What a worker ends with.
 #[derive(Drop)]
-pub struct Share<T: Drop> {
+pub struct Share<T> {
     /// What came of each file that the worker claimed, with the number of the file, from 0, in the order of the claims.
     pub results: Vec<(u32, T)>,
 }

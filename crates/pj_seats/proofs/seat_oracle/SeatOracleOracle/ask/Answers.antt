@@ -45,7 +45,7 @@ returns-in-Err g c =
     let s = c.args.self.now in let t = c.ask in let w = view_of t.new.seat in
     asks-name-not {e = c.in-Err.fault} (search rules)
     (keeps s.seat.ghost_name s.door.ghost_name s.finds (λ i. (t.ensures.table.0 i, t.ensures.table.1 i))
-        (ap (λ (k : ℕ). before_last k w) c.reserve.ensures.len ∙ start_after_refusal (vec_len s.names) (view_of s.seat.now) w c.in-Err.ensures.err))
+    (ap (λ (k : ℕ). before_last k w) c.reserve.ensures.len ∙ start_after_refusal (vec_len s.names) (view_of s.seat.now) w c.in-Err.ensures.err))
     t.ensures.same_folders (ap name_set c.reserve.ensures.items)
     (other_value (Arc Answer Global) Answer (g.D.ClassFinder.faults s.door.now) (g.D.ClassFinder.faults t.new.door) c.in-Err.fault c.in-Err.ensures.faults)
 

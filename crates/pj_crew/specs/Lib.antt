@@ -1,0 +1,5 @@
+-- definitions
+pub mod Together
+-- for private clauses
+pub mod Crew
+pub mod Placing

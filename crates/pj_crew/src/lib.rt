@@ -1,0 +1,12 @@
+//! Workers that share a table: each claims files until none is left, in a thread of its own where one can be made. What comes of the
+//! files is put together in the order of their numbers, whoever worked at them.
+#![tactic(auto)]
+
+mod hiring;
+mod placing;
+mod releasing;
+mod shares;
+mod together;
+mod worker;
+
+pub use together::{Together, work_together};

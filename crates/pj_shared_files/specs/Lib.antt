@@ -1,0 +1,4 @@
+-- definitions
+pub mod InWorlds
+-- for private clauses
+pub mod Gathering
