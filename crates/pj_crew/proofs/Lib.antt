@@ -1,2 +1,4 @@
 pub mod Lists
+pub mod Reversed
 pub mod Seated
+pub mod Joined

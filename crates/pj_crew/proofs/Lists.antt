@@ -1,22 +1,16 @@
 -- Lists of workers, and of what came of files.
-use Rattle.std.proofs.Common.{◌≡◌, ◌≢◌, ◌∙◌, ℕ, zero, suc, ◌+◌, ◌-◌, ◌<◌, ◌≤◌, ◌==◌, List, [], ◌∷◌, ◌++◌, map, reverse, length, replicate, Option, Some, None, Bool, true, false, cond, IsTrue, refl, sym, ap, subst, arith, inl, inr, get_or, set, get_or-set_other}
+use Rattle.std.proofs.Common.{◌≡◌, ◌≢◌, ◌∙◌, ℕ, zero, suc, ◌+◌, ◌-◌, ◌<◌, ◌≤◌, ◌==◌, List, [], ◌∷◌, ◌++◌, map, length, replicate, Option, Some, None, Bool, true, false, cond, IsTrue, refl, sym, ap, subst, arith, inl, inr, get_or, set, get_or-set_other}
 use Rattle.std.specs.Prelude.{◌⊎◌, slice_set, slice_index_or, IsSome, nat_lt}
 use Rattle.std.specs.Option.{unwrap_or}
 use mathlib.Core.Logic.{dite}
 use native.Mathlib.Decide.{ℕ_discrete}
 use Rattle.std.specs.List.{All, AllByRecursion, AllZip, Contains, flat_map}
-use Rattle.std.proofs.lemmas.List.{get_or-map, length-map, length-replicate, length-set, reverse-append}
+use Rattle.std.proofs.lemmas.List.{get_or-map, length-map, length-replicate, length-set}
 use Rattle.std.proofs.lemmas.Bool.{lt-ltb, ltb-true}
 use Rattle.std.proofs.lemmas.Grind.{flat_map-append}
 use Rattle.pj_seats.specs.declared.worker.Share.{Share}
 use Rattle.pj_table.specs.Rule.{once_below, times, total}
 use Rattle.pj_crew.specs.Placing.{AreBelow, AreOnceEach, ArePlaced, all_results, put_all}
-
-pub reverse_first : {A : Type 0} (x : A) (xs : List A) → reverse (x ∷ xs) ≡ reverse xs ++ x ∷ []
-reverse_first x xs = reverse-append (x ∷ []) xs
-
-pub reverse_last : {A : Type 0} (xs : List A) (x : A) → reverse (xs ++ x ∷ []) ≡ x ∷ reverse xs
-reverse_last xs x = reverse-append xs (x ∷ [])
 
 -- ---- places
 
@@ -38,7 +32,7 @@ set_there [] i y d below = absurd (omega (arith, below))
 set_there (x ∷ xs) zero y d below = refl
 set_there (x ∷ xs) (suc i) y d below = set_there xs i y d (omega (arith, below))
 
-same_number : (n i : ℕ) → n ≡ i → (n == i) ≡ true
+pub same_number : (n i : ℕ) → n ≡ i → (n == i) ≡ true
 same_number n i same = elim (n == i) as (λ b. (n == i) ≡ b → b ≡ true) [ true ↦ (λ is. refl) | false ↦ (λ no. absurd (omega (arith, same, no))) ] refl
 
 other_number : (n i : ℕ) → n ≢ i → (n == i) ≡ false
@@ -121,4 +115,4 @@ pub share_below : {M : Type 0} (files : ℕ) (shares front back : List (Share M)
 share_below {M} files shares front back share is below =
     let results : Share M → List (ℕ × M) = λ s. s.results.items in
     all_between (λ (r : ℕ × M). r.0 < files) (all_results front) share.results.items (all_results back)
-        (subst (λ (l : List (ℕ × M)). AreBelow files l) (ap all_results is ∙ flat_map-append results front (share ∷ back)) below)
+    (subst (λ (l : List (ℕ × M)). AreBelow files l) (ap all_results is ∙ flat_map-append results front (share ∷ back)) below)

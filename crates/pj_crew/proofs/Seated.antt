@@ -24,8 +24,7 @@ joined_last (u ∷ workers) w v = joined_last workers w (united v (view_of u.sea
 
 -- the lines of seats
 abbrev pub lines_of : {D M : Type 0} → List (Worker D M) → List Line
-lines_of [] = []
-lines_of (w ∷ workers) = (view_of w.seat).own ∷ lines_of workers
+lines_of {D} {M} workers = map (λ (w : Worker D M). (view_of w.seat).own) workers
 
 -- into no seat another one was joined
 abbrev pub AreSingle : {D M : Type 0} → List (Worker D M) → Type 0

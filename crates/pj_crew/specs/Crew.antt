@@ -1,7 +1,8 @@
 -- Workers at a table, for private clauses.
-use Rattle.std.specs.Prelude.{◌≡◌, ℕ, ◌+◌, List, [], ◌∷◌, map, reverse, Result, IfOk, OnOk}
+use Rattle.std.specs.Prelude.{◌≡◌, ◌≢◌, ℕ, ◌+◌, List, [], ◌∷◌, map, reverse, Result, Err, IfOk, OnOk}
 use Rattle.std.specs.List.{AllByRecursion}
 use Rattle.pj_names.specs.declared.oracle.AskFault.{AskFault}
+use Rattle.pj_names.specs.declared.oracle.AskFault.TheVariants.{Failed}
 use Rattle.pj_names.specs.ClassName.{NameSet}
 use Rattle.pj_names.specs.Told.{Worlds}
 use Rattle.pj_seats.specs.declared.worker.Share.{Share}
@@ -59,3 +60,7 @@ ends_of {D} {M} workers = map (λ (w : Worker D M). w.ended) workers
 abbrev pub with_seats_of : {D M : Type 0} → List (Worker D M) → View → View
 with_seats_of [] view = view
 with_seats_of (w ∷ workers) view = with_seats_of workers (united view (view_of w.seat))
+
+-- A worker did not end since its door failed.
+abbrev pub HasNotFailed : {M : Type 0} → Result (Share M) AskFault → Type 0
+HasNotFailed end = end ≢ Err Failed

@@ -1,6 +1,6 @@
 -- What several workers come to.
 use Rattle.std.specs.Prelude.{◌≡◌, ℕ, ◌+◌, ◌<◌, List, [], ◌∷◌, length, map, slice_index_or, sum}
-use Rattle.std.specs.List.{All, AllZip}
+use Rattle.std.specs.List.{All, AllByRecursion}
 use mathlib.Core.Option.{some}
 use lib.ListN.{get_elem?}
 use Rattle.pj_names.specs.ClassName.{Name, NameSet}
@@ -31,7 +31,7 @@ pub record AreRightParts (world : World) (parts : List Part) : Type 0 where
 pub record IsMadeOver {M : Type 0} (world : World) (comes : Worlds → NameSet → M → Type 0) (parts : List Part) (made : M) : Type 0 where
   pub names : List Name
   pub made_so : IsMadeOf world comes made names
-  pub filled : All (IsFilled parts) names
+  pub filled : AllByRecursion (IsFilled parts) names
 
 -- What came of each file, by its number; and the parts of the table.
 pub record IsTogether {M : Type 0} (world : World) (comes : ℕ → Worlds → NameSet → M → Type 0) (files : ℕ) (made : List M) (parts : List Part) : Type 0 where

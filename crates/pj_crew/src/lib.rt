@@ -3,10 +3,12 @@
 #![tactic(auto)]
 
 mod hiring;
+mod opening;
 mod placing;
 mod releasing;
 mod shares;
 mod together;
 mod worker;
 
+pub use opening::{open_doors, shut_doors};
 pub use together::{Together, work_together};

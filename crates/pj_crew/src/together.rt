@@ -43,12 +43,11 @@ fn run_all<R: Threads + Wait + Sync, D: ClassDoor, G: Gate + Sync, W: FileWork +
     ensures { AllZip (HasWorked D.holds D.finds D.faults (W.comes work.now)) workers.old workers.new }
 {
     let threads = workers.len();
-    thread::for_each_mut(
-        rt,
-        workers,
-        threads,
-        &|_, worker| { run_worker(rt, alloc, table, worker, work, gate) },
-    );
+    let run_one = |_: usize, worker: &mut Worker<D, W::Made>|
+        requires { IsReady table.now D.holds (W.count work.now) worker.now × W.is_ready work.now }
+        ensures { HasWorked D.holds D.finds D.faults (W.comes work.entry.now) worker.entry.now worker.exit.now }
+    { run_worker(rt, alloc, table, worker, work, gate) };
+    thread::for_each_mut(rt, workers, threads, &run_one);
 }
 
 /// Works at all files with a worker for each door, through one table. Each file is claimed by one worker, and each class is found once,

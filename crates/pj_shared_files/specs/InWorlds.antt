@@ -1,5 +1,5 @@
 -- What a run leaves of files in the worlds of oracles, whichever oracle it is.
-use Rattle.std.specs.Prelude.{List, true}
+use Rattle.std.specs.Prelude.{◌≡◌, ℕ, List, true}
 use Rattle.std.specs.FinSet as set
 use Rattle.pj_cache.specs.declared.cache.Cache.{Cache}
 use Rattle.pj_cached_files.specs.LeftFile.{Leaves, Looks}
@@ -9,6 +9,7 @@ use Rattle.pj_cached_files.specs.declared.files.LeftFiles.{LeftFiles}
 use Rattle.pj_fitting.specs.Left.{File}
 use Rattle.pj_names.specs.ClassName.{NameSet}
 use Rattle.pj_names.specs.Told.{Told, Worlds}
+use Rattle.pj_outside.specs.Doors.{count_and}
 use Rattle.pj_rule_sets.specs.Rules.{EffectiveRules}
 use Rattle.pj_table.specs.ClassWorld.{worlds_of}
 use Rattle.pj_table.specs.Worlds.{World}
@@ -30,3 +31,7 @@ LeavesAllIn world rules found list left = LeavesAll (told_in (worlds_of world)) 
 -- what was done with them
 abbrev pub DoesIn : World → EffectiveRules → Cache → List File → Work → Work → Type 0
 DoesIn world rules found list before after = Does (told_in (worlds_of world)) rules found list before after
+
+-- As many doors were taken back as were given.
+abbrev pub GivesAllBack : ℕ → ℕ → ℕ → ℕ → Type 0
+GivesAllBack given more taken back = (count : ℕ) × (more ≡ count_and given count) × (back ≡ count_and taken count)

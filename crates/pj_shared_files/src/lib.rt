@@ -2,11 +2,13 @@
 //! so that what is left is what one worker would leave.
 #![tactic(auto)]
 
+mod by_threads;
 mod closed_oracle;
 mod files_work;
 mod gathering;
 mod rows;
 mod together;
 
+pub use by_threads::files_by_threads;
 pub use files_work::FilesWork;
 pub use together::files_together;

@@ -1,67 +1,20 @@
 //! A worker that asks for one class a file.
-ghost use Rattle.std.specs.Prelude.{◌≡◌, ◌≤◌, ℕ, [], get_or, vec_len};
-ghost use Rattle.pj_names.specs.Told.{longest};
+ghost use Rattle.std.specs.Prelude.{◌≡◌, vec_len};
 
-use pj_base::{Bytes, Names, NoMemory, Numbers, Text};
-use pj_names::{Answer, AskFault, ClassName, Oracle};
-use pj_outside::{ClassDoor, ClassPath, Files, Folders, MemClassPath, MemDoor, Pairs};
-use pj_seats::{FileWork, OpenGate, Share, claim_loop};
+use crate::classes::{OneClass, class_path, folder_names, names};
+use pj_base::NoMemory;
+use pj_names::{Answer, AskFault};
+use pj_outside::{ClassDoor, ClassPath, MemDoor};
+use pj_seats::{OpenGate, Share, claim_loop};
 use pj_table::TypeTable;
 use std::alloc::Global;
 use std::sync::{Arc, Wait};
 use std::test::Fail;
 
-/// What comes of a file is the answer for its class.
-struct OneClass {
-    names: Vec<ClassName>,
-}
-
-impl FileWork for OneClass {
-    type Made = Arc<Answer>;
-
-    ghost count = { λ work. vec_len work.names };
-
-    ghost is_ready = { λ work. Unit {0} };
-
-    ghost comes = { λ work file worlds names answer. (depth : ℕ) → longest ≤ depth → answer.value ≡ (worlds depth).answer (get_or work.names.items file []) };
-
-    #[tactic(auto, using(pj_seats::proofs::Working::asks_stay))]
-    fn work<O: Oracle>(
-        &self,
-        _alloc: Global,
-        oracle: &mut O,
-        file: u32,
-    ) -> Result<Arc<Answer>, AskFault> {
-        oracle.ask(&self.names[file as usize])
-    }
-}
-
-/// The classes of files.
-fn names(alloc: Global, all: &[&str]) -> Result<Vec<ClassName>, Fail> {
-    let mut names = Vec::new(alloc);
-    for name in all {
-        names.push(ClassName::of(alloc, name)?.ok_or("no class name")?)?;
-    }
-    Ok(names)
-}
-
-/// One folder, in which `p.A` has a file that is no class file.
-fn folders(alloc: Global) -> Result<Folders, NoMemory> {
-    let mut files = Files::new(alloc);
-    let bytes = Bytes::from_vec(Vec::from_slice(alloc, b"xyz")?);
-    files.push((Text::from_str(alloc, "p/A.class")?, bytes))?;
-    let mut folders = Folders::new(alloc);
-    folders.push(Text::from_str(alloc, "one")?, files)?;
-    Ok(folders)
-}
-
 /// A door to the folder, of which the find of this number is to fail, from 1; with 0 none is.
 fn door(alloc: Global, fails: u32) -> Result<Option<MemDoor>, NoMemory> {
-    let mut pairs = Pairs::new(alloc);
-    pairs.push((0, fails))?;
-    let mut classes = MemClassPath::new(alloc, folders(alloc)?, Numbers::new(alloc), pairs);
-    let mut names = Names::new(alloc);
-    names.push(Text::from_str(alloc, "one")?)?;
+    let mut classes = class_path(alloc, fails)?;
+    let names = folder_names(alloc)?;
     Ok(classes.open(&names).ok())
 }
 
@@ -80,7 +33,7 @@ fn work_alone<R: Wait>(
 }
 
 /// Whether each file has its turn, and its class is absent where this says so.
-fn are(share: &Share<Arc<Answer>>, absent: &[bool]) -> bool {
+fn are_all(share: &Share<Arc<Answer>>, absent: &[bool]) -> bool {
     for ((_, answer), absent) in share.results.as_slice().iter().zip(absent) {
         if (**answer == Answer::Absent) != *absent {
             return false;
@@ -127,7 +80,7 @@ static ROWS: [Row; 4] = [
 /// Whether the work came to what the row says.
 fn is_made(made: &Result<Share<Arc<Answer>>, AskFault>, wanted: Option<&[bool]>) -> bool {
     match (made, wanted) {
-        (Ok(share), Some(absent)) => are(share, absent),
+        (Ok(share), Some(absent)) => are_all(share, absent),
         (Err(AskFault::Failed), None) => true,
         _ => false,
     }

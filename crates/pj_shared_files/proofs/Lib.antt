@@ -1,0 +1,2 @@
+pub mod InWorlds
+pub mod Gathering
