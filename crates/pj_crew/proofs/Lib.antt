@@ -2,3 +2,5 @@ pub mod Lists
 pub mod Reversed
 pub mod Seated
 pub mod Joined
+pub mod Whole
+pub mod Faults

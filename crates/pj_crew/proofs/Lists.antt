@@ -18,7 +18,7 @@ pub put_all_append : {M : Type 0} (places : List (Option M)) (first second : Lis
 put_all_append places [] second = refl
 put_all_append places (r ∷ first) second = put_all_append (slice_set places r.0 (Some r.1)) first second
 
-Reads : {M : Type 0} (places : List (Option M)) (results : List (ℕ × M)) (i : ℕ) → Type 0
+abbrev Reads : {M : Type 0} (places : List (Option M)) (results : List (ℕ × M)) (i : ℕ) → Type 0
 Reads {M} places results i = ((times i (map (λ (r : ℕ × M). r.0) results) ≡ 0) × (get_or (put_all places results) i None ≡ get_or places i None)) ⊎ ((one : M) × Contains results (i, one) × (get_or (put_all places results) i None ≡ Some one))
 
 in_first : {A : Type 0} (x y : A) (xs : List A) → x ≡ y → Contains (x ∷ xs) y

@@ -1,6 +1,6 @@
 -- What several workers come to.
-use Rattle.std.specs.Prelude.{◌≡◌, ℕ, ◌+◌, ◌<◌, List, [], ◌∷◌, length, map, slice_index_or, sum}
-use Rattle.std.specs.List.{All, AllByRecursion}
+use Rattle.std.specs.Prelude.{◌≡◌, ℕ, ◌+◌, ◌<◌, List, length, slice_index_or}
+use Rattle.std.specs.List.{AllByRecursion}
 use mathlib.Core.Option.{some}
 use lib.ListN.{get_elem?}
 use Rattle.pj_names.specs.ClassName.{Name, NameSet}
@@ -9,6 +9,7 @@ use Rattle.pj_outside.specs.Doors.{count_and}
 use Rattle.pj_seats.specs.Working.{IsMadeOf}
 use Rattle.pj_table.specs.Book.{IsSound, Stands}
 use Rattle.pj_table.specs.Names.{part_of}
+use Rattle.pj_table.specs.Rule.{total}
 use Rattle.pj_table.specs.Worlds.{World}
 use Rattle.pj_table.specs.declared.part.Part.{Part}
 use Rattle.pj_table.specs.declared.view.Entry.{Entry}
@@ -41,8 +42,8 @@ pub record IsTogether {M : Type 0} (world : World) (comes : ℕ → Worlds → N
 
 -- the counts of doors, together
 abbrev pub total_of : {D : Type 0} → (D → ℕ) → List D → ℕ
-total_of count doors = sum (map count doors)
+total_of count doors = total count doors
 
 -- All doors have this world.
 abbrev pub AreOfWorld : {D : Type 0} → (D → World) → World → List D → Type 0
-AreOfWorld holds world doors = All (λ door. holds door ≡ world) doors
+AreOfWorld holds world doors = AllByRecursion (λ door. holds door ≡ world) doors

@@ -39,7 +39,7 @@ impl<'r> FileWork for FilesWork<'r> {
         file: u32,
     ) -> Result<LeftFile, AskFault> {
         sets_have_rules(self.run.rules);
-        let (path, bytes) = &self.files[file as usize];
-        file_entry(alloc, self.run, oracle, path, bytes)
+        let of_number = &self.files[file as usize];
+        file_entry(alloc, self.run, oracle, &of_number.0, &of_number.1)
     }
 }
