@@ -37,3 +37,8 @@ joined_is (w ∷ workers) v single =
     let own = (view_of w.seat).own in
     let one : united v (view_of w.seat) ≡ record v { joined = v.joined ++ own ∷ [] } = λ i. record v { joined = v.joined ++ own ∷ single.0 i } in
     ap (with_seats_of workers) one ∙ joined_is workers (record v { joined = v.joined ++ own ∷ [] }) single.1 ∙ (λ i. record v { joined = append_assoc v.joined (own ∷ []) (lines_of workers) i })
+
+-- a member between others has what all have
+pub all_last_of : {A : Type 0} (P : A → Type 0) (front : List A) (x : A) (back : List A) → AllByRecursion P (front ++ (x ∷ back)) → P x
+all_last_of P [] x back all = all.0
+all_last_of P (y ∷ front) x back all = all_last_of P front x back all.1

@@ -2,9 +2,9 @@
 ghost use Rattle.std.specs.Prelude.{◌≡◌, ◌≤◌, [], OnOk, vec_capacity, vec_len};
 ghost use Rattle.std.specs.List.{AllByRecursion};
 ghost use Rattle.std.specs.Option.{option_map};
-ghost use Rattle.pj_outside.specs.Doors.{count_and, opened};
+ghost use Rattle.pj_outside.specs.Doors.{opened};
 ghost use Rattle.pj_outside.specs.Faults.{CountsFaults};
-ghost use Rattle.pj_crew.specs.Opening.{IsNewDoor, TakesAllFaults};
+ghost use Rattle.pj_crew.specs.Opening.{IsNewDoor, TakesAllFaults, counted_on, with_finds};
 ghost use Rattle.pj_crew.specs.Together.{total_of};
 
 use pj_base::Names;
@@ -21,7 +21,7 @@ pub fn open_doors<C: ClassPath>(
     requires room { (doors.old.items ≡ []) × (vec_len doors.old ≡ 0) × (count ≤ vec_capacity doors.old) }
     ensures doors { AllByRecursion (IsNewDoor C.Door.holds C.Door.finds C.Door.faults (option_map (λ held. opened held folders.now) (C.holds classes.old))) doors.new.items }
     ensures many { OnOk result (vec_len doors.new ≡ count) }
-    ensures given { C.given classes.new ≡ count_and (C.given classes.old) (vec_len doors.new) }
+    ensures given { C.given classes.new ≡ counted_on (vec_len doors.new) (C.given classes.old) }
     ensures same_folders { C.holds classes.new ≡ C.holds classes.old }
     ensures same_taken { C.taken classes.new ≡ C.taken classes.old }
     ensures same_finds { C.finds classes.new ≡ C.finds classes.old }
@@ -36,8 +36,8 @@ pub fn open_doors<C: ClassPath>(
 
 /// Shuts all doors.
 pub fn shut_doors<C: ClassPath>(classes: &mut C, mut doors: Vec<C::Door>)
-    ensures taken { C.taken classes.new ≡ count_and (C.taken classes.old) (vec_len doors) }
-    ensures finds { C.finds classes.new ≡ count_and (C.finds classes.old) (total_of C.Door.finds doors.items) }
+    ensures taken { C.taken classes.new ≡ counted_on (vec_len doors) (C.taken classes.old) }
+    ensures finds { C.finds classes.new ≡ with_finds C.Door.finds doors.items (C.finds classes.old) }
     ensures faults { TakesAllFaults (C.faults classes.old) (C.faults classes.new) (total_of C.Door.faults doors.items) }
     ensures same_given { C.given classes.new ≡ C.given classes.old }
     ensures same_folders { C.holds classes.new ≡ C.holds classes.old }

@@ -116,9 +116,9 @@ module _ {M : Type 0} (world : World) (comes : ℕ → Worlds → NameSet → M 
 -- ---- one file
 
 -- what came of a file, over an oracle of which nothing was asked
-pub made_of : {K M : Type 0} {t u : Told K} {comes : Worlds → NameSet → M → Type 0} {made : M} (kept : K) (world : World) (faults : ℕ) (names : List Name) → t ≡ tells_of kept world set.empty faults
+pub made_of : {K M : Type 0} {t : Told K} (u : Told K) {comes : Worlds → NameSet → M → Type 0} {made : M} (kept : K) (world : World) (faults : ℕ) (names : List Name) → t ≡ tells_of kept world set.empty faults
     → (IsTrue t.is_told → comes t.world u.asked made) → name_set names ≡ u.asked → set.len (name_set names) ≡ length names → IsMadeOf world comes made names
-made_of {u = u} {comes = comes} {made = made} kept world faults names is so asked once = record {
+made_of u {comes = comes} {made = made} kept world faults names is so asked once = record {
   once = once;
   comes_so = λ told. subst (λ (s : NameSet). comes (worlds_of world) s made) (sym asked)
       (subst (λ v. IsTrue v.is_told → comes v.world u.asked made) is so told);
@@ -126,9 +126,9 @@ made_of {u = u} {comes = comes} {made = made} kept world faults names is so aske
 
 -- a call that asks as a meaning says
 pub asks_stay : {K A B : Type 0} {m : Asking B} {t u : Told K} (value : A → B) (r : Result A AskFault) → Asks m t u (seen value r) → Stays t u r
-asks_stay value (Ok made) a = record { same_told = a.same_told; same_world = a.same_world; same_kept = a.same_kept; faults_grow = a.faults_grow; faults_stay = a.faults_stay; failed = a.failed }
-asks_stay value (Err Failed) a = record { same_told = a.same_told; same_world = a.same_world; same_kept = a.same_kept; faults_grow = a.faults_grow; faults_stay = a.faults_stay; failed = a.failed }
-asks_stay value (Err Memory) a = record { same_told = a.same_told; same_world = a.same_world; same_kept = a.same_kept; faults_grow = a.faults_grow; faults_stay = a.faults_stay; failed = a.failed }
+asks_stay value (Ok made) a = record { same_told = a.same_told; same_world = a.same_world; same_kept = a.same_kept; faults_grow = a.faults_grow; faults_stay = a.faults_stay; failed = λ is. absurd (cc) }
+asks_stay value (Err Failed) a = record { same_told = a.same_told; same_world = a.same_world; same_kept = a.same_kept; faults_grow = a.faults_grow; faults_stay = a.faults_stay; failed = λ is. a.failed refl }
+asks_stay value (Err Memory) a = record { same_told = a.same_told; same_world = a.same_world; same_kept = a.same_kept; faults_grow = a.faults_grow; faults_stay = a.faults_stay; failed = λ is. absurd (cc) }
 
 -- faults of the door, as the oracle tells them
 pub faults_of : {K A : Type 0} {t u : Told K} (r : Result A AskFault) → Stays t u r → CountsFaults t.faults u.faults r

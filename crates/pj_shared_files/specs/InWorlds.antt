@@ -9,7 +9,7 @@ use Rattle.pj_cached_files.specs.declared.files.LeftFiles.{LeftFiles}
 use Rattle.pj_fitting.specs.Left.{File}
 use Rattle.pj_names.specs.ClassName.{NameSet}
 use Rattle.pj_names.specs.Told.{Told, Worlds}
-use Rattle.pj_outside.specs.Doors.{count_and}
+use Rattle.pj_crew.specs.Opening.{counted_on}
 use Rattle.pj_rule_sets.specs.Rules.{EffectiveRules}
 use Rattle.pj_table.specs.ClassWorld.{worlds_of}
 use Rattle.pj_table.specs.Worlds.{World}
@@ -34,4 +34,4 @@ DoesIn world rules found list before after = Does (told_in (worlds_of world)) ru
 
 -- As many doors were taken back as were given.
 abbrev pub GivesAllBack : ℕ → ℕ → ℕ → ℕ → Type 0
-GivesAllBack given more taken back = (count : ℕ) × (more ≡ count_and given count) × (back ≡ count_and taken count)
+GivesAllBack given more taken back = (count : ℕ) × (more ≡ counted_on count given) × (back ≡ counted_on count taken)

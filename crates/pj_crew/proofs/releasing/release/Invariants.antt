@@ -10,6 +10,6 @@ invariant-loop g l = record {
   left : vec_len l.workers + l.counter ≡ vec_len l.initial.workers;
   room : vec_len l.initial.workers ≤ vec_capacity l.doors;
   room_for_ends : vec_len l.initial.workers ≤ vec_capacity l.ends;
-  so_far : (gone : List (Worker g.D g.M)) × (l.initial.workers.items ≡ l.workers.items ++ reverse gone) × (view_of l.seat ≡ with_seats_of gone (view_of l.initial.seat)) × (l.doors.items ≡ doors_of gone) × (l.ends.items ≡ ends_of gone);
+  so_far : (gone : List (Worker g.row.D.Denot g.row.M.Denot)) × (l.initial.workers.items ≡ l.workers.items ++ reverse gone) × (view_of l.seat ≡ with_seats_of gone (view_of l.initial.seat)) × (l.doors.items ≡ doors_of gone) × (l.ends.items ≡ ends_of gone);
   many : (vec_len l.doors ≡ l.counter) × (vec_len l.ends ≡ l.counter);
 }
