@@ -1,11 +1,10 @@
 -- Lists in the other order.
-use Rattle.std.proofs.Common.{◌≡◌, ◌∙◌, ℕ, zero, suc, ◌+◌, ◌<◌, ◌≤◌, List, [], ◌∷◌, ◌++◌, map, reverse, length, refl, sym, ap, subst, arith, ⊎_elim, inl, inr}
+use Rattle.std.proofs.Common.{◌≡◌, ◌∙◌, ℕ, zero, suc, ◌+◌, ◌<◌, ◌≤◌, List, [], ◌∷◌, ◌++◌, map, reverse, length, refl, sym, ap, subst, arith, get_or}
 use Rattle.std.specs.List.{AllByRecursion, AllZip}
 use Rattle.std.proofs.lemmas.List.{map-append, reverse-append}
 use mathlib.Core.Option.{some}
 use lib.ListN.{get_elem?}
-use Rattle.atomic_table.proofs.Lists.{at_last, at_longer}
-use Rattle.pj_table.proofs.Books.{at_snoc_is}
+use Rattle.atomic_table.proofs.Lists.{at_longer}
 
 pub reverse_first : {A : Type 0} (x : A) (xs : List A) → reverse (x ∷ xs) ≡ reverse xs ++ x ∷ []
 reverse_first x xs = reverse-append (x ∷ []) xs
@@ -35,9 +34,19 @@ all_append : {A : Type 0} (P : A → Type 0) (xs ys : List A) → AllByRecursion
 all_append P [] ys all more = more
 all_append P (x ∷ xs) ys all more = (all.0, all_append P xs ys all.1 more)
 
+pub all_last : {A : Type 0} (P : A → Type 0) (xs : List A) (x : A) → AllByRecursion P xs → P x → AllByRecursion P (xs ++ x ∷ [])
+all_last P xs x all one = all_append P xs (x ∷ []) all (one, tt)
+
 pub all_reverse : {A : Type 0} (P : A → Type 0) (xs : List A) → AllByRecursion P xs → AllByRecursion P (reverse xs)
 all_reverse P [] all = tt
 all_reverse {A} P (x ∷ xs) all = subst (λ (l : List A). AllByRecursion P l) (sym (reverse_first x xs)) (all_append P (reverse xs) (x ∷ []) (all_reverse P xs all.1) (all.0, tt))
+
+-- two lists of one length, place by place
+pub zip_by_index : {A : Type 0} (R : A → A → Type 0) (xs ys : List A) → length ys ≡ length xs → ((i : ℕ) (d : A) → i < length xs → R (get_or xs i d) (get_or ys i d)) → AllZip R xs ys
+zip_by_index R [] [] long each = tt
+zip_by_index R [] (y ∷ ys) long each = absurd (omega (arith, long))
+zip_by_index R (x ∷ xs) [] long each = absurd (omega (arith, long))
+zip_by_index R (x ∷ xs) (y ∷ ys) long each = (each 0 x (omega arith), zip_by_index R xs ys (omega (arith, long)) (λ i d below. each (suc i) d (omega (arith, below))))
 
 -- a member of a list
 abbrev pub IsIn : {A : Type 0} → List A → A → Type 0

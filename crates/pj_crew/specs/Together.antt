@@ -1,5 +1,5 @@
 -- What several workers come to.
-use Rattle.std.specs.Prelude.{◌≡◌, ℕ, ◌+◌, ◌<◌, List, length, slice_index_or}
+use Rattle.std.specs.Prelude.{◌≡◌, ℕ, ◌+◌, ◌<◌, List, [], ◌∷◌, None, length, slice_index_or}
 use Rattle.std.specs.List.{AllByRecursion}
 use mathlib.Core.Option.{some}
 use lib.ListN.{get_elem?}
@@ -47,3 +47,12 @@ total_of count doors = total count doors
 -- All doors have this world.
 abbrev pub AreOfWorld : {D : Type 0} → (D → World) → World → List D → Type 0
 AreOfWorld holds world doors = AllByRecursion (λ door. holds door ≡ world) doors
+
+-- the world of the first door
+abbrev pub first_world : {D : Type 0} → (D → World) → List D → World
+first_world holds [] = None
+first_world holds (door ∷ doors) = holds door
+
+-- All doors have the world of the first one.
+abbrev pub AreOfOneWorld : {D : Type 0} → (D → World) → List D → Type 0
+AreOfOneWorld holds doors = AreOfWorld holds (first_world holds doors) doors

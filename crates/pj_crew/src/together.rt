@@ -1,9 +1,9 @@
 //! Several workers at the files of a run.
 ghost use Rattle.std.specs.Prelude.{◌≡◌, ◌+◌, ◌^◌, ◌<◌, IfOk, length, map, vec_len};
 ghost use Rattle.std.specs.List.{All, AllZip};
-ghost use Rattle.pj_table.specs.Worlds.{CountsFaults, World};
+ghost use Rattle.pj_table.specs.Worlds.{CountsFaults};
 ghost use Rattle.pj_crew.specs.Crew.{HasWorked, IsReady};
-ghost use Rattle.pj_crew.specs.Together.{AreOfWorld, IsTogether, total_of};
+ghost use Rattle.pj_crew.specs.Together.{AreOfOneWorld, IsTogether, first_world, total_of};
 
 use crate::hiring::hire;
 use crate::placing::by_number;
@@ -63,11 +63,11 @@ pub fn work_together<R: Threads + Wait + Sync, D: ClassDoor, G: Gate + Sync, W: 
     gate: &G,
 ) -> Result<Together<W::Made>, AskFault>
     requires many { (0 < vec_len doors.old) × (vec_len doors.old + 1 < 2 ^ 32) }
-    requires world { (world : World) × AreOfWorld D.holds world doors.old.items }
+    requires world { AreOfOneWorld D.holds doors.old.items }
     requires ready { W.is_ready work.now }
     requires files { files ≡ W.count work.now }
     ensures same_doors { AllZip (λ after before. D.holds after ≡ D.holds before) doors.new.items doors.old.items }
-    ensures together { (world : World) → AreOfWorld D.holds world doors.old.items → IfOk result (λ together. IsTogether world (W.comes work.now) files together.made.items together.closed.parts.items) }
+    ensures together { IfOk result (λ together. IsTogether (first_world D.holds doors.old.items) (W.comes work.now) files together.made.items together.closed.parts.items) }
     ensures faults { CountsFaults (total_of D.faults doors.old.items) (total_of D.faults doors.new.items) result }
 {
     let room = Vec::with_capacity(alloc, doors.len())?;

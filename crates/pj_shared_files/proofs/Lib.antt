@@ -1,2 +1,3 @@
 pub mod InWorlds
 pub mod Gathering
+pub mod Answering

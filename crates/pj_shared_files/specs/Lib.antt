@@ -2,3 +2,4 @@
 pub mod InWorlds
 -- for private clauses
 pub mod Gathering
+pub mod Answering

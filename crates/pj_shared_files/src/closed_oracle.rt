@@ -1,7 +1,8 @@
 //! An oracle over a table at its end.
-ghost use Rattle.std.specs.Prelude.{◌≡◌};
+ghost use Rattle.std.specs.Prelude.{◌≡◌, length};
 ghost use Rattle.std.specs.FinSet as set;
 ghost use Rattle.pj_crew.specs.Together.{AreRightParts};
+ghost use Rattle.pj_shared_files.specs.Answering.{HaveRightEntries, right_entries_prop};
 ghost use Rattle.pj_table.specs.Telling.{tells_of};
 ghost use Rattle.pj_table.specs.Worlds.{World};
 
@@ -27,7 +28,8 @@ pub struct ClosedOracle<'c, W: Knowing> {
     closed: &'c Closed,
     asked: ClassNameSet,
     of: PhantomData<W>,
-    ghost right: { ∥ AreRightParts W.world closed.now.parts.items ∥₁ },
+    ghost right: { HaveRightEntries W.world closed.now.parts.items } by { right_entries_prop W.world closed.now.parts.items },
+    ghost many: { length closed.now.parts.items ≡ 64 },
 }
 
 impl<'c, W: Knowing> ClosedOracle<'c, W> {

@@ -41,6 +41,9 @@ fn work_by<R: Threads + Wait + Sync, G: Gate + Sync>(
     fails: u32,
     gate: &G,
 ) -> Result<(Result<Together<Arc<Answer>>, AskFault>, u64), Fail> {
+    if workers == 0 || workers > 64 {
+        return Err(Fail::new("1 to 64 workers"));
+    }
     let work = OneClass {
         names: names(alloc, classes)?,
     };
