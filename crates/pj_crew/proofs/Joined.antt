@@ -15,20 +15,19 @@ use Rattle.pj_seats.specs.Working.{IsMadeOf, IsShare}
 use Rattle.pj_table.proofs.Claims.{total_append}
 use Rattle.pj_table.specs.Names.{part_of}
 use Rattle.pj_table.specs.Plays.{new_view}
-use Rattle.pj_table.specs.Rule.{Shows, line_claims, mark, times, total}
+use Rattle.pj_table.specs.Rule.{line_claims, mark, times, total}
 use Rattle.pj_table.specs.Seats.{view_of}
 use Rattle.pj_table.specs.Seats as seats
 use Rattle.pj_table.specs.Worlds.{World}
 use Rattle.pj_table.specs.declared.seat.TypeTable.{TypeTable}
 use Rattle.pj_table.specs.declared.part.Part.{Part}
 use Rattle.pj_table.specs.declared.view.Asked.{Asked}
-use Rattle.pj_table.specs.declared.view.Entry.{Entry}
 use Rattle.pj_table.specs.declared.view.Line.{Line}
 use Rattle.pj_table.specs.declared.view.View.{View}
 use Rattle.pj_crew.proofs.Lists.{same_number}
 use Rattle.pj_crew.proofs.Reversed.{IsIn}
 use Rattle.pj_crew.proofs.Seated.{AreSingle, lines_of}
-use Rattle.pj_crew.specs.Crew.{AreSeatedFrom, HasWorked, ends_of, with_numbers_given}
+use Rattle.pj_crew.specs.Crew.{AreSeatedFrom, AreShown, HasWorked, ends_of, with_numbers_given}
 use Rattle.pj_crew.specs.Placing.{all_results}
 use Rattle.pj_crew.specs.Together.{IsFilled, IsMadeOver}
 use Rattle.pj_crew.specs.declared.worker.Worker.{Worker}
@@ -124,10 +123,6 @@ in_filter p (y ∷ xs) x zero is yes = let same : y ≡ x = some-injective y x i
 in_filter {A} p (y ∷ xs) x (suc k) is yes =
     let later = in_filter p xs x k is yes in
     elim (p y) as (λ b. IsIn (cond b (y ∷ filter p xs) (filter p xs)) x) [ true ↦ (suc later.0, later.1) | false ↦ later ]
-
--- what each part shows
-abbrev pub AreShown : View → List Part → Type 0
-AreShown view parts = (p : ℕ) → p < 64 → (x : Part) × (get_elem? parts p ≡ some x) × Shows view p x × ((k : ℕ) (e : Entry) → get_elem? x.entries.items k ≡ some e → part_of e.name ≡ p)
 
 module _ (view : View) (parts : List Part) (shown : AreShown view parts) (l : Line) (there : IsIn view.joined l) where
   one_filled : (a : Asked) (name : Name) → a.part ≡ part_of name → a.name ≡ name → IsIn l.asked a → IsFilled parts name

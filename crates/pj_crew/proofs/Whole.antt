@@ -2,7 +2,7 @@
 use Rattle.std.proofs.Common.{◌≡◌, ◌∙◌, ℕ, zero, suc, ◌+◌, ◌-◌, ◌<◌, ◌≤◌, List, [], ◌∷◌, ◌++◌, map, reverse, length, refl, sym, ap, subst, arith, get_or}
 use Rattle.std.specs.Prelude.{Result, Ok}
 use Rattle.std.specs.List.{AllByRecursion, AllZip}
-use Rattle.std.proofs.lemmas.List.{length-reverse, reverse-reverse}
+use Rattle.std.proofs.lemmas.List.{length-map, length-reverse, reverse-reverse}
 use mathlib.Core.Option.{some, some-injective}
 use lib.ListN.{get_elem?}
 use Rattle.pj_names.specs.declared.oracle.AskFault.{AskFault}
@@ -18,10 +18,10 @@ use Rattle.pj_table.specs.declared.part.Part.{Part}
 use Rattle.pj_table.specs.declared.seat.TypeTable.{TypeTable}
 use Rattle.pj_table.specs.declared.view.Line.{Line}
 use Rattle.pj_table.specs.declared.view.View.{View}
-use Rattle.pj_crew.proofs.Joined.{AreShown, IsDone, IsNew, are_single, claims_are, done_all, made_over, numbers_are, some_mark}
+use Rattle.pj_crew.proofs.Joined.{IsDone, IsNew, are_single, claims_are, done_all, made_over, numbers_are, some_mark}
 use Rattle.pj_crew.proofs.Reversed.{IsIn, all_reverse, in_reverse, map_reverse, zip_reverse}
 use Rattle.pj_crew.proofs.Seated.{joined_is, lines_of}
-use Rattle.pj_crew.specs.Crew.{AreHired, AreSeatedFrom, HasWorked, doors_of, ends_of, with_numbers_given, with_seats_of}
+use Rattle.pj_crew.specs.Crew.{AreHired, AreJoined, ArePut, AreSeatedFrom, AreShown, HasWorked, HaveWorked, doors_of, ends_of, with_numbers_given, with_seats_of}
 use Rattle.pj_crew.specs.Placing.{AreOnceEach, ArePlaced, all_results}
 use Rattle.pj_crew.specs.Together.{AreOfWorld, IsRightPart, IsTogether}
 use Rattle.pj_crew.specs.declared.worker.Worker.{Worker}
@@ -87,3 +87,26 @@ module _ {D M : Type 0} (table : TypeTable) (holds : D → World) (finds faults 
             subst (λ (y : Part). IsRightPart world p y) same (record { good = subst (λ (w : World). IsSound w shows.0.entries.items shows.0.looks.items) right_world shows.2.0.good; placed = shows.2.1 });
       };
     }
+
+-- The same by what is said of the work of all.
+module _ {D M : Type 0} (table : TypeTable) (holds : D → World) (finds faults : D → ℕ) (comes : ℕ → Worlds → NameSet → M → Type 0) (world : World) (files : ℕ) (before after : List D) (last : View) (ends : List (Result (Share M) AskFault)) where
+  abbrev All : View → Type 0
+  All first = HaveWorked table first holds finds faults comes before after last ends
+
+  pub joined_of : (first : View) → first ≡ newcomer world files 0 1 → All first → AreOfWorld holds world before → 0 < length before → (shares : List (Share M)) → map (λ (s : Share M). Ok s) shares ≡ ends → AreJoined last files shares
+  joined_of first is all of some shares ok =
+      let work = subst (λ (v : View). All v) is all in
+      let many : 0 < length work.hired = (let a = ap length work.are_hired.doors_are in let b = length-reverse (map (λ (w : Worker D M). w.door) work.hired) in let c = length-map work.hired (λ (w : Worker D M). w.door) in omega (arith, a, b, c, some)) in (
+        has_all table holds finds faults world comes files before work.hired work.worked shares last work.are_hired of work.each (ok ∙ work.ends_are) work.last_is,
+        (λ claims. once_each table holds finds faults world comes files before work.hired work.worked shares last work.are_hired of work.each (ok ∙ work.ends_are) work.last_is claims many),
+      )
+
+  pub opening_of : (first : View) → first ≡ newcomer world files 0 1 → All first → AreOfWorld holds world before → (shares : List (Share M)) → map (λ (s : Share M). Ok s) shares ≡ ends → last.own.number ≡ 0
+  opening_of first is all of shares ok =
+      let work = subst (λ (v : View). All v) is all in
+      is_opening table holds finds faults world comes files before work.hired work.worked shares last work.are_hired of work.each (ok ∙ work.ends_are) work.last_is
+
+  pub together_of : (first : View) → first ≡ newcomer world files 0 1 → All first → AreOfWorld holds world before → (made : List M) (parts : List Part) → ArePut last files ends made parts → IsTogether world comes files made parts
+  together_of first is all of made parts put =
+      let work = subst (λ (v : View). All v) is all in
+      is_together table holds finds faults world comes files before work.hired work.worked put.shares last work.are_hired of work.each (put.all_ok ∙ work.ends_are) work.last_is parts made put.shown put.many put.placed

@@ -1,9 +1,13 @@
 //! Several workers at the files of a run.
-ghost use Rattle.std.specs.Prelude.{◌≡◌, ◌+◌, ◌^◌, ◌<◌, IfOk, length, map, vec_len};
-ghost use Rattle.std.specs.List.{All, AllZip};
+ghost use Rattle.std.specs.Prelude.{◌≡◌, ◌+◌, ◌^◌, ◌<◌, ◌≤◌, [], List, Ok, Err, IfOk, length, map, vec_capacity, vec_len};
+ghost use Rattle.std.specs.List.{All, AllZip, Contains};
+ghost use Rattle.pj_names.specs.Told.{UnlessFailed};
+ghost use Rattle.pj_names.specs.declared.oracle.AskFault.TheVariants as faults;
+ghost use Rattle.pj_seats.specs.declared.worker.Share.{Share as AnyShare};
+ghost use Rattle.pj_table.specs.Seats.{IsOf, IsOpening, IsSameSeat, files_of, view_of, world_of};
 ghost use Rattle.pj_table.specs.Worlds.{CountsFaults};
-ghost use Rattle.pj_crew.specs.Crew.{HasWorked, IsReady};
-ghost use Rattle.pj_crew.specs.Together.{AreOfOneWorld, IsTogether, first_world, total_of};
+ghost use Rattle.pj_crew.specs.Crew.{AreJoined, ArePut, HasNotFailed, HasWorked, HaveWorked, IsReady};
+ghost use Rattle.pj_crew.specs.Together.{AreOfOneWorld, AreOfWorld, IsTogether, first_world, total_of};
 
 use crate::hiring::hire;
 use crate::placing::by_number;
@@ -12,8 +16,8 @@ use crate::shares::all_shares;
 use crate::worker::{Worker, run_worker};
 use pj_names::AskFault;
 use pj_outside::ClassDoor;
-use pj_seats::{FileWork, Gate};
-use pj_table::{Closed, TypeTable};
+use pj_seats::{FileWork, Gate, Share};
+use pj_table::{Closed, TableSeat, TypeTable};
 use std::alloc::Global;
 use std::sync::Wait;
 use std::thread;
@@ -50,6 +54,54 @@ fn run_all<R: Threads + Wait + Sync, D: ClassDoor, G: Gate + Sync, W: FileWork +
     thread::for_each_mut(rt, workers, threads, &run_one);
 }
 
+/// Each door gets a worker, all work, and the seats and the doors come back, with what the workers ended with.
+fn work_all<R: Threads + Wait + Sync, D: ClassDoor, G: Gate + Sync, W: FileWork + Sync>(
+    rt: &R,
+    alloc: Global,
+    table: &TypeTable,
+    seat: &mut TableSeat,
+    doors: &mut Vec<D>,
+    room: Vec<Worker<D, W::Made>>,
+    ends: Vec<Result<Share<W::Made>, AskFault>>,
+    work: &W,
+    gate: &G,
+) -> Vec<Result<Share<W::Made>, AskFault>>
+    requires table { IsOf table.now seat.old × IsOpening seat.old }
+    requires many { (0 < vec_len doors.old) × ((view_of seat.old).given + vec_len doors.old < 2 ^ 32) }
+    requires world { AreOfWorld D.holds (world_of seat.old) doors.old.items }
+    requires ready { W.is_ready work.now }
+    requires files { files_of seat.old ≡ W.count work.now }
+    requires room { (room.items ≡ []) × (vec_len room ≡ 0) × (vec_len doors.old ≤ vec_capacity room) }
+    requires room_for_ends { (ends.items ≡ []) × (vec_len ends ≡ 0) × (vec_len doors.old ≤ vec_capacity ends) }
+    ensures table { IsSameSeat seat.old seat.new }
+    ensures worked { HaveWorked table.now (view_of seat.old) D.holds D.finds D.faults (W.comes work.now) doors.old.items doors.new.items (view_of seat.new) result.items }
+{
+    let mut workers = hire(alloc, table, seat, doors, room);
+    run_all(rt, alloc, table, work, gate, workers.as_mut_slice());
+    release(table, seat, workers, doors, ends)
+}
+
+/// What came of all files, where all workers ended with shares, and the table at its end.
+fn put_together<M: Drop>(
+    alloc: Global,
+    files: u32,
+    table: TypeTable,
+    seat: TableSeat,
+    ends: Vec<Result<Share<M>, AskFault>>,
+) -> Result<Together<M>, AskFault>
+    requires table { IsOf table seat × IsOpening seat }
+    requires files { files_of seat ≡ files }
+    requires joined { (shares : List (AnyShare M)) → map (λ share. Ok share) shares ≡ ends.items → AreJoined (view_of seat) files shares }
+    ensures put { IfOk result (λ together. ArePut (view_of seat) files ends.items together.made.items together.closed.parts.items) }
+    ensures failed { result ≡ Err faults.Failed → Contains ends.items (Err faults.Failed) }
+    ensures not_failed { UnlessFailed result (All HasNotFailed ends.items) }
+{
+    let shares = all_shares(alloc, ends)?;
+    let closed = table.close(seat);
+    let made = by_number(alloc, files, shares)?;
+    Ok(Together { made, closed })
+}
+
 /// Works at all files with a worker for each door, through one table. Each file is claimed by one worker, and each class is found once,
 /// by the door of the worker that asks for it first. The doors are those that they were, in their order.
 ///
@@ -71,13 +123,8 @@ pub fn work_together<R: Threads + Wait + Sync, D: ClassDoor, G: Gate + Sync, W: 
     ensures faults { CountsFaults (total_of D.faults doors.old.items) (total_of D.faults doors.new.items) result }
 {
     let room = Vec::with_capacity(alloc, doors.len())?;
-    let room_for_ends = Vec::with_capacity(alloc, doors.len())?;
+    let ends = Vec::with_capacity(alloc, doors.len())?;
     let (table, mut seat) = TypeTable::open(alloc, &doors[0], files)?;
-    let mut workers = hire(alloc, &table, &mut seat, doors, room);
-    run_all(rt, alloc, &table, work, gate, workers.as_mut_slice());
-    let ends = release(&table, &mut seat, workers, doors, room_for_ends);
-    let shares = all_shares(alloc, ends)?;
-    let closed = table.close(seat);
-    let made = by_number(alloc, files, shares)?;
-    Ok(Together { made, closed })
+    let ends = work_all(rt, alloc, &table, &mut seat, doors, room, ends, work, gate);
+    put_together(alloc, files, table, seat, ends)
 }

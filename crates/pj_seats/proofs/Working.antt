@@ -116,12 +116,11 @@ module _ {M : Type 0} (world : World) (comes : ℕ → Worlds → NameSet → M 
 -- ---- one file
 
 -- what came of a file, over an oracle of which nothing was asked
-pub made_of : {K M : Type 0} {t : Told K} (u : Told K) {comes : Worlds → NameSet → M → Type 0} {made : M} (kept : K) (world : World) (faults : ℕ) (names : List Name) → t ≡ tells_of kept world set.empty faults
-    → (IsTrue t.is_told → comes t.world u.asked made) → name_set names ≡ u.asked → set.len (name_set names) ≡ length names → IsMadeOf world comes made names
-made_of u {comes = comes} {made = made} kept world faults names is so asked once = record {
+pub made_of : {K M : Type 0} {t : Told K} {comes : Worlds → NameSet → M → Type 0} {made : M} {asked : NameSet} (kept : K) (world : World) (faults : ℕ) (names : List Name) → t ≡ tells_of kept world set.empty faults
+    → (IsTrue t.is_told → comes t.world asked made) → name_set names ≡ asked → set.len (name_set names) ≡ length names → IsMadeOf world comes made names
+made_of {comes = comes} {made = made} {asked = asked} kept world faults names is so noted once = record {
   once = once;
-  comes_so = λ told. subst (λ (s : NameSet). comes (worlds_of world) s made) (sym asked)
-      (subst (λ v. IsTrue v.is_told → comes v.world u.asked made) is so told);
+  comes_so = λ told. subst (λ (s : NameSet). comes (worlds_of world) s made) (sym noted) (subst (λ v. IsTrue v.is_told → comes v.world asked made) is so told);
 }
 
 -- a call that asks as a meaning says

@@ -1,11 +1,13 @@
 -- What is left of all files, by what is left of each.
-use Rattle.std.proofs.Common.{◌≡◌, ◌∙◌, ℕ, zero, suc, ◌+◌, ◌<◌, Bool, true, false, not, cond, List, [], ◌∷◌, length, map, filter, Some, IsTrue, refl, ap, arith, get_or}
+use Rattle.std.proofs.Common.{◌≡◌, ◌∙◌, ℕ, zero, suc, ◌+◌, ◌<◌, Bool, true, false, not, cond, List, [], ◌∷◌, ◌++◌, length, map, filter, Some, IsTrue, refl, ap, arith, get_or}
 use Rattle.std.specs.Prelude.{is_some, slice_get}
 use Rattle.std.specs.List.{AllByRecursion, AllZip}
+use Rattle.std.proofs.lemmas.List.{append-nil, map-append}
+use Rattle.std.proofs.lemmas.List.Elements.{filter-append}
 use Rattle.pj_cache.specs.declared.cache.Cache.{Cache}
 use Rattle.pj_cache.specs.declared.cache.Entry.{Entry}
 use Rattle.pj_cache_laws.specs.Written.{WrittenRule}
-use Rattle.pj_cached_files.specs.Gathered.{AreGathered, Gathers, path_rows}
+use Rattle.pj_cached_files.specs.Gathered.{AreGathered, Gathers, path_rows, put_if}
 use Rattle.pj_cached_files.specs.LeftFile.{IsLeftFile, IsRun, Leaves}
 use Rattle.pj_cached_files.specs.LeftFiles.{paths_of}
 use Rattle.pj_cached_files.specs.declared.entry.LeftFile.{LeftFile}
@@ -85,3 +87,15 @@ pub left_of_each : (world : table.World) (rules : EffectiveRules) (found : Cache
 left_of_each world rules found list count made parts told many together =
     zip_up (Leaves (told_in (worlds_of world)) rules found) list made (together.many ∙ many) (λ n d one below is.
     let over = together.each n d (omega (arith, below, many)) in (over.made_so.comes_so told one is).leaves)
+
+-- ---- one more file
+
+-- the path of one more file is put behind the others, if it passes
+pub put_last : (p : LeftFile → Bool) (made : List LeftFile) (left : LeftFile) → map (λ (l : LeftFile). l.entry.path) (filter p (made ++ left ∷ [])) ≡ put_if (p left) (map (λ (l : LeftFile). l.entry.path) (filter p made)) left.entry.path
+put_last p made left =
+    let paths = map (λ (l : LeftFile). l.entry.path) (filter p made) in
+    ap (map (λ (l : LeftFile). l.entry.path)) (filter-append p made (left ∷ [])) ∙ map-append (λ (l : LeftFile). l.entry.path) (filter p made) (filter p (left ∷ []))
+    ∙ elim (p left) as (λ b. paths ++ map (λ (l : LeftFile). l.entry.path) (cond b (left ∷ []) []) ≡ put_if b paths left.entry.path) [
+      | true ↦ refl
+      | false ↦ append-nil paths
+    ]

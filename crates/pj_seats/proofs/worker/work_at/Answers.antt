@@ -41,7 +41,7 @@ returns-in-Ok-clause-made g c =
     let start = ap (λ k. k.start) stays.same_kept ∙ ap (λ t. t.kept.start) begun in
     let gained : AddsLooks (at_rest (view_of c.args.seat.now)) (view_of c.work-made.new.oracle.seat.now) names = subst (λ (v : View). AddsLooks v (view_of c.work-made.new.oracle.seat.now) names) start asked.looks in (
       names,
-      made_of _ _ (g.D.ClassFinder.holds c.args.door.now) (g.D.ClassFinder.faults c.args.door.now) names begun c.in-Ok.ensures.comes asked.asked asked.once,
+      made_of {comes = g.W.FileWork.comes c.args.work.now c.args.file} {made = c.in-Ok.made} _ (g.D.ClassFinder.holds c.args.door.now) (g.D.ClassFinder.faults c.args.door.now) names begun c.in-Ok.ensures.comes asked.asked asked.once,
       subst (λ (s : TableSeat). AddsLooks (view_of c.args.seat.now) (view_of s) names) same (from_rest gained),
     )
 
