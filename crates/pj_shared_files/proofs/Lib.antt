@@ -1,3 +1,4 @@
 pub mod InWorlds
 pub mod Gathering
 pub mod Answering
+pub mod Finally
