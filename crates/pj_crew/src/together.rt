@@ -122,9 +122,9 @@ pub fn work_together<R: Threads + Wait + Sync, D: ClassDoor, G: Gate + Sync, W: 
     ensures together { IfOk result (λ together. IsTogether (first_world D.holds doors.old.items) (W.comes work.now) files together.made.items together.closed.parts.items) }
     ensures faults { CountsFaults (total_of D.faults doors.old.items) (total_of D.faults doors.new.items) result }
 {
-    let room = Vec::with_capacity(alloc, doors.len())?;
     let ends = Vec::with_capacity(alloc, doors.len())?;
     let (table, mut seat) = TypeTable::open(alloc, &doors[0], files)?;
+    let room = Vec::with_capacity(alloc, doors.len())?;
     let ends = work_all(rt, alloc, &table, &mut seat, doors, room, ends, work, gate);
     put_together(alloc, files, table, seat, ends)
 }
