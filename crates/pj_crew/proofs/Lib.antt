@@ -4,4 +4,4 @@ pub mod Seated
 pub mod Joined
 pub mod Whole
 pub mod Faults
-pub mod Opening
+pub mod Doors

@@ -22,7 +22,7 @@ use Rattle.pj_table.specs.Telling.{tells_of}
 use Rattle.pj_table.specs.Worlds.{World}
 use Rattle.pj_table.specs.declared.part.Part.{Part}
 use Rattle.pj_workers.specs.declared.work.Work.{Work}
-use Rattle.pj_shared_files.proofs.Gathering.{all_left, comes_of, gathers_all, left_of_each}
+use Rattle.pj_shared_files.proofs.AllLeft.{all_left, comes_of, gathers_all, left_of_each}
 use Rattle.pj_shared_files.specs.Gathering.{analysed_of, entries_of, reused_of}
 use Rattle.pj_shared_files.specs.InWorlds.{DoesIn, LeavesAllIn, told_in}
 

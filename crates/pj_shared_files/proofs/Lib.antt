@@ -1,4 +1,4 @@
 pub mod InWorlds
-pub mod Gathering
+pub mod AllLeft
 pub mod Answering
 pub mod Finally

@@ -2,7 +2,7 @@ use Rattle.std.proofs.Common.{◌≡◌, ◌∙◌, ◌+◌, ◌++◌, ◌∷◌
 use Rattle.std.proofs.lemmas.List.{append-nil, append_assoc}
 use Rattle.pj_outside.specs.Doors.{count_and}
 use Rattle.pj_outside.specs.Faults.{next_count}
-use Rattle.pj_crew.proofs.Opening.{takes_more}
+use Rattle.pj_crew.proofs.Doors.{takes_more}
 use Rattle.pj_crew.proofs.opening.shut_doors.Goals as goal
 
 pub loop-init : goal.loop-init

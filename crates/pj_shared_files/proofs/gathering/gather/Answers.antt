@@ -7,7 +7,7 @@ use Rattle.pj_cached_files.proofs.OneMore.{all_last}
 use Rattle.pj_cached_files.specs.Gathered.{HasText, path_rows, put_if}
 use Rattle.pj_cached_files.specs.declared.entry.LeftFile.{LeftFile}
 use Rattle.pj_outside.specs.Files.{Bytes}
-use Rattle.pj_shared_files.proofs.Gathering.{put_last}
+use Rattle.pj_shared_files.proofs.AllLeft.{put_last}
 use Rattle.pj_shared_files.specs.Gathering.{analysed_of, entries_of, reused_of}
 use Rattle.pj_shared_files.proofs.gathering.gather.Goals as goal
 
