@@ -1,0 +1,4 @@
+-- definitions
+pub mod ClassFile
+pub mod Projects
+pub mod Source
