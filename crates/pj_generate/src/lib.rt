@@ -5,4 +5,4 @@ mod class_file;
 mod project;
 mod source;
 
-pub use project::{Project, project};
+pub use project::{Project, project_of};

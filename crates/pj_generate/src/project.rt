@@ -61,7 +61,7 @@ fn classes(alloc: Global, n: u32) -> Result<Files, NoMemory>
 }
 
 /// The project of `n` classes, of which each but the first extends the one of half its number.
-pub fn project(alloc: Global, n: u32) -> Result<Project, NoMemory>
+pub fn project_of(alloc: Global, n: u32) -> Result<Project, NoMemory>
     ensures files { IfOk result (λ made. made.files ≡ sources n) }
     ensures classes { IfOk result (λ made. made.classes ≡ classes n) }
     ensures ruleset { IfOk result (λ made. made.ruleset ≡ rules_text) }

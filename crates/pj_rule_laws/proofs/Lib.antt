@@ -10,3 +10,6 @@ mod SomeSound
 mod Unopened
 mod SomeFile
 mod SomeLoad
+-- what holds of each rule
+mod EachRule
+mod Priorities

@@ -1,9 +1,10 @@
 -- Laws of what rulesets come to.
-use Rattle.std.specs.Prelude.{◌≢◌, ◌⊎◌, ℕ, List}
+use Rattle.std.specs.Prelude.{◌≢◌, ◌⊎◌, ◌<◌, ℕ, List}
+use Rattle.std.specs.List.{AllByRecursion}
 use Rattle.pj_outside.specs.Files.{Files}
 use Rattle.pj_rule_sets.specs.Expressions.{IsSound}
 use Rattle.pj_rule_sets.specs.Faults.{IsFault}
-use Rattle.pj_rule_sets.specs.Rules.{EffectiveRules}
+use Rattle.pj_rule_sets.specs.Rules.{EffectiveRule, EffectiveRules}
 use Rattle.pj_rule_sets.specs.declared.fault.ExpressionFault.{ExpressionFault}
 use Rattle.pj_rule_sets.specs.declared.fault.ExpressionFault.TheVariants.{Memory}
 use Rattle.pj_rule_texts.specs.Files.{IsRead}
@@ -26,3 +27,12 @@ SoundOrSomeFault = (texts : RuleTexts) → HasShortTexts texts → IsSound texts
 abbrev pub RulesOrFirstFault : Type 0
 RulesOrFirstFault = (files : Files) (paths : List Text) (minimum : ℕ) (marker : Text) →
     ((rules : EffectiveRules) × IsEffective files paths minimum marker rules) ⊎ ((fault : RuleFault) × IsFirstFault files paths fault)
+
+-- a priority of PMD
+abbrev pub IsPriority : ℕ → Type 0
+IsPriority n = (0 < n) × (n < 6)
+
+-- The rules that files come to have priorities from 1 to 5.
+abbrev pub HavePriorities : Type 0
+HavePriorities = (files : Files) (paths : List Text) (minimum : ℕ) (marker : Text) (rules : EffectiveRules) → IsEffective files paths minimum marker rules →
+    AllByRecursion (λ (rule : EffectiveRule). IsPriority rule.row.priority) rules.rules

@@ -1,5 +1,5 @@
 //! Laws of the definitions. The functions do nothing, and their contracts are the laws.
-ghost use Rattle.pj_rule_laws.specs.Laws.{ReadIsShort, RulesOrFirstFault, SoundOrSomeFault};
+ghost use Rattle.pj_rule_laws.specs.Laws.{HavePriorities, ReadIsShort, RulesOrFirstFault, SoundOrSomeFault};
 
 use pj_rules::files_are_read;
 use pj_xparse::some_answer;
@@ -28,3 +28,8 @@ pub fn rules_or_first_fault()
     read_texts_are_short();
     short_texts_are_sound_or_not();
 }
+
+/// The rules that the ruleset files come to have priorities from 1 to 5, also where a reference changes them.
+pub fn rules_have_priorities()
+    ensures { HavePriorities }
+{}

@@ -5,4 +5,6 @@
 
 mod laws;
 
-pub use laws::{read_texts_are_short, rules_or_first_fault, short_texts_are_sound_or_not};
+pub use laws::{
+    read_texts_are_short, rules_have_priorities, rules_or_first_fault, short_texts_are_sound_or_not,
+};
