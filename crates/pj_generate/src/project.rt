@@ -44,7 +44,8 @@ fn sources(alloc: Global, n: u32) -> Result<Files, NoMemory>
 {
     let mut files = Files::new(alloc);
     for i in 0..n {
-        files.push(source_row(alloc, i)?)?;
+        let row = source_row(alloc, i)?;
+        files.push(row)?;
     }
     Ok(files)
 }
@@ -55,7 +56,8 @@ fn classes(alloc: Global, n: u32) -> Result<Files, NoMemory>
 {
     let mut files = Files::new(alloc);
     for i in 0..n {
-        files.push(class_row(alloc, i)?)?;
+        let row = class_row(alloc, i)?;
+        files.push(row)?;
     }
     Ok(files)
 }
