@@ -1,19 +1,28 @@
-use Rattle.std.proofs.Common.{List, subst}
-use Rattle.pj_xvalue.specs.Items.{ItemValue}
-use Rattle.pj_xsteps.specs.Means.{Means}
-use Rattle.pj_xframes.specs.Going.{GoesIf}
-use Rattle.pj_xframes.specs.Scopes.{variables_of}
-use Rattle.pj_xeval.proofs.Turned.{turn-added}
+use Rattle.std.proofs.Common.{rules, ◌≡◌, ℕ, pos, ◌+◌, ◌∷◌, [], IfOk, OnOk, IsTrue, Ok, length, map, ◌-◌, ◌*◌, ◌<◌, ◌≤◌, ◌/◌, ◌%◌, Bool, true, false, nat_eq, nat_lt, List, ◌++◌, slice_index_or, slice_set, bit_and, bit_or, Fits, w8, w32, w64, Bor, MutBor}
+use Rattle.pj_xexpressions.specs.declared.axis.Axis.TheVariants.{Child, DescendantOrSelf}
+use Rattle.pj_xexpressions.specs.declared.expr.NodeTest.TheVariants.{AnyNode}
+use Rattle.pj_xvalue.specs.Items.{Document as DocumentValue}
+use Rattle.pj_xvalue.specs.Items.{value_of_item, values_of, is_node, IsOfTree}
+use Rattle.pj_xvalue.specs.OfTree.{OfTree}
+use Rattle.pj_xvalue.specs.Replies.{outcome}
+use Rattle.pj_xvalue.specs.Arguments.{IsGiven}
+use Rattle.pj_xsteps.specs.Means.{judged}
+use Rattle.pj_xsteps.specs.Context.{Around, Context, Variables, around}
+use Rattle.pj_xsteps.specs.Context.{at as at_item}
+use Rattle.pj_xsteps.specs.Denotes.{denotes}
+use Rattle.pj_xframes.specs.declared.frame.Turn.TheVariants.{Step as StepTurn}
+use Rattle.pj_xframes.specs.Frames.{Replies, finished, may_turn, over}
+use Rattle.pj_xframes.specs.Frames.{taken as taken_by}
+use Rattle.pj_xframes.specs.Frames.{turns_after, turns_left}
+use Rattle.pj_xframes.specs.Going.{Goes, GoesIf, NextOfTree, TurnsOfTree}
+use Rattle.pj_xframes.specs.Scopes.{Scoped, variables_of}
+use Rattle.pj_xeval.specs.Plain.{BeginsBelow, plain_step}
 use Rattle.pj_xeval.proofs.turns.turn_after.Goals as goal
 
+-- src/turns.rt:188:1
 pub returns-clause-goes : goal.returns-clause-goes
-returns-clause-goes c = λ a reply s.
-    subst (λ (m : Means (List ItemValue)). GoesIf a reply m c.next_turn.new.at s c.args.turns.outer s c.next_turn.result)
-    (turn-added a reply c.args.turns c.in_ok-found.found c.args.value c.args.at.now (variables_of s) c.in_ok-found.ensures.value)
-    (c.next_turn.ensures.goes a reply s)
+returns-clause-goes c = ?
 
+-- src/turns.rt:188:1
 pub returns-clause-of_tree : goal.returns-clause-of_tree
-returns-clause-of_tree c = λ n h more item. c.next_turn.ensures.of_tree n (record { left = h.left; found = c.in_ok-found.ensures.of_tree n h.found more item; outer = h.outer })
-
-pub returns-clause-item : goal.returns-clause-item
-returns-clause-item c = λ n h. c.next_turn.ensures.item n h.left h.outer
+returns-clause-of_tree c = ?
