@@ -1,5 +1,5 @@
 -- How the constructs go on whose parts have one item after the other as the context.
-use Rattle.std.proofs.Common.{Box, Global, ◌≡◌, ℕ, ◌+◌, true, false, List, [], ◌∷◌, ◌++◌, map, length, reverse, Result, Ok, Err, refl, sym, ◌∙◌, ap, subst}
+use Rattle.std.proofs.Common.{Bor, Box, Global, ◌≡◌, ℕ, ◌+◌, true, false, List, [], ◌∷◌, ◌++◌, map, length, reverse, Result, Ok, Err, refl, sym, ◌∙◌, ap, subst}
 use Rattle.std.proofs.lemmas.List.{reverse-reverse, length-map}
 use Rattle.pj_names.specs.declared.oracle.AskFault.TheVariants.{Failed, Memory}
 use Rattle.pj_xexpressions.specs.declared.expr.Expr.{Expr}
@@ -39,15 +39,17 @@ module _ (a : Around) (reply : Replies) where
       ap (λ (xs : List Item). chain (evaluated turns.what (denotes a reply turns.part.now) turns.size v) (taken turns.what) (numbered (turns.position + 1) (reverse (values_of xs))) (values_of turns.found)
       >>= λ all. finished turns.what v (map (denotes a reply) turns.rest.now) all) (sym is)
 
-  -- the next item's turn
-  pub turns-taken : (turns : Turns) (left : List Item) (x : Item) (q : ℕ) (c : Context) (s : Scoped) (b : Box Turns Global) → b.value ≡ record turns { left = left; position = q } → turns.left ≡ left ++ x ∷ [] → q ≡ turns.position + 1 → c ≡ at (value_of_item x) q turns.size
-      → may_turn turns.what (is_node (value_of_item x)) ≡ true → Goes a reply (turns_left a reply turns (values_of turns.found) (variables_of s)) c s turns.outer s (next.Within (task.Expression turns.part) (frame.Turns b))
-  turns-taken turns left x q c s b holds is at_q there may =
-      subst (λ (d : Context). Goes a reply (turns_left a reply turns (values_of turns.found) (variables_of s)) d s turns.outer s (next.Within (task.Expression turns.part) (frame.Turns b)))
+  -- the next item's turn, where the turns in the box are those without it
+  pub turns-taken : (turns : Turns) (left : List Item) (x : Item) (q : ℕ) (c : Context) (s : Scoped) (part : Bor Expr) (b : Box Turns Global) → b.value ≡ record turns { left = left; position = q } → part ≡ turns.part
+      → turns.left ≡ left ++ x ∷ [] → q ≡ turns.position + 1 → c ≡ at (value_of_item x) q turns.size → may_turn turns.what (is_node (value_of_item x)) ≡ true
+      → Goes a reply (turns_left a reply turns (values_of turns.found) (variables_of s)) c s turns.outer s (next.Within (task.Expression part) (frame.Turns b))
+  turns-taken turns left x q c s part b holds its is at_q there may =
+      subst (λ (d : Context). Goes a reply (turns_left a reply turns (values_of turns.found) (variables_of s)) d s turns.outer s (next.Within (task.Expression part) (frame.Turns b)))
       (sym there)
       (record {
-        meaning = subst (λ (t : Turns). (denotes a reply turns.part.now (at (value_of_item x) q turns.size) (variables_of s) >>= λ value. turns_after a reply t value (at (value_of_item x) q turns.size) (variables_of s)) ≡ turns_left a reply turns (values_of turns.found) (variables_of s)) (sym holds)
-            (turn-next turns.what (denotes a reply turns.part.now) turns.size (variables_of s) (λ all. finished turns.what (variables_of s) (map (denotes a reply) turns.rest.now) all) turns.left left x turns.position q (values_of turns.found) is at_q may);
+        meaning = ap (λ (p : Bor Expr). denotes a reply p.now (at (value_of_item x) q turns.size) (variables_of s) >>= λ value. turns_after a reply b.value value (at (value_of_item x) q turns.size) (variables_of s)) its
+            ∙ ap (λ (t : Turns). denotes a reply turns.part.now (at (value_of_item x) q turns.size) (variables_of s) >>= λ value. turns_after a reply t value (at (value_of_item x) q turns.size) (variables_of s)) holds
+            ∙ turn-next turns.what (denotes a reply turns.part.now) turns.size (variables_of s) (λ all. finished turns.what (variables_of s) (map (denotes a reply) turns.rest.now) all) turns.left left x turns.position q (values_of turns.found) is at_q may;
         context = ap (λ (t : Turns). t.outer) holds;
         scope = refl;
       })

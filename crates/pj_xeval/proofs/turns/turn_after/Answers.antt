@@ -1,28 +1,32 @@
-use Rattle.std.proofs.Common.{rules, ◌≡◌, ℕ, pos, ◌+◌, ◌∷◌, [], IfOk, OnOk, IsTrue, Ok, length, map, ◌-◌, ◌*◌, ◌<◌, ◌≤◌, ◌/◌, ◌%◌, Bool, true, false, nat_eq, nat_lt, List, ◌++◌, slice_index_or, slice_set, bit_and, bit_or, Fits, w8, w32, w64, Bor, MutBor}
-use Rattle.pj_xexpressions.specs.declared.axis.Axis.TheVariants.{Child, DescendantOrSelf}
-use Rattle.pj_xexpressions.specs.declared.expr.NodeTest.TheVariants.{AnyNode}
-use Rattle.pj_xvalue.specs.Items.{Document as DocumentValue}
-use Rattle.pj_xvalue.specs.Items.{value_of_item, values_of, is_node, IsOfTree}
+use Rattle.std.proofs.Common.{◌≡◌, List, Result, Ok, ap, subst, sym, ◌∙◌}
+use Rattle.pj_xvalue.specs.declared.fault.XCode.{XCode}
+use Rattle.pj_xvalue.specs.Items.{ItemValue, values_of}
 use Rattle.pj_xvalue.specs.OfTree.{OfTree}
-use Rattle.pj_xvalue.specs.Replies.{outcome}
-use Rattle.pj_xvalue.specs.Arguments.{IsGiven}
-use Rattle.pj_xsteps.specs.Means.{judged}
-use Rattle.pj_xsteps.specs.Context.{Around, Context, Variables, around}
-use Rattle.pj_xsteps.specs.Context.{at as at_item}
-use Rattle.pj_xsteps.specs.Denotes.{denotes}
-use Rattle.pj_xframes.specs.declared.frame.Turn.TheVariants.{Step as StepTurn}
-use Rattle.pj_xframes.specs.Frames.{Replies, finished, may_turn, over}
-use Rattle.pj_xframes.specs.Frames.{taken as taken_by}
-use Rattle.pj_xframes.specs.Frames.{turns_after, turns_left}
-use Rattle.pj_xframes.specs.Going.{Goes, GoesIf, NextOfTree, TurnsOfTree}
-use Rattle.pj_xframes.specs.Scopes.{Scoped, variables_of}
-use Rattle.pj_xeval.specs.Plain.{BeginsBelow, plain_step}
+use Rattle.pj_xsteps.specs.Means.{Means}
+use Rattle.pj_xframes.specs.declared.frame.Turns.{Turns}
+use Rattle.pj_xframes.specs.Frames.{taken, turns_left}
+use Rattle.pj_xframes.specs.Going.{GoesIf, TurnsOfTree}
+use Rattle.pj_xframes.specs.Scopes.{variables_of}
+use Rattle.pj_xeval.proofs.Turned.{turn-added}
+use Rattle.pj_xeval.proofs.turns.turn_after.Goals.{After-next_turn}
 use Rattle.pj_xeval.proofs.turns.turn_after.Goals as goal
 
--- src/turns.rt:188:1
-pub returns-clause-goes : goal.returns-clause-goes
-returns-clause-goes c = ?
+-- the turns with what the value adds
+added : (c : After-next_turn) → c.add_turn.new.turns ≡ record c.args.turns.value { found = c.add_turn.new.turns.found }
+added c = c.in_ok-add_turn.ensures.kept ∙ ap (λ (t : Turns). record t { found = c.add_turn.new.turns.found }) c.deref_mut.ensures.value
 
--- src/turns.rt:188:1
+pub returns-clause-goes : goal.returns-clause-goes
+returns-clause-goes c = λ a reply s.
+    subst (λ (m : Means (List ItemValue)). GoesIf a reply m c.next_turn.new.at s c.args.turns.value.outer s c.next_turn.result)
+    (turn-added a reply c.args.turns.value c.add_turn.new.turns.found c.args.value c.args.at.now (variables_of s)
+    (c.in_ok-add_turn.ensures.value ∙ ap (λ (t : Turns). taken t.what (t.position, c.args.at.now.item) (values_of t.found) (values_of c.args.value)) c.deref_mut.ensures.value))
+    (subst (λ (t : Turns). GoesIf a reply (turns_left a reply t (values_of t.found) (variables_of s)) c.next_turn.new.at s t.outer s c.next_turn.result) (added c)
+    (c.next_turn.ensures.goes a reply s))
+
 pub returns-clause-of_tree : goal.returns-clause-of_tree
-returns-clause-of_tree c = ?
+returns-clause-of_tree c = λ n h more item.
+    c.next_turn.ensures.of_tree n (subst (λ (t : Turns). TurnsOfTree n t) (sym (added c)) (record {
+      left = h.left;
+      found = c.in_ok-add_turn.ensures.of_tree n (subst (λ (t : Turns). OfTree n (values_of t.found)) (sym c.deref_mut.ensures.value) h.found) more item;
+      outer = h.outer;
+    }))
