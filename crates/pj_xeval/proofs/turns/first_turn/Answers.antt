@@ -30,4 +30,6 @@ returns-clause-of_tree c = λ n h item.
     }))
 
 pub returns-clause-item : goal.returns-clause-item
-returns-clause-item c = ?
+returns-clause-item c = λ n h item.
+    c.next_turn.ensures.item n (subst (λ (t : Turns). OfTree n (values_of t.left)) (sym c.in_ok-turns.ensures.ok) (c.turned_back-left.ensures.of_tree n h))
+    (subst (λ (t : Turns). IsOfTree n t.outer.item) (sym c.in_ok-turns.ensures.ok) (subst (λ (d : Context). IsOfTree n d.item) (sym c.taken_out-outer.ensures.value) item))

@@ -1,16 +1,15 @@
-use Rattle.std.proofs.Common.{◌≡◌, ◌+◌, true, false, ◌∷◌, [], ◌++◌, List, ap, subst, sym, ◌∙◌}
+use Rattle.std.proofs.Common.{◌≡◌, ◌+◌, false, ◌∷◌, [], ◌++◌, List, map, ap, subst, sym, ◌∙◌}
 use Rattle.pj_xvalue.specs.Items.{ItemValue, is_node, value_of_item, values_of}
 use Rattle.pj_xvalue.specs.OfTree.{OfTree}
-use Rattle.pj_xexpressions.specs.declared.expr.Expr.{Expr}
 use Rattle.pj_xsteps.specs.Means.{Means}
-use Rattle.pj_xsteps.specs.Context.{Context, at}
+use Rattle.pj_xsteps.specs.Context.{at}
 use Rattle.pj_xsteps.specs.Denotes.{denotes}
 use Rattle.pj_xframes.specs.declared.frame.Turns.{Turns}
 use Rattle.pj_xframes.specs.Frames.{finished, may_turn}
 use Rattle.pj_xframes.specs.Going.{GoesIf, TurnsOfTree}
 use Rattle.pj_xframes.specs.Scopes.{variables_of}
 use Rattle.pj_xeval.proofs.OfTree.{of_tree-before}
-use Rattle.pj_xeval.proofs.Turned.{turns-ended, turns-taken, turns-fail, turned-item}
+use Rattle.pj_xeval.proofs.Turned.{turns-ended, turns-taken}
 use Rattle.pj_xeval.proofs.turns.next_turn.Goals.{After-finish, After-deref-in-Some-3}
 use Rattle.pj_xeval.proofs.turns.next_turn.Goals as goal
 
@@ -41,7 +40,7 @@ is_next c = ap (λ (t : Turns). t.left) (sym c.deref_mut.ensures.value) ∙ c.in
 
 pub returns-in_ok-at-in-Some-clause-goes : goal.returns-in_ok-at-in-Some-clause-goes
 returns-in_ok-at-in-Some-clause-goes c = λ a reply s.
-    turns-taken a reply c.args.turns.value c.pop.new.self c.in-Some.item c.in_ok-position-in-Some.position c.in_ok-at-in-Some.field-0 s c.deref-in-Some-3.result.now.part.now _
+    turns-taken a reply c.args.turns.value c.pop.new.self c.in-Some.item c.in_ok-position-in-Some.position c.in_ok-at-in-Some.field-0 s c.deref-in-Some-3.result.now.part _
     (moved c)
     (ap (λ (t : Turns). t.part) (c.deref-in-Some-3.ensures ∙ moved c))
     (is_next c)
