@@ -1,4 +1,4 @@
-use Rattle.std.proofs.Common.{◌≡◌, ◌+◌, false, ◌∷◌, [], ◌++◌, List, map, ap, subst, sym, ◌∙◌}
+use Rattle.std.proofs.Common.{◌≡◌, ◌+◌, ◌∷◌, [], ◌++◌, List, map, ap, subst, sym, ◌∙◌}
 use Rattle.pj_xvalue.specs.Items.{ItemValue, is_node, value_of_item, values_of}
 use Rattle.pj_xvalue.specs.OfTree.{OfTree}
 use Rattle.pj_xsteps.specs.Means.{Means}

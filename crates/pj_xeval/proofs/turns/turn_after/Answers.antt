@@ -1,5 +1,4 @@
-use Rattle.std.proofs.Common.{◌≡◌, List, Result, Ok, ap, subst, sym, ◌∙◌}
-use Rattle.pj_xvalue.specs.declared.fault.XCode.{XCode}
+use Rattle.std.proofs.Common.{◌≡◌, List, ap, subst, sym, ◌∙◌}
 use Rattle.pj_xvalue.specs.Items.{ItemValue, values_of}
 use Rattle.pj_xvalue.specs.OfTree.{OfTree}
 use Rattle.pj_xsteps.specs.Means.{Means}
