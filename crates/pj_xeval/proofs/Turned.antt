@@ -1,18 +1,16 @@
 -- How the constructs go on whose parts have one item after the other as the context.
-use Rattle.std.proofs.Common.{◌≡◌, ℕ, ◌+◌, true, false, List, [], ◌∷◌, ◌++◌, map, length, reverse, Result, Ok, Err, refl, sym, ◌∙◌, ap, subst}
+use Rattle.std.proofs.Common.{Bor, Box, Global, ◌≡◌, ℕ, ◌+◌, true, List, [], ◌∷◌, ◌++◌, map, length, reverse, Result, Ok, Err, refl, sym, ◌∙◌, ap, subst}
 use Rattle.std.proofs.lemmas.List.{reverse-reverse, length-map}
 use Rattle.pj_names.specs.declared.oracle.AskFault.TheVariants.{Failed, Memory}
 use Rattle.pj_xexpressions.specs.declared.expr.Expr.{Expr}
 use Rattle.pj_xvalue.specs.declared.fault.XCode.{XCode}
-use Rattle.pj_xvalue.specs.declared.fault.XCode.TheVariants.{XPTY0019}
 use Rattle.pj_xvalue.specs.declared.fault.XFault.{XFault}
 use Rattle.pj_xvalue.specs.declared.fault.XFault.TheVariants.{Code, Ask}
 use Rattle.pj_xvalue.specs.declared.item.Item.{Item}
-use Rattle.pj_xvalue.specs.Items.{ItemValue, is_node, value_of_item, values_of, IsOfTree}
-use Rattle.pj_xvalue.specs.OfTree.{OfTree}
+use Rattle.pj_xvalue.specs.Items.{ItemValue, is_node, value_of_item, values_of}
 use Rattle.pj_xvalue.specs.Replies.{outcome}
 use Rattle.pj_xvalue.specs.Arguments.{IsGiven}
-use Rattle.pj_xsteps.specs.Means.{fail, judged, ◌>>=◌, chain}
+use Rattle.pj_xsteps.specs.Means.{judged, ◌>>=◌, chain}
 use Rattle.pj_xsteps.specs.Context.{Around, Context, Variables, at}
 use Rattle.pj_xsteps.specs.Turns.{numbered}
 use Rattle.pj_xsteps.specs.Denotes.{denotes}
@@ -24,13 +22,8 @@ use Rattle.pj_xframes.specs.declared.frame.Next.TheVariants as next
 use Rattle.pj_xframes.specs.Scopes.{Scoped, variables_of}
 use Rattle.pj_xframes.specs.Frames.{Replies, evaluated, taken, may_turn, finished, over, turns_left, turns_after}
 use Rattle.pj_xframes.specs.Going.{Goes, GoesIf}
-use Rattle.pj_xeval.proofs.OfTree.{of_tree-last}
 use Rattle.pj_xeval.proofs.Steps.{over-cons}
-use Rattle.pj_xeval.proofs.Turning.{turn-next, turn-fails}
-
--- the context item of a turn is of the tree
-pub turned-item : (n : ℕ) (all before : List Item) (x : Item) (c : Context) (q size : ℕ) → all ≡ before ++ x ∷ [] → c ≡ at (value_of_item x) q size → OfTree n (values_of all) → IsOfTree n c.item
-turned-item n all before x c q size is there h = subst (λ (y : ItemValue). IsOfTree n y) (sym (ap (λ (d : Context). d.item) there)) (of_tree-last n all before x is h)
+use Rattle.pj_xeval.proofs.Turning.{turn-next}
 
 module _ (a : Around) (reply : Replies) where
   -- no item is left
@@ -39,23 +32,20 @@ module _ (a : Around) (reply : Replies) where
       ap (λ (xs : List Item). chain (evaluated turns.what (denotes a reply turns.part.now) turns.size v) (taken turns.what) (numbered (turns.position + 1) (reverse (values_of xs))) (values_of turns.found)
       >>= λ all. finished turns.what v (map (denotes a reply) turns.rest.now) all) (sym is)
 
-  -- the next item's turn
-  pub turns-taken : (turns : Turns) (left : List Item) (x : Item) (q : ℕ) (c : Context) (s : Scoped) → turns.left ≡ left ++ x ∷ [] → q ≡ turns.position + 1 → c ≡ at (value_of_item x) q turns.size → may_turn turns.what (is_node (value_of_item x)) ≡ true
-      → Goes a reply (turns_left a reply turns (values_of turns.found) (variables_of s)) c s turns.outer s (next.Within (task.Expression turns.part) (frame.Turns (record turns { left = left; position = q })))
-  turns-taken turns left x q c s is at_q there may =
-      subst (λ (d : Context). Goes a reply (turns_left a reply turns (values_of turns.found) (variables_of s)) d s turns.outer s (next.Within (task.Expression turns.part) (frame.Turns (record turns { left = left; position = q }))))
+  -- the next item's turn, where the turns in the box are those without it
+  pub turns-taken : (turns : Turns) (left : List Item) (x : Item) (q : ℕ) (c : Context) (s : Scoped) (part : Bor Expr) (b : Box Turns Global) → b.value ≡ record turns { left = left; position = q } → part ≡ turns.part
+      → turns.left ≡ left ++ x ∷ [] → q ≡ turns.position + 1 → c ≡ at (value_of_item x) q turns.size → may_turn turns.what (is_node (value_of_item x)) ≡ true
+      → Goes a reply (turns_left a reply turns (values_of turns.found) (variables_of s)) c s turns.outer s (next.Within (task.Expression part) (frame.Turns b))
+  turns-taken turns left x q c s part b holds its is at_q there may =
+      subst (λ (d : Context). Goes a reply (turns_left a reply turns (values_of turns.found) (variables_of s)) d s turns.outer s (next.Within (task.Expression part) (frame.Turns b)))
       (sym there)
       (record {
-        meaning = turn-next turns.what (denotes a reply turns.part.now) turns.size (variables_of s) (λ all. finished turns.what (variables_of s) (map (denotes a reply) turns.rest.now) all) turns.left left x turns.position q (values_of turns.found) is at_q may;
-        context = refl;
+        meaning = ap (λ (p : Bor Expr). denotes a reply p.now (at (value_of_item x) q turns.size) (variables_of s) >>= λ value. turns_after a reply b.value value (at (value_of_item x) q turns.size) (variables_of s)) its
+            ∙ ap (λ (t : Turns). denotes a reply turns.part.now (at (value_of_item x) q turns.size) (variables_of s) >>= λ value. turns_after a reply t value (at (value_of_item x) q turns.size) (variables_of s)) holds
+            ∙ turn-next turns.what (denotes a reply turns.part.now) turns.size (variables_of s) (λ all. finished turns.what (variables_of s) (map (denotes a reply) turns.rest.now) all) turns.left left x turns.position q (values_of turns.found) is at_q may;
+        context = ap (λ (t : Turns). t.outer) holds;
         scope = refl;
       })
-
-  -- an item that may not be the context
-  pub turns-fail : (turns : Turns) (left : List Item) (x : Item) (v : Variables) → turns.left ≡ left ++ x ∷ [] → may_turn turns.what (is_node (value_of_item x)) ≡ false
-      → fail XPTY0019 ≡ turns_left a reply turns (values_of turns.found) v
-  turns-fail turns left x v is may =
-      turn-fails turns.what (denotes a reply turns.part.now) turns.size v (λ all. finished turns.what v (map (denotes a reply) turns.rest.now) all) turns.left left x turns.position (values_of turns.found) is may
 
   -- what the value of a turn adds, before the next turn
   pub turn-added : (turns : Turns) (found value : List Item) (c : Context) (v : Variables) → Ok (values_of found) ≡ taken turns.what (turns.position, c.item) (values_of turns.found) (values_of value)

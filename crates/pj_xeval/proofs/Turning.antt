@@ -1,5 +1,5 @@
 -- One turn more.
-use Rattle.std.proofs.Common.{◌≡◌, ℕ, ◌+◌, true, false, List, [], ◌∷◌, ◌++◌, reverse, refl, sym, ◌∙◌, ap}
+use Rattle.std.proofs.Common.{◌≡◌, ℕ, ◌+◌, true, List, [], ◌∷◌, ◌++◌, reverse, refl, sym, ◌∙◌, ap}
 use Rattle.std.specs.Prelude.{if◌then◌else◌}
 use Rattle.std.proofs.lemmas.List.{reverse-append, map-append}
 use Rattle.pj_xexpressions.specs.declared.operator.Quantifier.{Quantifier}
@@ -26,12 +26,6 @@ evaluated-may turn.Backward d size v p x h = refl
 evaluated-may turn.Step d size v p x h = ap (λ b. if b then in_turn d size v (p, x) else fail XPTY0019) h
 evaluated-may turn.Part d size v p x h = refl
 
-evaluated-fails : (what : Turn) (d : Denotation) (size : ℕ) (v : Variables) (p : ℕ) (x : ItemValue) → may_turn what (is_node x) ≡ false → evaluated what d size v (p, x) ≡ fail XPTY0019
-evaluated-fails turn.Forward d size v p x h = absurd (cc)
-evaluated-fails turn.Backward d size v p x h = absurd (cc)
-evaluated-fails turn.Step d size v p x h = ap (λ b. if b then in_turn d size v (p, x) else fail XPTY0019) h
-evaluated-fails turn.Part d size v p x h = absurd (cc)
-
 module _ (what : Turn) (d : Denotation) (size : ℕ) (v : Variables) (end : List ItemValue → Means (List ItemValue)) where
   -- the next item's turn
   pub turn-next : (all before : List Item) (x : Item) (p q : ℕ) (found : List ItemValue) → all ≡ before ++ x ∷ [] → q ≡ p + 1 → may_turn what (is_node (value_of_item x)) ≡ true
@@ -41,13 +35,6 @@ module _ (what : Turn) (d : Denotation) (size : ℕ) (v : Variables) (end : List
       ap (λ (m : Means (List ItemValue)). m >>= λ value. ((judged (taken what (q, value_of_item x) found value) >>= λ more. chain (evaluated what d size v) (taken what) (numbered (q + 1) (reverse (values_of before))) more) >>= end)) (sym (evaluated-may what d size v q (value_of_item x) may))
       ∙ chain-then (evaluated what d size v) (taken what) end (q, value_of_item x) (numbered (q + 1) (reverse (values_of before))) found
       ∙ ap (λ n. chain (evaluated what d size v) (taken what) (numbered n (value_of_item x ∷ reverse (values_of before))) found >>= end) at_q
-      ∙ ap (λ xs. chain (evaluated what d size v) (taken what) (numbered (p + 1) xs) found >>= end) (sym (next_first all before x is))
-
-  pub turn-fails : (all before : List Item) (x : Item) (p : ℕ) (found : List ItemValue) → all ≡ before ++ x ∷ [] → may_turn what (is_node (value_of_item x)) ≡ false
-      → fail XPTY0019 ≡ (chain (evaluated what d size v) (taken what) (numbered (p + 1) (reverse (values_of all))) found >>= end)
-  turn-fails all before x p found is may =
-      ap (λ (m : Means (List ItemValue)). m >>= λ value. ((judged (taken what (p + 1, value_of_item x) found value) >>= λ more. chain (evaluated what d size v) (taken what) (numbered (p + 1 + 1) (reverse (values_of before))) more) >>= end)) (sym (evaluated-fails what d size v (p + 1) (value_of_item x) may))
-      ∙ chain-then (evaluated what d size v) (taken what) end (p + 1, value_of_item x) (numbered (p + 1 + 1) (reverse (values_of before))) found
       ∙ ap (λ xs. chain (evaluated what d size v) (taken what) (numbered (p + 1) xs) found >>= end) (sym (next_first all before x is))
 
 module _ (name : List ℕ) (d : Denotation) (c : Context) (v : Variables) where

@@ -120,117 +120,84 @@ fn finish<'e, 't>(
 
 /// The turn of the next item, or the end of the turns, where the context around is the context again.
 #[tactic(auto, using(crate::proofs::OfTree::of_tree))]
-fn next_turn<'e, 't>(turns: Turns<'e, 't>, at: &mut At<'t>) -> Result<Next<'e, 't>, XFault>
-    ensures goes { (a : Around) (reply : Replies) (s : Scoped) → GoesIf a reply (turns_left a reply turns.entry (values_of turns.entry.found) (variables_of s)) at.new s turns.entry.outer s result }
-    ensures of_tree { (n : ℕ) → TurnsOfTree n turns.entry → IfOk result (λ next. NextOfTree n next) }
-    ensures item { (n : ℕ) → OfTree n (values_of turns.entry.left) → IsOfTree n turns.entry.outer.item → OnOk result (IsOfTree n at.new.item) }
+fn next_turn<'e, 't>(turns: Box<Turns<'e, 't>>, at: &mut At<'t>) -> Result<Next<'e, 't>, XFault>
+    ensures goes { (a : Around) (reply : Replies) (s : Scoped) → GoesIf a reply (turns_left a reply turns.entry.value (values_of turns.entry.value.found) (variables_of s)) at.new s turns.entry.value.outer s result }
+    ensures of_tree { (n : ℕ) → TurnsOfTree n turns.entry.value → IfOk result (λ next. NextOfTree n next) }
+    ensures item { (n : ℕ) → OfTree n (values_of turns.entry.value.left) → IsOfTree n turns.entry.value.outer.item → OnOk result (IsOfTree n at.new.item) }
 {
-    let Turns {
-        what,
-        part,
-        left,
-        position,
-        size,
-        found,
-        rest,
-        outer,
-    } = turns;
-    let mut left = left;
-    match left.pop() {
+    let mut turns = turns;
+    match turns.left.pop() {
         None => {
+            let Turns {
+                what,
+                part: _,
+                left: _,
+                position: _,
+                size: _,
+                found,
+                rest,
+                outer,
+            } = Box::into_inner(turns);
             *at = outer;
             finish(what, rest, found)
         }
         Some(item) => {
-            if !may_turn(what, &item) {
+            if !may_turn(turns.what, &item) {
                 return Err(XFault::Code(XCode::XPTY0019));
             }
-            let position = one_more(position)?;
-            *at = context(item, position, size)?;
-            Ok(Next::Within(
-                Task::Expression(part),
-                Frame::Turns(Turns {
-                    what,
-                    part,
-                    left,
-                    position,
-                    size,
-                    found,
-                    rest,
-                    outer,
-                }),
-            ))
+            let position = one_more(turns.position)?;
+            *at = context(item, position, turns.size)?;
+            turns.position = position;
+            let part = turns.part;
+            Ok(Next::Within(Task::Expression(part), Frame::Turns(turns)))
         }
     }
 }
 
-/// The items found with what the value of a turn adds.
+/// Puts what the value of a turn adds behind the items found.
 #[tactic(auto, using(crate::proofs::OfTree::of_tree))]
-fn with_turn<'t>(
-    what: Turn,
-    position: u64,
-    found: Sequence<'t>,
+fn add_turn<'e, 't>(
+    turns: &mut Turns<'e, 't>,
     value: Sequence<'t>,
     at: &mut At<'t>,
-) -> Result<Sequence<'t>, XFault>
-    ensures value { IsGiven (taken_by what (position, at.old.item) (values_of found.entry) (values_of value.entry)) (outcome values_of result) }
-    ensures of_tree { (n : ℕ) → OfTree n (values_of found.entry) → OfTree n (values_of value.entry) → IsOfTree n at.old.item → IfOk result (λ items. OfTree n (values_of items)) }
+) -> Result<(), XFault>
+    ensures value { IsGiven (taken_by turns.old.what (turns.old.position, at.old.item) (values_of turns.old.found) (values_of value.entry)) (outcome (λ _. values_of turns.new.found) result) }
+    ensures kept { OnOk result (turns.new ≡ record turns.old { found = turns.new.found }) }
+    ensures of_tree { (n : ℕ) → OfTree n (values_of turns.old.found) → OfTree n (values_of value.entry) → IsOfTree n at.old.item → OnOk result (OfTree n (values_of turns.new.found)) }
 {
-    let mut found = found;
-    match what {
-        Turn::Step => found.append(value)?,
-        Turn::Part => found.append(value)?,
+    match turns.what {
+        Turn::Step => turns.found.append(value)?,
+        Turn::Part => turns.found.append(value)?,
         Turn::Forward => {
-            let number = integer(position)?;
+            let number = integer(turns.position)?;
             if keeps_at(number, &value)? {
-                found.push(item_out(at))?;
+                turns.found.push(item_out(at))?;
             }
         }
         Turn::Backward => {
-            let number = integer(position)?;
+            let number = integer(turns.position)?;
             if keeps_at(number, &value)? {
-                found.push(item_out(at))?;
+                turns.found.push(item_out(at))?;
             }
         }
     }
-    Ok(found)
+    Ok(())
 }
 
 /// The value of one turn.
 #[tactic(auto, using(crate::proofs::OfTree::of_tree))]
 pub fn turn_after<'e, 't>(
-    turns: Turns<'e, 't>,
+    turns: Box<Turns<'e, 't>>,
     value: Sequence<'t>,
     at: &mut At<'t>,
 ) -> Result<Next<'e, 't>, XFault>
-    ensures goes { (a : Around) (reply : Replies) (s : Scoped) → GoesIf a reply (turns_after a reply turns.entry (values_of value.entry) at.old (variables_of s)) at.new s turns.entry.outer s result }
-    ensures of_tree { (n : ℕ) → TurnsOfTree n turns.entry → OfTree n (values_of value.entry) → IsOfTree n at.old.item → IfOk result (λ next. NextOfTree n next) }
-    ensures item { (n : ℕ) → TurnsOfTree n turns.entry → OnOk result (IsOfTree n at.new.item) }
+    ensures goes { (a : Around) (reply : Replies) (s : Scoped) → GoesIf a reply (turns_after a reply turns.entry.value (values_of value.entry) at.old (variables_of s)) at.new s turns.entry.value.outer s result }
+    ensures of_tree { (n : ℕ) → TurnsOfTree n turns.entry.value → OfTree n (values_of value.entry) → IsOfTree n at.old.item → IfOk result (λ next. NextOfTree n next) }
+    ensures item { (n : ℕ) → TurnsOfTree n turns.entry.value → OnOk result (IsOfTree n at.new.item) }
 {
-    let Turns {
-        what,
-        part,
-        left,
-        position,
-        size,
-        found,
-        rest,
-        outer,
-    } = turns;
-    let found = with_turn(what, position, found, value, at)?;
-    next_turn(
-        Turns {
-            what,
-            part,
-            left,
-            position,
-            size,
-            found,
-            rest,
-            outer,
-        },
-        at,
-    )
+    let mut turns = turns;
+    add_turn(&mut turns, value, at)?;
+    next_turn(turns, at)
 }
 
 /// The items behind the last of the parts: those of a reverse axis are turned back to document order.
@@ -265,7 +232,8 @@ fn first_turn<'e, 't>(
     let left = turned_back(items);
     let found = Sequence::new(alloc);
     let outer = taken_out(at);
-    next_turn(
+    let turns = Box::new(
+        alloc,
         Turns {
             what,
             part,
@@ -276,8 +244,8 @@ fn first_turn<'e, 't>(
             rest,
             outer,
         },
-        at,
-    )
+    )?;
+    next_turn(turns, at)
 }
 
 /// A step without predicates over items, which gives something at each without asking: all of them in one loop.

@@ -72,7 +72,7 @@ finished turn.Part variables ds found = over turn.Part variables ds found
 
 -- the context once a frame has done its work
 abbrev pub context_left : Frame → Context → Context
-context_left (frame.Turns turns) c = turns.outer
+context_left (frame.Turns turns) c = turns.value.outer
 context_left _ c = c
 
 -- the variables then
@@ -153,7 +153,7 @@ module _ (a : Around) (reply : Replies) where
   reacted (frame.To from) c s value = judged (operand a value) >>= λ y. give (range from y)
   reacted (frame.Sign sign) c s value = judged (operand a value) >>= λ number. judged (signed sign number) >>= λ result. give (number_items result)
   reacted (frame.First what rest) c s value = over what (variables_of s) (map (denotes a reply) rest.now) value
-  reacted (frame.Turns turns) c s value = turns_after turns value c (variables_of s)
+  reacted (frame.Turns turns) c s value = turns_after turns.value value c (variables_of s)
   reacted (frame.Source binding.For binder) c s value =
       chain (with_item binder.name.now (for_in (bindings_of (denotes a reply) binder.rest.now) (denotes a reply binder.body.now)) c (variables_of s)) with_all value []
   reacted (frame.Source (binding.Quantified q) binder) c s value =

@@ -138,8 +138,8 @@ pub enum Frame<'e, 't> {
     Sign(Sign),
     /// What stands before predicates, steps or parts.
     First(Turn, &'e [Expr]),
-    /// One turn of several.
-    Turns(Turns<'e, 't>),
+    /// One turn of several, which is changed in its place as they go on.
+    Turns(Box<Turns<'e, 't>>),
     /// The sequence of a variable.
     Source(Binding, Binder<'e>),
     /// One turn of a `for`.
