@@ -62,18 +62,18 @@ module _ (P : RuleTexts → Type 0) where
   -- ---- files
 
   module _
-      (defines : {rule_set name : Text} {rule : WrittenRule} {texts : RuleTexts} → Defines rule_set name rule texts → P texts)
-      (changes : {rule : WrittenRule} {old new : RuleTexts} → Changes rule old new → P old → P new)
+      (defines : (rule_set name : Text) (rule : WrittenRule) (texts : RuleTexts) → Defines rule_set name rule texts → P texts)
+      (changes : (rule : WrittenRule) (old new : RuleTexts) → Changes rule old new → P old → P new)
       (files : Files) where
     mutual
       part_of : {path rule_set : Text} {before after : Progress} {p : Part} → Adds files path rule_set before p after → OfList before.list → OfList after.list
       part_of Adds.exclude_pattern h = h
       part_of Adds.include_pattern h = h
-      part_of (Adds.definition {progress = progress} none is_named fresh is made) h = put_of progress.list _ h (defines made)
+      part_of (Adds.definition {rule_set = rule_set} {progress = progress} {rule = rule} {name = name} {texts = texts} none is_named fresh is made) h = put_of progress.list _ h (defines rule_set name rule texts made)
       part_of (Adds.unusable {progress = progress} none is_named fresh is_not) h = put_of progress.list _ h tt
       part_of (Adds.whole_file {progress = progress} {rule = rule} {list = list} refers means found has) h = put_all_of progress.list (without rule.excludes list) h (without_of rule.excludes list (file_of has))
-      part_of (Adds.one_rule {progress = progress} {name = name} {list = list} {origin = origin} {old = old} refers means found has in_list change) h =
-          put_of progress.list _ h (changes change (named_of name list (origin, entry.Rule old) (file_of has) in_list))
+      part_of (Adds.one_rule {progress = progress} {rule = rule} {name = name} {list = list} {origin = origin} {old = old} {new = new} refers means found has in_list change) h =
+          put_of progress.list _ h (changes rule old new change (named_of name list (origin, entry.Rule old) (file_of has) in_list))
       part_of (Adds.one_unusable {progress = progress} refers means found has in_list) h = put_of progress.list _ h tt
       part_of (Adds.whole_file_elsewhere {progress = progress} refers means found elsewhere) h = put_of progress.list _ h tt
       part_of (Adds.one_rule_elsewhere {progress = progress} refers means found elsewhere) h = put_of progress.list _ h tt
@@ -105,8 +105,8 @@ module _ (P : RuleTexts → Type 0) where
   kept_of minimum number exclude include ((origin, entry.Unusable unusable) ∷ list) h = kept_of minimum number exclude include list h.1
 
   module _
-      (defines : {rule_set name : Text} {rule : WrittenRule} {texts : RuleTexts} → Defines rule_set name rule texts → P texts)
-      (changes : {rule : WrittenRule} {old new : RuleTexts} → Changes rule old new → P old → P new) where
+      (defines : (rule_set name : Text) (rule : WrittenRule) (texts : RuleTexts) → Defines rule_set name rule texts → P texts)
+      (changes : (rule : WrittenRule) (old new : RuleTexts) → Changes rule old new → P old → P new) where
     from_of : (files : Files) (paths : List Text) (tops : List TopRules) (minimum number : ℕ) → AreTops files paths tops → OfRules (rules_from minimum number tops)
     from_of files paths tops minimum number AreTops.none = tt
     from_of files paths tops minimum number (AreTops.more {paths = others} {top = top} {tops = rest} is are) =

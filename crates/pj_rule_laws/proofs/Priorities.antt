@@ -6,10 +6,11 @@ use Rattle.std.specs.Str.{bytes_eq}
 use Rattle.pj_names.specs.declared.rule_row.RuleRow.{RuleRow}
 use Rattle.pj_outside.specs.Files.{Files}
 use Rattle.pj_rule_sets.specs.Rules.{EffectiveRule, EffectiveRules}
-use Rattle.pj_rule_texts.specs.Rules.{and_then, any_property, defined, draft_of, first_priority, kind_for, named_property, nothing_read, overridden, typed_property, with_piece, with_pieces, with_priority, with_property, with_written, with_xpath}
+use Rattle.pj_rule_texts.specs.Rules.{and_then, any_property, defined, draft_of, first_priority, kind_for, named_property, nothing_read, overridden, put_property, typed_property, with_piece, with_pieces, with_priority, with_property, with_written, with_xpath}
 use Rattle.pj_rule_texts.specs.Values.{Text, is_xpath, needs_no_type, normalized, priority_named, priority_of, typed_value}
 use Rattle.pj_rule_texts.specs.declared.draft.Draft.{Draft}
 use Rattle.pj_rule_texts.specs.declared.fault.TextFault.{TextFault}
+use Rattle.pj_rule_texts.specs.declared.fault.TextFault.TheVariants.{BadProperty}
 use Rattle.pj_rule_texts.specs.declared.properties.Property.{Property}
 use Rattle.pj_rule_texts.specs.declared.rule.RuleTexts.{RuleTexts}
 use Rattle.pj_rule_texts.specs.declared.written.Piece.{Piece}
@@ -53,7 +54,7 @@ priority_fits draft text h None = from (priority_of text) (named_fits (normalize
 property_fits : (draft : Draft) (property : Property) → FitsDraft draft → FitsDraft (with_property draft property)
 property_fits draft property h = by (is_xpath property.name)
   where
-    by : (b : Bool) → FitsDraft (cond b (record draft { xpath = Some property.value }) (record draft { properties = _ }))
+    by : (b : Bool) → FitsDraft (cond b (record draft { xpath = Some property.value }) (record draft { properties = put_property draft.properties property }))
     by true = h
     by false = h
 
@@ -61,7 +62,7 @@ typed_fits : (draft : Draft) (name : Text) (kind : Option Text) (value : Text) �
 typed_fits draft name None value h = tt
 typed_fits draft name (Some kind) value h = by (is_some (typed_value kind value))
   where
-    by : (b : Bool) → IfOk (cond {A = Result Draft TextFault} b (Ok (with_property draft (record { name = name; kind = kind; value = value }))) (Err _)) FitsDraft
+    by : (b : Bool) → IfOk (cond {A = Result Draft TextFault} b (Ok (with_property draft (record { name = name; kind = kind; value = value }))) (Err BadProperty)) FitsDraft
     by true = property_fits draft (record { name = name; kind = kind; value = value }) h
     by false = tt
 
@@ -83,11 +84,12 @@ piece_fits is_reference draft (piece.Property property) h = written_fits is_refe
 
 pieces_fit : (is_reference : Bool) (draft : Draft) (pieces : List Piece) → FitsDraft draft → IfOk (with_pieces is_reference draft pieces) FitsDraft
 pieces_fit is_reference draft [] h = h
-pieces_fit is_reference draft (p ∷ pieces) h = behind (with_piece is_reference draft p) (piece_fits is_reference draft p h)
+pieces_fit is_reference draft (p ∷ pieces) h = behind (λ next k. pieces_fit is_reference next pieces k) (with_piece is_reference draft p) (piece_fits is_reference draft p h)
   where
-    behind : (one : Result Draft TextFault) → IfOk one FitsDraft → IfOk (and_then one (λ next. with_pieces is_reference next pieces)) FitsDraft
-    behind (Ok next) k = pieces_fit is_reference next pieces k
-    behind (Err fault) k = tt
+    behind : ((next : Draft) → FitsDraft next → IfOk (with_pieces is_reference next pieces) FitsDraft) → (one : Result Draft TextFault) → IfOk one FitsDraft →
+        IfOk (and_then one (λ next. with_pieces is_reference next pieces)) FitsDraft
+    behind rest (Ok next) k = rest next k
+    behind rest (Err fault) k = tt
 
 -- ---- rules
 
@@ -107,12 +109,12 @@ rule_fits row n h is (Ok draft) k = xpath_fits (row draft) draft.xpath draft.pro
 is_ok : (read : Result RuleTexts TextFault) (texts : RuleTexts) → read ≡ Ok texts → IfOk read FitsTexts → FitsTexts texts
 is_ok read texts e h = subst (λ (r : Result RuleTexts TextFault). IfOk r FitsTexts) e h
 
-defines_fits : {rule_set name : Text} {rule : WrittenRule} {texts : RuleTexts} → Defines rule_set name rule texts → FitsTexts texts
-defines_fits {rule_set = rule_set} {name = name} {rule = rule} {texts = texts} (Defines.defines is sound) =
+defines_fits : (rule_set name : Text) (rule : WrittenRule) (texts : RuleTexts) → Defines rule_set name rule texts → FitsTexts texts
+defines_fits rule_set name rule texts (Defines.defines is sound) =
     is_ok (defined rule_set name rule) texts is (rule_fits _ 5 (omega arith, omega arith) (λ draft. refl) (with_pieces false nothing_read rule.pieces) (pieces_fit false nothing_read rule.pieces tt))
 
-changes_fit : {rule : WrittenRule} {old new : RuleTexts} → Changes rule old new → FitsTexts old → FitsTexts new
-changes_fit {rule = rule} {old = old} {new = new} (Changes.changed is sound) h =
+changes_fit : (rule : WrittenRule) (old new : RuleTexts) → Changes rule old new → FitsTexts old → FitsTexts new
+changes_fit rule old new (Changes.changed is sound) h =
     is_ok (overridden old rule) new is (rule_fits _ old.row.priority h (λ draft. refl) (with_pieces true (draft_of old) rule.pieces) (pieces_fit true (draft_of old) rule.pieces tt))
 
 pub effective_priorities : (files : Files) (paths : List Text) (minimum : ℕ) (marker : Text) (rules : EffectiveRules) → IsEffective files paths minimum marker rules →
