@@ -179,9 +179,10 @@ types-go-deeper t tree var (suc more) n =
     ap (λ left. typed t var left n) next ∙ sym (typed-more t tree var (deep t + more) n (omega arith)) ∙ types-go-deeper t tree var more n
 
 typed-further : (t : Tree) → IsSyntaxTree t → (var : Node → Asking JavaType) (left more : ℕ) (n : Node) → length t.nodes ≤ n.0 + left → typed t var (more + left) n ≡ typed t var left n
-typed-further t tree var left zero n past = refl
+typed-further t tree var left zero n past = let none : 0 + left ≡ left = omega arith in ap (λ k. typed t var k n) none
 typed-further t tree var left (suc more) n past =
-    sym (typed-more t tree var (more + left) n (omega (arith, past))) ∙ typed-further t tree var left more n past
+    let next : suc more + left ≡ suc (more + left) = omega arith in
+    ap (λ k. typed t var k n) next ∙ sym (typed-more t tree var (more + left) n (omega (arith, past))) ∙ typed-further t tree var left more n past
 
 -- a node goes no deeper than there are nodes behind it
 pub deep-enough : (t : Tree) → IsSyntaxTree t → (var : Node → Asking JavaType) (left : ℕ) (n : Node) → length t.nodes ≤ n.0 + left → typed t var left n ≡ typed t var (deep t) n

@@ -1,4 +1,4 @@
-use Rattle.std.proofs.Common.{rules, arith, ◌≡◌, ◌<◌, ◌+◌, List, refl, sym, ap, subst, ◌∙◌}
+use Rattle.std.proofs.Common.{rules, arith, ◌≡◌, ◌<◌, ◌+◌, ◌*◌, List, refl, sym, ap, subst, ◌∙◌}
 use Rattle.std.specs.Prelude.{Ok}
 use Rattle.std.specs.FinSet as set
 use Rattle.pj_names.specs.Asking.{each}
@@ -17,9 +17,10 @@ use Rattle.pj_scopes.proofs.Turns.{asks-as}
 use Rattle.pj_calls.specs.Nodes.{arguments_of, functions_of}
 use Rattle.pj_exprtypes.specs.Operands.{operands, var_operands}
 use Rattle.pj_exprtypes.specs.declared.held.Subject.{Subject}
-use Rattle.pj_exprtypes.specs.Fits.{Fits}
+use Rattle.pj_exprtypes.specs.Fits.{Fits, IsDeep}
 use Rattle.pj_exprtypes.specs.Table.{meaning_of}
 use Rattle.pj_exprtypes.proofs.Depth.{enough-at}
+use Rattle.pj_exprtypes.proofs.Ranks.{rank}
 use Rattle.pj_exprtypes.specs.TypeOf.{deep, earlier, typed, var_of}
 use Rattle.pj_exprtypes.proofs.Steps.{earlier-var, typed-none, typed-some}
 use Rattle.pj_exprtypes.proofs.Tables.{all-noting, keeps-more, keeps-on}
@@ -32,13 +33,16 @@ typed-returns-then-left-eq0-clause-asks g t c =
     let none : c.args.left ≡ 0 = omega arith in
     asks-as (typed-none c.args.file.now (earlier c.args.file.now c.args.before) c.args.left c.args.n none) (asks-return refl)
 
-pub typed-once-requires-clause-fits : goal.typed-once-requires-clause-fits
-typed-once-requires-clause-fits g t c = record {
-  inside = c.requires.inside;
-  some = omega arith;
-  few = c.requires.left;
-  enough = enough-at c.args.file.now c.tree.result.now c.args.before c.args.left c.args.n c.tree.ensures (c.is_to_hold.ensures c.if-is_to_hold.true);
-}
+pub typed-once-requires : goal.typed-once-requires
+typed-once-requires g t c =
+    let less : 100000000 * c.args.before + 20 * c.args.left + 9 < t = omega (arith, c.decreases) in
+    let deep : IsDeep c.args.file.now c.args.left c.args.before c.args.n = record {
+      inside = c.requires.inside;
+      some = omega arith;
+      few = c.requires.left;
+      enough = enough-at c.args.file.now c.tree.result.now c.args.before c.args.left c.args.n c.tree.ensures (c.is_to_hold.ensures c.if-is_to_hold.true);
+    } in
+    (less, (deep, c.requires.keeps))
 
 pub typed-returns-then-is_to_hold-clause-asks : goal.typed-returns-then-is_to_hold-clause-asks
 typed-returns-then-is_to_hold-clause-asks g t c =
@@ -196,11 +200,26 @@ noted_in-returns-clause-notes g t c =
 
 -- ---- by its subject
 
+pub subject_type-var_type-requires : goal.subject_type-var_type-requires
+subject_type-var_type-requires g t c =
+    let same : rank c.args.subject c.args.left ≡ 100000000 * c.in-Var.id.0 + 90000000 = ap (λ (s : Subject). rank s c.args.left) c.in-Var.is in
+    let inside = subst (λ (s : Subject). Fits c.args.file.now c.args.left s) c.in-Var.is c.requires.fits in
+    (omega (arith, c.decreases, same), (inside, c.requires.keeps))
+
+pub subject_type-by_operands-requires : goal.subject_type-by_operands-requires
+subject_type-by_operands-requires g t c =
+    let same : rank c.args.subject c.args.left ≡ 100000000 * c.in-Expression.before + 20 * c.args.left + 4 = ap (λ (s : Subject). rank s c.args.left) c.in-Expression.is in
+    let deep = subst (λ (s : Subject). Fits c.args.file.now c.args.left s) c.in-Expression.is c.requires.fits in
+    (omega (arith, c.decreases, same), (deep.inside, (deep.some, (deep.few, c.requires.keeps))))
+
 pub subject_type-returns-in-Var-clause-asks : goal.subject_type-returns-in-Var-clause-asks
 subject_type-returns-in-Var-clause-asks g t c = asks-as (ap (meaning_of c.args.file.now) c.in-Var.is) c.var_type.ensures.asks
 
 pub subject_type-returns-in-Written-clause-asks : goal.subject_type-returns-in-Written-clause-asks
 subject_type-returns-in-Written-clause-asks g t c = asks-as (ap (meaning_of c.args.file.now) c.in-Written.is) c.written_type.ensures
+
+pub subject_type-returns-in-Written-clause-keeps : goal.subject_type-returns-in-Written-clause-keeps
+subject_type-returns-in-Written-clause-keeps g t c = keeps-on c.args.file.now c.args.types.now.entries c.written_type.ensures c.requires.keeps
 
 pub subject_type-returns-in-Expression-clause-asks : goal.subject_type-returns-in-Expression-clause-asks
 subject_type-returns-in-Expression-clause-asks g t c =
