@@ -1,4 +1,4 @@
-use Rattle.std.proofs.Common.{rules, arith, ◌≡◌, ◌<◌, ◌+◌, ◌*◌, List, refl, sym, ap, subst, ◌∙◌}
+use Rattle.std.proofs.Common.{rules, arith, ◌≡◌, ◌<◌, ◌≤◌, ◌+◌, ◌*◌, List, length, refl, sym, ap, subst, ◌∙◌}
 use Rattle.std.specs.Prelude.{Ok}
 use Rattle.std.specs.FinSet as set
 use Rattle.pj_names.specs.Asking.{each}
@@ -35,14 +35,14 @@ typed-returns-then-left-eq0-clause-asks g t c =
 
 pub typed-once-requires : goal.typed-once-requires
 typed-once-requires g t c =
-    let less : 100000000 * c.args.before + 20 * c.args.left + 9 < t = omega (arith, c.decreases) in
+    let less : 100000000 * c.args.before + 20 * c.args.left + 4 + 5 < t = omega (arith, c.decreases) in
     let deep : IsDeep c.args.file.now c.args.left c.args.before c.args.n = record {
       inside = c.requires.inside;
       some = omega arith;
       few = c.requires.left;
       enough = enough-at c.args.file.now c.tree.result.now c.args.before c.args.left c.args.n c.tree.ensures (c.is_to_hold.ensures c.if-is_to_hold.true);
     } in
-    (less, (deep, c.requires.keeps))
+    search rules
 
 pub typed-returns-then-is_to_hold-clause-asks : goal.typed-returns-then-is_to_hold-clause-asks
 typed-returns-then-is_to_hold-clause-asks g t c =
@@ -203,14 +203,19 @@ noted_in-returns-clause-notes g t c =
 pub subject_type-var_type-requires : goal.subject_type-var_type-requires
 subject_type-var_type-requires g t c =
     let same : rank c.args.subject c.args.left ≡ 100000000 * c.in-Var.id.0 + 90000000 = ap (λ (s : Subject). rank s c.args.left) c.in-Var.is in
-    let inside = subst (λ (s : Subject). Fits c.args.file.now c.args.left s) c.in-Var.is c.requires.fits in
-    (omega (arith, c.decreases, same), (inside, c.requires.keeps))
+    let less : 100000000 * c.in-Var.id.0 + 90000000 < t = omega (arith, c.decreases, same) in
+    let inside : c.in-Var.id.0 < length c.args.file.now.nodes = subst (λ (s : Subject). Fits c.args.file.now c.args.left s) c.in-Var.is c.requires.fits in
+    search rules
 
 pub subject_type-by_operands-requires : goal.subject_type-by_operands-requires
 subject_type-by_operands-requires g t c =
     let same : rank c.args.subject c.args.left ≡ 100000000 * c.in-Expression.before + 20 * c.args.left + 4 = ap (λ (s : Subject). rank s c.args.left) c.in-Expression.is in
-    let deep = subst (λ (s : Subject). Fits c.args.file.now c.args.left s) c.in-Expression.is c.requires.fits in
-    (omega (arith, c.decreases, same), (deep.inside, (deep.some, (deep.few, c.requires.keeps))))
+    let less : 100000000 * c.in-Expression.before + 20 * c.args.left + 4 < t = omega (arith, c.decreases, same) in
+    let deep : IsDeep c.args.file.now c.args.left c.in-Expression.before c.in-Expression.n = subst (λ (s : Subject). Fits c.args.file.now c.args.left s) c.in-Expression.is c.requires.fits in
+    let inside : c.in-Expression.n.0 < length c.args.file.now.nodes = deep.inside in
+    let some : 0 < c.args.left = deep.some in
+    let few : c.args.left ≤ 2000001 = deep.few in
+    search rules
 
 pub subject_type-returns-in-Var-clause-asks : goal.subject_type-returns-in-Var-clause-asks
 subject_type-returns-in-Var-clause-asks g t c = asks-as (ap (meaning_of c.args.file.now) c.in-Var.is) c.var_type.ensures.asks
