@@ -823,11 +823,11 @@ for count in (5000, 10000, 19000):
     write('var_arguments', count, in_one(['var v0 = 1;'] + [f'var v{i} = f(v{i - 1});' for i in range(1, count)]))
 for count in (500, 1000, 2000):
     write('var_receivers', count, in_one(['var v0 = text;'] + [f'var v{i} = v{i - 1}.append(1);' for i in range(1, count)]))
-for count in (25, 50, 100):
+for count in (100, 200, 400, 900):
     write('one_chain', count, '    Object m() { return text' + '.append(1)' * count + '; }\n')
-for count in (50, 100, 200, 400):
+for count in (100, 200, 400, 950):
     write('one_sum', count, '    int m(int a) { return a' + ' + a' * count + '; }\n')
-for count in (25, 50, 100, 200):
+for count in (50, 100, 200, 490):
     write('one_nest', count, '    Object m() { return ' + 'f(' * count + '1' + ')' * count + '; }\n')
 PYTHON
 cat > "$scratch/sums.py" <<'PYTHON'

@@ -1,5 +1,5 @@
 -- The type of a node is made of the whole types of the nodes below it: a node below another one has a greater number, so the definition counts far enough.
-use Rattle.std.proofs.Common.{◌≡◌, ◌<◌, ◌≤◌, ◌+◌, ◌-◌, ℕ, zero, suc, Bool, true, false, cond, List, [], ◌∷◌, Option, None, Some, IsTrue, length, map, filter, refl, sym, ap, ◌∙◌, arith}
+use Rattle.std.proofs.Common.{◌≡◌, ◌<◌, ◌≤◌, ◌+◌, ◌-◌, ℕ, zero, suc, Bool, true, false, cond, List, [], ◌∷◌, Option, None, Some, IsTrue, length, map, filter, refl, sym, ap, subst, ◌∙◌, arith}
 use Rattle.std.proofs.lemmas.Bool.{eqb-true}
 use Rattle.std.proofs.lemmas.List.{length-map}
 use Rattle.std.proofs.lemmas.Option.{slice_get_past}
@@ -23,7 +23,7 @@ use Rattle.pj_operators.specs.Operators.{infix_of, unary_of}
 use Rattle.pj_exprtypes.specs.Operands.{but_first, first_only, if_some, infix_operands, operands, operands_by, unary_operands}
 use Rattle.pj_calls.specs.Nodes.{arguments_of, functions_of, unless_arguments}
 use Rattle.pj_calls.specs.Results.{chosen_result}
-use Rattle.pj_exprtypes.specs.Typing.{Typing, Known, OfVar, OfCall}
+use Rattle.pj_exprtypes.specs.Typing.{Typing, Known, OfVar, OfWritten, OfCall}
 use Rattle.pj_exprtypes.specs.TypeOf.{deep, earlier, final_type, made_type, type_of, type_with, typed, whole_type}
 use Rattle.pj_exprtypes.proofs.Steps.{typed-some}
 
@@ -136,6 +136,7 @@ module _ (t : Tree) (tree : IsSyntaxTree t) (var f g : Node → Asking JavaType)
   final-alike : (found : Typing) → final_type t var f n found ≡ final_type t var g n found
   final-alike (Known ty) = refl
   final-alike (OfVar id) = refl
+  final-alike (OfWritten id declaration) = refl
   final-alike (OfCall candidates) =
       ap (λ (m : Asking (List JavaType)). bind m (λ types. chosen_result candidates types (functions_of t n))) (each-alike (arguments_of t n) (arguments-after t tree n))
 
@@ -176,3 +177,21 @@ types-go-deeper t tree var zero n = let none : deep t + 0 ≡ deep t = omega ari
 types-go-deeper t tree var (suc more) n =
     let next : deep t + suc more ≡ suc (deep t + more) = omega arith in
     ap (λ left. typed t var left n) next ∙ sym (typed-more t tree var (deep t + more) n (omega arith)) ∙ types-go-deeper t tree var more n
+
+typed-further : (t : Tree) → IsSyntaxTree t → (var : Node → Asking JavaType) (left more : ℕ) (n : Node) → length t.nodes ≤ n.0 + left → typed t var (more + left) n ≡ typed t var left n
+typed-further t tree var left zero n past = let none : 0 + left ≡ left = omega arith in ap (λ k. typed t var k n) none
+typed-further t tree var left (suc more) n past =
+    let next : suc more + left ≡ suc (more + left) = omega arith in
+    ap (λ k. typed t var k n) next ∙ sym (typed-more t tree var (more + left) n (omega (arith, past))) ∙ typed-further t tree var left more n past
+
+-- a node goes no deeper than there are nodes behind it
+pub deep-enough : (t : Tree) → IsSyntaxTree t → (var : Node → Asking JavaType) (left : ℕ) (n : Node) → length t.nodes ≤ n.0 + left → typed t var left n ≡ typed t var (deep t) n
+deep-enough t tree var left n past =
+    let same : deep t + left ≡ left + deep t = omega arith in
+    sym (typed-further t tree var left (deep t) n past) ∙ ap (λ k. typed t var k n) same ∙ typed-further t tree var (deep t) left n (omega arith)
+
+-- the same of a tree and of the one of its file
+pub enough-at : (t u : Tree) (before left : ℕ) (n : Node) → u ≡ t → ((var : Node → Asking JavaType) → typed u var left n ≡ typed u var (deep u) n)
+    → typed t (earlier t before) left n ≡ typed t (earlier t before) (deep t) n
+enough-at t u before left n same enough =
+    subst (λ (x : Tree). typed x (earlier t before) left n ≡ typed x (earlier t before) (deep x) n) same (enough (earlier t before))

@@ -1,6 +1,7 @@
 pub mod Parts
 pub mod Steps
 pub mod Tables
+pub mod Ranks
 pub mod Inside
 pub mod Depth
 pub mod OfKinds

@@ -8,35 +8,35 @@ use Rattle.pj_names.specs.JavaType.{JavaType, Unknown}
 use Rattle.pj_names.specs.Asking.{Asking, Return, bind, each}
 use Rattle.pj_symbols.specs.Variables.{declaration_of}
 use Rattle.pj_file_oracle.specs.Types.{declared_type}
-use Rattle.pj_leaf_types.specs.Variables.{declared_by, first_name, is_var, statement_of}
+use Rattle.pj_leaf_types.specs.Variables.{first_name, is_var, statement_of}
 use Rattle.pj_receivers.specs.Elements.{iterated}
 use Rattle.pj_exprtypes.specs.Expressions.{only}
 use Rattle.pj_exprtypes.specs.Operands.{var_operands}
-use Rattle.pj_exprtypes.specs.Typing.{Typing, Known, OfVar, known}
+use Rattle.pj_exprtypes.specs.Typing.{Typing, Known, OfVar, OfWritten, known}
 
 module _ (t : Tree) where
   -- ---- of any variable
 
   -- one that is declared by `var`, or with the type that it writes
-  abbrev pub variable_by : Node → Option Node → Asking Typing
-  variable_by id None = Return (Known Unknown)
-  variable_by id (Some declaration) = if is_var t declaration then Return (OfVar id) else known (declared_by t id declaration)
+  abbrev pub variable_by : Node → Option Node → Typing
+  variable_by id None = Known Unknown
+  variable_by id (Some declaration) = if is_var t declaration then OfVar id else OfWritten id declaration
 
   -- the variable of a name
-  abbrev pub variable_type : Node → Asking Typing
+  abbrev pub variable_type : Node → Typing
   variable_type id = variable_by id (declaration_of t id)
 
-  abbrev pub variable_or_unknown : Option Node → Asking Typing
-  variable_or_unknown None = Return (Known Unknown)
+  abbrev pub variable_or_unknown : Option Node → Typing
+  variable_or_unknown None = Known Unknown
   variable_or_unknown (Some id) = variable_type id
 
   -- a node that declares one variable has its type
-  abbrev pub named_type : Node → Asking Typing
+  abbrev pub named_type : Node → Typing
   named_type n = variable_or_unknown (child_of t n k.VariableId)
 
   -- A declaration of several has the type that it writes, and by `var` that of its first variable.
   abbrev pub declaration_type : Node → Asking Typing
-  declaration_type declaration = if is_var t declaration then variable_or_unknown (first_name t declaration) else known (declared_type t 0 declaration)
+  declaration_type declaration = if is_var t declaration then Return (variable_or_unknown (first_name t declaration)) else known (declared_type t 0 declaration)
 
   -- ---- of one that is declared by `var`, by what the types of expressions are
 

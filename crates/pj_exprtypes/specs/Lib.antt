@@ -12,5 +12,6 @@ pub mod Table
 pub mod ByKind
 -- for private clauses
 pub mod Seen
+pub mod Fits
 pub mod Parts
 pub mod Order

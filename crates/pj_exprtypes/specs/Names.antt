@@ -12,10 +12,10 @@ use Rattle.pj_exprtypes.specs.Typing.{Typing, Known}
 
 module _ (t : Tree) where
   -- A variable of the file has its type, but in its own initializer; an inherited field that with which it was found. A name that means no variable is not known.
-  abbrev pub meant_type : Node → Option Meant → Asking Typing
-  meant_type place None = Return (Known Unknown)
-  meant_type place (Some (DeclaredAt id)) = if is_in_own_initializer t place id then Return (Known Unknown) else variable_type t id
-  meant_type place (Some (Inherited field)) = Return (Known field.ty)
+  abbrev pub meant_type : Node → Option Meant → Typing
+  meant_type place None = Known Unknown
+  meant_type place (Some (DeclaredAt id)) = if is_in_own_initializer t place id then Known Unknown else variable_type t id
+  meant_type place (Some (Inherited field)) = Known field.ty
 
   abbrev pub access_type : Node → Asking Typing
-  access_type n = bind (variable_name t n (first_of (words_of t n))) (λ meant. meant_type n meant)
+  access_type n = bind (variable_name t n (first_of (words_of t n))) (λ meant. Return (meant_type n meant))

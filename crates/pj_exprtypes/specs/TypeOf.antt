@@ -13,12 +13,13 @@ use Rattle.pj_tree.specs.declared.kind.Kind.TheVariants as k
 use Rattle.pj_tree.specs.declared.node.Node.{Node}
 use Rattle.pj_names.specs.JavaType.{JavaType, Unknown}
 use Rattle.pj_names.specs.Asking.{Asking, Return, bind, each}
+use Rattle.pj_leaf_types.specs.Variables.{declared_by}
 use Rattle.pj_exprtypes.specs.Calls.{call_with, passed_type}
 use Rattle.pj_exprtypes.specs.Declarations.{declaration_type, named_type, var_type, variable_type}
 use Rattle.pj_exprtypes.specs.Expressions.{expression_with}
 use Rattle.pj_exprtypes.specs.Names.{access_type}
 use Rattle.pj_exprtypes.specs.Operands.{operands}
-use Rattle.pj_exprtypes.specs.Typing.{Typing, Known, OfVar, OfCall, known}
+use Rattle.pj_exprtypes.specs.Typing.{Typing, Known, OfVar, OfWritten, OfCall, known}
 
 -- ---- by the types of operands
 
@@ -28,22 +29,23 @@ type_with t n (Some k.VariableAccess) types = access_type t n
 -- calls of methods (JLS 15.12)
 type_with t n (Some k.MethodCall) types = call_with t n types
 -- declarations of variables
-type_with t n (Some k.VariableId) types = variable_type t n
-type_with t n (Some k.VariableDeclarator) types = named_type t n
-type_with t n (Some k.FormalParameter) types = named_type t n
-type_with t n (Some k.LambdaParameter) types = named_type t n
-type_with t n (Some k.CatchParameter) types = named_type t n
-type_with t n (Some k.RecordComponent) types = named_type t n
-type_with t n (Some k.EnumConstant) types = named_type t n
+type_with t n (Some k.VariableId) types = Return (variable_type t n)
+type_with t n (Some k.VariableDeclarator) types = Return (named_type t n)
+type_with t n (Some k.FormalParameter) types = Return (named_type t n)
+type_with t n (Some k.LambdaParameter) types = Return (named_type t n)
+type_with t n (Some k.CatchParameter) types = Return (named_type t n)
+type_with t n (Some k.RecordComponent) types = Return (named_type t n)
+type_with t n (Some k.EnumConstant) types = Return (named_type t n)
 type_with t n (Some k.FieldDeclaration) types = declaration_type t n
 type_with t n (Some k.LocalVariableDeclaration) types = declaration_type t n
 -- expressions, and what else has a type
 type_with t n other types = known (expression_with t n other types)
 
--- By what the types are of variables that are declared by `var`, and of nodes.
+-- By what the types are of variables that are declared by `var`, and of nodes. One that is not has the type that its declaration writes.
 abbrev pub final_type : Tree → (Node → Asking JavaType) → (Node → Asking JavaType) → Node → Typing → Asking JavaType
 final_type t var type_of n (Known ty) = Return ty
 final_type t var type_of n (OfVar id) = var id
+final_type t var type_of n (OfWritten id declaration) = declared_by t id declaration
 final_type t var type_of n (OfCall candidates) = passed_type t type_of n candidates
 
 abbrev pub made_type : Tree → (Node → Asking JavaType) → (Node → Asking JavaType) → Node → List JavaType → Asking JavaType

@@ -11,6 +11,13 @@ pub enum Found {
     Type(Ty),
     /// A variable that is declared by `var`, whose type it is: by its `VariableId`.
     Var(Node),
+    /// A variable with the type that its declaration writes, whose type it is: by its `VariableId`.
+    Written {
+        /// Its `VariableId`.
+        id: Node,
+        /// The declaration.
+        declaration: Node,
+    },
     /// The methods among which one is chosen by the types of the arguments, whose result it is.
     Call(Candidates),
 }

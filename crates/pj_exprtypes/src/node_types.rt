@@ -26,9 +26,9 @@ fn type_after<'r, O: Oracle>(
     n: Node,
 ) -> Result<Ty, AskFault>
     requires inside { n.0 < length file.now.nodes }
-    requires keeps { Keeps file.now (⟦<Recorder<'r, O> as Oracle>⟧.tells oracle.old) types.old.variables }
+    requires keeps { Keeps file.now (⟦<Recorder<'r, O> as Oracle>⟧.tells oracle.old) types.old.entries }
     ensures asks { Asks (type_of file.now n) (⟦<Recorder<'r, O> as Oracle>⟧.tells oracle.old) (⟦<Recorder<'r, O> as Oracle>⟧.tells oracle.new) (seen java_type result) }
-    ensures keeps { Keeps file.now (⟦<Recorder<'r, O> as Oracle>⟧.tells oracle.new) types.new.variables }
+    ensures keeps { Keeps file.now (⟦<Recorder<'r, O> as Oracle>⟧.tells oracle.new) types.new.entries }
 {
     type_variables(alloc, file, oracle, types, n)?;
     let count = file.tree().len();
@@ -45,9 +45,9 @@ fn type_noted<O: Oracle>(
     n: Node,
 ) -> Result<Ty, AskFault>
     requires inside { n.0 < length file.now.nodes }
-    requires keeps { Keeps file.now (O.tells oracle.old) types.old.variables }
+    requires keeps { Keeps file.now (O.tells oracle.old) types.old.entries }
     ensures asks { Asks (type_of file.now n) (O.tells oracle.old) (O.tells oracle.new) (seen java_type result) }
-    ensures keeps { Keeps file.now (O.tells oracle.new) types.new.variables }
+    ensures keeps { Keeps file.now (O.tells oracle.new) types.new.entries }
 {
     let mut recorder = Recorder {
         inner: &mut *oracle,
@@ -65,9 +65,9 @@ pub(crate) fn node_type<O: Oracle>(
     n: Node,
 ) -> Result<Ty, AskFault>
     requires inside { n.0 < length file.now.nodes }
-    requires keeps { Keeps file.now (O.tells oracle.old) types.old.variables }
+    requires keeps { Keeps file.now (O.tells oracle.old) types.old.entries }
     ensures asks { Asks (type_of file.now n) (O.tells oracle.old) (O.tells oracle.new) (seen java_type result) }
-    ensures keeps { Keeps file.now (O.tells oracle.new) types.new.variables }
+    ensures keeps { Keeps file.now (O.tells oracle.new) types.new.entries }
 {
     let mut noted = ClassNameSet::new(alloc);
     type_noted(alloc, file, oracle, &mut noted, types, n)
@@ -84,9 +84,9 @@ pub fn type_of<O: Oracle>(
     n: Node,
 ) -> Result<Ty, AskFault>
     requires inside { n.0 < length oracle.old.file.now.nodes }
-    requires keeps { KeepsOver oracle.old.file.now (O.tells oracle.old.inner.now) types.old.variables }
+    requires keeps { KeepsOver oracle.old.file.now (O.tells oracle.old.inner.now) types.old.entries }
     ensures asks { Asks (expand (file_answer oracle.old.file.now) (type_of oracle.old.file.now n)) (O.tells oracle.old.inner.now) (O.tells oracle.new.inner.now) (seen java_type result) }
-    ensures keeps { KeepsOver oracle.old.file.now (O.tells oracle.new.inner.now) types.new.variables }
+    ensures keeps { KeepsOver oracle.old.file.now (O.tells oracle.new.inner.now) types.new.entries }
     ensures file { oracle.new.file.now ≡ oracle.old.file.now }
     ensures held { oracle.new.inner.ghost_name ≡ oracle.old.inner.ghost_name }
     ensures same_table { oracle.new.held.ghost_name ≡ oracle.old.held.ghost_name }

@@ -38,9 +38,9 @@ fn receiver_type<O: Oracle>(
     n: Node,
 ) -> Result<Option<Ty>, AskFault>
     requires inside { n.0 < length file.now.nodes }
-    requires keeps { Keeps file.now (O.tells oracle.old) types.old.variables }
+    requires keeps { Keeps file.now (O.tells oracle.old) types.old.entries }
     ensures asks { Asks (type_if_any file.now (type_of file.now) (receiver_of file.now n)) (O.tells oracle.old) (O.tells oracle.new) (seen seen_option result) }
-    ensures keeps { Keeps file.now (O.tells oracle.new) types.new.variables }
+    ensures keeps { Keeps file.now (O.tells oracle.new) types.new.entries }
 {
     match receiver_of(file.tree(), n) {
         Some(receiver) => {
@@ -61,9 +61,9 @@ fn node_types<O: Oracle>(
     nodes: &[Node],
 ) -> Result<TyList, AskFault>
     requires inside { All (λ (n : Node). n.0 < length file.now.nodes) nodes.now }
-    requires keeps { Keeps file.now (O.tells oracle.old) types.old.variables }
+    requires keeps { Keeps file.now (O.tells oracle.old) types.old.entries }
     ensures asks { Asks (each (type_of file.now) nodes.now) (O.tells oracle.old) (O.tells oracle.new) (seen type_list result) }
-    ensures keeps { Keeps file.now (O.tells oracle.new) types.new.variables }
+    ensures keeps { Keeps file.now (O.tells oracle.new) types.new.entries }
 {
     let mut found = TyList::new(alloc);
     for n in nodes {
@@ -84,9 +84,9 @@ fn chosen_with<O: Oracle>(
     found: Option<Candidates>,
 ) -> Result<Option<Chosen>, AskFault>
     requires inside { n.0 < length file.now.nodes }
-    requires keeps { Keeps file.now (O.tells oracle.old) types.old.variables }
+    requires keeps { Keeps file.now (O.tells oracle.old) types.old.entries }
     ensures asks { Asks (chosen_with file.now (type_of file.now) n (seen_candidates found)) (O.tells oracle.old) (O.tells oracle.new) (seen seen_chosen result) }
-    ensures keeps { Keeps file.now (O.tells oracle.new) types.new.variables }
+    ensures keeps { Keeps file.now (O.tells oracle.new) types.new.entries }
 {
     let Some(candidates) = found else {
         return Ok(None);
@@ -107,9 +107,9 @@ pub(crate) fn node_chosen<O: Oracle>(
     n: Node,
 ) -> Result<Option<Chosen>, AskFault>
     requires inside { n.0 < length file.now.nodes }
-    requires keeps { Keeps file.now (O.tells oracle.old) types.old.variables }
+    requires keeps { Keeps file.now (O.tells oracle.old) types.old.entries }
     ensures asks { Asks (chosen file.now (type_of file.now) n) (O.tells oracle.old) (O.tells oracle.new) (seen seen_chosen result) }
-    ensures keeps { Keeps file.now (O.tells oracle.new) types.new.variables }
+    ensures keeps { Keeps file.now (O.tells oracle.new) types.new.entries }
 {
     let receiver = receiver_type(alloc, file, oracle, types, n)?;
     let found = candidates_of(alloc, file, oracle, n, receiver)?;
@@ -126,9 +126,9 @@ fn node_pair<O: Oracle>(
     n: Node,
 ) -> Result<Option<(Ty, Method)>, AskFault>
     requires inside { n.0 < length file.now.nodes }
-    requires keeps { Keeps file.now (O.tells oracle.old) types.old.variables }
+    requires keeps { Keeps file.now (O.tells oracle.old) types.old.entries }
     ensures asks { Asks (chosen_pair file.now n) (O.tells oracle.old) (O.tells oracle.new) (seen seen_pair result) }
-    ensures keeps { Keeps file.now (O.tells oracle.new) types.new.variables }
+    ensures keeps { Keeps file.now (O.tells oracle.new) types.new.entries }
 {
     let found = node_chosen(alloc, file, oracle, types, n)?;
     match found {
@@ -148,9 +148,9 @@ pub fn chosen<O: Oracle>(
     n: Node,
 ) -> Result<Option<(Ty, Method)>, AskFault>
     requires inside { n.0 < length oracle.old.file.now.nodes }
-    requires keeps { KeepsOver oracle.old.file.now (O.tells oracle.old.inner.now) types.old.variables }
+    requires keeps { KeepsOver oracle.old.file.now (O.tells oracle.old.inner.now) types.old.entries }
     ensures asks { Asks (expand (file_answer oracle.old.file.now) (chosen_pair oracle.old.file.now n)) (O.tells oracle.old.inner.now) (O.tells oracle.new.inner.now) (seen seen_pair result) }
-    ensures keeps { KeepsOver oracle.old.file.now (O.tells oracle.new.inner.now) types.new.variables }
+    ensures keeps { KeepsOver oracle.old.file.now (O.tells oracle.new.inner.now) types.new.entries }
     ensures file { oracle.new.file.now ≡ oracle.old.file.now }
     ensures held { oracle.new.inner.ghost_name ≡ oracle.old.inner.ghost_name }
     ensures same_table { oracle.new.held.ghost_name ≡ oracle.old.held.ghost_name }

@@ -128,6 +128,21 @@ pub fn operands(alloc: Global, tree: &SyntaxTree<'_>, n: Node) -> Result<Nodes, 
     Ok(nodes)
 }
 
+/// Whether the type of a node is made of those of others, which may be many, or is that of a call. What is told without others, or costs no more than one of them, is left out.
+pub fn is_made_of_others(tree: &SyntaxTree<'_>, n: Node) -> bool
+    requires inside { n.0 < length tree.now.nodes }
+{
+    match tree.kind(n) {
+        Kind::MethodCall
+        | Kind::FieldAccess
+        | Kind::ArrayAccess
+        | Kind::ConditionalExpression
+        | Kind::UnaryExpression => true,
+        Kind::InfixExpression => !matches!(infix_of(tree, n), None | Some(Infix::Test)),
+        _ => false,
+    }
+}
+
 /// What the type of a variable is made of that is declared by `var`: what its enhanced `for` goes through, and else its initializer.
 fn source_of(tree: &SyntaxTree<'_>, id: Node) -> Option<Node>
     requires inside { id.0 < length tree.now.nodes }

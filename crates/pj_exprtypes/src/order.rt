@@ -12,9 +12,9 @@ ghost use Rattle.pj_exprtypes.specs.TypeOf.{earlier, told_by_operands, type_of, 
 ghost use Rattle.pj_exprtypes.specs.Typing.{OfVar};
 
 use crate::found::Found;
-use crate::held::Typed;
+use crate::held::{Subject, Typed};
 use crate::operands::{Nodes, operands, var_operands};
-use crate::typing::{types_of, var_once};
+use crate::typing::{once, types_of};
 use crate::variables::type_with;
 use pj_base::{ListOf, NoMemory};
 use pj_calls::arguments_of;
@@ -71,7 +71,7 @@ fn is_open(tree: &SyntaxTree<'_>, types: &Typed, before: u32, id: Node) -> bool
     requires inside { id.0 < length tree.now.nodes }
     ensures { IsTrue result → id.0 < before }
 {
-    id.0 < before && is_var_name(tree, id) && types.find(id).is_none()
+    id.0 < before && is_var_name(tree, id) && types.find(Subject::Var(id)).is_none()
 }
 
 /// The variable whose type that of a node may be, as far as the file alone tells.
@@ -111,7 +111,7 @@ fn open_among(tree: &SyntaxTree<'_>, types: &Typed, before: u32, found: Found) -
 {
     match found {
         Found::Var(id) if is_open(tree, types, before, id) => Some(id),
-        Found::Var(_) | Found::Type(_) | Found::Call(_) => None,
+        Found::Var(_) | Found::Written { .. } | Found::Type(_) | Found::Call(_) => None,
     }
 }
 
@@ -214,7 +214,7 @@ fn visit_operands<O: Oracle>(
     Ok(())
 }
 
-/// Visits a node: its operands are to be visited, and behind them its arguments.
+/// Visits a node: its operands are to be visited, and behind them its arguments. Where its type is held, so are the types that it is made of.
 fn visit<O: Oracle>(
     alloc: Global,
     file: &File<'_>,
@@ -229,6 +229,9 @@ fn visit<O: Oracle>(
     ensures due { OnOk result (AddsParts file.now (O.tells oracle.old).is_told (O.tells oracle.old).world (typed file.now (earlier file.now before) left n) all.old all.new) }
     ensures asks { AsksPart (typed file.now (earlier file.now before) left n) (O.tells oracle.old) (O.tells oracle.new) result }
 {
+    if types.find(Subject::Expression { before, n }).is_some() {
+        return Ok(());
+    }
     put_pass(file, types, all, before, left, n)?;
     visit_operands(alloc, file, oracle, types, all, before, left, n)
 }
@@ -245,10 +248,10 @@ fn pass<'r, O: Oracle>(
     n: Node,
 ) -> Result<(), AskFault>
     requires inside { n.0 < length file.now.nodes }
-    requires keeps { Keeps file.now (⟦<Recorder<'r, O> as Oracle>⟧.tells oracle.old) types.old.variables }
+    requires keeps { Keeps file.now (⟦<Recorder<'r, O> as Oracle>⟧.tells oracle.old) types.old.entries }
     ensures due { OnOk result (AddsParts file.now (⟦<Recorder<'r, O> as Oracle>⟧.tells oracle.old).is_told (⟦<Recorder<'r, O> as Oracle>⟧.tells oracle.old).world (typed file.now (earlier file.now before) left n) all.old all.new) }
     ensures asks { AsksPart (typed file.now (earlier file.now before) left n) (⟦<Recorder<'r, O> as Oracle>⟧.tells oracle.old) (⟦<Recorder<'r, O> as Oracle>⟧.tells oracle.new) result }
-    ensures keeps { Keeps file.now (⟦<Recorder<'r, O> as Oracle>⟧.tells oracle.new) types.new.variables }
+    ensures keeps { Keeps file.now (⟦<Recorder<'r, O> as Oracle>⟧.tells oracle.new) types.new.entries }
 {
     // No node lies so deep. Of several calls in a row, most arguments are held by now.
     if left == 0 || left > 2000001 || !passes_open(file, types, before, n) {
@@ -261,7 +264,7 @@ fn pass<'r, O: Oracle>(
             put_visits(all, before, left - 1, nodes)?;
             Ok(())
         }
-        Found::Type(_) | Found::Var(_) => Ok(()),
+        Found::Type(_) | Found::Var(_) | Found::Written { .. } => Ok(()),
     }
 }
 
@@ -278,9 +281,9 @@ fn told_by_operands<'r, O: Oracle>(
 ) -> Result<Found, AskFault>
     requires inside { n.0 < length file.now.nodes }
     requires left { left ≤ 2000001 }
-    requires keeps { Keeps file.now (⟦<Recorder<'r, O> as Oracle>⟧.tells oracle.old) types.old.variables }
+    requires keeps { Keeps file.now (⟦<Recorder<'r, O> as Oracle>⟧.tells oracle.old) types.old.entries }
     ensures asks { Asks (told_by_operands file.now (typed file.now (earlier file.now before) left) n) (⟦<Recorder<'r, O> as Oracle>⟧.tells oracle.old) (⟦<Recorder<'r, O> as Oracle>⟧.tells oracle.new) (seen seen_typing result) }
-    ensures keeps { Keeps file.now (⟦<Recorder<'r, O> as Oracle>⟧.tells oracle.new) types.new.variables }
+    ensures keeps { Keeps file.now (⟦<Recorder<'r, O> as Oracle>⟧.tells oracle.new) types.new.entries }
 {
     let nodes = operands(alloc, file.tree(), n)?;
     let operand_types = types_of(alloc, file, oracle, types, before, left, nodes.as_slice())?;
@@ -297,14 +300,14 @@ fn do_one<'r, O: Oracle>(
     next: Pending,
 ) -> Result<(), AskFault>
     requires inside { (node_of next).0 < length file.now.nodes }
-    requires keeps { Keeps file.now (⟦<Recorder<'r, O> as Oracle>⟧.tells oracle.old) types.old.variables }
+    requires keeps { Keeps file.now (⟦<Recorder<'r, O> as Oracle>⟧.tells oracle.old) types.old.entries }
     ensures due { OnOk result (AddsParts file.now (⟦<Recorder<'r, O> as Oracle>⟧.tells oracle.old).is_told (⟦<Recorder<'r, O> as Oracle>⟧.tells oracle.old).world (asked_by file.now next) all.old all.new) }
     ensures asks { AsksPart (asked_by file.now next) (⟦<Recorder<'r, O> as Oracle>⟧.tells oracle.old) (⟦<Recorder<'r, O> as Oracle>⟧.tells oracle.new) result }
-    ensures keeps { Keeps file.now (⟦<Recorder<'r, O> as Oracle>⟧.tells oracle.new) types.new.variables }
+    ensures keeps { Keeps file.now (⟦<Recorder<'r, O> as Oracle>⟧.tells oracle.new) types.new.entries }
 {
     match next {
         Pending::Find { id } => {
-            let _ty = var_once(alloc, file, oracle, types, id)?;
+            let _ty = once(alloc, file, oracle, types, 0, Subject::Var(id))?;
             Ok(())
         }
         Pending::Pass { before, left, n } => {
@@ -325,9 +328,9 @@ pub(crate) fn type_variables<'r, O: Oracle>(
     n: Node,
 ) -> Result<(), AskFault>
     requires inside { n.0 < length file.now.nodes }
-    requires keeps { Keeps file.now (⟦<Recorder<'r, O> as Oracle>⟧.tells oracle.old) types.old.variables }
+    requires keeps { Keeps file.now (⟦<Recorder<'r, O> as Oracle>⟧.tells oracle.old) types.old.entries }
     ensures asks { AsksPart (type_of file.now n) (⟦<Recorder<'r, O> as Oracle>⟧.tells oracle.old) (⟦<Recorder<'r, O> as Oracle>⟧.tells oracle.new) result }
-    ensures keeps { Keeps file.now (⟦<Recorder<'r, O> as Oracle>⟧.tells oracle.new) types.new.variables }
+    ensures keeps { Keeps file.now (⟦<Recorder<'r, O> as Oracle>⟧.tells oracle.new) types.new.entries }
 {
     let count = file.tree().len();
     let mut all = AllPending::new(alloc);

@@ -18,9 +18,7 @@ ghost use Rattle.pj_exprtypes.specs.Typing.{known};
 use crate::expressions::{expression_with, only};
 use crate::found::Found;
 use pj_calls::{Candidates, candidates_of};
-use pj_leaf_types::{
-    declared_by, declared_type, first_name, is_in_own_initializer, is_var, statement_of,
-};
+use pj_leaf_types::{declared_type, first_name, is_in_own_initializer, is_var, statement_of};
 use pj_names::{AskFault, Oracle, Ty, TyList};
 use pj_outer_names::File;
 use pj_receivers::iterated;
@@ -29,77 +27,52 @@ use pj_symbols::declaration_of;
 use pj_tree::{Kind, Node, child_of, first_word};
 use std::alloc::Global;
 
-/// A variable by its declaration.
-#[tactic(auto, using(pj_names::proofs::AskingLaws::asking_steps))]
-fn variable_by<O: Oracle>(
-    alloc: Global,
-    file: &File<'_>,
-    oracle: &mut O,
-    id: Node,
-    declaration: Node,
-) -> Result<Found, AskFault>
+/// A variable by its declaration: one that is declared by `var`, or with the type that the declaration writes.
+fn variable_by(file: &File<'_>, id: Node, declaration: Node) -> Found
     requires inside { id.0 < length file.now.nodes }
     requires declaration { declaration.0 < length file.now.nodes }
-    ensures inside { IfOk result (IsVarInside (length file.now.nodes)) }
-    ensures asks { Asks (declarations.variable_by file.now id (Some declaration)) (O.tells oracle.old) (O.tells oracle.new) (seen seen_typing result) }
+    ensures inside { IsVarInside (length file.now.nodes) result }
+    ensures value { seen_typing result ≡ declarations.variable_by file.now id (Some declaration) }
 {
     if is_var(file.tree(), declaration) {
-        return Ok(Found::Var(id));
+        Found::Var(id)
+    } else {
+        Found::Written { id, declaration }
     }
-    let ty = declared_by(alloc, file, oracle, id, declaration)?;
-    Ok(Found::Type(ty))
 }
 
 /// The variable of a name: one that is declared by `var`, or with the type that its declaration writes (JLS 8.3, 8.4.1, 14.4).
-#[tactic(auto, using(pj_names::proofs::AskingLaws::asking_steps))]
-fn variable_type<O: Oracle>(
-    alloc: Global,
-    file: &File<'_>,
-    oracle: &mut O,
-    id: Node,
-) -> Result<Found, AskFault>
+fn variable_type(file: &File<'_>, id: Node) -> Found
     requires inside { id.0 < length file.now.nodes }
-    ensures inside { IfOk result (IsVarInside (length file.now.nodes)) }
-    ensures asks { Asks (declarations.variable_type file.now id) (O.tells oracle.old) (O.tells oracle.new) (seen seen_typing result) }
+    ensures inside { IsVarInside (length file.now.nodes) result }
+    ensures value { seen_typing result ≡ declarations.variable_type file.now id }
 {
     match declaration_of(file.tree(), id) {
-        Some(declaration) => variable_by(alloc, file, oracle, id, declaration),
-        None => Ok(Found::Type(Ty::Unknown)),
+        Some(declaration) => variable_by(file, id, declaration),
+        None => Found::Type(Ty::Unknown),
     }
 }
 
 /// The same, where there is a name.
-#[tactic(auto, using(pj_names::proofs::AskingLaws::asking_steps))]
-fn variable_or_unknown<O: Oracle>(
-    alloc: Global,
-    file: &File<'_>,
-    oracle: &mut O,
-    id: Option<Node>,
-) -> Result<Found, AskFault>
+fn variable_or_unknown(file: &File<'_>, id: Option<Node>) -> Found
     requires inside { IfSome id (λ m. m.0 < length file.now.nodes) }
-    ensures inside { IfOk result (IsVarInside (length file.now.nodes)) }
-    ensures asks { Asks (declarations.variable_or_unknown file.now id) (O.tells oracle.old) (O.tells oracle.new) (seen seen_typing result) }
+    ensures inside { IsVarInside (length file.now.nodes) result }
+    ensures value { seen_typing result ≡ declarations.variable_or_unknown file.now id }
 {
     match id {
-        Some(id) => variable_type(alloc, file, oracle, id),
-        None => Ok(Found::Type(Ty::Unknown)),
+        Some(id) => variable_type(file, id),
+        None => Found::Type(Ty::Unknown),
     }
 }
 
 /// A node that declares one variable: a declarator, a parameter, a component of a record, a constant of an enum.
-#[tactic(auto, using(pj_names::proofs::AskingLaws::asking_steps))]
-fn named_type<O: Oracle>(
-    alloc: Global,
-    file: &File<'_>,
-    oracle: &mut O,
-    n: Node,
-) -> Result<Found, AskFault>
+fn named_type(file: &File<'_>, n: Node) -> Found
     requires inside { n.0 < length file.now.nodes }
-    ensures inside { IfOk result (IsVarInside (length file.now.nodes)) }
-    ensures asks { Asks (declarations.named_type file.now n) (O.tells oracle.old) (O.tells oracle.new) (seen seen_typing result) }
+    ensures inside { IsVarInside (length file.now.nodes) result }
+    ensures value { seen_typing result ≡ declarations.named_type file.now n }
 {
     let id = child_of(file.tree(), n, Kind::VariableId);
-    variable_or_unknown(alloc, file, oracle, id)
+    variable_or_unknown(file, id)
 }
 
 /// A declaration of several variables: the type that it writes, and by `var` that of its first variable.
@@ -116,34 +89,27 @@ fn declaration_type<O: Oracle>(
 {
     if is_var(file.tree(), n) {
         let id = first_name(file.tree(), n);
-        return variable_or_unknown(alloc, file, oracle, id);
+        return Ok(variable_or_unknown(file, id));
     }
     let ty = declared_type(alloc, file, oracle, 0, n)?;
     Ok(Found::Type(ty))
 }
 
 /// What a name means at a place: in its own initializer a variable that is declared by `var` has no type (JLS 14.4.1).
-#[tactic(auto, using(pj_names::proofs::AskingLaws::asking_steps))]
-fn meant_type<O: Oracle>(
-    alloc: Global,
-    file: &File<'_>,
-    oracle: &mut O,
-    place: Node,
-    meant: Option<Variable>,
-) -> Result<Found, AskFault>
+fn meant_type(file: &File<'_>, place: Node, meant: Option<Variable>) -> Found
     requires inside { place.0 < length file.now.nodes }
     requires meant { IfSome meant (IsInside (length file.now.nodes)) }
-    ensures inside { IfOk result (IsVarInside (length file.now.nodes)) }
-    ensures asks { Asks (names.meant_type file.now place (seen_variable meant)) (O.tells oracle.old) (O.tells oracle.new) (seen seen_typing result) }
+    ensures inside { IsVarInside (length file.now.nodes) result }
+    ensures value { seen_typing result ≡ names.meant_type file.now place (seen_variable meant) }
 {
     match meant {
-        None => Ok(Found::Type(Ty::Unknown)),
-        Some(Variable::Inherited(field)) => Ok(Found::Type(field.ty)),
+        None => Found::Type(Ty::Unknown),
+        Some(Variable::Inherited(field)) => Found::Type(field.ty),
         Some(Variable::Declared(id)) => {
             if is_in_own_initializer(file.tree(), place, id) {
-                return Ok(Found::Type(Ty::Unknown));
+                return Found::Type(Ty::Unknown);
             }
-            variable_type(alloc, file, oracle, id)
+            variable_type(file, id)
         }
     }
 }
@@ -161,7 +127,7 @@ fn access_type<O: Oracle>(
     ensures asks { Asks (names.access_type file.now n) (O.tells oracle.old) (O.tells oracle.new) (seen seen_typing result) }
 {
     let meant = variable_name(alloc, file, oracle, n, first_word(file.tree(), n))?;
-    meant_type(alloc, file, oracle, n, meant)
+    Ok(meant_type(file, n, meant))
 }
 
 /// The type of the receiver of a call, where there is one.
@@ -219,6 +185,7 @@ fn known_type<O: Oracle>(
 }
 
 /// What tells the type of a node, by its kind and the types of its operands.
+#[inline(never)]
 #[tactic(auto, using(pj_names::proofs::AskingLaws::asking_steps))]
 pub fn type_with<O: Oracle>(
     alloc: Global,
@@ -233,13 +200,13 @@ pub fn type_with<O: Oracle>(
 {
     match file.tree().kind(n) {
         Kind::VariableAccess => access_type(alloc, file, oracle, n),
-        Kind::VariableId => variable_type(alloc, file, oracle, n),
+        Kind::VariableId => Ok(variable_type(file, n)),
         Kind::VariableDeclarator
         | Kind::FormalParameter
         | Kind::LambdaParameter
         | Kind::CatchParameter
         | Kind::RecordComponent
-        | Kind::EnumConstant => named_type(alloc, file, oracle, n),
+        | Kind::EnumConstant => Ok(named_type(file, n)),
         Kind::FieldDeclaration | Kind::LocalVariableDeclaration => {
             declaration_type(alloc, file, oracle, n)
         }
@@ -249,6 +216,7 @@ pub fn type_with<O: Oracle>(
 }
 
 /// The type of a variable that is declared by `var`, by that of its initializer, or of what its enhanced `for` goes through (JLS 14.4.1, 14.14.2).
+#[inline(never)]
 #[tactic(auto, using(pj_names::proofs::AskingLaws::asking_steps))]
 pub fn var_with<O: Oracle>(
     alloc: Global,

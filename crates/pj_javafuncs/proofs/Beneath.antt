@@ -11,7 +11,7 @@ use Rattle.pj_names.specs.Told.{Asks, Told, Worlds}
 use Rattle.pj_names.proofs.ExpandLaws.{asks-inner, asks-outer}
 use Rattle.pj_file_oracle.specs.FileAnswer.{file_answer}
 use Rattle.pj_file_oracle.specs.Held.{FileOwn, own_answer}
-use Rattle.pj_exprtypes.specs.declared.held.HeldVariable.{HeldVariable}
+use Rattle.pj_exprtypes.specs.declared.held.HeldType.{HeldType}
 use Rattle.pj_exprtypes.specs.Table.{Holds, KeepsOver}
 use Rattle.pj_javafuncs.specs.Telling.{tells_calls}
 
@@ -23,7 +23,7 @@ asks-over by on own after m {t = t} {u = u} {r = r} same_place same_own h =
     (subst (λ (x : FileOwn). Asks m (tells_by by own own_answer t) (tells_by by x own_answer u) r) (sym same_own) (asks-outer by own own_answer m h))
 
 -- what is held of types stays right in a call over the oracle of the file
-pub keeps-beneath : {K A : Type 0} {by on : GName} {own after : FileOwn} {m : Asking A} {t u : Told K} {r : Result A AskFault} (tree : Tree) (types : List HeldVariable)
+pub keeps-beneath : {K A : Type 0} {by on : GName} {own after : FileOwn} {m : Asking A} {t u : Told K} {r : Result A AskFault} (tree : Tree) (types : List HeldType)
     → Asks m (tells_by by own own_answer t) (tells_by on after own_answer u) r → KeepsOver tree t types → KeepsOver tree u types
 keeps-beneath tree types h keeps = λ is.
     subst (λ (w : Worlds). All (Holds tree (λ depth. world_by (file_answer tree) depth (w depth))) types) (sym (ap (λ k. k.world) h.same_kept)) (keeps (sym h.same_told ∙ is))

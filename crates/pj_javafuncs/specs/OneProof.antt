@@ -14,7 +14,7 @@ use Rattle.pj_names.specs.JavaType.{JavaType}
 use Rattle.pj_names.specs.Told.{Told, Worlds}
 use Rattle.pj_operators.specs.Same.{same_type}
 use Rattle.pj_operators.proofs.SameTypes.{type-same, types-equal}
-use Rattle.pj_exprtypes.specs.declared.held.HeldVariable.{HeldVariable}
+use Rattle.pj_exprtypes.specs.declared.held.HeldType.{HeldType}
 use Rattle.pj_exprtypes.specs.Table.{KeepsOver}
 
 true_prop : (ty other : JavaType) → IsProp (IsTrue (same_type ty other))
@@ -32,5 +32,5 @@ names_set = Coded-set (set.code (coded_list coded_ℕ))
 held_prop : (worlds : Worlds) (meaning : Asking JavaType) (ty : JavaType) (names : NameSet) → IsProp (IsHeld worlds meaning ty names)
 held_prop worlds meaning ty names = hlevel (types_set, names_set)
 
-pub keeps_prop : {K : Type 0} (t : Tree) (told : Told K) (types : List HeldVariable) → IsProp (KeepsOver t told types)
+pub keeps_prop : {K : Type 0} (t : Tree) (told : Told K) (types : List HeldType) → IsProp (KeepsOver t told types)
 keeps_prop t told types = hlevel held_prop

@@ -37,9 +37,9 @@ fn chosen_at<'a, 'f, O: Oracle>(
     n: Node,
 ) -> Result<Option<(Ty, Method)>, AskFault>
     requires inside { n.0 < length oracle.old.file.now.nodes }
-    requires keeps { KeepsOver oracle.old.file.now (O.tells oracle.old.inner.now) types.old.variables }
+    requires keeps { KeepsOver oracle.old.file.now (O.tells oracle.old.inner.now) types.old.entries }
     ensures asks { Asks (chosen_pair oracle.old.file.now n) (⟦<FileOracle<'a, 'f, O> as Oracle>⟧.tells oracle.old) (⟦<FileOracle<'a, 'f, O> as Oracle>⟧.tells oracle.new) (seen seen_pair result) }
-    ensures keeps { KeepsOver oracle.old.file.now (O.tells oracle.new.inner.now) types.new.variables }
+    ensures keeps { KeepsOver oracle.old.file.now (O.tells oracle.new.inner.now) types.new.entries }
 {
     chosen(oracle, types, n)
 }
@@ -76,9 +76,9 @@ fn call_is<'a, 'f, O: Oracle>(
     pattern: &SigPattern,
 ) -> Result<bool, AskFault>
     requires inside { n.0 < length oracle.old.file.now.nodes }
-    requires keeps { KeepsOver oracle.old.file.now (O.tells oracle.old.inner.now) types.old.variables }
+    requires keeps { KeepsOver oracle.old.file.now (O.tells oracle.old.inner.now) types.old.entries }
     ensures asks { Asks (call_is oracle.old.file.now n pattern.now) (⟦<FileOracle<'a, 'f, O> as Oracle>⟧.tells oracle.old) (⟦<FileOracle<'a, 'f, O> as Oracle>⟧.tells oracle.new) result }
-    ensures keeps { KeepsOver oracle.old.file.now (O.tells oracle.new.inner.now) types.new.variables }
+    ensures keeps { KeepsOver oracle.old.file.now (O.tells oracle.new.inner.now) types.new.entries }
 {
     let file = oracle.file;
     if !calls_named(file.tree(), n, &pattern.method) {
@@ -98,9 +98,9 @@ pub fn call_test<'a, 'f, O: Oracle>(
     pattern: &SigPattern,
 ) -> Result<bool, AskFault>
     requires inside { ForSome at (λ n. n.0 < length oracle.old.file.now.nodes) }
-    requires keeps { KeepsOver oracle.old.file.now (O.tells oracle.old.inner.now) types.old.variables }
+    requires keeps { KeepsOver oracle.old.file.now (O.tells oracle.old.inner.now) types.old.entries }
     ensures asks { Asks (call_test oracle.old.file.now at pattern.now) (⟦<FileOracle<'a, 'f, O> as Oracle>⟧.tells oracle.old) (⟦<FileOracle<'a, 'f, O> as Oracle>⟧.tells oracle.new) result }
-    ensures keeps { KeepsOver oracle.old.file.now (O.tells oracle.new.inner.now) types.new.variables }
+    ensures keeps { KeepsOver oracle.old.file.now (O.tells oracle.new.inner.now) types.new.entries }
 {
     match at {
         Some(n) => call_is(alloc, oracle, types, n, pattern),

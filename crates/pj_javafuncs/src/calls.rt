@@ -28,7 +28,7 @@ pub struct JavaCalls<'a, 'f, O: Oracle, A: Attributes> {
     pub facts: &'a A,
     /// The file's path.
     pub path: &'a Text,
-    pub ghost keeps: { KeepsOver oracle.file.now (O.tells oracle.inner.now) types.now.variables } by { keeps_prop oracle.file.now (O.tells oracle.inner.now) types.now.variables },
+    pub ghost keeps: { KeepsOver oracle.file.now (O.tells oracle.inner.now) types.now.entries } by { keeps_prop oracle.file.now (O.tells oracle.inner.now) types.now.entries },
     pub ghost of_tree: { A.nodes facts.now ≡ length oracle.file.now.nodes },
     pub ghost text: { A.text_length facts.now ≡ length oracle.file.now.text },
 }
@@ -41,7 +41,7 @@ impl<'a, 'f, O: Oracle, A: Attributes> JavaCalls<'a, 'f, O, A> {
         facts: &'a A,
         path: &'a Text,
     ) -> JavaCalls<'a, 'f, O, A>
-        requires keeps { KeepsOver oracle.file.now (O.tells oracle.inner.now) types.old.variables }
+        requires keeps { KeepsOver oracle.file.now (O.tells oracle.inner.now) types.old.entries }
         requires of_tree { A.nodes facts.now ≡ length oracle.file.now.nodes }
         requires text { A.text_length facts.now ≡ length oracle.file.now.text }
         ensures oracle { result.oracle ≡ oracle.entry }

@@ -34,9 +34,9 @@ fn type_at<'a, 'f, O: Oracle>(
     at: Option<Node>,
 ) -> Result<Ty, AskFault>
     requires inside { ForSome at (λ n. n.0 < length oracle.old.file.now.nodes) }
-    requires keeps { KeepsOver oracle.old.file.now (O.tells oracle.old.inner.now) types.old.variables }
+    requires keeps { KeepsOver oracle.old.file.now (O.tells oracle.old.inner.now) types.old.entries }
     ensures asks { Asks (type_at oracle.old.file.now at) (⟦<FileOracle<'a, 'f, O> as Oracle>⟧.tells oracle.old) (⟦<FileOracle<'a, 'f, O> as Oracle>⟧.tells oracle.new) (seen java_type result) }
-    ensures keeps { KeepsOver oracle.old.file.now (O.tells oracle.new.inner.now) types.new.variables }
+    ensures keeps { KeepsOver oracle.old.file.now (O.tells oracle.new.inner.now) types.new.entries }
 {
     match at {
         Some(n) => type_of(oracle, types, n),
@@ -54,9 +54,9 @@ fn type_test<'a, 'f, O: Oracle>(
     text: &str,
 ) -> Result<bool, AskFault>
     requires inside { ForSome at (λ n. n.0 < length oracle.old.file.now.nodes) }
-    requires keeps { KeepsOver oracle.old.file.now (O.tells oracle.old.inner.now) types.old.variables }
+    requires keeps { KeepsOver oracle.old.file.now (O.tells oracle.old.inner.now) types.old.entries }
     ensures asks { Asks (type_test oracle.old.file.now at text.now) (⟦<FileOracle<'a, 'f, O> as Oracle>⟧.tells oracle.old) (⟦<FileOracle<'a, 'f, O> as Oracle>⟧.tells oracle.new) result }
-    ensures keeps { KeepsOver oracle.old.file.now (O.tells oracle.new.inner.now) types.new.variables }
+    ensures keeps { KeepsOver oracle.old.file.now (O.tells oracle.new.inner.now) types.new.entries }
 {
     let ty = type_at(oracle, types, at)?;
     type_is(alloc, oracle, &ty, text)
@@ -71,9 +71,9 @@ fn exact_test<'a, 'f, O: Oracle>(
     text: &str,
 ) -> Result<bool, AskFault>
     requires inside { ForSome at (λ n. n.0 < length oracle.old.file.now.nodes) }
-    requires keeps { KeepsOver oracle.old.file.now (O.tells oracle.old.inner.now) types.old.variables }
+    requires keeps { KeepsOver oracle.old.file.now (O.tells oracle.old.inner.now) types.old.entries }
     ensures asks { Asks (exact_test oracle.old.file.now at text.now) (⟦<FileOracle<'a, 'f, O> as Oracle>⟧.tells oracle.old) (⟦<FileOracle<'a, 'f, O> as Oracle>⟧.tells oracle.new) result }
-    ensures keeps { KeepsOver oracle.old.file.now (O.tells oracle.new.inner.now) types.new.variables }
+    ensures keeps { KeepsOver oracle.old.file.now (O.tells oracle.new.inner.now) types.new.entries }
 {
     let ty = type_at(oracle, types, at)?;
     Ok(has_name(&ty, text))
@@ -108,9 +108,9 @@ pub fn test_by<'a, 'f, O: Oracle>(
     text: &str,
 ) -> Result<bool, AskFault>
     requires inside { ForSome at (λ n. n.0 < length oracle.old.file.now.nodes) }
-    requires keeps { KeepsOver oracle.old.file.now (O.tells oracle.old.inner.now) types.old.variables }
+    requires keeps { KeepsOver oracle.old.file.now (O.tells oracle.old.inner.now) types.old.entries }
     ensures asks { Asks (test_by test oracle.old.file.now at text.now) (⟦<FileOracle<'a, 'f, O> as Oracle>⟧.tells oracle.old) (⟦<FileOracle<'a, 'f, O> as Oracle>⟧.tells oracle.new) result }
-    ensures keeps { KeepsOver oracle.old.file.now (O.tells oracle.new.inner.now) types.new.variables }
+    ensures keeps { KeepsOver oracle.old.file.now (O.tells oracle.new.inner.now) types.new.entries }
 {
     match test {
         Test::TypeIs => type_test(alloc, oracle, types, at, text),

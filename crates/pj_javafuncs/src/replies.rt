@@ -43,9 +43,9 @@ fn tested<'a, 'f, O: Oracle>(
     text: &Text,
 ) -> Result<Sequence<'static>, XFault>
     requires inside { ForSome at (λ n. n.0 < length oracle.old.file.now.nodes) }
-    requires keeps { KeepsOver oracle.old.file.now (O.tells oracle.old.inner.now) types.old.variables }
+    requires keeps { KeepsOver oracle.old.file.now (O.tells oracle.old.inner.now) types.old.entries }
     ensures asks { Asks (tested (test_by test oracle.old.file.now at text.now)) (⟦<FileOracle<'a, 'f, O> as Oracle>⟧.tells oracle.old) (⟦<FileOracle<'a, 'f, O> as Oracle>⟧.tells oracle.new) (outcome values_of result) }
-    ensures keeps { KeepsOver oracle.old.file.now (O.tells oracle.new.inner.now) types.new.variables }
+    ensures keeps { KeepsOver oracle.old.file.now (O.tells oracle.new.inner.now) types.new.entries }
     ensures kind { IsTruth (outcome values_of result) }
 {
     let is = test_by(alloc, oracle, types, test, at, text.as_str())?;
@@ -64,9 +64,9 @@ fn test_reply<'s, 'a, 'f, O: Oracle, A: Attributes>(
     requires inside { ForSome at (λ n. n.0 < length oracle.old.file.now.nodes) }
     requires of_tree { A.nodes setting.now.facts.now ≡ length oracle.old.file.now.nodes }
     requires argument { OfTree (length oracle.old.file.now.nodes) (values_of argument.now) }
-    requires keeps { KeepsOver oracle.old.file.now (O.tells oracle.old.inner.now) types.old.variables }
+    requires keeps { KeepsOver oracle.old.file.now (O.tells oracle.old.inner.now) types.old.entries }
     ensures asks { Asks (with_text (text_argument (A.attribute_of setting.now.facts.now) (A.names_of setting.now.facts.now) (values_of argument.now)) (λ text. tested (test_by test oracle.old.file.now at text))) (⟦<FileOracle<'a, 'f, O> as Oracle>⟧.tells oracle.old) (⟦<FileOracle<'a, 'f, O> as Oracle>⟧.tells oracle.new) (outcome values_of result) }
-    ensures keeps { KeepsOver oracle.old.file.now (O.tells oracle.new.inner.now) types.new.variables }
+    ensures keeps { KeepsOver oracle.old.file.now (O.tells oracle.new.inner.now) types.new.entries }
     ensures kind { IsTestReply (text_argument (A.attribute_of setting.now.facts.now) (A.names_of setting.now.facts.now) (values_of argument.now)) (outcome values_of result) }
 {
     match text_argument(setting.alloc, setting.facts, argument) {
@@ -85,9 +85,9 @@ fn call_tested<'a, 'f, O: Oracle>(
     pattern: &SigPattern,
 ) -> Result<Sequence<'static>, XFault>
     requires inside { ForSome at (λ n. n.0 < length oracle.old.file.now.nodes) }
-    requires keeps { KeepsOver oracle.old.file.now (O.tells oracle.old.inner.now) types.old.variables }
+    requires keeps { KeepsOver oracle.old.file.now (O.tells oracle.old.inner.now) types.old.entries }
     ensures asks { Asks (tested (call_test oracle.old.file.now at pattern.now)) (⟦<FileOracle<'a, 'f, O> as Oracle>⟧.tells oracle.old) (⟦<FileOracle<'a, 'f, O> as Oracle>⟧.tells oracle.new) (outcome values_of result) }
-    ensures keeps { KeepsOver oracle.old.file.now (O.tells oracle.new.inner.now) types.new.variables }
+    ensures keeps { KeepsOver oracle.old.file.now (O.tells oracle.new.inner.now) types.new.entries }
     ensures kind { IsTruthOrCode (outcome values_of result) }
 {
     let is = call_test(alloc, oracle, types, at, pattern)?;
@@ -103,9 +103,9 @@ fn call_reply<'a, 'f, O: Oracle>(
     pattern: &Option<SigPattern>,
 ) -> Result<Sequence<'static>, XFault>
     requires inside { ForSome at (λ n. n.0 < length oracle.old.file.now.nodes) }
-    requires keeps { KeepsOver oracle.old.file.now (O.tells oracle.old.inner.now) types.old.variables }
+    requires keeps { KeepsOver oracle.old.file.now (O.tells oracle.old.inner.now) types.old.entries }
     ensures asks { Asks (call_reply oracle.old.file.now at pattern.now) (⟦<FileOracle<'a, 'f, O> as Oracle>⟧.tells oracle.old) (⟦<FileOracle<'a, 'f, O> as Oracle>⟧.tells oracle.new) (outcome values_of result) }
-    ensures keeps { KeepsOver oracle.old.file.now (O.tells oracle.new.inner.now) types.new.variables }
+    ensures keeps { KeepsOver oracle.old.file.now (O.tells oracle.new.inner.now) types.new.entries }
     ensures kind { IsTruthOrCode (outcome values_of result) }
 {
     match pattern {
@@ -123,9 +123,9 @@ fn called<'a, 'f, O: Oracle>(
     text: &Text,
 ) -> Result<Sequence<'static>, XFault>
     requires inside { ForSome at (λ n. n.0 < length oracle.old.file.now.nodes) }
-    requires keeps { KeepsOver oracle.old.file.now (O.tells oracle.old.inner.now) types.old.variables }
+    requires keeps { KeepsOver oracle.old.file.now (O.tells oracle.old.inner.now) types.old.entries }
     ensures asks { Asks (call_reply oracle.old.file.now at (pattern_in text.now)) (⟦<FileOracle<'a, 'f, O> as Oracle>⟧.tells oracle.old) (⟦<FileOracle<'a, 'f, O> as Oracle>⟧.tells oracle.new) (outcome values_of result) }
-    ensures keeps { KeepsOver oracle.old.file.now (O.tells oracle.new.inner.now) types.new.variables }
+    ensures keeps { KeepsOver oracle.old.file.now (O.tells oracle.new.inner.now) types.new.entries }
     ensures kind { IsTruthOrCode (outcome values_of result) }
 {
     let pattern = SigPattern::parse(alloc, text.as_str())?;
@@ -143,9 +143,9 @@ fn signature_reply<'s, 'a, 'f, O: Oracle, A: Attributes>(
     requires inside { ForSome at (λ n. n.0 < length oracle.old.file.now.nodes) }
     requires of_tree { A.nodes setting.now.facts.now ≡ length oracle.old.file.now.nodes }
     requires argument { OfTree (length oracle.old.file.now.nodes) (values_of argument.now) }
-    requires keeps { KeepsOver oracle.old.file.now (O.tells oracle.old.inner.now) types.old.variables }
+    requires keeps { KeepsOver oracle.old.file.now (O.tells oracle.old.inner.now) types.old.entries }
     ensures asks { Asks (with_text (text_argument (A.attribute_of setting.now.facts.now) (A.names_of setting.now.facts.now) (values_of argument.now)) (λ text. call_reply oracle.old.file.now at (pattern_in text))) (⟦<FileOracle<'a, 'f, O> as Oracle>⟧.tells oracle.old) (⟦<FileOracle<'a, 'f, O> as Oracle>⟧.tells oracle.new) (outcome values_of result) }
-    ensures keeps { KeepsOver oracle.old.file.now (O.tells oracle.new.inner.now) types.new.variables }
+    ensures keeps { KeepsOver oracle.old.file.now (O.tells oracle.new.inner.now) types.new.entries }
     ensures kind { IsTruthOrCode (outcome values_of result) }
 {
     match text_argument(setting.alloc, setting.facts, argument) {
@@ -182,9 +182,9 @@ fn reply_to<'s, 'a, 'f, O: Oracle, A: Attributes>(
     requires of_tree { A.nodes setting.now.facts.now ≡ length oracle.old.file.now.nodes }
     requires text { A.text_length setting.now.facts.now ≡ length oracle.old.file.now.text }
     requires argument { OfTree (length oracle.old.file.now.nodes) (values_of argument.now) }
-    requires keeps { KeepsOver oracle.old.file.now (O.tells oracle.old.inner.now) types.old.variables }
+    requires keeps { KeepsOver oracle.old.file.now (O.tells oracle.old.inner.now) types.old.entries }
     ensures asks { Asks (reply_to (facts (A.attribute_of setting.now.facts.now) (A.names_of setting.now.facts.now) (A.modifiers_of setting.now.facts.now) (A.place_of setting.now.facts.now) setting.now.path.now) oracle.old.file.now function at (values_of argument.now)) (⟦<FileOracle<'a, 'f, O> as Oracle>⟧.tells oracle.old) (⟦<FileOracle<'a, 'f, O> as Oracle>⟧.tells oracle.new) (outcome values_of result) }
-    ensures keeps { KeepsOver oracle.old.file.now (O.tells oracle.new.inner.now) types.new.variables }
+    ensures keeps { KeepsOver oracle.old.file.now (O.tells oracle.new.inner.now) types.new.entries }
     ensures kind { (arguments : List (List ItemValue)) → first_of arguments ≡ values_of argument.now → IsTrue (may_return function arguments (outcome values_of result)) }
 {
     let alloc = setting.alloc;
@@ -223,9 +223,9 @@ pub fn reply<'s, 'a, 'f, O: Oracle, A: Attributes>(
     requires of_tree { A.nodes setting.now.facts.now ≡ length oracle.old.file.now.nodes }
     requires text { A.text_length setting.now.facts.now ≡ length oracle.old.file.now.text }
     requires arguments { ArgumentsOfTree (length oracle.old.file.now.nodes) (map values_of arguments.now) }
-    requires keeps { KeepsOver oracle.old.file.now (O.tells oracle.old.inner.now) types.old.variables }
+    requires keeps { KeepsOver oracle.old.file.now (O.tells oracle.old.inner.now) types.old.entries }
     ensures asks { Asks (reply (facts (A.attribute_of setting.now.facts.now) (A.names_of setting.now.facts.now) (A.modifiers_of setting.now.facts.now) (A.place_of setting.now.facts.now) setting.now.path.now) oracle.old.file.now function at (map values_of arguments.now)) (⟦<FileOracle<'a, 'f, O> as Oracle>⟧.tells oracle.old) (⟦<FileOracle<'a, 'f, O> as Oracle>⟧.tells oracle.new) (outcome values_of result) }
-    ensures keeps { KeepsOver oracle.old.file.now (O.tells oracle.new.inner.now) types.new.variables }
+    ensures keeps { KeepsOver oracle.old.file.now (O.tells oracle.new.inner.now) types.new.entries }
     ensures kind { IsTrue (may_return function (map values_of arguments.now) (outcome values_of result)) }
 {
     let none = Sequence::new(setting.alloc);

@@ -3,27 +3,25 @@ use Rattle.std.specs.Prelude.{ℕ, zero, suc, ◌==◌, List, [], ◌∷◌, len
 use Rattle.std.specs.Option.{option_map}
 use Rattle.pj_names.specs.Asking.{Asking}
 use Rattle.pj_names.specs.JavaType.{JavaType}
-use Rattle.pj_tree.specs.Children.{child_of}
 use Rattle.pj_tree.specs.Tree.{Tree, kind_of}
 use Rattle.pj_tree.specs.Words.{first_of, last_of, words_of}
 use Rattle.pj_tree.specs.declared.kind.Kind.{Kind}
 use Rattle.pj_tree.specs.declared.kind.Kind.TheVariants as k
 use Rattle.pj_tree.specs.declared.node.Node.{Node}
-use Rattle.pj_symbols.specs.Variables.{declaration_of}
 use Rattle.pj_file_oracle.specs.Types.{declared_type}
-use Rattle.pj_leaf_types.specs.Variables.{declared_by, first_name, is_in_own_initializer, is_var, statement_of}
+use Rattle.pj_leaf_types.specs.Variables.{is_var, statement_of}
 use Rattle.pj_calls.specs.Calls.{chosen}
 use Rattle.pj_calls.specs.Candidates.{candidates_of}
 use Rattle.pj_calls.specs.Nodes.{arguments_of, functions_of}
-use Rattle.pj_scopes.specs.VariableName.{DeclaredAt, Inherited, Meant}
+use Rattle.pj_scopes.specs.VariableName.{variable_name}
 use Rattle.pj_exprtypes.specs.Calls.{call_with, receiver_in, typing_of}
 use Rattle.pj_exprtypes.specs.Chosen.{chosen_pair, pair_of as chosen_as_pair}
-use Rattle.pj_exprtypes.specs.Declarations.{declaration_type, named_type, var_by, var_type, variable_by, variable_or_unknown, variable_type}
+use Rattle.pj_exprtypes.specs.Declarations.{declaration_type, var_by, var_type}
 use Rattle.pj_exprtypes.specs.Expressions.{branches_with, expression_with, only, pair_of}
 use Rattle.pj_exprtypes.specs.Names.{access_type, meant_type}
 use Rattle.pj_exprtypes.specs.Operands.{operands, var_operands}
 use Rattle.pj_exprtypes.specs.TypeOf.{deep, earlier, final_type, type_of, type_with, typed, whole_type}
-use Rattle.pj_exprtypes.specs.Typing.{Typing, Known, OfVar, OfCall, known}
+use Rattle.pj_exprtypes.specs.Typing.{Typing, Known, OfVar, OfWritten, OfCall, known}
 use Rattle.pj_settling.specs.Settling.{FindsFinitely, Settles, World}
 use Rattle.pj_settling.proofs.Settled.{after, by_test, for_each, given, made_by}
 use Rattle.pj_settled_members.proofs.Choosing.{conditional_settles}
@@ -38,33 +36,14 @@ module _ {world : World} (finite : FindsFinitely world) (t : Tree) where
 
   -- ---- declarations
 
-  variable_by_settles : (id : Node) (declaration : Option Node) → Settles world (variable_by t id declaration)
-  variable_by_settles id None = given _
-  variable_by_settles id (Some declaration) = by_test (is_var t declaration) (given _) (known_settles {m = declared_by t id declaration} (declared_by_settles finite t id declaration))
-
-  variable_settles : (id : Node) → Settles world (variable_type t id)
-  variable_settles id = variable_by_settles id (declaration_of t id)
-
-  variable_or_unknown_settles : (id : Option Node) → Settles world (variable_or_unknown t id)
-  variable_or_unknown_settles None = given _
-  variable_or_unknown_settles (Some id) = variable_settles id
-
-  named_settles : (n : Node) → Settles world (named_type t n)
-  named_settles n = variable_or_unknown_settles (child_of t n k.VariableId)
-
   declaration_settles : (declaration : Node) → Settles world (declaration_type t declaration)
   declaration_settles declaration =
-      by_test (is_var t declaration) (variable_or_unknown_settles (first_name t declaration)) (known_settles {m = declared_type t 0 declaration} (declared_type_settles finite t 0 declaration))
+      by_test (is_var t declaration) (given _) (known_settles {m = declared_type t 0 declaration} (declared_type_settles finite t 0 declaration))
 
   -- ---- names, calls and expressions
 
-  meant_settles : (place : Node) (meant : Option Meant) → Settles world (meant_type t place meant)
-  meant_settles place None = given _
-  meant_settles place (Some (DeclaredAt id)) = by_test (is_in_own_initializer t place id) (given _) (variable_settles id)
-  meant_settles place (Some (Inherited field)) = given _
-
   access_settles : (n : Node) → Settles world (access_type t n)
-  access_settles n = after (variable_name_settles finite t n (first_of (words_of t n))) (meant_settles n)
+  access_settles n = made_by {m = variable_name t n (first_of (words_of t n))} (meant_type t n) (variable_name_settles finite t n (first_of (words_of t n)))
 
   call_settles : (n : Node) (types : List JavaType) → Settles world (call_with t n types)
   call_settles n types = made_by {m = candidates_of t n (receiver_in types)} typing_of (candidates_settle finite t n (receiver_in types))
@@ -85,13 +64,13 @@ module _ {world : World} (finite : FindsFinitely world) (t : Tree) where
   typing_settles : (n : Node) (kind : Option Kind) (types : List JavaType) → Settles world (type_with t n kind types)
   typing_settles n (Some k.VariableAccess) types = access_settles n
   typing_settles n (Some k.MethodCall) types = call_settles n types
-  typing_settles n (Some k.VariableId) types = variable_settles n
-  typing_settles n (Some k.VariableDeclarator) types = named_settles n
-  typing_settles n (Some k.FormalParameter) types = named_settles n
-  typing_settles n (Some k.LambdaParameter) types = named_settles n
-  typing_settles n (Some k.CatchParameter) types = named_settles n
-  typing_settles n (Some k.RecordComponent) types = named_settles n
-  typing_settles n (Some k.EnumConstant) types = named_settles n
+  typing_settles n (Some k.VariableId) types = given _
+  typing_settles n (Some k.VariableDeclarator) types = given _
+  typing_settles n (Some k.FormalParameter) types = given _
+  typing_settles n (Some k.LambdaParameter) types = given _
+  typing_settles n (Some k.CatchParameter) types = given _
+  typing_settles n (Some k.RecordComponent) types = given _
+  typing_settles n (Some k.EnumConstant) types = given _
   typing_settles n (Some k.FieldDeclaration) types = declaration_settles n
   typing_settles n (Some k.LocalVariableDeclaration) types = declaration_settles n
   typing_settles n other types = known_settles {m = expression_with t n other types} (expression_settles n other types)
@@ -103,6 +82,7 @@ module _ {world : World} (finite : FindsFinitely world) (t : Tree) where
       final_settles : (n : Node) (found : Typing) → Settles world (final_type t var inner n found)
       final_settles n (Known ty) = given _
       final_settles n (OfVar id) = var_settles id
+      final_settles n (OfWritten id declaration) = declared_by_settles finite t id declaration
       final_settles n (OfCall candidates) = after (for_each {m = inner} settle (arguments_of t n)) (λ types. chosen_result_settles finite candidates types (functions_of t n))
 
       whole_settles : (n : Node) → Settles world (whole_type t var inner n)

@@ -1,7 +1,7 @@
 -- What is held of a file is right by what a world answers alone: so it is right over an oracle that notes names if and only if it is over the one beneath.
 use Rattle.std.proofs.Common.{◌≡◌, ℕ, List, [], ◌∷◌, IsTrue, ap, subst}
 use Rattle.pj_exprtypes.specs.Table.{KeepsOver}
-use Rattle.pj_exprtypes.specs.declared.held.HeldVariable.{HeldVariable}
+use Rattle.pj_exprtypes.specs.declared.held.HeldType.{HeldType}
 use Rattle.pj_file_oracle.specs.FileAnswer.{file_answer}
 use Rattle.pj_file_oracle.specs.Held.{AreHeld}
 use Rattle.pj_file_oracle.specs.declared.held.Held.{Held}
@@ -25,10 +25,10 @@ module _ {K L : Type 0} (tree : Tree) (t : Told K) (u : Told L) (told : u.is_tol
   answers_alike [] held = tt
   answers_alike (entry ∷ entries) held = (λ is. held_alike t.world u.world same (held.0 (subst (λ b. IsTrue b) told is)), answers_alike entries held.1)
 
-  types_alike : (types : List HeldVariable) → KeepsOver tree t types → KeepsOver tree u types
+  types_alike : (types : List HeldType) → KeepsOver tree t types → KeepsOver tree u types
   types_alike types keeps =
       λ is k d below. held_alike (λ depth. world_by (file_answer tree) depth (t.world depth)) (λ depth. world_by (file_answer tree) depth (u.world depth))
       (λ depth. ap (λ answer. (λ name. value_of depth answer (file_answer tree name))) (same depth)) (keeps (subst (λ b. IsTrue b) told is) k d below)
 
-  pub right_alike : (held : Held) (types : List HeldVariable) → AreRight tree t held types → AreRight tree u held types
+  pub right_alike : (held : Held) (types : List HeldType) → AreRight tree t held types → AreRight tree u held types
   right_alike held types right = record { answers = answers_alike held.answers.entries right.answers; types = types_alike types right.types }

@@ -4,7 +4,7 @@ use Rattle.std.specs.List.{AllZip, list_any}
 use Rattle.std.specs.List.Sorted.{IsNonDecreasing}
 use Rattle.std.specs.Option.{option_map}
 use Rattle.pj_exprtypes.specs.Table.{KeepsOver}
-use Rattle.pj_exprtypes.specs.declared.held.HeldVariable.{HeldVariable}
+use Rattle.pj_exprtypes.specs.declared.held.HeldType.{HeldType}
 use Rattle.pj_file_oracle.specs.Held.{Holds}
 use Rattle.pj_file_oracle.specs.declared.held.Held.{Held}
 use Rattle.pj_findings.specs.Merged.{merge}
@@ -73,10 +73,10 @@ pub record HasItsPatterns (effective : EffectiveRule) (kept : RuleExpressions) :
 abbrev pub if_active : Bool → Bytes → JavaFile → Rule → Asking Ruled
 if_active active path file rule = if active then rule_in_file (java_replies path file) file rule else nothing
 
--- What is held of a file is right over an oracle: what its classes answered, and the types of its variables.
-pub record AreRight {K : Type 0} (tree : Tree) (told : Told K) (held : Held) (variables : List HeldVariable) : Type 0 where
+-- What is held of a file is right over an oracle: what its classes answered, and types of its nodes.
+pub record AreRight {K : Type 0} (tree : Tree) (told : Told K) (held : Held) (types_held : List HeldType) : Type 0 where
   pub answers : Holds tree told held
-  pub types : KeepsOver tree told variables
+  pub types : KeepsOver tree told types_held
 
 -- what a rule finds at one node
 abbrev pub found_there : Reply → JavaFile → Rule → Node → Means Spot

@@ -63,11 +63,11 @@ fn active_result<'t, O: Oracle, A: Attributes>(
     requires nodes { A.nodes facts.now ≡ length (file_seen file.now).tree.nodes }
     requires text { A.text_length facts.now ≡ length (file_seen file.now).tree.text }
     requires known { known (A.attribute_of facts.now) (A.names_of facts.now) (A.modifiers_of facts.now) (A.place_of facts.now) file.now.path.now ≡ known_in file.now.path.now (file_seen file.now) }
-    requires right { AreRight (file_seen file.now).tree (O.tells oracle.old) held.old types.old.variables }
+    requires right { AreRight (file_seen file.now).tree (O.tells oracle.old) held.old types.old.entries }
     ensures asks { (meant : MeantRule) → IsRuleOf file.now.marker.now rule.now meant
         → Asks (rule_in_file (java_replies file.now.path.now (file_seen file.now)) (file_seen file.now) meant) (O.tells oracle.old) (O.tells oracle.new) result }
     ensures kept { (O.tells oracle.new).kept ≡ (O.tells oracle.old).kept }
-    ensures right { AreRight (file_seen file.now).tree (O.tells oracle.new) held.new types.new.variables }
+    ensures right { AreRight (file_seen file.now).tree (O.tells oracle.new) held.new types.new.entries }
 {
     one_expression();
     trees_tell_expressions();
@@ -94,11 +94,11 @@ fn result_if_active<'t, O: Oracle>(
 ) -> Result<Ruled, AskFault>
     requires file { IsOfOneFile file.now }
     requires java { java.now ≡ (file_seen file.now).tree }
-    requires right { AreRight (file_seen file.now).tree (O.tells oracle.old) held.old types.old.variables }
+    requires right { AreRight (file_seen file.now).tree (O.tells oracle.old) held.old types.old.entries }
     ensures asks { (meant : MeantRule) → IsRuleOf file.now.marker.now rule.now meant
         → Asks (if_active is_active file.now.path.now (file_seen file.now) meant) (O.tells oracle.old) (O.tells oracle.new) result }
     ensures kept { (O.tells oracle.new).kept ≡ (O.tells oracle.old).kept }
-    ensures right { AreRight (file_seen file.now).tree (O.tells oracle.new) held.new types.new.variables }
+    ensures right { AreRight (file_seen file.now).tree (O.tells oracle.new) held.new types.new.entries }
 {
     if is_active {
         return active_result(file, java, file.facts, rule, oracle, held, types);
@@ -119,12 +119,12 @@ fn noted_result<'t, O: Oracle>(
 ) -> Result<Ruled, AskFault>
     requires file { IsOfOneFile file.now }
     requires java { java.now ≡ (file_seen file.now).tree }
-    requires right { AreRight (file_seen file.now).tree (O.tells oracle.old) held.old types.old.variables }
+    requires right { AreRight (file_seen file.now).tree (O.tells oracle.old) held.old types.old.entries }
     ensures asks { (meant : MeantRule) → IsRuleOf file.now.marker.now rule.now meant
         → Asks (if_active is_active file.now.path.now (file_seen file.now) meant) (O.tells oracle.old) (O.tells oracle.new) result }
     ensures notes { (meant : MeantRule) → IsRuleOf file.now.marker.now rule.now meant
         → Notes (if_active is_active file.now.path.now (file_seen file.now) meant) (O.tells oracle.old).is_told (O.tells oracle.old).world noted.old noted.new result }
-    ensures right { AreRight (file_seen file.now).tree (O.tells oracle.new) held.new types.new.variables }
+    ensures right { AreRight (file_seen file.now).tree (O.tells oracle.new) held.new types.new.entries }
 {
     let mut recorder = Recorder {
         inner: &mut *oracle,
@@ -145,12 +145,12 @@ fn rule_run<'t, O: Oracle>(
 ) -> Result<RuleRun, AskFault>
     requires file { IsOfOneFile file.now }
     requires java { java.now ≡ (file_seen file.now).tree }
-    requires right { AreRight (file_seen file.now).tree (O.tells oracle.old) held.old types.old.variables }
+    requires right { AreRight (file_seen file.now).tree (O.tells oracle.old) held.old types.old.entries }
     ensures asks { (meant : MeantRule) → IsRuleOf file.now.marker.now rule.now meant
         → Asks (if_active is_active file.now.path.now (file_seen file.now) meant) (O.tells oracle.old) (O.tells oracle.new) (seen (λ run. run.rows) result) }
     ensures rests { IfOk result (λ run. (meant : MeantRule) → IsRuleOf file.now.marker.now rule.now meant
         → RestsOn (O.tells oracle.old) (if_active is_active file.now.path.now (file_seen file.now) meant) run.rows run.names) }
-    ensures right { AreRight (file_seen file.now).tree (O.tells oracle.new) held.new types.new.variables }
+    ensures right { AreRight (file_seen file.now).tree (O.tells oracle.new) held.new types.new.entries }
 {
     let mut noted = ClassNameSet::new(file.alloc);
     let rows = noted_result(file, java, rule, is_active, oracle, held, types, &mut noted)?;
@@ -171,7 +171,7 @@ fn runs_with<'t, O: Oracle>(
     requires file { IsOfOneFile file.now }
     requires java { java.now ≡ (file_seen file.now).tree }
     requires numbers { All (λ number. number < length rules.now) which.now }
-    requires right { AreRight (file_seen file.now).tree (O.tells oracle.old) held.old types.old.variables }
+    requires right { AreRight (file_seen file.now).tree (O.tells oracle.old) held.old types.old.entries }
     ensures asks { (meant : List MeantRule) → AllZip (IsRuleOf file.now.marker.now) rules.now meant
         → Asks (each (rule_at java_replies file.now.path.now (Ok (file_seen file.now))) (chosen which.now meant)) (O.tells oracle.old) (O.tells oracle.new) (seen came_to result) }
     ensures rest { IfOk result (λ runs. (meant : List MeantRule) → AllZip (IsRuleOf file.now.marker.now) rules.now meant

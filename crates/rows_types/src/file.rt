@@ -18,7 +18,8 @@ use pj_tree::{Node, SyntaxTree};
 use std::alloc::Global;
 
 /// The tables of types. The settings of a section: `@file` is the one text of all rows, in which `$` stands for what a row gives, with the mark of the outermost
-/// node before it; `@again` says that the type is asked twice, and that just what is asked the second time is noted.
+/// node before it; `@again` says that the type is asked twice, and that just what is asked the second time is noted;
+/// `@parts` that those of all other nodes are asked before it, the last node first.
 #[derive(Drop)]
 pub struct Types<'g> {
     /// The grammar of the texts.
@@ -29,7 +30,7 @@ pub struct Types<'g> {
 
 impl<'g> Table for Types<'g> {
     fn has_setting(&self, name: &str) -> bool {
-        matches!(name, "file" | "again")
+        matches!(name, "file" | "again" | "parts")
     }
 
     fn answer(&self, alloc: Global, section: &Section, row: &Row) -> Result<String, NoMemory> {
@@ -38,13 +39,14 @@ impl<'g> Table for Types<'g> {
     }
 }
 
-/// What a row gives: the grammar, a text, the classes that are written out, and whether the type is asked twice.
+/// What a row gives: the grammar, a text, the classes that are written out, and whether the type is asked twice, or behind those of all nodes.
 #[derive(Clone, Copy)]
 struct Asked<'r> {
     java: &'r Java,
     text: &'r str,
     classes: &'r str,
     is_again: bool,
+    is_by_parts: bool,
     is_of_calls: bool,
 }
 
@@ -81,6 +83,7 @@ fn answer_row(
         text: text.as_str(),
         classes,
         is_again: section.has("again"),
+        is_by_parts: section.has("parts"),
         is_of_calls: table.is_of_calls,
     };
     answer_text(alloc, &asked)
@@ -138,6 +141,8 @@ fn answer_at(alloc: Global, file: &File<'_>, asked: &Asked<'_>, n: Node) -> Resu
         put_call(alloc, file, &mut beneath, n, &mut out)
     } else if asked.is_again {
         put_found_again(alloc, file, &mut beneath, n, &mut out)
+    } else if asked.is_by_parts {
+        put_found_by_parts(alloc, file, &mut beneath, n, &mut out)
     } else {
         put_found(alloc, file, &mut beneath, n, &mut out)
     };
@@ -176,6 +181,34 @@ fn put_found_again(
     let mut oracle = FileOracle::new(alloc, file, beneath, &mut held);
     let _ = type_of(&mut oracle, &mut types, n)?;
     oracle.inner.forget();
+    let ty = type_of(&mut oracle, &mut types, n)?;
+    Ok(put_type(out, &ty)?)
+}
+
+/// Puts the type of a node behind those of all nodes, the last one first; what is asked for itself is noted.
+fn put_found_by_parts(
+    alloc: Global,
+    file: &File<'_>,
+    beneath: &mut Beneath,
+    n: Node,
+    out: &mut Text,
+) -> Result<(), AskFault>
+    requires inside { n.0 < length file.now.nodes }
+{
+    let mut types = Typed::new(alloc);
+    let mut held = Held::new(alloc);
+    let mut oracle = FileOracle::new(alloc, file, beneath, &mut held);
+    let count = file.tree().len();
+    for behind in 0..count {
+        let part = Node(count - 1 - behind);
+        if part.0 < oracle.tree().len() {
+            let _ = type_of(&mut oracle, &mut types, part)?;
+        }
+    }
+    oracle.inner.forget();
+    if n.0 >= oracle.tree().len() {
+        return Ok(());
+    }
     let ty = type_of(&mut oracle, &mut types, n)?;
     Ok(put_type(out, &ty)?)
 }

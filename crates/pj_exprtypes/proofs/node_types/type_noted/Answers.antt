@@ -8,7 +8,7 @@ use Rattle.pj_exprtypes.proofs.Tables.{all-noted, all-noting}
 use Rattle.pj_exprtypes.proofs.node_types.type_noted.Goals as goal
 
 pub type_after-requires-clause-keeps : goal.type_after-requires-clause-keeps
-type_after-requires-clause-keeps g c = λ is. all-noting c.args.file.now (g.O.Oracle.tells c.args.oracle.now).world c.args.types.now.variables (c.requires.keeps is)
+type_after-requires-clause-keeps g c = λ is. all-noting c.args.file.now (g.O.Oracle.tells c.args.oracle.now).world c.args.types.now.entries (c.requires.keeps is)
 
 pub returns-clause-asks : goal.returns-clause-asks
 returns-clause-asks g c =
@@ -21,5 +21,5 @@ pub returns-clause-keeps : goal.returns-clause-keeps
 returns-clause-keeps g c =
     let held = sym (ap (λ k. k.reference) c.type_after.ensures.asks.same_kept) in
     let same : c.type_after.new.oracle.inner.now ≡ c.oracle-1.given.0 = search rules in
-    subst (λ v. Keeps c.args.file.now (g.O.Oracle.tells v) c.type_after.new.types.variables) same
-    (λ is. all-noted c.args.file.now (g.O.Oracle.tells c.type_after.new.oracle.inner.now).world c.type_after.new.types.variables (c.type_after.ensures.keeps is))
+    subst (λ v. Keeps c.args.file.now (g.O.Oracle.tells v) c.type_after.new.types.entries) same
+    (λ is. all-noted c.args.file.now (g.O.Oracle.tells c.type_after.new.oracle.inner.now).world c.type_after.new.types.entries (c.type_after.ensures.keeps is))

@@ -19,4 +19,4 @@ pub returns-clause-keeps : goal.returns-clause-keeps
 returns-clause-keeps g c = λ is.
     let file = c.args.oracle.now.file.now in
     let own = ap (λ k. k.own.tree) c.node_type.ensures.asks.same_kept in
-    subst (λ (own : Tree). All (Holds file (λ depth. world_by (file_answer own) depth ((g.O.Oracle.tells c.node_type.new.oracle.inner.now).world depth))) c.node_type.new.types.variables) own (c.node_type.ensures.keeps is)
+    subst (λ (own : Tree). All (Holds file (λ depth. world_by (file_answer own) depth ((g.O.Oracle.tells c.node_type.new.oracle.inner.now).world depth))) c.node_type.new.types.entries) own (c.node_type.ensures.keeps is)

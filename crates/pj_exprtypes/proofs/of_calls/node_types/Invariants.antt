@@ -10,5 +10,5 @@ use Rattle.pj_exprtypes.proofs.of_calls.node_types.Given as goal
 abbrev pub invariant-loop-n : goal.invariant-loop-n
 invariant-loop-n g l = record {
   comes : ComesTo (each (type_of l.fn.file) l.fn.nodes) (g.O.Oracle.tells l.fn.oracle) (gather (type_of l.file) (type_list l.found) (drop l.n-index l.nodes)) (g.O.Oracle.tells l.oracle);
-  keeps : Keeps l.file (g.O.Oracle.tells l.oracle) l.types.variables;
+  keeps : Keeps l.file (g.O.Oracle.tells l.oracle) l.types.entries;
 }

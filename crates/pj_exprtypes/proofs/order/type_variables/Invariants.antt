@@ -14,6 +14,6 @@ invariant-loop g l =
     let new = tells_noting l.oracle.inner.ghost_name l.oracle.noted.ghost_name l.oracle.noted.now (g.O.Oracle.tells l.oracle.inner.now) in
     record {
       asks : AsksPart (type_of l.file l.fn.n) old new (Ok (tt {0}));
-      keeps : Keeps l.file new l.types.variables;
+      keeps : Keeps l.file new l.types.entries;
       due : All (IsDue l.file old.is_told old.world (type_of l.file l.fn.n)) l.all;
     }

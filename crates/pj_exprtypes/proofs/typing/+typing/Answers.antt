@@ -1,4 +1,4 @@
-use Rattle.std.proofs.Common.{rules, arith, ◌≡◌, ◌<◌, ◌+◌, List, refl, sym, ap, subst, ◌∙◌}
+use Rattle.std.proofs.Common.{rules, arith, ◌≡◌, ◌<◌, ◌≤◌, ◌+◌, ◌*◌, List, length, refl, sym, ap, subst, ◌∙◌}
 use Rattle.std.specs.Prelude.{Ok}
 use Rattle.std.specs.FinSet as set
 use Rattle.pj_names.specs.Asking.{each}
@@ -16,6 +16,11 @@ use Rattle.pj_file_oracle.proofs.Lists.{gather-turn}
 use Rattle.pj_scopes.proofs.Turns.{asks-as}
 use Rattle.pj_calls.specs.Nodes.{arguments_of, functions_of}
 use Rattle.pj_exprtypes.specs.Operands.{operands, var_operands}
+use Rattle.pj_exprtypes.specs.declared.held.Subject.{Subject}
+use Rattle.pj_exprtypes.specs.Fits.{Fits, IsDeep}
+use Rattle.pj_exprtypes.specs.Table.{meaning_of}
+use Rattle.pj_exprtypes.proofs.Depth.{enough-at}
+use Rattle.pj_exprtypes.proofs.Ranks.{rank}
 use Rattle.pj_exprtypes.specs.TypeOf.{deep, earlier, typed, var_of}
 use Rattle.pj_exprtypes.proofs.Steps.{earlier-var, typed-none, typed-some}
 use Rattle.pj_exprtypes.proofs.Tables.{all-noting, keeps-more, keeps-on}
@@ -28,32 +33,49 @@ typed-returns-then-left-eq0-clause-asks g t c =
     let none : c.args.left ≡ 0 = omega arith in
     asks-as (typed-none c.args.file.now (earlier c.args.file.now c.args.before) c.args.left c.args.n none) (asks-return refl)
 
-pub typed-returns-in_err-nodes-clause-asks : goal.typed-returns-in_err-nodes-clause-asks
-typed-returns-in_err-nodes-clause-asks g t c = asks-stop (search rules)
+pub typed-once-requires : goal.typed-once-requires
+typed-once-requires g t c =
+    let less : 100000000 * c.args.before + 20 * c.args.left + 4 + 5 < t = omega (arith, c.decreases) in
+    let deep : IsDeep c.args.file.now c.args.left c.args.before c.args.n = record {
+      inside = c.requires.inside;
+      some = omega arith;
+      few = c.requires.left;
+      enough = enough-at c.args.file.now c.tree.result.now c.args.before c.args.left c.args.n c.tree.ensures (c.is_to_hold.ensures c.if-is_to_hold.true);
+    } in
+    search rules
 
-pub typed-returns-in_err-operand_types-clause-asks : goal.typed-returns-in_err-operand_types-clause-asks
-typed-returns-in_err-operand_types-clause-asks g t c =
+pub typed-returns-then-is_to_hold-clause-asks : goal.typed-returns-then-is_to_hold-clause-asks
+typed-returns-then-is_to_hold-clause-asks g t c =
+    asks-as (enough-at c.args.file.now c.tree.result.now c.args.before c.args.left c.args.n c.tree.ensures (c.is_to_hold.ensures c.if-is_to_hold.true)) c.once.ensures.asks
+
+-- ---- by its operands
+
+pub by_operands-returns-in_err-nodes-clause-asks : goal.by_operands-returns-in_err-nodes-clause-asks
+by_operands-returns-in_err-nodes-clause-asks g t c = asks-stop (search rules)
+
+pub by_operands-returns-in_err-operand_types-clause-asks : goal.by_operands-returns-in_err-operand_types-clause-asks
+by_operands-returns-in_err-operand_types-clause-asks g t c =
     let file = c.args.file.now in
-    let some : 0 < c.args.left = omega arith in
+    let some : 0 < c.args.left = c.requires.some in
     let nodes : c.as_slice.result.now ≡ operands file c.args.n = search rules in
     let asked = rw nodes at c.in_err-operand_types.ensures.asks in
     asks-as (typed-some file (earlier file c.args.before) c.args.left c.args.n some) (asks-refused _ asked (search rules))
 
-pub typed-returns-in_err-found-clause-asks : goal.typed-returns-in_err-found-clause-asks
-typed-returns-in_err-found-clause-asks g t c =
+pub by_operands-returns-in_err-found-clause-asks : goal.by_operands-returns-in_err-found-clause-asks
+by_operands-returns-in_err-found-clause-asks g t c =
     let file = c.args.file.now in
-    let some : 0 < c.args.left = omega arith in
+    let some : 0 < c.args.left = c.requires.some in
     let nodes : c.as_slice.result.now ≡ operands file c.args.n = search rules in
     let asked = rw nodes at c.in_ok-operand_types.ensures.asks in
     asks-as (typed-some file (earlier file c.args.before) c.args.left c.args.n some) (asks-then _ asked (asks-refused _ c.in_err-found.ensures.asks (search rules)))
 
-pub typed-returns-in_err-found-clause-keeps : goal.typed-returns-in_err-found-clause-keeps
-typed-returns-in_err-found-clause-keeps g t c = keeps-on c.args.file.now _ c.in_err-found.ensures.asks c.in_ok-operand_types.ensures.keeps
+pub by_operands-returns-in_err-found-clause-keeps : goal.by_operands-returns-in_err-found-clause-keeps
+by_operands-returns-in_err-found-clause-keeps g t c = keeps-on c.args.file.now _ c.in_err-found.ensures.asks c.in_ok-operand_types.ensures.keeps
 
-pub typed-returns-clause-asks : goal.typed-returns-clause-asks
-typed-returns-clause-asks g t c =
+pub by_operands-returns-clause-asks : goal.by_operands-returns-clause-asks
+by_operands-returns-clause-asks g t c =
     let file = c.args.file.now in
-    let some : 0 < c.args.left = omega arith in
+    let some : 0 < c.args.left = c.requires.some in
     let nodes : c.as_slice.result.now ≡ operands file c.args.n = search rules in
     let asked = rw nodes at c.in_ok-operand_types.ensures.asks in
     asks-as (typed-some file (earlier file c.args.before) c.args.left c.args.n some) (asks-then _ asked (asks-then _ c.in_ok-found.ensures.asks c.final_type.ensures.asks))
@@ -80,11 +102,11 @@ passed_type-returns-clause-asks g t c =
     let nodes : c.as_slice.result.now ≡ arguments_of c.args.file.now c.args.n = search rules in
     let asked = rw nodes at c.in_ok-arguments.ensures.asks in
     let places : c.in_ok-functions.functions ≡ functions_of c.args.file.now c.args.n = search rules in
-    let chosen = rw places at c.chosen_result.ensures in
+    let chosen = rw places at c.result_among.ensures in
     asks-then _ asked chosen
 
 pub passed_type-returns-clause-keeps : goal.passed_type-returns-clause-keeps
-passed_type-returns-clause-keeps g t c = keeps-on c.args.file.now _ c.chosen_result.ensures c.in_ok-arguments.ensures.keeps
+passed_type-returns-clause-keeps g t c = keeps-on c.args.file.now _ c.result_among.ensures c.in_ok-arguments.ensures.keeps
 
 -- ---- nodes, one after the other
 
@@ -106,46 +128,46 @@ types_of-loop-n-preserved g t c =
       keeps = c.in_ok-ty.ensures.keeps;
     }
 
--- ---- a variable that is held, or found
+-- ---- a type that is held, or found
 
-pub var_once-returns-in-Some-clause-asks : goal.var_once-returns-in-Some-clause-asks
-var_once-returns-in-Some-clause-asks g t c =
-    c.held.ensures (var_of c.args.file.now c.args.id) (λ told. c.in-Some.ensures c.args.file.now _ (c.requires.keeps told))
+pub once-returns-in-Some-clause-asks : goal.once-returns-in-Some-clause-asks
+once-returns-in-Some-clause-asks g t c =
+    c.held.ensures (meaning_of c.args.file.now c.args.subject) (λ told. c.in-Some.ensures c.args.file.now _ (c.requires.keeps told))
 
-pub var_once-returns-in-Some-clause-keeps : goal.var_once-returns-in-Some-clause-keeps
-var_once-returns-in-Some-clause-keeps g t c =
-    keeps-on c.args.file.now c.args.types.now.variables
-    (c.held.ensures (var_of c.args.file.now c.args.id) (λ told. c.in-Some.ensures c.args.file.now _ (c.requires.keeps told))) c.requires.keeps
+pub once-returns-in-Some-clause-keeps : goal.once-returns-in-Some-clause-keeps
+once-returns-in-Some-clause-keeps g t c =
+    keeps-on c.args.file.now c.args.types.now.entries
+    (c.held.ensures (meaning_of c.args.file.now c.args.subject) (λ told. c.in-Some.ensures c.args.file.now _ (c.requires.keeps told))) c.requires.keeps
 
-pub var_found-returns-in_err-found-clause-asks : goal.var_found-returns-in_err-found-clause-asks
-var_found-returns-in_err-found-clause-asks g t c =
-    refused-apart _ _ _ (var_of c.args.file.now c.args.id) c.in_err-found.ensures.asks (search rules)
+pub found_once-returns-in_err-found-clause-asks : goal.found_once-returns-in_err-found-clause-asks
+found_once-returns-in_err-found-clause-asks g t c =
+    refused-apart _ _ _ (meaning_of c.args.file.now c.args.subject) c.in_err-found.ensures.asks (search rules)
 
-pub var_found-returns-in_err-found-clause-keeps : goal.var_found-returns-in_err-found-clause-keeps
-var_found-returns-in_err-found-clause-keeps g t c =
+pub found_once-returns-in_err-found-clause-keeps : goal.found_once-returns-in_err-found-clause-keeps
+found_once-returns-in_err-found-clause-keeps g t c =
     λ is. all-noting c.args.file.now _ _ (c.in_err-found.ensures.keeps is)
 
-pub var_found-returns-in_err-remember-clause-asks : goal.var_found-returns-in_err-remember-clause-asks
-var_found-returns-in_err-remember-clause-asks g t c =
-    late-apart _ _ (var_of c.args.file.now c.args.id) c.in_ok-found.found.1 c.in_ok-found.ensures.asks (λ told. (c.in_ok-found.ensures.names told).names_are)
+pub found_once-returns-in_err-remember-clause-asks : goal.found_once-returns-in_err-remember-clause-asks
+found_once-returns-in_err-remember-clause-asks g t c =
+    late-apart _ _ (meaning_of c.args.file.now c.args.subject) c.in_ok-found.found.1 c.in_ok-found.ensures.asks (λ told. (c.in_ok-found.ensures.names told).names_are)
     c.in_err-remember.ensures.stays c.in_err-remember.ensures.within (search rules)
 
-pub var_found-returns-in_err-remember-clause-keeps : goal.var_found-returns-in_err-remember-clause-keeps
-var_found-returns-in_err-remember-clause-keeps g t c =
+pub found_once-returns-in_err-remember-clause-keeps : goal.found_once-returns-in_err-remember-clause-keeps
+found_once-returns-in_err-remember-clause-keeps g t c =
     let found = c.in_ok-found.found in
     λ is. all-noting c.args.file.now _ _
-    (keeps-more c.args.file.now _ _ c.args.id (java_type found.0) (name_set found.1) (c.in_err-remember.ensures.held c.args.file.now) c.in_ok-found.ensures.asks c.in_ok-found.ensures.names c.in_ok-found.ensures.keeps is)
+    (keeps-more c.args.file.now _ _ c.args.subject (java_type found.0) (name_set found.1) (c.in_err-remember.ensures.held c.args.file.now) c.in_ok-found.ensures.asks c.in_ok-found.ensures.names c.in_ok-found.ensures.keeps is)
 
-pub var_found-returns-clause-asks : goal.var_found-returns-clause-asks
-var_found-returns-clause-asks g t c =
-    done-apart _ _ (var_of c.args.file.now c.args.id) c.in_ok-found.found.1 c.in_ok-found.ensures.asks (λ told. (c.in_ok-found.ensures.names told).names_are)
+pub found_once-returns-clause-asks : goal.found_once-returns-clause-asks
+found_once-returns-clause-asks g t c =
+    done-apart _ _ (meaning_of c.args.file.now c.args.subject) c.in_ok-found.found.1 c.in_ok-found.ensures.asks (λ told. (c.in_ok-found.ensures.names told).names_are)
     c.in_ok-remember.ensures.ok c.in_ok-remember.ensures.stays c.in_ok-remember.ensures.within (ap (λ ty. Ok ty) c.in_ok-remember.ensures.ty)
 
-pub var_found-returns-clause-keeps : goal.var_found-returns-clause-keeps
-var_found-returns-clause-keeps g t c =
+pub found_once-returns-clause-keeps : goal.found_once-returns-clause-keeps
+found_once-returns-clause-keeps g t c =
     let found = c.in_ok-found.found in
     λ is. all-noting c.args.file.now _ _
-    (keeps-more c.args.file.now _ _ c.args.id (java_type found.0) (name_set found.1) (c.in_ok-remember.ensures.held c.args.file.now) c.in_ok-found.ensures.asks c.in_ok-found.ensures.names c.in_ok-found.ensures.keeps is)
+    (keeps-more c.args.file.now _ _ c.args.subject (java_type found.0) (name_set found.1) (c.in_ok-remember.ensures.held c.args.file.now) c.in_ok-found.ensures.asks c.in_ok-found.ensures.names c.in_ok-found.ensures.keeps is)
 
 -- ---- its names, noted apart
 
@@ -154,7 +176,7 @@ noted_apart-returns-in_err-names-clause-asks g t c = asks-late c.in_ok-ty.ensure
 
 pub noted_apart-returns-clause-names : goal.noted_apart-returns-clause-names
 noted_apart-returns-clause-names g t c =
-    let meaning = var_of c.args.file.now c.args.id in
+    let meaning = meaning_of c.args.file.now c.args.subject in
     let told = g.O.Oracle.tells c.args.oracle.now in
     let after = g.O.Oracle.tells c.noted_in.new.oracle in
     let ty = java_type c.in_ok-ty.ty in
@@ -165,16 +187,49 @@ noted_apart-returns-clause-names g t c =
 
 pub noted_in-returns-clause-asks : goal.noted_in-returns-clause-asks
 noted_in-returns-clause-asks g t c =
-    let held = sym (ap (λ k. k.reference) c.var_type.ensures.asks.same_kept) in
-    let over = asks-noted _ _ _ _ _ _ (var_of c.args.file.now c.args.id) _ _ c.var_type.ensures.asks in
-    let same : c.var_type.new.oracle.inner.now ≡ c.oracle-1.given.0 = search rules in
-    subst (λ v. Asks (var_of c.args.file.now c.args.id) (g.O.Oracle.tells c.args.oracle.now) (g.O.Oracle.tells v) (seen java_type c.var_type.result)) same over
+    let held = sym (ap (λ k. k.reference) c.subject_type.ensures.asks.same_kept) in
+    let over = asks-noted _ _ _ _ _ _ (meaning_of c.args.file.now c.args.subject) _ _ c.subject_type.ensures.asks in
+    let same : c.subject_type.new.oracle.inner.now ≡ c.oracle-1.given.0 = search rules in
+    subst (λ v. Asks (meaning_of c.args.file.now c.args.subject) (g.O.Oracle.tells c.args.oracle.now) (g.O.Oracle.tells v) (seen java_type c.subject_type.result)) same over
 
 pub noted_in-returns-clause-notes : goal.noted_in-returns-clause-notes
 noted_in-returns-clause-notes g t c =
-    let held = sym (ap (λ k. k.own) c.var_type.ensures.asks.same_kept) in
-    let over = notes-noted _ _ _ _ _ _ (var_of c.args.file.now c.args.id) _ _ c.var_type.ensures.asks in
+    let held = sym (ap (λ k. k.own) c.subject_type.ensures.asks.same_kept) in
+    let over = notes-noted _ _ _ _ _ _ (meaning_of c.args.file.now c.args.subject) _ _ c.subject_type.ensures.asks in
     search rules
+
+-- ---- by its subject
+
+pub subject_type-var_type-requires : goal.subject_type-var_type-requires
+subject_type-var_type-requires g t c =
+    let same : rank c.args.subject c.args.left ≡ 100000000 * c.in-Var.id.0 + 90000000 = ap (λ (s : Subject). rank s c.args.left) c.in-Var.is in
+    let less : 100000000 * c.in-Var.id.0 + 90000000 < t = omega (arith, c.decreases, same) in
+    let inside : c.in-Var.id.0 < length c.args.file.now.nodes = subst (λ (s : Subject). Fits c.args.file.now c.args.left s) c.in-Var.is c.requires.fits in
+    search rules
+
+pub subject_type-by_operands-requires : goal.subject_type-by_operands-requires
+subject_type-by_operands-requires g t c =
+    let same : rank c.args.subject c.args.left ≡ 100000000 * c.in-Expression.before + 20 * c.args.left + 4 = ap (λ (s : Subject). rank s c.args.left) c.in-Expression.is in
+    let less : 100000000 * c.in-Expression.before + 20 * c.args.left + 4 < t = omega (arith, c.decreases, same) in
+    let deep : IsDeep c.args.file.now c.args.left c.in-Expression.before c.in-Expression.n = subst (λ (s : Subject). Fits c.args.file.now c.args.left s) c.in-Expression.is c.requires.fits in
+    let inside : c.in-Expression.n.0 < length c.args.file.now.nodes = deep.inside in
+    let some : 0 < c.args.left = deep.some in
+    let few : c.args.left ≤ 2000001 = deep.few in
+    search rules
+
+pub subject_type-returns-in-Var-clause-asks : goal.subject_type-returns-in-Var-clause-asks
+subject_type-returns-in-Var-clause-asks g t c = asks-as (ap (meaning_of c.args.file.now) c.in-Var.is) c.var_type.ensures.asks
+
+pub subject_type-returns-in-Written-clause-asks : goal.subject_type-returns-in-Written-clause-asks
+subject_type-returns-in-Written-clause-asks g t c = asks-as (ap (meaning_of c.args.file.now) c.in-Written.is) c.written_type.ensures
+
+pub subject_type-returns-in-Written-clause-keeps : goal.subject_type-returns-in-Written-clause-keeps
+subject_type-returns-in-Written-clause-keeps g t c = keeps-on c.args.file.now c.args.types.now.entries c.written_type.ensures c.requires.keeps
+
+pub subject_type-returns-in-Expression-clause-asks : goal.subject_type-returns-in-Expression-clause-asks
+subject_type-returns-in-Expression-clause-asks g t c =
+    let deep = subst (λ (s : Subject). Fits c.args.file.now c.args.left s) c.in-Expression.is c.requires.fits in
+    asks-as (ap (meaning_of c.args.file.now) c.in-Expression.is ∙ sym deep.enough) c.by_operands.ensures.asks
 
 -- ---- a variable that is declared by `var`
 

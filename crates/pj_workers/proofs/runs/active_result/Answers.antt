@@ -21,9 +21,9 @@ new-over-requires g c =
 
 pub new-calls-requires-clause-keeps : goal.new-calls-requires-clause-keeps
 new-calls-requires-clause-keeps g c =
-    subst (λ o. KeepsOver c.new-over.result.file.now (g.O.Oracle.tells o) c.replace-own_types.result.variables) (sym c.new-over.ensures.inner)
-    (subst (λ (t : Tree). KeepsOver t (g.O.Oracle.tells c.args.oracle.now) c.replace-own_types.result.variables) (sym (c.new-over.ensures.file ∙ c.requires.java))
-    (subst (λ types. KeepsOver (file_seen c.args.file.now).tree (g.O.Oracle.tells c.args.oracle.now) types.variables) (sym c.replace-own_types.ensures.value) c.requires.right.types))
+    subst (λ o. KeepsOver c.new-over.result.file.now (g.O.Oracle.tells o) c.replace-own_types.result.entries) (sym c.new-over.ensures.inner)
+    (subst (λ (t : Tree). KeepsOver t (g.O.Oracle.tells c.args.oracle.now) c.replace-own_types.result.entries) (sym (c.new-over.ensures.file ∙ c.requires.java))
+    (subst (λ types. KeepsOver (file_seen c.args.file.now).tree (g.O.Oracle.tells c.args.oracle.now) types.entries) (sym c.replace-own_types.ensures.value) c.requires.right.types))
 
 pub new-calls-requires-clause-of_tree : goal.new-calls-requires-clause-of_tree
 new-calls-requires-clause-of_tree g c = c.requires.nodes ∙ ap (λ (t : Tree). length t.nodes) (sym (c.new-over.ensures.file ∙ c.requires.java))
@@ -78,9 +78,9 @@ returns-clause-right g c =
     let place = back.ensures.same_oracle ∙ ap (λ k. k.reference) spelled.2.same_kept ∙ ap (λ o. o.inner.ghost_name) c.new-calls.ensures.oracle ∙ c.new-over.ensures.held in
     let now = back.ensures.oracle in
     let same : after.oracle.inner.now ≡ c.oracle-1.given.0 = search rules in
-    subst (λ o. AreRight tree (g.O.Oracle.tells o) back.new.held back.new.types.variables) same
-    (subst (λ h. AreRight tree (g.O.Oracle.tells after.oracle.inner.now) h back.new.types.variables) (sym back.ensures.held)
-    (subst (λ types. AreRight tree (g.O.Oracle.tells after.oracle.inner.now) after.oracle.held.now types.variables) (sym back.ensures.types) (record {
+    subst (λ o. AreRight tree (g.O.Oracle.tells o) back.new.held back.new.types.entries) same
+    (subst (λ h. AreRight tree (g.O.Oracle.tells after.oracle.inner.now) h back.new.types.entries) (sym back.ensures.held)
+    (subst (λ types. AreRight tree (g.O.Oracle.tells after.oracle.inner.now) after.oracle.held.now types.entries) (sym back.ensures.types) (record {
       answers = subst (λ (t : Tree). Holds t (g.O.Oracle.tells after.oracle.inner.now) after.oracle.held.now) file after.oracle.holds;
-      types = subst (λ (t : Tree). KeepsOver t (g.O.Oracle.tells after.oracle.inner.now) after.types.now.variables) file after.keeps;
+      types = subst (λ (t : Tree). KeepsOver t (g.O.Oracle.tells after.oracle.inner.now) after.types.now.entries) file after.keeps;
     })))

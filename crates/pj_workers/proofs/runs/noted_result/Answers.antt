@@ -6,7 +6,7 @@ use Rattle.pj_workers.proofs.Holding.{right_alike}
 use Rattle.pj_workers.proofs.runs.noted_result.Goals as goal
 
 pub result_if_active-requires-clause-right : goal.result_if_active-requires-clause-right
-result_if_active-requires-clause-right g c = right_alike (file_seen c.args.file.now).tree _ _ refl (λ d. refl) c.args.held.now c.args.types.now.variables c.requires.right
+result_if_active-requires-clause-right g c = right_alike (file_seen c.args.file.now).tree _ _ refl (λ d. refl) c.args.held.now c.args.types.now.entries c.requires.right
 
 pub returns-clause-asks : goal.returns-clause-asks
 returns-clause-asks g c = λ meant is.
@@ -28,5 +28,5 @@ returns-clause-right g c =
     let tree = (file_seen c.args.file.now).tree in
     let held = sym (ap (λ k. k.reference) c.result_if_active.ensures.kept) in
     let same : c.result_if_active.new.oracle.inner.now ≡ c.oracle-1.given.0 = search rules in
-    subst (λ o. AreRight tree (g.O.Oracle.tells o) c.result_if_active.new.held c.result_if_active.new.types.variables) same
-    (right_alike tree _ _ refl (λ d. refl) c.result_if_active.new.held c.result_if_active.new.types.variables c.result_if_active.ensures.right)
+    subst (λ o. AreRight tree (g.O.Oracle.tells o) c.result_if_active.new.held c.result_if_active.new.types.entries) same
+    (right_alike tree _ _ refl (λ d. refl) c.result_if_active.new.held c.result_if_active.new.types.entries c.result_if_active.ensures.right)

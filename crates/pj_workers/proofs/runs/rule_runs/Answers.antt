@@ -2,7 +2,7 @@ use Rattle.std.proofs.Common.{List, subst, sym}
 use Rattle.std.proofs.lemmas.List.Elements.{All-nil}
 use Rattle.std.specs.List.{All, AllByRecursion}
 use Rattle.pj_exprtypes.specs.Table.{Holds}
-use Rattle.pj_exprtypes.specs.declared.held.HeldVariable.{HeldVariable}
+use Rattle.pj_exprtypes.specs.declared.held.HeldType.{HeldType}
 use Rattle.pj_file_oracle.specs.FileAnswer.{file_answer}
 use Rattle.pj_file_oracle.specs.Held.{IsHeldAnswer}
 use Rattle.pj_file_oracle.specs.declared.held.HeldAnswer.{HeldAnswer}
@@ -17,5 +17,5 @@ runs_with-requires-clause-right g c =
     let t = g.O.Oracle.tells c.args.oracle.now in
     record {
       answers = subst (λ (entries : List (Name × HeldAnswer)). AllByRecursion (λ (entry : Name × HeldAnswer). IsHeldAnswer t (file_answer tree entry.0) entry.1) entries) (sym c.new-held.ensures) tt;
-      types = λ is. subst (λ (types : List HeldVariable). All (Holds tree (λ depth. world_by (file_answer tree) depth (t.world depth))) types) (sym c.new-types.ensures) (All-nil (Holds tree (λ depth. world_by (file_answer tree) depth (t.world depth))));
+      types = λ is. subst (λ (types : List HeldType). All (Holds tree (λ depth. world_by (file_answer tree) depth (t.world depth))) types) (sym c.new-types.ensures) (All-nil (Holds tree (λ depth. world_by (file_answer tree) depth (t.world depth))));
     }

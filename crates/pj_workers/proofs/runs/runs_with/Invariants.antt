@@ -17,5 +17,5 @@ invariant-loop-number g l =
     record {
       asks : (meant : List Rule) → AllZip (IsRuleOf l.file.marker.now) l.rules meant → AtTurn meaning (chosen l.which meant) t (came_to l.runs) l.number-index (g.O.Oracle.tells l.oracle);
       rest : (meant : List Rule) → AllZip (IsRuleOf l.file.marker.now) l.rules meant → AreRested t meaning (take l.number-index (chosen l.which meant)) l.runs;
-      right : AreRight (file_seen l.file).tree (g.O.Oracle.tells l.oracle) l.held l.types.variables;
+      right : AreRight (file_seen l.file).tree (g.O.Oracle.tells l.oracle) l.held l.types.entries;
     }

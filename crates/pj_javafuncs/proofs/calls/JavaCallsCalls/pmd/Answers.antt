@@ -29,7 +29,7 @@ pub invariant_of-self : goal.invariant_of-self
 invariant_of-self g c =
     let file = ap (λ k. k.own.tree) c.reply.ensures.asks.same_kept in
     record {
-      keeps = subst (λ (t : Tree). KeepsOver t (g.O.Oracle.tells c.reply.new.oracle.inner.now) c.reply.new.types.variables) (sym file) c.reply.ensures.keeps;
+      keeps = subst (λ (t : Tree). KeepsOver t (g.O.Oracle.tells c.reply.new.oracle.inner.now) c.reply.new.types.entries) (sym file) c.reply.ensures.keeps;
       of_tree = c.args.self.now.of_tree ∙ ap (λ (t : Tree). length t.nodes) (sym file);
       text = c.args.self.now.text ∙ ap (λ (t : Tree). length t.text) (sym file);
     }
