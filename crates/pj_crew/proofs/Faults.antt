@@ -36,24 +36,24 @@ module _ {D M : Type 0} (holds : D → World) (finds faults : D → ℕ) (comes 
   all_stay [] (v ∷ vs) worked none = absurd worked
   all_stay (w ∷ ws) [] worked none = absurd worked
   all_stay (w ∷ ws) (v ∷ vs) worked none =
-      let one = one_stays (faults w.door) (faults v.door) v.ended none.0 worked.0.ended.counts in let rest = all_stay ws vs worked.1 none.1 in λ i. one i + rest i
+      let one = one_stays (faults w.station.door) (faults v.station.door) v.ended none.0 worked.0.ended.counts in let rest = all_stay ws vs worked.1 none.1 in λ i. one i + rest i
 
   all_grow : (ws vs : List (Worker D M)) → Worked ws vs → total faults (doors_of ws) ≤ total faults (doors_of vs)
   all_grow [] [] worked = omega arith
   all_grow [] (v ∷ vs) worked = absurd worked
   all_grow (w ∷ ws) [] worked = absurd worked
   all_grow (w ∷ ws) (v ∷ vs) worked =
-      let one = one_grows (faults w.door) (faults v.door) v.ended worked.0.ended.counts in let rest = all_grow ws vs worked.1 in omega (arith, one, rest)
+      let one = one_grows (faults w.station.door) (faults v.station.door) v.ended worked.0.ended.counts in let rest = all_grow ws vs worked.1 in omega (arith, one, rest)
 
   some_rises : (ws vs : List (Worker D M)) (k : ℕ) → Worked ws vs → k < length (ends_of vs) → get_or (ends_of vs) k (Err Failed) ≡ Err Failed → Rises (total faults (doors_of ws)) (total faults (doors_of vs))
   some_rises [] [] k worked below is = absurd (omega (arith, below))
   some_rises [] (v ∷ vs) k worked below is = absurd worked
   some_rises (w ∷ ws) [] k worked below is = absurd worked
   some_rises (w ∷ ws) (v ∷ vs) zero worked below is =
-      let rose : Rises (faults w.door) (faults v.door) = subst (λ (e : Result (Share M) AskFault). CountsFaults (faults w.door) (faults v.door) e) is worked.0.ended.counts in
+      let rose : Rises (faults w.station.door) (faults v.station.door) = subst (λ (e : Result (Share M) AskFault). CountsFaults (faults w.station.door) (faults v.station.door) e) is worked.0.ended.counts in
       let rest = all_grow ws vs worked.1 in let a = rose.never_falls in let b = rose.rose in record { never_falls = omega (arith, a, rest); rose = omega (arith, a, b, rest) }
   some_rises (w ∷ ws) (v ∷ vs) (suc k) worked below is =
-      let rose = some_rises ws vs k worked.1 (omega (arith, below)) is in let one = one_grows (faults w.door) (faults v.door) v.ended worked.0.ended.counts in
+      let rose = some_rises ws vs k worked.1 (omega (arith, below)) is in let one = one_grows (faults w.station.door) (faults v.station.door) v.ended worked.0.ended.counts in
       let a = rose.never_falls in let b = rose.rose in record { never_falls = omega (arith, a, one); rose = omega (arith, a, b, one) }
 
   pub failed_rises : (ws vs : List (Worker D M)) → Worked ws vs → Contains (ends_of vs) (Err Failed) → Rises (total faults (doors_of ws)) (total faults (doors_of vs))

@@ -34,31 +34,31 @@ use Rattle.pj_crew.specs.declared.worker.Worker.{Worker}
 
 -- A worker worked to its end, with this share.
 pub record IsDone {D M : Type 0} (world : World) (comes : ℕ → Worlds → NameSet → M → Type 0) (w : Worker D M) (share : Share M) : Type 0 where
-  pub past : (view_of w.seat).own.past ≡ true
-  pub single : (view_of w.seat).joined ≡ []
-  pub claims : (view_of w.seat).own.claims ≡ map (λ (r : ℕ × M). r.0) share.results.items
+  pub past : (view_of w.station.seat).own.past ≡ true
+  pub single : (view_of w.station.seat).joined ≡ []
+  pub claims : (view_of w.station.seat).own.claims ≡ map (λ (r : ℕ × M). r.0) share.results.items
   pub asked : List (List Name)
   pub made : AllZip (λ (r : ℕ × M) names. IsMadeOf world (comes r.0) r.1 names) share.results.items asked
-  pub looks : AreLooksOf (flat_map (λ (names : List Name). names) asked) (view_of w.seat).own.asked
+  pub looks : AreLooksOf (flat_map (λ (names : List Name). names) asked) (view_of w.station.seat).own.asked
 
 -- A worker has a new seat.
 abbrev pub IsNew : {D M : Type 0} → View → (D → World) → World → Worker D M → Type 0
-IsNew start holds world w = (n : ℕ) × (view_of w.seat ≡ new_view (with_numbers_given n start)) × (holds w.door ≡ world)
+IsNew start holds world w = (n : ℕ) × (view_of w.station.seat ≡ new_view (with_numbers_given n start)) × (holds w.station.door ≡ world)
 
 module _ {D M : Type 0} (start : View) (holds : D → World) (finds faults : D → ℕ) (world : World) (comes : ℕ → Worlds → NameSet → M → Type 0) where
   done_one : (w v : Worker D M) (share : Share M) → IsNew start holds world w → HasWorked holds finds faults comes w v → v.ended ≡ Ok share → IsDone world comes v share
   done_one w v share new worked is =
-      let s : IsShare world comes (view_of w.seat) (view_of v.seat) (finds w.door) (finds v.door) share.results.items =
-      subst (λ (u : World). IsShare u comes (view_of w.seat) (view_of v.seat) (finds w.door) (finds v.door) share.results.items) new.2
-      (subst (λ (e : Result (Share M) AskFault). IfOk e (λ (t : Share M). IsShare (holds w.door) comes (view_of w.seat) (view_of v.seat) (finds w.door) (finds v.door) t.results.items)) is worked.ended.share) in
-      let before : (view_of w.seat).own.asked ≡ [] = ap (λ (u : View). u.own.asked) new.1 in
+      let s : IsShare world comes (view_of w.station.seat) (view_of v.station.seat) (finds w.station.door) (finds v.station.door) share.results.items =
+      subst (λ (u : World). IsShare u comes (view_of w.station.seat) (view_of v.station.seat) (finds w.station.door) (finds v.station.door) share.results.items) new.2
+      (subst (λ (e : Result (Share M) AskFault). IfOk e (λ (t : Share M). IsShare (holds w.station.door) comes (view_of w.station.seat) (view_of v.station.seat) (finds w.station.door) (finds v.station.door) t.results.items)) is worked.ended.share) in
+      let before : (view_of w.station.seat).own.asked ≡ [] = ap (λ (u : View). u.own.asked) new.1 in
       record {
-        past = subst (λ (e : Result (Share M) AskFault). OnOk e (seats.HasEnded v.seat)) is worked.ended.past;
+        past = subst (λ (e : Result (Share M) AskFault). OnOk e (seats.HasEnded v.station.seat)) is worked.ended.past;
         single = s.works.rests.4 ∙ ap (λ (u : View). u.joined) new.1;
         claims = ap (λ (l : Line). l.claims) s.works.own ∙ ap (λ (u : View). u.own.claims ++ map (λ (r : ℕ × M). r.0) share.results.items) new.1;
         asked = s.asked;
         made = s.made;
-        looks = ap (λ (l : List Asked). map made_at (drop (length l) (view_of v.seat).own.asked)) (sym before) ∙ s.works.looks;
+        looks = ap (λ (l : List Asked). map made_at (drop (length l) (view_of v.station.seat).own.asked)) (sym before) ∙ s.works.looks;
       }
 
   pub done_all : (ws vs : List (Worker D M)) (shares : List (Share M)) → AllByRecursion (IsNew start holds world) ws → AllZip (HasWorked holds finds faults comes) ws vs → map (λ (s : Share M). Ok s) shares ≡ ends_of vs → AllZip (IsDone world comes) vs shares
@@ -82,7 +82,7 @@ module _ {D M : Type 0} (world : World) (comes : ℕ → Worlds → NameSet → 
   pub some_mark : (vs : List (Worker D M)) (shares : List (Share M)) → AllZip (IsDone world comes) vs shares → 0 < length vs → 0 < total mark (lines_of vs)
   some_mark [] shares done some = absurd (omega (arith, some))
   some_mark (v ∷ vs) [] done some = absurd done
-  some_mark (v ∷ vs) (s ∷ shares) done some = let one : mark (view_of v.seat).own ≡ 1 = ap (λ (b : Bool). cond b 1 0) done.0.past in omega (arith, one)
+  some_mark (v ∷ vs) (s ∷ shares) done some = let one : mark (view_of v.station.seat).own ≡ 1 = ap (λ (b : Bool). cond b 1 0) done.0.past in omega (arith, one)
 
   times_append : (x : ℕ) (xs ys : List ℕ) → times x (xs ++ ys) ≡ times x xs + times x ys
   times_append x xs ys = total_append (λ (n : ℕ). cond (n == x) 1 0) xs ys
@@ -107,10 +107,10 @@ module _ {D M : Type 0} (table : TypeTable) (start : View) (holds : D → World)
   numbers_are k (w ∷ ws) (v ∷ vs) [] seated worked is m below = absurd (let long = ap length is in omega (arith, long))
   numbers_are k (w ∷ ws) (v ∷ vs) (s ∷ shares) seated worked is zero below =
       let ended : v.ended ≡ Ok s = sym (ap (λ (l : List (Result (Share M) AskFault)). get_or l 0 (Err Memory)) is) in
-      let share : IsShare (holds w.door) comes (view_of w.seat) (view_of v.seat) (finds w.door) (finds v.door) s.results.items =
-      subst (λ (e : Result (Share M) AskFault). IfOk e (λ (t : Share M). IsShare (holds w.door) comes (view_of w.seat) (view_of v.seat) (finds w.door) (finds v.door) t.results.items)) ended worked.0.ended.share in
-      let own : (view_of v.seat).own.number ≡ start.given + k = ap (λ (l : Line). l.number) share.works.own ∙ ap (λ (u : View). u.own.number) seated.1 in
-      ((view_of v.seat).own, (0, refl), omega (arith, own))
+      let share : IsShare (holds w.station.door) comes (view_of w.station.seat) (view_of v.station.seat) (finds w.station.door) (finds v.station.door) s.results.items =
+      subst (λ (e : Result (Share M) AskFault). IfOk e (λ (t : Share M). IsShare (holds w.station.door) comes (view_of w.station.seat) (view_of v.station.seat) (finds w.station.door) (finds v.station.door) t.results.items)) ended worked.0.ended.share in
+      let own : (view_of v.station.seat).own.number ≡ start.given + k = ap (λ (l : Line). l.number) share.works.own ∙ ap (λ (u : View). u.own.number) seated.1 in
+      ((view_of v.station.seat).own, (0, refl), omega (arith, own))
   numbers_are k (w ∷ ws) (v ∷ vs) (s ∷ shares) seated worked is (suc m) below =
       let later = numbers_are (k + 1) ws vs shares seated.2 worked.1 (ap (drop 1) is) m (omega (arith, below)) in
       let there = later.1 in let number = later.2 in (later.0, (suc there.0, there.1), omega (arith, number))
@@ -170,6 +170,6 @@ module _ {M : Type 0} (world : World) (comes : ℕ → Worlds → NameSet → M 
     made_over (v ∷ vs) (s ∷ shares) r done within at =
         elim (in_either s.results.items (all_results shares) r at.0 at.1 at.2) [
           | inl here ↦ in_share s.results.items done.0.asked r here.0 done.0.made
-              (all_filled view parts shown (view_of v.seat).own (within (view_of v.seat).own (0, refl)) (flat_map (λ (l : List Name). l) done.0.asked) done.0.looks) here.1 here.2
+              (all_filled view parts shown (view_of v.station.seat).own (within (view_of v.station.seat).own (0, refl)) (flat_map (λ (l : List Name). l) done.0.asked) done.0.looks) here.1 here.2
           | inr later ↦ made_over vs shares r done.1 (λ l there. within l (suc there.0, there.1)) later
         ]

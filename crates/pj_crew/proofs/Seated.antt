@@ -17,30 +17,30 @@ use Rattle.pj_crew.specs.declared.worker.Worker.{Worker}
 
 -- one more worker gets the next number
 pub seated_last : {D M : Type 0} (table : TypeTable) (start : View) (k n : ℕ) (workers : List (Worker D M)) (w : Worker D M) → n ≡ k + length workers → AreSeatedFrom table start k workers
-    → IsOf table w.seat → view_of w.seat ≡ new_view (with_numbers_given n start) → AreSeatedFrom table start k (workers ++ w ∷ [])
+    → IsOf table w.station.seat → view_of w.station.seat ≡ new_view (with_numbers_given n start) → AreSeatedFrom table start k (workers ++ w ∷ [])
 seated_last table start k n [] w is so_far of view = let same : n ≡ k = omega (arith, is) in (of, view ∙ ap (λ (m : ℕ). new_view (with_numbers_given m start)) same, tt)
 seated_last table start k n (v ∷ workers) w is so_far of view = (so_far.0, so_far.1, seated_last table start (k + 1) n workers w (omega (arith, is)) so_far.2 of view)
 
 -- ---- joined seats
 
-pub joined_last : {D M : Type 0} (workers : List (Worker D M)) (w : Worker D M) (v : View) → with_seats_of (workers ++ w ∷ []) v ≡ united (with_seats_of workers v) (view_of w.seat)
+pub joined_last : {D M : Type 0} (workers : List (Worker D M)) (w : Worker D M) (v : View) → with_seats_of (workers ++ w ∷ []) v ≡ united (with_seats_of workers v) (view_of w.station.seat)
 joined_last [] w v = refl
-joined_last (u ∷ workers) w v = joined_last workers w (united v (view_of u.seat))
+joined_last (u ∷ workers) w v = joined_last workers w (united v (view_of u.station.seat))
 
 -- the lines of seats
 abbrev pub lines_of : {D M : Type 0} → List (Worker D M) → List Line
-lines_of {D} {M} workers = map (λ (w : Worker D M). (view_of w.seat).own) workers
+lines_of {D} {M} workers = map (λ (w : Worker D M). (view_of w.station.seat).own) workers
 
 -- into no seat another one was joined
 abbrev pub AreSingle : {D M : Type 0} → List (Worker D M) → Type 0
-AreSingle {D} {M} workers = AllByRecursion (λ (w : Worker D M). (view_of w.seat).joined ≡ []) workers
+AreSingle {D} {M} workers = AllByRecursion (λ (w : Worker D M). (view_of w.station.seat).joined ≡ []) workers
 
 -- all that is known afterwards is that the lines are joined
 pub joined_is : {D M : Type 0} (workers : List (Worker D M)) (v : View) → AreSingle workers → with_seats_of workers v ≡ record v { joined = v.joined ++ lines_of workers }
 joined_is [] v single = λ i. record v { joined = append-nil v.joined (~ i) }
 joined_is (w ∷ workers) v single =
-    let own = (view_of w.seat).own in
-    let one : united v (view_of w.seat) ≡ record v { joined = v.joined ++ own ∷ [] } = λ i. record v { joined = v.joined ++ own ∷ single.0 i } in
+    let own = (view_of w.station.seat).own in
+    let one : united v (view_of w.station.seat) ≡ record v { joined = v.joined ++ own ∷ [] } = λ i. record v { joined = v.joined ++ own ∷ single.0 i } in
     ap (with_seats_of workers) one ∙ joined_is workers (record v { joined = v.joined ++ own ∷ [] }) single.1 ∙ (λ i. record v { joined = append_assoc v.joined (own ∷ []) (lines_of workers) i })
 
 -- a member between others has what all have

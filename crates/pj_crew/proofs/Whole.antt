@@ -63,7 +63,7 @@ module _ {D M : Type 0} (table : TypeTable) (holds : D → World) (finds faults 
         let long = long_zip (HasWorked holds finds faults comes) ws vs worked in
         let one = numbers_are table start holds finds faults comes 0 ws vs (reverse shares) hired.seated worked in_order (n - 1) (omega (arith, above, below, long)) in
         let back = in_reverse (lines_of vs) one.0 one.1 in
-        let there = subst (λ (l : List Line). IsIn l one.0) (sym (map_reverse (λ (w : Worker D M). (view_of w.seat).own) vs)) back in
+        let there = subst (λ (l : List Line). IsIn l one.0) (sym (map_reverse (λ (w : Worker D M). (view_of w.station.seat).own) vs)) back in
         let number = one.2 in (there.0, one.0, there.1, omega (arith, number, above)))
 
     pub once_each : (0 < marks last → (x : ℕ) → claimed x last ≡ once_below x files) → 0 < length ws → AreOnceEach files (all_results shares)
@@ -96,7 +96,7 @@ module _ {D M : Type 0} (table : TypeTable) (holds : D → World) (finds faults 
   pub joined_of : (first : View) → first ≡ newcomer world files 0 1 → All first → AreOfWorld holds world before → 0 < length before → (shares : List (Share M)) → map (λ (s : Share M). Ok s) shares ≡ ends → AreJoined last files shares
   joined_of first is all of some shares ok =
       let work = subst (λ (v : View). All v) is all in
-      let many : 0 < length work.hired = (let a = ap length work.are_hired.doors_are in let b = length-reverse (map (λ (w : Worker D M). w.door) work.hired) in let c = length-map work.hired (λ (w : Worker D M). w.door) in omega (arith, a, b, c, some)) in (
+      let many : 0 < length work.hired = (let a = ap length work.are_hired.doors_are in let b = length-reverse (map (λ (w : Worker D M). w.station.door) work.hired) in let c = length-map work.hired (λ (w : Worker D M). w.station.door) in omega (arith, a, b, c, some)) in (
         has_all table holds finds faults world comes files before work.hired work.worked shares last work.are_hired of work.each (ok ∙ work.ends_are) work.last_is,
         (λ claims. once_each table holds finds faults world comes files before work.hired work.worked shares last work.are_hired of work.each (ok ∙ work.ends_are) work.last_is claims many),
       )

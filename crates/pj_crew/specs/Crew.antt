@@ -37,28 +37,28 @@ with_numbers_given count view = record view { given = view.given + count }
 -- Workers have seats of the table with the next numbers, one after the other.
 abbrev pub AreSeatedFrom : {D M : Type 0} → TypeTable → View → ℕ → List (Worker D M) → Type 0
 AreSeatedFrom table start k [] = Unit {0}
-AreSeatedFrom table start k (w ∷ workers) = IsOf table w.seat × (view_of w.seat ≡ new_view (with_numbers_given k start)) × AreSeatedFrom table start (k + 1) workers
+AreSeatedFrom table start k (w ∷ workers) = IsOf table w.station.seat × (view_of w.station.seat ≡ new_view (with_numbers_given k start)) × AreSeatedFrom table start (k + 1) workers
 
 -- The workers have these doors, in the other order, and a new seat each.
 pub record AreHired {D M : Type 0} (table : TypeTable) (start : View) (doors : List D) (workers : List (Worker D M)) : Type 0 where
-  pub doors_are : doors ≡ reverse (map (λ (w : Worker D M). w.door) workers)
+  pub doors_are : doors ≡ reverse (map (λ (w : Worker D M). w.station.door) workers)
   pub seated : AreSeatedFrom table start 0 workers
 
 -- Each worker can begin.
 abbrev pub IsReady : {D M : Type 0} → TypeTable → (D → World) → ℕ → Worker D M → Type 0
-IsReady table holds files w = IsOf table w.seat × (holds w.door ≡ world_of w.seat) × (files_of w.seat ≡ files)
+IsReady table holds files w = IsOf table w.station.seat × (holds w.station.door ≡ world_of w.station.seat) × (files_of w.station.seat ≡ files)
 
 -- A worker worked.
 pub record HasWorked {D M : Type 0} (holds : D → World) (finds faults : D → ℕ) (comes : ℕ → Worlds → NameSet → M → Type 0) (before after : Worker D M) : Type 0 where
-  pub same_folders : holds after.door ≡ holds before.door
-  pub ended : HasEnded (holds before.door) comes (finds before.door) (finds after.door) (faults before.door) (faults after.door) before.seat after.seat after.ended
+  pub same_folders : holds after.station.door ≡ holds before.station.door
+  pub ended : HasEnded (holds before.station.door) comes (finds before.station.door) (finds after.station.door) (faults before.station.door) (faults after.station.door) before.station.seat after.station.seat after.ended
 
 -- All have seats of the table.
 abbrev pub AreSeatedAt : {D M : Type 0} → TypeTable → List (Worker D M) → Type 0
-AreSeatedAt {D} {M} table workers = AllByRecursion (λ (w : Worker D M). IsOf table w.seat) workers
+AreSeatedAt {D} {M} table workers = AllByRecursion (λ (w : Worker D M). IsOf table w.station.seat) workers
 
 abbrev pub doors_of : {D M : Type 0} → List (Worker D M) → List D
-doors_of {D} {M} workers = map (λ (w : Worker D M). w.door) workers
+doors_of {D} {M} workers = map (λ (w : Worker D M). w.station.door) workers
 
 abbrev pub ends_of : {D M : Type 0} → List (Worker D M) → List (Result (Share M) AskFault)
 ends_of {D} {M} workers = map (λ (w : Worker D M). w.ended) workers
@@ -66,7 +66,7 @@ ends_of {D} {M} workers = map (λ (w : Worker D M). w.ended) workers
 -- what a seat knows once those of workers were joined into it, one after the other
 abbrev pub with_seats_of : {D M : Type 0} → List (Worker D M) → View → View
 with_seats_of [] view = view
-with_seats_of (w ∷ workers) view = with_seats_of workers (united view (view_of w.seat))
+with_seats_of (w ∷ workers) view = with_seats_of workers (united view (view_of w.station.seat))
 
 -- A worker did not end since its door failed.
 abbrev pub HasNotFailed : {M : Type 0} → Result (Share M) AskFault → Type 0

@@ -4,7 +4,7 @@ ghost use Rattle.pj_table.specs.Seats.{IsOf, IsOpening, IsSameSeat, view_of};
 ghost use Rattle.pj_crew.specs.Crew.{AreHired, with_numbers_given};
 
 use crate::worker::Worker;
-use pj_seats::Share;
+use pj_seats::{Share, Station};
 use pj_table::{TableSeat, TypeTable};
 use std::alloc::Global;
 
@@ -29,8 +29,7 @@ pub fn hire<D, M>(
         let door = doors.take_last();
         let own = table.split(seat);
         workers.push_reserved(Worker {
-            door,
-            seat: own,
+            station: Station { seat: own, door },
             ended: Ok(Share {
                 results: Vec::new(alloc),
             }),

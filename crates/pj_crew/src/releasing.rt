@@ -5,7 +5,7 @@ ghost use Rattle.pj_crew.specs.Crew.{AreSeatedAt, doors_of, ends_of, with_seats_
 
 use crate::worker::Worker;
 use pj_names::AskFault;
-use pj_seats::Share;
+use pj_seats::{Share, Station};
 use pj_table::{TableSeat, TypeTable};
 
 /// Takes each worker's seat into the opening one, its door back among the doors, and what it ended with, of the last worker first. It takes no
@@ -26,11 +26,8 @@ pub fn release<D, M>(
     ensures ends { result.items ≡ ends_of (reverse workers.items) }
 {
     for _ in 0..workers.len() {
-        let Worker {
-            door,
-            seat: own,
-            ended,
-        } = workers.take_last();
+        let Worker { station, ended } = workers.take_last();
+        let Station { seat: own, door } = station;
         table.join(seat, own);
         doors.push_reserved(door);
         ends.push_reserved(ended);

@@ -5,17 +5,15 @@ ghost use Rattle.pj_crew.specs.Crew.{HasEnded};
 
 use pj_names::AskFault;
 use pj_outside::ClassDoor;
-use pj_seats::{FileWork, Gate, Share, claim_loop};
-use pj_table::{TableSeat, TypeTable};
+use pj_seats::{FileWork, Gate, Share, Station, claim_loop};
+use pj_table::TypeTable;
 use std::alloc::Global;
 use std::sync::Wait;
 
 /// A worker: its door, its seat, and what it ended with.
 pub struct Worker<D, M> {
-    /// The door.
-    pub door: D,
-    /// The seat.
-    pub seat: TableSeat,
+    /// The seat and the door.
+    pub station: Station<D>,
     /// What it ended with: before it worked, a share of no files.
     pub ended: Result<Share<M>, AskFault>,
 }
@@ -29,19 +27,18 @@ pub fn run_worker<D: ClassDoor, G: Gate, W: FileWork, R: Wait>(
     work: &W,
     gate: &G,
 )
-    requires table { IsOf table.now worker.old.seat }
-    requires world { D.holds worker.old.door ≡ world_of worker.old.seat }
+    requires table { IsOf table.now worker.old.station.seat }
+    requires world { D.holds worker.old.station.door ≡ world_of worker.old.station.seat }
     requires ready { W.is_ready work.now }
-    requires files { files_of worker.old.seat ≡ W.count work.now }
-    ensures same_folders { D.holds worker.new.door ≡ D.holds worker.old.door }
-    ensures ended { HasEnded (D.holds worker.old.door) (W.comes work.now) (D.finds worker.old.door) (D.finds worker.new.door) (D.faults worker.old.door) (D.faults worker.new.door) worker.old.seat worker.new.seat worker.new.ended }
+    requires files { files_of worker.old.station.seat ≡ W.count work.now }
+    ensures same_folders { D.holds worker.new.station.door ≡ D.holds worker.old.station.door }
+    ensures ended { HasEnded (D.holds worker.old.station.door) (W.comes work.now) (D.finds worker.old.station.door) (D.finds worker.new.station.door) (D.faults worker.old.station.door) (D.faults worker.new.station.door) worker.old.station.seat worker.new.station.seat worker.new.ended }
 {
     worker.ended = claim_loop(
         rt,
         alloc,
         table,
-        &mut worker.seat,
-        &mut worker.door,
+        &mut worker.station,
         work,
         gate,
     );

@@ -78,11 +78,11 @@ pub put_copy : {names room more : List Name} {copy name : Name} → more ≡ roo
 put_copy put same is = put ∙ (λ i. same i ++ is i ∷ [])
 
 -- what the oracle keeps
-abbrev over : GName → GName → Identity → View → ℕ → OverSeat
-over seat door identity start finds = record { seat = seat; door = door; identity = identity; start = start; finds = finds }
+abbrev over : GName → Identity → View → ℕ → OverSeat
+over reference identity start finds = record { reference = reference; identity = identity; start = start; finds = finds }
 
-pub keeps : (seat door : GName) (finds : ℕ) {before after : Identity} {start now : View} → after ≡ before → now ≡ start → over seat door after now finds ≡ over seat door before start finds
-keeps seat door finds same start = λ i. over seat door (same i) (start i) finds
+pub keeps : (reference : GName) (finds : ℕ) {before after : Identity} {start now : View} → after ≡ before → now ≡ start → over reference after now finds ≡ over reference before start finds
+keeps reference finds same start = λ i. over reference (same i) (start i) finds
 
 -- a refusal says the same of the count of faults, whatever value there would have been
 pub other_value : (A B : Type 0) (f g : ℕ) (e : AskFault) → CountsFaults {A = A} f g (Err e) → CountsFaults {A = B} f g (Err e)

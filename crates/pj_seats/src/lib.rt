@@ -5,9 +5,11 @@
 mod gate;
 mod laws;
 mod seat_oracle;
+mod station;
 mod worker;
 
 pub use gate::{Gate, OpenGate};
 pub use laws::looks_add_up;
 pub use seat_oracle::SeatOracle;
+pub use station::Station;
 pub use worker::{FileWork, Share, claim_loop};

@@ -9,9 +9,10 @@ ghost use Rattle.pj_seats.specs.Kept.{AreAllHeld, is_of_prop, same_world_prop};
 ghost use Rattle.pj_seats.specs.Looks.{AddsLooks, AreLooksOf, CountsFinds, at_rest, before_last, last_looks, looks_since};
 ghost use Rattle.pj_seats.specs.Telling.{OverSeat};
 
+use crate::station::Station;
 use pj_base::Copied;
 use pj_names::{Answer, AskFault, ClassName, Oracle};
-use pj_table::{ClassFinder, TableSeat, TypeTable};
+use pj_table::{ClassFinder, TypeTable};
 use std::alloc::Global;
 use std::collections::BTreeMap;
 use std::sync::{Arc, Wait};
@@ -25,21 +26,19 @@ pub struct SeatOracle<'a, D: ClassFinder, R: Wait> {
     rt: &'a R,
     alloc: Global,
     table: &'a TypeTable,
-    /// The seat.
-    pub seat: &'a mut TableSeat,
-    /// The door.
-    pub door: &'a mut D,
+    /// The seat and the door.
+    pub station: &'a mut Station<D>,
     names: Vec<ClassName>,
     answers: BTreeMap<ClassName, Arc<Answer>>,
     is_whole: bool,
     finds: u64,
-    ghost of_table: { IsOf table.now seat.now } by { is_of_prop table.now seat.now },
-    ghost same_world: { D.holds door.now ≡ world_of seat.now } by { same_world_prop (D.holds door.now) (world_of seat.now) },
-    ghost looks: { AreLooksOf names.items (last_looks (vec_len names) (view_of seat.now)) },
+    ghost of_table: { IsOf table.now station.now.seat } by { is_of_prop table.now station.now.seat },
+    ghost same_world: { D.holds station.now.door ≡ world_of station.now.seat } by { same_world_prop (D.holds station.now.door) (world_of station.now.seat) },
+    ghost looks: { AreLooksOf names.items (last_looks (vec_len names) (view_of station.now.seat)) },
     ghost once: { set.len (name_set names.items) ≡ vec_len names },
-    ghost held: { AreHeldAnswers (D.holds door.now) (name_set names.items) answers.entries } by { all_held_prop (D.holds door.now) (name_set names.items) answers.entries },
+    ghost held: { AreHeldAnswers (D.holds station.now.door) (name_set names.items) answers.entries } by { all_held_prop (D.holds station.now.door) (name_set names.items) answers.entries },
     ghost all_held: { IsTrue is_whole → AreAllHeld (name_set names.items) answers },
-    ghost counted: { IsTrue is_whole → CountsFinds finds (D.finds door.now) (last_looks (vec_len names) (view_of seat.now)) },
+    ghost counted: { IsTrue is_whole → CountsFinds finds (D.finds station.now.door) (last_looks (vec_len names) (view_of station.now.seat)) },
 }
 
 impl<'a, D: ClassFinder, R: Wait> SeatOracle<'a, D, R> {
@@ -48,22 +47,19 @@ impl<'a, D: ClassFinder, R: Wait> SeatOracle<'a, D, R> {
         rt: &'a R,
         alloc: Global,
         table: &'a TypeTable,
-        seat: &'a mut TableSeat,
-        door: &'a mut D,
+        station: &'a mut Station<D>,
     ) -> SeatOracle<'a, D, R>
-        requires table { IsOf table.now seat.old }
-        requires world { D.holds door.old ≡ world_of seat.old }
-        ensures tells { ⟦<SeatOracle<'a, D, R> as Oracle>⟧.tells result ≡ tells_of (record { seat = seat.entry.ghost_name; door = door.entry.ghost_name; identity = identity_of seat.old; start = at_rest (view_of seat.old); finds = D.finds door.old }) (D.holds door.old) set.empty (D.faults door.old) }
-        ensures seat { result.seat.now ≡ seat.old }
-        ensures door { result.door.now ≡ door.old }
+        requires table { IsOf table.now station.old.seat }
+        requires world { D.holds station.old.door ≡ world_of station.old.seat }
+        ensures tells { ⟦<SeatOracle<'a, D, R> as Oracle>⟧.tells result ≡ tells_of (record { reference = station.entry.ghost_name; identity = identity_of station.old.seat; start = at_rest (view_of station.old.seat); finds = D.finds station.old.door }) (D.holds station.old.door) set.empty (D.faults station.old.door) }
+        ensures station { result.station.now ≡ station.old }
     {
-        let finds = door.count_found();
+        let finds = station.door.count_found();
         SeatOracle {
             rt,
             alloc,
             table,
-            seat,
-            door,
+            station,
             names: Vec::new(alloc),
             answers: BTreeMap::new(alloc),
             is_whole: true,
@@ -75,36 +71,33 @@ impl<'a, D: ClassFinder, R: Wait> SeatOracle<'a, D, R> {
     pub fn asked(&self) -> &[ClassName]
         ensures asked { name_set result.now ≡ (⟦<SeatOracle<'a, D, R> as Oracle>⟧.tells self.now).asked }
         ensures once { set.len (name_set result.now) ≡ length result.now }
-        ensures looks { AddsLooks (⟦<SeatOracle<'a, D, R> as Oracle>⟧.tells self.now).kept.start (view_of self.now.seat.now) result.now }
+        ensures looks { AddsLooks (⟦<SeatOracle<'a, D, R> as Oracle>⟧.tells self.now).kept.start (view_of self.now.station.now.seat) result.now }
     {
         self.names.as_slice()
     }
 
     /// Whether each ask was answered. Then the door has had one find for each entry that fills, and no other.
     pub fn is_whole(&self) -> bool
-        ensures finds { IsTrue result → CountsFinds (⟦<SeatOracle<'a, D, R> as Oracle>⟧.tells self.now).kept.finds (D.finds self.now.door.now) (looks_since (⟦<SeatOracle<'a, D, R> as Oracle>⟧.tells self.now).kept.start (view_of self.now.seat.now)) }
+        ensures finds { IsTrue result → CountsFinds (⟦<SeatOracle<'a, D, R> as Oracle>⟧.tells self.now).kept.finds (D.finds self.now.station.now.door) (looks_since (⟦<SeatOracle<'a, D, R> as Oracle>⟧.tells self.now).kept.start (view_of self.now.station.now.seat)) }
     {
         self.is_whole
     }
 
     /// The seat and the door, once the file is done.
-    pub fn give_back(self) -> (&'a mut TableSeat, &'a mut D)
-        ensures same_seat { result.0.ghost_name ≡ self.entry.seat.ghost_name }
-        ensures seat { result.0.now ≡ self.entry.seat.now }
-        ensures same_door { result.1.ghost_name ≡ self.entry.door.ghost_name }
-        ensures door { result.1.now ≡ self.entry.door.now }
-        ensures same_identity { identity_of result.0.now ≡ (⟦<SeatOracle<'a, D, R> as Oracle>⟧.tells self.entry).kept.identity }
-        ensures same_world { D.holds result.1.now ≡ world_of result.0.now }
+    pub fn give_back(self) -> &'a mut Station<D>
+        ensures same_reference { result.ghost_name ≡ self.entry.station.ghost_name }
+        ensures station { result.now ≡ self.entry.station.now }
+        ensures same_identity { identity_of result.now.seat ≡ (⟦<SeatOracle<'a, D, R> as Oracle>⟧.tells self.entry).kept.identity }
+        ensures same_world { D.holds result.now.door ≡ world_of result.now.seat }
     {
-        let SeatOracle { seat, door, .. } = self;
-        (seat, door)
+        self.station
     }
 }
 
 impl<'a, D: ClassFinder, R: Wait> Oracle for SeatOracle<'a, D, R> {
     ghost Kept = { OverSeat };
 
-    ghost tells = { λ oracle. tells_of (record { seat = oracle.seat.ghost_name; door = oracle.door.ghost_name; identity = identity_of oracle.seat.now; start = before_last (vec_len oracle.names) (view_of oracle.seat.now); finds = oracle.finds }) (D.holds oracle.door.now) (name_set oracle.names.items) (D.faults oracle.door.now) };
+    ghost tells = { λ oracle. tells_of (record { reference = oracle.station.ghost_name; identity = identity_of oracle.station.now.seat; start = before_last (vec_len oracle.names) (view_of oracle.station.now.seat); finds = oracle.finds }) (D.holds oracle.station.now.door) (name_set oracle.names.items) (D.faults oracle.station.now.door) };
 
     fn ask(&mut self, name: &ClassName) -> Result<Arc<Answer>, AskFault> {
         if let Some(answer) = self.answers.get(name) {
@@ -120,8 +113,8 @@ impl<'a, D: ClassFinder, R: Wait> Oracle for SeatOracle<'a, D, R> {
         let answer = match self.table.ask(
             self.rt,
             self.alloc,
-            &mut *self.seat,
-            &mut *self.door,
+            &mut self.station.seat,
+            &mut self.station.door,
             name,
         ) {
             Ok(answer) => answer,

@@ -10,8 +10,9 @@ ghost use Rattle.pj_seats.specs.Working.{IsMadeOf, IsShare, Stays};
 
 use crate::gate::Gate;
 use crate::seat_oracle::SeatOracle;
+use crate::station::Station;
 use pj_names::{AskFault, Oracle};
-use pj_table::{ClassFinder, TableSeat, TypeTable};
+use pj_table::{ClassFinder, TypeTable};
 use std::alloc::Global;
 use std::sync::Wait;
 
@@ -55,26 +56,25 @@ fn work_at<D: ClassFinder, W: FileWork, R: Wait>(
     rt: &R,
     alloc: Global,
     table: &TypeTable,
-    seat: &mut TableSeat,
-    door: &mut D,
+    station: &mut Station<D>,
     work: &W,
     file: u32,
 ) -> Result<W::Made, AskFault>
-    requires table { IsOf table.now seat.old }
-    requires world { D.holds door.old ≡ world_of seat.old }
+    requires table { IsOf table.now station.old.seat }
+    requires world { D.holds station.old.door ≡ world_of station.old.seat }
     requires ready { W.is_ready work.now }
     requires inside { file < W.count work.now }
-    ensures table { IsSameSeat seat.old seat.new }
-    ensures same_folders { D.holds door.new ≡ D.holds door.old }
-    ensures made { IfOk result (λ made. (names : List Name) × IsMadeOf (D.holds door.old) (W.comes work.now file) made names × AddsLooks (view_of seat.old) (view_of seat.new) names) }
-    ensures finds { OnOk result (CountsFinds (D.finds door.old) (D.finds door.new) (looks_since (view_of seat.old) (view_of seat.new))) }
-    ensures faults { CountsFaults (D.faults door.old) (D.faults door.new) result }
+    ensures table { IsSameSeat station.old.seat station.new.seat }
+    ensures same_folders { D.holds station.new.door ≡ D.holds station.old.door }
+    ensures made { IfOk result (λ made. (names : List Name) × IsMadeOf (D.holds station.old.door) (W.comes work.now file) made names × AddsLooks (view_of station.old.seat) (view_of station.new.seat) names) }
+    ensures finds { OnOk result (CountsFinds (D.finds station.old.door) (D.finds station.new.door) (looks_since (view_of station.old.seat) (view_of station.new.seat))) }
+    ensures faults { CountsFaults (D.faults station.old.door) (D.faults station.new.door) result }
 {
-    let mut oracle = SeatOracle::new(rt, alloc, table, seat, door);
+    let mut oracle = SeatOracle::new(rt, alloc, table, station);
     let made = work.work(alloc, &mut oracle, file);
     let is_whole = oracle.is_whole();
     let _names = oracle.asked();
-    let (_seat, _door) = oracle.give_back();
+    let _station = oracle.give_back();
     match made {
         Ok(made) if is_whole => Ok(made),
         Ok(_) => Err(AskFault::Memory),
@@ -90,32 +90,31 @@ pub fn claim_loop<D: ClassFinder, G: Gate, W: FileWork, R: Wait>(
     rt: &R,
     alloc: Global,
     table: &TypeTable,
-    seat: &mut TableSeat,
-    door: &mut D,
+    station: &mut Station<D>,
     work: &W,
     gate: &G,
 ) -> Result<Share<W::Made>, AskFault>
-    requires table { IsOf table.now seat.old }
-    requires world { D.holds door.old ≡ world_of seat.old }
+    requires table { IsOf table.now station.old.seat }
+    requires world { D.holds station.old.door ≡ world_of station.old.seat }
     requires ready { W.is_ready work.now }
-    requires files { files_of seat.old ≡ W.count work.now }
-    ensures table { IsSameSeat seat.old seat.new }
-    ensures same_folders { D.holds door.new ≡ D.holds door.old }
+    requires files { files_of station.old.seat ≡ W.count work.now }
+    ensures table { IsSameSeat station.old.seat station.new.seat }
+    ensures same_folders { D.holds station.new.door ≡ D.holds station.old.door }
     // It ends once the seat drew a number past the files.
-    ensures ended { OnOk result (HasEnded seat.new) }
+    ensures ended { OnOk result (HasEnded station.new.seat) }
     // What came of each claimed file, and what the seat and the door gained by them all.
-    ensures share { IfOk result (λ share. IsShare (D.holds door.old) (W.comes work.now) (view_of seat.old) (view_of seat.new) (D.finds door.old) (D.finds door.new) share.results.items) }
-    ensures faults { CountsFaults (D.faults door.old) (D.faults door.new) result }
+    ensures share { IfOk result (λ share. IsShare (D.holds station.old.door) (W.comes work.now) (view_of station.old.seat) (view_of station.new.seat) (D.finds station.old.door) (D.finds station.new.door) share.results.items) }
+    ensures faults { CountsFaults (D.faults station.old.door) (D.faults station.new.door) result }
 {
     // The count of finds is one that its type has, also where nothing is found.
-    let _finds = door.count_found();
+    let _finds = station.door.count_found();
     let mut results = Vec::new(alloc);
     for _ in rt.forever() {
-        let Some(file) = table.claim(seat) else {
+        let Some(file) = table.claim(&mut station.seat) else {
             return Ok(Share { results });
         };
         gate.arrive(file);
-        let made = match work_at(rt, alloc, table, seat, door, work, file) {
+        let made = match work_at(rt, alloc, table, station, work, file) {
             Ok(made) => made,
             Err(fault) => return Err(fault),
         };

@@ -5,7 +5,7 @@ use crate::classes::{OneClass, class_path, folder_names, names};
 use pj_base::NoMemory;
 use pj_names::{Answer, AskFault};
 use pj_outside::{ClassDoor, ClassPath, MemDoor};
-use pj_seats::{OpenGate, Share, claim_loop};
+use pj_seats::{OpenGate, Share, Station, claim_loop};
 use pj_table::TypeTable;
 use std::alloc::Global;
 use std::sync::{Arc, Wait};
@@ -18,18 +18,20 @@ fn door(alloc: Global, fails: u32) -> Result<Option<MemDoor>, NoMemory> {
     Ok(classes.open(&names).ok())
 }
 
-/// What a worker makes of all files, alone at a table.
+/// What a worker makes of all files, alone at a table, and how many finds its door had.
 fn work_alone<R: Wait>(
     rt: &R,
     alloc: Global,
-    door: &mut MemDoor,
+    door: MemDoor,
     work: &OneClass,
     files: u32,
-) -> Result<Share<Arc<Answer>>, AskFault>
+) -> Result<(Result<Share<Arc<Answer>>, AskFault>, u64), NoMemory>
     requires { files ≡ vec_len work.now.names }
 {
-    let (table, mut seat) = TypeTable::open(alloc, door, files)?;
-    claim_loop(rt, alloc, &table, &mut seat, door, work, &OpenGate)
+    let (table, seat) = TypeTable::open(alloc, &door, files)?;
+    let mut station = Station { seat, door };
+    let made = claim_loop(rt, alloc, &table, &mut station, work, &OpenGate);
+    Ok((made, station.door.count_finds()))
 }
 
 /// Whether each file has its turn, and its class is absent where this says so.
@@ -93,9 +95,9 @@ fn is_row<R: Wait>(rt: &R, alloc: Global, row: &Row) -> Result<bool, Fail> {
         names: names(alloc, classes)?,
     };
     let files = u32::try_from(work.names.len()).map_err(|_| "too many files")?;
-    let mut door = door(alloc, fails)?.ok_or("no door")?;
-    let made = work_alone(rt, alloc, &mut door, &work, files);
-    Ok(is_made(&made, wanted) && door.count_finds() == finds)
+    let door = door(alloc, fails)?.ok_or("no door")?;
+    let (made, found) = work_alone(rt, alloc, door, &work, files)?;
+    Ok(is_made(&made, wanted) && found == finds)
 }
 
 #[test]

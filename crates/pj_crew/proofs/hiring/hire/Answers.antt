@@ -30,7 +30,7 @@ loop-preserved g c =
     let door = c.take_last-door.result in let own = c.split-own.result in let split = c.split-own.ensures in
     let ws = c.loop.workers.items in let push = c.push_reserved.ensures in let more = c.push_reserved.new.self.items in
     let given : v.given + i + 1 ≡ v.given + (i + 1) = omega arith in
-    let last : doors_of more ≡ doors_of ws ++ door ∷ [] = ap (λ (l : List (Worker g.row.D.Denot g.row.M.Denot)). doors_of l) push.items ∙ map-append (λ (w : Worker g.row.D.Denot g.row.M.Denot). w.door) ws _ in
+    let last : doors_of more ≡ doors_of ws ++ door ∷ [] = ap (λ (l : List (Worker g.row.D.Denot g.row.M.Denot)). doors_of l) push.items ∙ map-append (λ (w : Worker g.row.D.Denot g.row.M.Denot). w.station.door) ws _ in
     let turned : reverse (doors_of more) ≡ door ∷ reverse (doors_of ws) = ap reverse last ∙ reverse_last (doors_of ws) door in
     let long : i ≡ 0 + length ws = (let a = c.loop.workers.ok in let b = kept.many in omega arith) in
     record {

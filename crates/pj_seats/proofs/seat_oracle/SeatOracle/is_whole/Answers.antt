@@ -7,5 +7,5 @@ use Rattle.pj_seats.proofs.seat_oracle.SeatOracle.is_whole.Goals as goal
 
 pub returns : goal.returns
 returns g c =
-    let s = c.args.self.now in let n = vec_len s.names in let v = view_of s.seat.now in
-    record { finds = λ is. subst (λ (l : List Asked). CountsFinds s.finds (g.D.ClassFinder.finds s.door.now) l) (sym (since_is_last n v)) (s.counted is) }
+    let s = c.args.self.now in let n = vec_len s.names in let v = view_of s.station.now.seat in
+    record { finds = λ is. subst (λ (l : List Asked). CountsFinds s.finds (g.D.ClassFinder.finds s.station.now.door) l) (sym (since_is_last n v)) (s.counted is) }
