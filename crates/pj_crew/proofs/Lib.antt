@@ -5,3 +5,4 @@ pub mod Joined
 pub mod Whole
 pub mod Faults
 pub mod Doors
+pub mod Worked

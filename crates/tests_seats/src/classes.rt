@@ -11,6 +11,7 @@ use std::sync::Arc;
 use std::test::Fail;
 
 /// What comes of a file is the answer for its class.
+#[derive(Drop)]
 pub struct OneClass {
     pub names: Vec<ClassName>,
 }

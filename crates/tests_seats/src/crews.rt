@@ -11,6 +11,7 @@ use std::test::Fail;
 use std::thread::{Threads, yield_now};
 
 /// A gate at which the worker of file 0 waits until file 1 was claimed.
+#[derive(Drop)]
 struct Crossing<'r, R: Wait> {
     rt: &'r R,
     came: AtomicBool,

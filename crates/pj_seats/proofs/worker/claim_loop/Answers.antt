@@ -10,7 +10,7 @@ claim-requires g c = c.loop.invariant.table.0 ∙ c.requires.table
 
 pub loop-init : goal.loop-init
 loop-init g c =
-    let world = g.D.ClassFinder.holds c.args.door.now in let comes = g.W.FileWork.comes c.args.work.now in let v = view_of c.args.seat.now in let count = g.D.ClassFinder.finds c.args.door.now in
+    let world = g.D.ClassFinder.holds c.args.station.now.door in let comes = g.W.FileWork.comes c.args.work.now in let v = view_of c.args.station.now.seat in let count = g.D.ClassFinder.finds c.args.station.now.door in
     let fits : c.count_found-finds.result < 2 ^ 64 = search rules in
     record {
       next = tt;
@@ -23,16 +23,16 @@ loop-init g c =
 
 pub loop-preserved : goal.loop-preserved
 loop-preserved g c =
-    let world = g.D.ClassFinder.holds c.args.door.now in let comes = g.W.FileWork.comes c.args.work.now in let finds = g.D.ClassFinder.finds in let a = view_of c.args.seat.now in
+    let world = g.D.ClassFinder.holds c.args.station.now.door in let comes = g.W.FileWork.comes c.args.work.now in let finds = g.D.ClassFinder.finds in let a = view_of c.args.station.now.seat in
     let kept = c.loop.invariant in let claim = c.in-Some-claim.ensures in let one = c.in-Ok.ensures in let n = c.in-Some-claim.file in let made = c.in-Ok.made in
-    let new = view_of c.work_at.new.seat in
+    let new = view_of c.work_at.new.station.seat in
     let made_so : IsMadeOf world (comes n) made one.made.0 = subst (λ (w : World). IsMadeOf w (comes n) made one.made.0) kept.same_folders one.made.1 in
     record {
       next = tt;
       finite = tt;
       table = (one.table.0 ∙ claim.table.0 ∙ kept.table.0, one.table.1 ∙ claim.table.1 ∙ kept.table.1);
       same_folders = one.same_folders ∙ kept.same_folders;
-      share = subst (λ l. IsShare world comes a new (finds c.args.door.now) (finds c.work_at.new.door) l) (sym c.in_ok-push.ensures.items)
-          (share_more world comes a (view_of c.loop.seat) (view_of c.claim.new.seat) new (finds c.args.door.now) (finds c.loop.door) (finds c.work_at.new.door) n made one.made.0 c.loop.results.items claim.some.2 kept.share made_so one.made.2 one.finds);
+      share = subst (λ l. IsShare world comes a new (finds c.args.station.now.door) (finds c.work_at.new.station.door) l) (sym c.in_ok-push.ensures.items)
+          (share_more world comes a (view_of c.loop.station.seat) (view_of c.claim.new.seat) new (finds c.args.station.now.door) (finds c.loop.station.door) (finds c.work_at.new.station.door) n made one.made.0 c.loop.results.items claim.some.2 kept.share made_so one.made.2 one.finds);
       same_faults = one.faults ∙ kept.same_faults;
     }
