@@ -1,5 +1,5 @@
 //! Several workers at the files of a run.
-ghost use Rattle.std.specs.Prelude.{◌≡◌, ◌+◌, ◌^◌, ◌<◌, ◌≤◌, [], List, Ok, Err, IfOk, length, map, vec_capacity, vec_len};
+ghost use Rattle.std.specs.Prelude.{◌≡◌, ℕ, ◌+◌, ◌^◌, ◌<◌, ◌≤◌, [], List, Ok, Err, IfOk, length, map, slice_index_or, vec_capacity, vec_len};
 ghost use Rattle.std.specs.List.{All, AllZip, Contains};
 ghost use Rattle.pj_names.specs.Told.{UnlessFailed};
 ghost use Rattle.pj_names.specs.declared.oracle.AskFault.TheVariants as faults;
@@ -44,7 +44,8 @@ fn run_all<R: Threads + Wait + Sync, D: ClassDoor, G: Gate + Sync, W: FileWork +
     requires many { 0 < length workers.old }
     requires ready { W.is_ready work.now }
     requires seated { All (IsReady table.now D.holds (W.count work.now)) workers.old }
-    ensures { AllZip (HasWorked D.holds D.finds D.faults (W.comes work.now)) workers.old workers.new }
+    ensures many { length workers.new ≡ length workers.old }
+    ensures each { (i : ℕ) (d : _) → i < length workers.old → HasWorked D.holds D.finds D.faults (W.comes work.now) (slice_index_or workers.old i d) (slice_index_or workers.new i d) }
 {
     let threads = workers.len();
     let run_one = |_: usize, worker: &mut Worker<D, W::Made>|

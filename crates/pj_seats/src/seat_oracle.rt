@@ -9,7 +9,7 @@ ghost use Rattle.pj_seats.specs.Kept.{AreAllHeld, is_of_prop, same_world_prop};
 ghost use Rattle.pj_seats.specs.Looks.{AddsLooks, AreLooksOf, CountsFinds, at_rest, before_last, last_looks, looks_since};
 ghost use Rattle.pj_seats.specs.Telling.{OverSeat};
 
-use crate::station::Station;
+use crate::station::{Station, ask_at};
 use pj_base::Copied;
 use pj_names::{Answer, AskFault, ClassName, Oracle};
 use pj_table::{ClassFinder, TypeTable};
@@ -110,13 +110,7 @@ impl<'a, D: ClassFinder, R: Wait> Oracle for SeatOracle<'a, D, R> {
         let asked = name.copied()?;
         self.names.reserve(1)?;
         self.is_whole = false;
-        let answer = match self.table.ask(
-            self.rt,
-            self.alloc,
-            &mut self.station.seat,
-            &mut self.station.door,
-            name,
-        ) {
+        let answer = match ask_at(self.rt, self.alloc, self.table, self.station, name) {
             Ok(answer) => answer,
             Err(fault) => return Err(fault),
         };

@@ -42,18 +42,18 @@ returns-in_err-reserve g c =
 -- an ask without an answer
 pub returns-in-Err : goal.returns-in-Err
 returns-in-Err g c =
-    let s = c.args.self.now in let t = c.ask in let w = view_of t.new.seat in
+    let s = c.args.self.now in let t = c.ask_at in let w = view_of t.new.station.seat in
     asks-name-not {e = c.in-Err.fault} (search rules)
     (keeps s.station.ghost_name s.finds (λ i. (t.ensures.table.0 i, t.ensures.table.1 i))
     (ap (λ (k : ℕ). before_last k w) c.reserve.ensures.len ∙ start_after_refusal (vec_len s.names) (view_of s.station.now.seat) w c.in-Err.ensures.err))
     t.ensures.same_folders (ap name_set c.reserve.ensures.items)
-    (other_value (Arc Answer Global) Answer (g.D.ClassFinder.faults s.station.now.door) (g.D.ClassFinder.faults t.new.door) c.in-Err.fault c.in-Err.ensures.faults)
+    (other_value (Arc Answer Global) Answer (g.D.ClassFinder.faults s.station.now.door) (g.D.ClassFinder.faults t.new.station.door) c.in-Err.fault c.in-Err.ensures.faults)
 
 -- an ask with an answer, which is held or not
 
 pub returns-in_err-clone-2 : goal.returns-in_err-clone-2
 returns-in_err-clone-2 g c =
-    let s = c.args.self.now in let t = c.ask in let n = vec_len s.names in let name = c.args.name.now in let v = view_of s.station.now.seat in let w = view_of t.new.seat in let look = c.in-Ok.ensures.ok.1 in
+    let s = c.args.self.now in let t = c.ask_at in let n = vec_len s.names in let name = c.args.name.now in let v = view_of s.station.now.seat in let w = view_of t.new.station.seat in let look = c.in-Ok.ensures.ok.1 in
     let put : c.push_reserved.new.self.items ≡ s.names.items ++ name ∷ [] = put_copy c.push_reserved.ensures.items c.reserve.ensures.items (search rules) in
     let long : vec_len c.push_reserved.new.self ≡ n + 1 = c.push_reserved.ensures.len ∙ ap (λ (k : ℕ). k + 1) c.reserve.ensures.len in
     asks-name-memory (search rules)
@@ -62,7 +62,7 @@ returns-in_err-clone-2 g c =
 
 pub returns-in_err-insert : goal.returns-in_err-insert
 returns-in_err-insert g c =
-    let s = c.args.self.now in let t = c.ask in let n = vec_len s.names in let name = c.args.name.now in let v = view_of s.station.now.seat in let w = view_of t.new.seat in let look = c.in-Ok.ensures.ok.1 in
+    let s = c.args.self.now in let t = c.ask_at in let n = vec_len s.names in let name = c.args.name.now in let v = view_of s.station.now.seat in let w = view_of t.new.station.seat in let look = c.in-Ok.ensures.ok.1 in
     let put : c.push_reserved.new.self.items ≡ s.names.items ++ name ∷ [] = put_copy c.push_reserved.ensures.items c.reserve.ensures.items (search rules) in
     let long : vec_len c.push_reserved.new.self ≡ n + 1 = c.push_reserved.ensures.len ∙ ap (λ (k : ℕ). k + 1) c.reserve.ensures.len in
     asks-name-memory (search rules)
@@ -71,7 +71,7 @@ returns-in_err-insert g c =
 
 pub returns : goal.returns
 returns g c =
-    let s = c.args.self.now in let t = c.ask in let n = vec_len s.names in let name = c.args.name.now in let v = view_of s.station.now.seat in let w = view_of t.new.seat in let look = c.in-Ok.ensures.ok.1 in
+    let s = c.args.self.now in let t = c.ask_at in let n = vec_len s.names in let name = c.args.name.now in let v = view_of s.station.now.seat in let w = view_of t.new.station.seat in let look = c.in-Ok.ensures.ok.1 in
     let put : c.push_reserved.new.self.items ≡ s.names.items ++ name ∷ [] = put_copy c.push_reserved.ensures.items c.reserve.ensures.items (search rules) in
     let long : vec_len c.push_reserved.new.self ≡ n + 1 = c.push_reserved.ensures.len ∙ ap (λ (k : ℕ). k + 1) c.reserve.ensures.len in
     asks-name-answer {a = c.in-Ok.answer.value} (search rules)
@@ -83,20 +83,20 @@ returns g c =
 
 pub invariant_of-self-in-Err-1 : goal.invariant_of-self-in-Err-1
 invariant_of-self-in-Err-1 g c =
-    let s = c.args.self.now in let t = c.ask in let n = vec_len s.names in let v = view_of s.station.now.seat in let w = view_of t.new.seat in let quiet = c.in-Err.ensures.err in let same = c.reserve.ensures.items in
+    let s = c.args.self.now in let t = c.ask_at in let n = vec_len s.names in let v = view_of s.station.now.seat in let w = view_of t.new.station.seat in let quiet = c.in-Err.ensures.err in let same = c.reserve.ensures.items in
     record {
       of_table = t.ensures.table.0 ∙ s.of_table;
       same_world = t.ensures.same_folders ∙ s.same_world ∙ sym quiet.1.1;
       looks = looks_stay n (vec_len c.reserve.new.self) s.names.items c.reserve.new.self.items v w c.reserve.ensures.len same quiet s.looks;
       once = ap (λ (l : List Name). set.len (name_set l)) same ∙ s.once ∙ sym c.reserve.ensures.len;
-      held = subst (λ (l : List Name). AreHeldAnswers (g.D.ClassFinder.holds t.new.door) (name_set l) s.answers.entries) (sym same) (held_on s.answers.entries t.ensures.same_folders (within-self (name_set s.names.items)) s.held);
+      held = subst (λ (l : List Name). AreHeldAnswers (g.D.ClassFinder.holds t.new.station.door) (name_set l) s.answers.entries) (sym same) (held_on s.answers.entries t.ensures.same_folders (within-self (name_set s.names.items)) s.held);
       all_held = λ is. absurd (false≢true is);
       counted = λ is. absurd (false≢true is);
     }
 
 pub invariant_of-self-in-Break-branch-5 : goal.invariant_of-self-in-Break-branch-5
 invariant_of-self-in-Break-branch-5 g c =
-    let s = c.args.self.now in let t = c.ask in let n = vec_len s.names in let name = c.args.name.now in let v = view_of s.station.now.seat in let w = view_of t.new.seat in let look = c.in-Ok.ensures.ok.1 in
+    let s = c.args.self.now in let t = c.ask_at in let n = vec_len s.names in let name = c.args.name.now in let v = view_of s.station.now.seat in let w = view_of t.new.station.seat in let look = c.in-Ok.ensures.ok.1 in
     let put : c.push_reserved.new.self.items ≡ s.names.items ++ name ∷ [] = put_copy c.push_reserved.ensures.items c.reserve.ensures.items (search rules) in
     let long : vec_len c.push_reserved.new.self ≡ n + 1 = c.push_reserved.ensures.len ∙ ap (λ (k : ℕ). k + 1) c.reserve.ensures.len in
     let more = names_more s.names.items c.push_reserved.new.self.items name put in
@@ -114,7 +114,7 @@ invariant_of-self-in-Break-branch-5 g c =
 
 pub invariant_of-self-in-Break-branch-6 : goal.invariant_of-self-in-Break-branch-6
 invariant_of-self-in-Break-branch-6 g c =
-    let s = c.args.self.now in let t = c.ask in let n = vec_len s.names in let name = c.args.name.now in let v = view_of s.station.now.seat in let w = view_of t.new.seat in let look = c.in-Ok.ensures.ok.1 in
+    let s = c.args.self.now in let t = c.ask_at in let n = vec_len s.names in let name = c.args.name.now in let v = view_of s.station.now.seat in let w = view_of t.new.station.seat in let look = c.in-Ok.ensures.ok.1 in
     let put : c.push_reserved.new.self.items ≡ s.names.items ++ name ∷ [] = put_copy c.push_reserved.ensures.items c.reserve.ensures.items (search rules) in
     let long : vec_len c.push_reserved.new.self ≡ n + 1 = c.push_reserved.ensures.len ∙ ap (λ (k : ℕ). k + 1) c.reserve.ensures.len in
     let more = names_more s.names.items c.push_reserved.new.self.items name put in
@@ -133,7 +133,7 @@ invariant_of-self-in-Break-branch-6 g c =
 
 pub invariant_of-self-2 : goal.invariant_of-self-2
 invariant_of-self-2 g c =
-    let s = c.args.self.now in let t = c.ask in let n = vec_len s.names in let name = c.args.name.now in let v = view_of s.station.now.seat in let w = view_of t.new.seat in let look = c.in-Ok.ensures.ok.1 in
+    let s = c.args.self.now in let t = c.ask_at in let n = vec_len s.names in let name = c.args.name.now in let v = view_of s.station.now.seat in let w = view_of t.new.station.seat in let look = c.in-Ok.ensures.ok.1 in
     let put : c.push_reserved.new.self.items ≡ s.names.items ++ name ∷ [] = put_copy c.push_reserved.ensures.items c.reserve.ensures.items (search rules) in
     let long : vec_len c.push_reserved.new.self ≡ n + 1 = c.push_reserved.ensures.len ∙ ap (λ (k : ℕ). k + 1) c.reserve.ensures.len in
     let more = names_more s.names.items c.push_reserved.new.self.items name put in
@@ -147,5 +147,5 @@ invariant_of-self-2 g c =
       held = held_put s.answers.entries c.insert.new.self.entries name c.key.inside.text c.in_ok-clone-2.field-0 c.insert.result (search rules) (held_on s.answers.entries t.ensures.same_folders (within_put name more) s.held)
           (new_is_held (name_set s.names.items) t.ensures.same_folders more (search rules) (right_answer name c.in-Ok.answer.value s.same_world c.in-Ok.ensures.ok.0)) c.insert.ensures.entries c.insert.ensures.err;
       all_held = λ is. all_more (name_set s.names.items) (name_set c.push_reserved.new.self.items) s.answers c.insert.new.self name c.key.inside.text c.in_ok-clone-2.field-0 more (search rules) whole c.in_ok-insert.ensures.updates;
-      counted = λ is. finds_more s.finds (g.D.ClassFinder.finds s.station.now.door) (g.D.ClassFinder.finds t.new.door) n (vec_len c.push_reserved.new.self) (part_of name) name v w long look (s.counted (search rules));
+      counted = λ is. finds_more s.finds (g.D.ClassFinder.finds s.station.now.door) (g.D.ClassFinder.finds t.new.station.door) n (vec_len c.push_reserved.new.self) (part_of name) name v w long look (s.counted (search rules));
     }
