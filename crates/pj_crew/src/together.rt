@@ -107,6 +107,7 @@ fn put_together<M: Drop>(
 /// by the door of the worker that asks for it first. The doors are those that they were, in their order.
 ///
 /// A failed door goes before want of memory. It waits for the threads and for the turns of the table.
+#[tactic(auto, using(crate::proofs::Worked::unchanged))]
 pub fn work_together<R: Threads + Wait + Sync, D: ClassDoor, G: Gate + Sync, W: FileWork + Sync>(
     rt: &R,
     alloc: Global,
