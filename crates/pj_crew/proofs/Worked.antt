@@ -63,8 +63,8 @@ module _ {D M : Type 0} (table : TypeTable) (start : View) (holds : D → World)
   pub counts : {B : Type 0} (result : Result B AskFault) → (result ≡ Err Failed → Contains ends (Err Failed)) → UnlessFailed result (All HasNotFailed ends) → CountsFaults (total faults before) (total faults after) result
   counts result failed not =
       let all = counts_all holds finds faults comes hired worked result each
-          (λ is. subst (λ (l : List (Result (Share M) AskFault)). Contains l (Err Failed)) work.ends_are (failed is))
-          (subst (λ (l : List (Result (Share M) AskFault)). UnlessFailed result (All HasNotFailed l)) work.ends_are not) in
+      (λ is. subst (λ (l : List (Result (Share M) AskFault)). Contains l (Err Failed)) work.ends_are (failed is))
+      (subst (λ (l : List (Result (Share M) AskFault)). UnlessFailed result (All HasNotFailed l)) work.ends_are not) in
       subst (λ (l : List D). CountsFaults (total faults l) (total faults after) result) (sym before_is)
       (subst (λ (l : List D). CountsFaults (total faults (doors_of hired)) (total faults l) result) (sym work.after_is) all)
 

@@ -103,8 +103,8 @@ fn put_together<M: Drop>(
     Ok(Together { made, closed })
 }
 
-/// Works at all files with a worker for each door, through one table. Each file is claimed by one worker, and each class is found once,
-/// by the door of the worker that asks for it first. The doors are those that they were, in their order.
+/// Works at all files with a worker for each door, through one table. What comes of a file does not depend on who works at it. The doors
+/// are those that they were, in their order.
 ///
 /// A failed door goes before want of memory. It waits for the threads and for the turns of the table.
 #[tactic(auto, using(crate::proofs::Worked::unchanged))]

@@ -34,12 +34,5 @@ pub fn run_worker<D: ClassDoor, G: Gate, W: FileWork, R: Wait>(
     ensures same_folders { D.holds worker.new.station.door ≡ D.holds worker.old.station.door }
     ensures ended { HasEnded (D.holds worker.old.station.door) (W.comes work.now) (D.finds worker.old.station.door) (D.finds worker.new.station.door) (D.faults worker.old.station.door) (D.faults worker.new.station.door) worker.old.station.seat worker.new.station.seat worker.new.ended }
 {
-    worker.ended = claim_loop(
-        rt,
-        alloc,
-        table,
-        &mut worker.station,
-        work,
-        gate,
-    );
+    worker.ended = claim_loop(rt, alloc, table, &mut worker.station, work, gate);
 }

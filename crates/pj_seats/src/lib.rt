@@ -1,5 +1,5 @@
-//! How a worker asks for classes: an oracle through a seat of the shared table, for one file; and the gate at which workers
-//! arrive.
+//! What one worker does: an oracle through its seat of the shared table, for one file; the loop in which it claims files; and the
+//! gate that it passes with each.
 #![tactic(auto)]
 
 mod gate;

@@ -19,8 +19,8 @@ use std::sync::{Arc, Wait};
 
 /// An oracle through a seat of the shared table, made for one file: it asks the table once a name, and holds the answer.
 ///
-/// The seat's list has one entry more for each name that was asked, and no other. Where an ask gave no answer, since the door
-/// failed or memory ran out, the table is not asked again: each later ask of a name that is not held wants memory.
+/// The seat's list has one entry more for each name that was asked, and no other. Where an ask of the table gave no answer, since the
+/// door failed or memory ran out, the table is not asked again: each later ask of a name that is not held wants memory.
 #[derive(Drop)]
 pub struct SeatOracle<'a, D: ClassFinder, R: Wait> {
     rt: &'a R,
@@ -76,7 +76,8 @@ impl<'a, D: ClassFinder, R: Wait> SeatOracle<'a, D, R> {
         self.names.as_slice()
     }
 
-    /// Whether each ask was answered. Then the door has had one find for each entry that fills, and no other.
+    /// Whether each ask that came to the table had an answer, and it is held. Then, since the oracle was made, the door has had one find
+    /// for each entry that fills, and no other.
     pub fn is_whole(&self) -> bool
         ensures finds { IsTrue result → CountsFinds (⟦<SeatOracle<'a, D, R> as Oracle>⟧.tells self.now).kept.finds (D.finds self.now.station.now.door) (looks_since (⟦<SeatOracle<'a, D, R> as Oracle>⟧.tells self.now).kept.start (view_of self.now.station.now.seat)) }
     {

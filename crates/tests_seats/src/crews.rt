@@ -10,25 +10,26 @@ use std::sync::{Arc, Wait};
 use std::test::Fail;
 use std::thread::{Threads, yield_now};
 
-/// A gate at which the worker of file 0 waits until file 1 was claimed.
+/// A gate at which the worker of file 0 waits until file 1 was claimed. It gives up after many looks.
 #[derive(Drop)]
-struct Crossing<'r, R: Wait> {
-    rt: &'r R,
+struct Crossing {
     came: AtomicBool,
+    gave_up: AtomicBool,
 }
 
-impl<'r, R: Wait> Gate for Crossing<'r, R> {
+impl Gate for Crossing {
     fn arrive(&self, file: u32) {
         if file == 1 {
             self.came.store(true, Ordering::SeqCst);
         }
         if file == 0 {
-            for _ in self.rt.forever() {
+            for _ in 0..100_000_000u32 {
                 if self.came.load(Ordering::SeqCst) {
                     return;
                 }
                 yield_now();
             }
+            self.gave_up.store(true, Ordering::SeqCst);
         }
     }
 }
@@ -146,10 +147,13 @@ fn crews(rt: HostRuntime) -> Result<(), Fail> {
 #[test]
 fn two_workers_are_at_work_at_once(rt: HostRuntime) -> Result<(), Fail> {
     let gate = Crossing {
-        rt: &rt,
         came: AtomicBool::new(false),
+        gave_up: AtomicBool::new(false),
     };
     let (made, _) = work_by(&rt, rt.alloc(), 2, &["p.A", "p.B"], 0, &gate)?;
+    if gate.gave_up.load(Ordering::SeqCst) {
+        return Err(Fail::new("no second worker came"));
+    }
     if !is_made(&made, Some(&[false, true])) {
         return Err(Fail::new("two workers at two files"));
     }
