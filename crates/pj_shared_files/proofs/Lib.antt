@@ -1,4 +1,0 @@
-pub mod InWorlds
-pub mod AllLeft
-pub mod Answering
-pub mod Finally

@@ -1,5 +1,0 @@
--- definitions
-pub mod InWorlds
--- for private clauses
-pub mod Gathering
-pub mod Answering
