@@ -1,0 +1,6 @@
+-- definitions
+pub mod Looks
+pub mod Telling
+pub mod Working
+-- for private clauses
+pub mod Kept
