@@ -1,0 +1,5 @@
+pub mod Firsts
+pub mod Keys
+pub mod Answers
+pub mod Rules
+pub mod Entries

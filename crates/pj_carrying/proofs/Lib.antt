@@ -1,0 +1,5 @@
+pub mod ByRule
+pub mod Answering
+pub mod Lone
+pub mod Keyed
+pub mod Among

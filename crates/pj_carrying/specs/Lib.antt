@@ -1,0 +1,2 @@
+-- for private clauses
+pub mod ByRule
