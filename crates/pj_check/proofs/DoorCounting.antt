@@ -21,7 +21,7 @@ use Rattle.pj_cold.specs.Cold.{world_of}
 use Rattle.pj_check.specs.Outcome.{CountsClassFaults, CountsDoors, DoorCounts, OneDoor}
 use Rattle.pj_cold.specs.Finds.{CountsNames}
 use Rattle.pj_cold.specs.Steps.{CountsAskFault}
-use Rattle.pj_check.specs.Caching.{DoneOver, WorkSeen}
+use Rattle.pj_check.specs.Caching.{DoneOver}
 use Rattle.pj_check.specs.Steps.{CountsDoor, CountsOfClasses, IsOfClasses, after_asking, after_opening, refused}
 use Rattle.pj_check.specs.declared.refusal.Refusal.{Refusal}
 use Rattle.pj_check.specs.declared.refusal.Refusal.TheVariants.{ClassFault, Memory}

@@ -1,5 +1,5 @@
 -- From what was found and analysed to what a run has made.
-use Rattle.std.proofs.Common.{◌≡◌, ◌≢◌, ◌∙◌, ◌++◌, ℕ, List, map, filter, not, Option, None, Some, IfSome, inl, inr, ap, sym, subst, refl}
+use Rattle.std.proofs.Common.{◌≡◌, ◌≢◌, ◌∙◌, ◌++◌, ℕ, List, map, filter, not, Option, None, Some, IfSome, inl, inr, ap, sym}
 use Rattle.pj_cache.specs.declared.cache.Cache.{Cache}
 use Rattle.pj_cache_store.specs.Loading.{IsLoaded}
 use Rattle.pj_cache_store.specs.declared.loading.Loaded.{Loaded}
@@ -31,10 +31,10 @@ FoundLaw = (content : Option (List ℕ)) (loaded : Loaded) → IsLoaded (reading
 
 -- what a run takes for its cache is found somewhere where it fits
 pub fits_loaded : FoundLaw → (name : Bytes) (kept : Option Files) (found : Cache) (why : Option Unused) → TakesCache kept name found why → TakesFit (Some name) kept why → FitsIfFound (Some found)
-fits_loaded law name kept found (Some why) taken fits = record { content = None; is_found = taken.none_used; fits = λ files are. tt }
+fits_loaded law name kept found (Some why) taken fits = record { content = None; is_found = taken.0; fits = λ files are. tt }
 fits_loaded law name None found None taken fits = absurd fits
 fits_loaded law name (Some kept) found None taken fits =
-    record { content = bytes_at kept name; is_found = law (bytes_at kept name) (record { cache = found; unused = None }) taken.loaded (λ e. absurd (cc)); fits = fits }
+    record { content = bytes_at kept name; is_found = law (bytes_at kept name) (record { cache = found; unused = None }) taken.1 (λ e. absurd (cc)); fits = fits }
 
 pub fits_found : FoundLaw → (name : Option Bytes) (kept : Option Files) (found : Option Cache) (why : Option Unused) → IsTakenBy name kept found why → TakesFit name kept why → FitsIfFound found
 fits_found law None kept None why taken fits = tt

@@ -50,9 +50,8 @@ pub record IsFitting (found : Cache) : Type 0 where
 
 -- What a run takes for its cache, and why it does not use what stands under the name: then it takes the cache without entries. Where the keeper tells what it holds, it takes what
 -- stands there, if it uses it.
-pub record TakesCache (kept : Option Files) (name : Bytes) (found : Cache) (unused : Option Unused) : Type 0 where
-  pub loaded : IfSome kept (λ held. IsLoaded (read_at held name limit) (record { cache = found; unused = unused }))
-  pub none_used : IsEmptyIfUnused found unused
+abbrev pub TakesCache : Option Files → Bytes → Cache → Option Unused → Type 0
+TakesCache kept name found unused = IsEmptyIfUnused found unused × IfSome kept (λ held. IsLoaded (read_at held name limit) (record { cache = found; unused = unused }))
 
 -- What a run takes for its cache fits, if it asks for one by this name: it does not use what stands there, whatever that is, as where the keeper failed; or what stands there fits.
 abbrev pub TakesFit : Option Bytes → Option Files → Option Unused → Type 0

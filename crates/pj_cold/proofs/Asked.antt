@@ -1,5 +1,5 @@
 -- The classes for which what rules mean at files asks, together.
-use Rattle.std.proofs.Common.{◌≡◌, ◌∙◌, ◌++◌, ℕ, ◌||◌, List, [], ◌∷◌, map, Option, None, Some, ap, append-nil, arith, sym, subst, refl}
+use Rattle.std.proofs.Common.{◌≡◌, ◌∙◌, ◌++◌, ℕ, ◌||◌, List, [], ◌∷◌, map, Option, None, Some, ap, append-nil, arith, sym}
 use Rattle.std.specs.Prelude.{◌≤◌, IfOk, IfSome, IsTrue, OnOk, Result, Ok, Err}
 use Rattle.std.specs.Cmp.Lexicographic.{nat_list_cmp_total, slice_cmp}
 use Rattle.std.specs.FinSet as name_sets
@@ -51,7 +51,7 @@ module _ {A B : Type 0} (depth : ℕ) (world : Name → Answer) (meaning : A →
       ap name_set (names_of-bind depth world (meaning x) (λ (v : B). bind (each meaning xs) (λ (vs : List B). Return (v ∷ vs))))
       ∙ both_named (names_of depth world (meaning x)) (names_of depth world (bind (each meaning xs) (λ (vs : List B). Return (value ∷ vs))))
       ∙ ap (λ (names : List Name). name_sets.union (name_set (names_of depth world (meaning x))) (name_set names))
-          (names_of-bind depth world (each meaning xs) (λ (vs : List B). Return (value ∷ vs)) ∙ append-nil (names_of depth world (each meaning xs)))
+      (names_of-bind depth world (each meaning xs) (λ (vs : List B). Return (value ∷ vs)) ∙ append-nil (names_of depth world (each meaning xs)))
 
 -- ---- files
 
@@ -98,7 +98,7 @@ counts_over_door (Some held) kept faults t u set files (Err fault) old new rules
 counts_over_door {K} (Some held) kept faults t u set files (Ok found) old new rules are tells asks is counts =
     let is_told : IsTrue t.is_told = λ i. (tells i).is_told in
     let one : AreOne t.world (folders_world held).answer = λ depth far. (λ i. ((tells i).world depth).answer) in
-    let all = asked-held (each (of_file rules) files) t u (rows_alone found) is_told (λ depth far name. (λ i. ((tells i).world depth).needs name)) (λ i. (tells i).asked) asks in
+    let held_together = asked-held (each (of_file rules) files) t u (rows_alone found) is_told (λ depth far name. (λ i. ((tells i).world depth).needs name)) (λ i. (tells i).asked) asks in
     record {
       names = u.asked;
       asked = record {
@@ -106,7 +106,7 @@ counts_over_door {K} (Some held) kept faults t u set files (Ok found) old new ru
         are_rules = are;
         of_files = names_found found;
         each = each_asks t rules is_told (folders_world held).answer one files found (is rules are);
-        all = sym (all.names_are longest (far t rules is_told)) ∙ together t rules is_told files found (is rules are);
+        all = sym (held_together.names_are longest (far t rules is_told)) ∙ together t rules is_told files found (is rules are);
       };
       counts = counts;
     }

@@ -32,10 +32,10 @@ returns-clause-cache g c =
     let words = c.args.words.now in
     let before : WorkSeen = record { work = c.args.work.now; finds = g.C.ClassPath.finds c.args.classes.now } in
     let after : WorkSeen = record { work = c.run.new.work; finds = g.C.ClassPath.finds c.run.new.classes } in record {
-  told = c.run.new.told;
-  reported = subst (λ (o : Outcome). IfSome told (λ held. SaysIf (TakesFitting words kept c.run.new.told.unused) o words held classes out (g.S.Sink.held c.run.new.out) c.args.work.now c.run.new.work)) (sym c.outcome_of-outcome.ensures) c.run.ensures.says;
-  says = subst (λ (o : Outcome). SaysOfCache o words told classes kept (g.K.Keeper.holds c.run.new.keeper) before after c.run.new.told)
-      (sym c.outcome_of-outcome.ensures) c.run.ensures.of_cache;
-  counts = c.run.ensures.counts_keeper;
-  noted = c.put_run.ensures;
-}
+      told = c.run.new.told;
+      reported = subst (λ (o : Outcome). IfSome told (λ held. SaysIf (TakesFitting words kept c.run.new.told.unused) o words held classes out (g.S.Sink.held c.run.new.out) c.args.work.now c.run.new.work)) (sym c.outcome_of-outcome.ensures) c.run.ensures.says;
+      says = subst (λ (o : Outcome). SaysOfCache o words told classes kept (g.K.Keeper.holds c.run.new.keeper) before after c.run.new.told)
+          (sym c.outcome_of-outcome.ensures) c.run.ensures.of_cache;
+      counts = c.run.ensures.counts_keeper;
+      noted = c.put_run.ensures;
+    }
