@@ -19,6 +19,7 @@ use Rattle.pj_workers.specs.Cold.{World}
 use Rattle.pj_workers.specs.declared.work.Work.{Work}
 use Rattle.pj_cold.specs.Cold.{world_of}
 use Rattle.pj_check.specs.Outcome.{CountsClassFaults, CountsDoors, DoorCounts, OneDoor}
+use Rattle.pj_cold.proofs.Told.{told_so}
 use Rattle.pj_cold.specs.Finds.{CountsNames}
 use Rattle.pj_cold.specs.Steps.{CountsAskFault}
 use Rattle.pj_check.specs.Caching.{DoneOver}
@@ -118,7 +119,7 @@ cold_of_classes (Some held) door names P is cold = subst (λ (o : Option (List F
 
 -- those of a new door are added
 added : (names : NameSet) (begun ended before after : ℕ) → begun ≡ 0 → after ≡ count_and before ended → CountsNames begun ended names → CountsNames before after names
-added names begun ended before after none adds counts = adds ∙ ap (count_and before) (counts ∙ ap (λ n. count_and n (name_sets.len names)) none) ∙ twice before (name_sets.len names)
+added names begun ended before after none adds counts = adds ∙ ap (λ n. count_and before n) (counts ∙ ap (λ n. count_and n (name_sets.len names)) none) ∙ twice before (name_sets.len names)
   where
     twice : (m n : ℕ) → count_and m (count_and 0 n) ≡ count_and m n
     twice m n = omega arith
@@ -135,9 +136,18 @@ done_of_door (Some found) world sources set work done begun ended before after n
   looked = λ files are. let looked = is.looked files are in record { names = looked.names; looked = looked.looked; counts = added looked.names begun ended before after none adds looked.counts };
 }
 
-pub done_of_classes : {A : Type 0} (r : Result A Refusal) (classes : Option ClassFolders) (names : List Bytes) (found : Option Cache) (sources : Files) (set : EffectiveRules) (work done : Work) (begun ended before after : ℕ) → begun ≡ 0 → after ≡ count_and before ended
-    → IfSome classes (λ held. OnOk r (DoneOver found (world_of held names) sources set (record { work = work; finds = begun }) (record { work = done; finds = ended })))
+done_if : {A : Type 0} (r : Result A Refusal) (found : Option Cache) (world : World) (sources : Files) (set : EffectiveRules) (work done : Work) (begun ended before after : ℕ) → begun ≡ 0 → after ≡ count_and before ended
+    → OnOk r (DoneOver found world sources set (record { work = work; finds = begun }) (record { work = done; finds = ended })) → OnOk r (DoneOver found world sources set (record { work = work; finds = before }) (record { work = done; finds = after }))
+done_if (Ok a) found world sources set work done begun ended before after none adds is = done_of_door found world sources set work done begun ended before after none adds is
+done_if (Err refusal) found world sources set work done begun ended before after none adds is = tt
+
+-- so it is over a door that was opened for class folders and shut
+pub done_over_classes : {A : Type 0} (r : Result A Refusal) (classes : Option ClassFolders) (door : Option (List Files)) (names : List Bytes) (found : Option Cache) (sources : Files) (set : EffectiveRules) (work done : Work) (begun ended of_door before at_open after : ℕ)
+    → door ≡ option_map (λ held. opened held names) classes → begun ≡ 0 → at_open ≡ before → of_door ≡ ended → after ≡ count_and at_open of_door
+    → IfSome door (λ folders. OnOk r (DoneOver found (folders_world folders).answer sources set (record { work = work; finds = begun }) (record { work = done; finds = ended })))
     → IfSome classes (λ held. OnOk r (DoneOver found (world_of held names) sources set (record { work = work; finds = before }) (record { work = done; finds = after })))
-done_of_classes r None names found sources set work done begun ended before after none adds is = tt
-done_of_classes (Err refusal) (Some held) names found sources set work done begun ended before after none adds is = tt
-done_of_classes (Ok a) (Some held) names found sources set work done begun ended before after none adds is = done_of_door found (world_of held names) sources set work done begun ended before after none adds is
+done_over_classes r classes door names found sources set work done begun ended of_door before at_open after is none same is_door adds done_so =
+    told_so classes (λ held. OnOk r (DoneOver found (world_of held names) sources set (record { work = work; finds = begun }) (record { work = done; finds = ended })))
+    (λ held. OnOk r (DoneOver found (world_of held names) sources set (record { work = work; finds = before }) (record { work = done; finds = after })))
+    (λ held. done_if r found (world_of held names) sources set work done begun ended before after none (adds ∙ ap (λ n. count_and at_open n) is_door ∙ ap (λ m. count_and m ended) same))
+    (cold_of_classes classes door names (λ (world : World). OnOk r (DoneOver found world sources set (record { work = work; finds = begun }) (record { work = done; finds = ended }))) is done_so)

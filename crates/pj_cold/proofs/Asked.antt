@@ -15,6 +15,7 @@ use Rattle.pj_names.specs.Held.{AreOne}
 use Rattle.pj_names.specs.Told.{Asks, Told, longest, seen}
 use Rattle.pj_names.specs.declared.answer.Answer.{Answer}
 use Rattle.pj_names.specs.declared.oracle.AskFault.{AskFault}
+use Rattle.pj_outside.specs.Doors.{count_and}
 use Rattle.pj_outside.specs.Files.{Bytes, Files}
 use Rattle.pj_reports.specs.declared.rows.FileRows.{FileRows}
 use Rattle.pj_rule_sets.specs.Rules.{EffectiveRules}
@@ -40,6 +41,12 @@ both_named ns ms = same_names (name_set (ns ++ ms)) (name_sets.union (name_set n
     ∙ is_in-append ns ms q
     ∙ (λ i. sym (contains-from_list nat_list_cmp_total ns q) i || sym (contains-from_list nat_list_cmp_total ms q) i)
     ∙ sym (contains-union nat_list_cmp_total (name_set ns) (name_set ms) q))
+
+-- ---- counts
+
+-- the finds of a door, which an oracle that keeps what they were tells
+pub counts_of : (begun now kept : ℕ) (names : NameSet) → kept ≡ begun → now ≡ count_and kept (name_sets.len names) → CountsNames begun now names
+counts_of begun now kept names is counts = counts ∙ ap (λ n. count_and n (name_sets.len names)) is
 
 -- ---- meanings one after the other
 

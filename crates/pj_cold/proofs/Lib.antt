@@ -1,5 +1,5 @@
 pub mod Told
 mod Faults
 pub mod Gathering
-mod Asked
+pub mod Asked
 mod SomeReport

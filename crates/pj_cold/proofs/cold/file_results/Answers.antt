@@ -1,9 +1,8 @@
 use Rattle.std.proofs.Common.{◌≡◌, ◌∙◌, IfSome, OnOk, ap, rules, subst, sym}
-use Rattle.pj_outside.specs.Doors.{count_and}
 use Rattle.pj_table.specs.ClassWorld.{folders_world}
 use Rattle.pj_cold.specs.Finds.{CountsAsked}
 use Rattle.pj_cold.specs.Steps.{CountsDoorFaults}
-use Rattle.pj_cold.proofs.Asked.{counts_over_door}
+use Rattle.pj_cold.proofs.Asked.{counts_of, counts_over_door}
 use Rattle.pj_cold.proofs.Gathering.{asked_faults, rows_over_door}
 use Rattle.pj_cold.proofs.cold.file_results.Goals as goal
 
@@ -26,7 +25,7 @@ pub returns-clause-finds : goal.returns-clause-finds
 returns-clause-finds g c =
     let asks = c.analyse_files-found.ensures.asks c.sets_have_rules.ensures.0 c.sets_have_rules.ensures.1 in
     let begun = ap (λ k. k.finds) asks.same_kept ∙ ap (λ t. t.kept.finds) c.new-oracle.ensures.tells in
-    let counts = sym (ap g.D.ClassDoor.finds c.door_of-door.ensures.same_door) ∙ c.door_of-door.ensures.finds ∙ ap (λ n. count_and n _) begun in
+    let counts = counts_of (g.D.ClassDoor.finds c.args.door.now) (g.D.ClassDoor.finds c.analyse_files-found.new.oracle.door.now) _ _ begun (sym (ap g.D.ClassDoor.finds c.door_of-door.ensures.same_door) ∙ c.door_of-door.ensures.finds) in
     let same : c.analyse_files-found.new.oracle.door.now ≡ c.door-1.given.0 = search rules in
     subst (λ v. IfSome (g.D.ClassDoor.holds c.args.door.now) (λ folders. OnOk c.analyse_files-found.result (CountsAsked (folders_world folders).answer c.args.files.now c.args.rules.now (g.D.ClassDoor.finds c.args.door.now) (g.D.ClassDoor.finds v)))) same
     (counts_over_door (g.D.ClassDoor.holds c.args.door.now) _ _ _ _ c.args.rules.now c.args.files.now c.analyse_files-found.result (g.D.ClassDoor.finds c.args.door.now) (g.D.ClassDoor.finds c.analyse_files-found.new.oracle.door.now)
