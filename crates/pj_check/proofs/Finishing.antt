@@ -1,5 +1,5 @@
 -- From what was found and analysed to what a run has made.
-use Rattle.std.proofs.Common.{◌≡◌, ◌≢◌, ◌∙◌, ◌++◌, ℕ, List, map, filter, not, Option, None, Some, IfSome, inl, inr, ap, sym}
+use Rattle.std.proofs.Common.{◌≡◌, ◌≢◌, ◌∙◌, ◌++◌, ℕ, List, map, filter, not, Option, None, Some, IfSome, inl, inr, ap, sym, subst}
 use Rattle.pj_cache.specs.declared.cache.Cache.{Cache}
 use Rattle.pj_cache_store.specs.Loading.{IsLoaded}
 use Rattle.pj_cache_store.specs.declared.loading.Loaded.{Loaded}
