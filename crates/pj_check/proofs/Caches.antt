@@ -1,5 +1,6 @@
 -- From what a run has made to what its outcome says of its cache.
 use Rattle.std.proofs.Common.{◌≡◌, ◌∙◌, ◌++◌, false, List, map, Option, None, Some, IfSome, Result, Ok, Err, OnOk, OnErr, IfOk, IfErr, inl, inr, ap, sym, subst, refl}
+use Rattle.pj_cache.specs.declared.cache.Cache.{Cache}
 use Rattle.pj_cache_store.specs.declared.loading.Unused.{Unused}
 use Rattle.pj_cached_files.specs.LeftFiles.{ArePartedBy}
 use Rattle.pj_outside.specs.Doors.{ClassFolders}
@@ -8,9 +9,9 @@ use Rattle.pj_settings.specs.Job.{job}
 use Rattle.pj_settings.specs.declared.settings.Settings.{Settings}
 use Rattle.pj_sources.specs.Reading.{AreWithin}
 use Rattle.pj_workers.specs.declared.work.Work.{Work}
-use Rattle.pj_check.specs.Caching.{FindsFitting, FitsUnder, IsDoneOver, IsKept, IsLeftText}
-use Rattle.pj_check.specs.Cold.{world_of}
-use Rattle.pj_check.specs.Kept.{IsBeforeLoading, IsDoneAt, IsDoneBy, IsLeft, IsLeftBy, IsToldOf, IsUntouched, LeavesCache, SaysOfCache}
+use Rattle.pj_cold.specs.Cold.{world_of}
+use Rattle.pj_check.specs.Caching.{DoneOver, FindsFitting, FitsUnder, IsKept, IsLeftText, TakesFit, TakesFitting, WorkSeen}
+use Rattle.pj_check.specs.Kept.{DoesBy, IsBeforeLoading, IsDoneAt, IsDoneBy, IsLeft, IsLeftBy, IsToldOf, IsUntouched, LeavesCache, SaysOfCache}
 use Rattle.pj_check.specs.Outcome.{IsAnalysed}
 use Rattle.pj_check.specs.Run.{Run}
 use Rattle.pj_check.specs.Steps.{Explains, HasCacheText, IsKeptIf, IsLeaving, IsMade, IsOfClasses, IsOfSome, IsPrepared, IsReportOf, IsSomeReport, IsTextBy, IsToldAt, IsToldBefore, SaysNotPut, WorkedBy, judged, outcome_of, refused}
@@ -22,7 +23,7 @@ use Rattle.pj_check.specs.declared.refusal.Refusal.{Refusal}
 use Rattle.pj_check.specs.declared.refusal.Refusal.TheVariants.{Usage, Rules, TreeFault, ClassFault, SinkFault, Missing, Limit, Memory}
 use Rattle.pj_check.specs.declared.verdict.Verdict.{Verdict}
 use Rattle.pj_check.specs.declared.verdict.Verdict.TheVariants as verdict
-use Rattle.pj_check.proofs.Told.{all_told, told_both, told_so}
+use Rattle.pj_cold.proofs.Told.{all_told, told_both, told_so}
 
 -- ---- the work
 
@@ -62,15 +63,15 @@ made_of words held folders ready before after made within prepared worked report
       worked = with_paths ready before after within worked;
     }
 
-pub is_made_by : (words : List Bytes) (told : Option Files) (classes : Option ClassFolders) (kept : Option Files) (ready : Ready) (before after : Work) (r : Result Made Refusal) → job words ≡ Ok ready.settings → AreWithin ready.listing.paths ready.sources
+pub is_made_by : (words : List Bytes) (told : Option Files) (classes : Option ClassFolders) (kept : Option Files) (why : Option Unused) (ready : Ready) (before after : Work) (r : Result Made Refusal) → job words ≡ Ok ready.settings → AreWithin ready.listing.paths ready.sources
     → IfSome told (λ held. IsPrepared words held ready) → OnOk r (WorkedBy ready.settings.cache ready before after)
-    → IfSome classes (λ folders. FitsUnder ready.settings.cache kept → IfOk r (λ made. IsReportOf ready (world_of folders ready.settings.classes) made.report))
-    → IfSome told (λ held. IfSome classes (λ folders. FindsFitting words kept → IfOk r (λ made. IsMade words held folders before after made.report)))
-is_made_by words told classes kept ready before after (Err refusal) asked within prepared worked reported =
-    all_told told (λ held. IfSome classes (λ folders. FindsFitting words kept → Unit {0})) (λ held. all_told classes (λ folders. FindsFitting words kept → Unit {0}) (λ folders fits. tt))
-is_made_by words told classes kept ready before after (Ok made) asked within prepared worked reported =
-    told_so told (λ held. IsPrepared words held ready) (λ held. IfSome classes (λ folders. FindsFitting words kept → IsMade words held folders before after made.report))
-    (λ held is. told_so classes (λ folders. FitsUnder ready.settings.cache kept → IsReportOf ready (world_of folders ready.settings.classes) made.report) (λ folders. FindsFitting words kept → IsMade words held folders before after made.report)
+    → IfSome classes (λ folders. TakesFit ready.settings.cache kept why → IfOk r (λ made. IsReportOf ready (world_of folders ready.settings.classes) made.report))
+    → IfSome told (λ held. IfSome classes (λ folders. TakesFitting words kept why → IfOk r (λ made. IsMade words held folders before after made.report)))
+is_made_by words told classes kept why ready before after (Err refusal) asked within prepared worked reported =
+    all_told told (λ held. IfSome classes (λ folders. TakesFitting words kept why → Unit {0})) (λ held. all_told classes (λ folders. TakesFitting words kept why → Unit {0}) (λ folders fits. tt))
+is_made_by words told classes kept why ready before after (Ok made) asked within prepared worked reported =
+    told_so told (λ held. IsPrepared words held ready) (λ held. IfSome classes (λ folders. TakesFitting words kept why → IsMade words held folders before after made.report))
+    (λ held is. told_so classes (λ folders. TakesFit ready.settings.cache kept why → IsReportOf ready (world_of folders ready.settings.classes) made.report) (λ folders. TakesFitting words kept why → IsMade words held folders before after made.report)
     (λ folders of fits. made_of words held folders ready before after made within is worked (of (fits ready.settings asked))) reported)
     prepared
 
@@ -98,47 +99,53 @@ is_of_some words ready (Ok made) asked some = record { settings = ready.settings
 
 -- ---- the text that is to be left
 
-leaving_by : (words : List Bytes) (told : Option Files) (classes : Option ClassFolders) (kept : Option Files) (ready : Ready) (before after : Work) (made : Made) (why : Option Unused) (name : Option Bytes) (text : Option CacheText)
+-- what was done with what a run has at hand is what was done with what words and files come to
+does_by : (words : List Bytes) (told : Option Files) (classes : Option ClassFolders) (ready : Ready) (found : Option Cache) (before after : WorkSeen) → IfSome told (λ held. IsPrepared words held ready)
+    → IfSome classes (λ folders. DoneOver found (world_of folders ready.settings.classes) ready.sources ready.rules before after) → DoesBy words told classes found before after
+does_by words told classes ready found before after prepared done =
+    told_so told (λ held. IsPrepared words held ready) (λ held. IfSome classes (λ folders. IsDoneBy words held folders found before after))
+    (λ held of_words. told_so classes (λ folders. DoneOver found (world_of folders ready.settings.classes) ready.sources ready.rules before after) (λ folders. IsDoneBy words held folders found before after)
+    (λ folders is_done. record {
+      settings = ready.settings;
+      listing = ready.listing;
+      rules = ready.rules;
+      sources = ready.sources;
+      has_rules = of_words.has_rules;
+      read = of_words.read;
+      done = is_done;
+    })
+    done)
+    prepared
+
+leaving_by : (words : List Bytes) (told : Option Files) (classes : Option ClassFolders) (kept : Option Files) (ready : Ready) (before after : WorkSeen) (made : Made) (why : Option Unused) (name : Option Bytes) (text : Option CacheText)
     → ready.settings.cache ≡ name → job words ≡ Ok ready.settings → IfSome told (λ held. IsPrepared words held ready)
-    → IfSome classes (λ folders. FitsUnder ready.settings.cache kept → IsReportOf ready (world_of folders ready.settings.classes) made.report)
+    → IfSome classes (λ folders. TakesFit ready.settings.cache kept why → IsReportOf ready (world_of folders ready.settings.classes) made.report)
     → IsTextBy name ready classes kept before after why text → IsLeaving name words told classes kept before after why text
-leaving_by words told classes kept ready before after made why None text is asked prepared reported left = left
+leaving_by words told classes kept ready before after made why None text is asked prepared reported left = (left.0, left.1, does_by words told classes ready None before after prepared left.2)
 leaving_by words told classes kept ready before after made why (Some name) None is asked prepared reported left = absurd left
 leaving_by words told classes kept ready before after made why (Some name) (Some text) is asked prepared reported left = record {
   name_is = left.name_is;
   found = left.found;
   taken = left.taken;
-  left = told_so told (λ held. IsPrepared words held ready) (λ held. IfSome classes (λ folders. FindsFitting words kept → IsLeftBy words held folders left.found text.text))
-      (λ held of_words. told_both classes classes (λ folders. FitsUnder ready.settings.cache kept → IsReportOf ready (world_of folders ready.settings.classes) made.report)
-      (λ folders. FitsUnder (Some name) kept → IsLeftText left.found (world_of folders ready.settings.classes) ready.sources ready.rules text.text)
-      (λ folders. FindsFitting words kept → IsLeftBy words held folders left.found text.text) refl
+  left = told_so told (λ held. IsPrepared words held ready) (λ held. IfSome classes (λ folders. TakesFitting words kept why → IsLeftBy words held folders left.found text.text))
+      (λ held of_words. told_both classes classes (λ folders. TakesFit ready.settings.cache kept why → IsReportOf ready (world_of folders ready.settings.classes) made.report)
+      (λ folders. TakesFit (Some name) kept why → IsLeftText left.found (world_of folders ready.settings.classes) ready.sources ready.rules text.text)
+      (λ folders. TakesFitting words kept why → IsLeftBy words held folders left.found text.text) refl
       (λ folders of is_text fits.
       let fit = fits ready.settings asked in
       let report = of fit in record {
         run = record { settings = ready.settings; listing = ready.listing; rules = ready.rules; sources = ready.sources; report = report.report };
         is_run = record { has_rules = of_words.has_rules; read = of_words.read; reported = report.cold };
-        left = is_text (subst (λ (n : Option Bytes). FitsUnder n kept) is fit);
+        left = is_text (subst (λ (n : Option Bytes). TakesFit n kept why) is fit);
       })
       reported left.left)
       prepared;
-  done = told_so told (λ held. IsPrepared words held ready) (λ held. IfSome classes (λ folders. IsDoneBy words held folders left.found before after))
-      (λ held of_words. told_so classes (λ folders. IsDoneOver left.found (world_of folders ready.settings.classes) ready.sources ready.rules before after) (λ folders. IsDoneBy words held folders left.found before after)
-      (λ folders is_done. record {
-        settings = ready.settings;
-        listing = ready.listing;
-        rules = ready.rules;
-        sources = ready.sources;
-        has_rules = of_words.has_rules;
-        read = of_words.read;
-        done = is_done;
-      })
-      left.done)
-      prepared;
+  done = does_by words told classes ready (Some left.found) before after prepared left.done;
 }
 
-pub has_cache_text : (words : List Bytes) (told : Option Files) (classes : Option ClassFolders) (kept : Option Files) (ready : Ready) (before after : Work) (why : Option Unused) (r : Result Made Refusal)
+pub has_cache_text : (words : List Bytes) (told : Option Files) (classes : Option ClassFolders) (kept : Option Files) (ready : Ready) (before after : WorkSeen) (why : Option Unused) (r : Result Made Refusal)
     → job words ≡ Ok ready.settings → IfSome told (λ held. IsPrepared words held ready)
-    → IfSome classes (λ folders. FitsUnder ready.settings.cache kept → IfOk r (λ made. IsReportOf ready (world_of folders ready.settings.classes) made.report))
+    → IfSome classes (λ folders. TakesFit ready.settings.cache kept why → IfOk r (λ made. IsReportOf ready (world_of folders ready.settings.classes) made.report))
     → IfOk r (λ made. IsTextBy ready.settings.cache ready classes kept before after why made.left) → IfOk r (λ made. HasCacheText words told classes kept before after why made.left)
 has_cache_text words told classes kept ready before after why (Err refusal) asked prepared reported left = tt
 has_cache_text words told classes kept ready before after why (Ok made) asked prepared reported left = record {
@@ -146,6 +153,25 @@ has_cache_text words told classes kept ready before after why (Ok made) asked pr
   asked = asked;
   leaving = leaving_by words told classes kept ready before after made why ready.settings.cache made.left refl asked prepared reported left;
 }
+
+-- ---- what is taken fits
+
+taken_by_name : (name : Option Bytes) (kept : Option Files) (why : Option Unused) → FitsUnder name kept → TakesFit name kept why
+taken_by_name None kept why fits = tt
+taken_by_name (Some name) kept (Some why) fits = tt
+taken_by_name (Some name) kept None fits = fits
+
+-- it does where what is found does
+pub taken_fits : (words : List Bytes) (kept : Option Files) (why : Option Unused) → FindsFitting words kept → TakesFitting words kept why
+taken_fits words kept why finds settings asked = taken_by_name settings.cache kept why (finds settings asked)
+
+unused_by_name : (name : Option Bytes) (kept : Option Files) (why : Unused) → TakesFit name kept (Some why)
+unused_by_name None kept why = tt
+unused_by_name (Some name) kept why = tt
+
+-- and where what is found is not used
+pub unused_fits : (words : List Bytes) (kept : Option Files) (unused : Option Unused) (why : Unused) → unused ≡ Some why → TakesFitting words kept unused
+unused_fits words kept unused why is settings asked = subst (λ (w : Option Unused). TakesFit settings.cache kept w) (sym is) (unused_by_name settings.cache kept why)
 
 -- ---- what is told at a refusal
 
@@ -175,7 +201,7 @@ told_nothing Memory words told kept why none h = inl none
 
 -- ---- the end of a run
 
-pub cache_before : (r : Refusal) (words : List Bytes) (tree : Option Files) (classes : Option ClassFolders) (old new : Option Files) (before after : Work) (told : CacheNotes) → SaysNotPut r words → IsUntouched old new told → IsToldBefore r words old told.unused
+pub cache_before : (r : Refusal) (words : List Bytes) (tree : Option Files) (classes : Option ClassFolders) (old new : Option Files) (before after : WorkSeen) (told : CacheNotes) → SaysNotPut r words → IsUntouched old new told → IsToldBefore r words old told.unused
     → SaysOfCache (refused r) words tree classes old new before after told
 cache_before (Usage fault) words tree classes old new before after told h untouched why = (untouched, why)
 cache_before (Rules fault) words tree classes old new before after told h untouched why = (untouched, why)
@@ -187,9 +213,9 @@ cache_before (Limit kind) words tree classes old new before after told h untouch
 cache_before Memory words tree classes old new before after told h untouched why = (untouched, why)
 
 -- a text that is to be left, and what is kept
-left_by : (words : List Bytes) (tree : Option Files) (classes : Option ClassFolders) (old new : Option Files) (before after : Work) (told : CacheNotes) (name : Option Bytes) (text : Option CacheText)
+left_by : (words : List Bytes) (tree : Option Files) (classes : Option ClassFolders) (old new : Option Files) (before after : WorkSeen) (told : CacheNotes) (name : Option Bytes) (text : Option CacheText)
     → IsLeaving name words tree classes old before after told.unused text → IsKeptIf told.is_unwritten old new text → IsLeft name words tree classes old new before after told
-left_by words tree classes old new before after told None None leaving kept = (λ i. record { unused = leaving.0 i; is_unwritten = kept.1 i }, kept.0)
+left_by words tree classes old new before after told None None leaving kept = (λ i. record { unused = leaving.0 i; is_unwritten = kept.1 i }, kept.0, leaving.2)
 left_by words tree classes old new before after told None (Some text) leaving kept = absurd (cc leaving.1)
 left_by words tree classes old new before after told (Some name) None leaving kept = absurd leaving
 left_by words tree classes old new before after told (Some name) (Some text) leaving kept = record {
@@ -202,13 +228,13 @@ left_by words tree classes old new before after told (Some name) (Some text) lea
 }
 
 -- what was done is the same where the text is not put
-done_by : (words : List Bytes) (tree : Option Files) (classes : Option ClassFolders) (old : Option Files) (before after : Work) (why : Option Unused) (name : Option Bytes) (text : Option CacheText)
+done_by : (words : List Bytes) (tree : Option Files) (classes : Option ClassFolders) (old : Option Files) (before after : WorkSeen) (why : Option Unused) (name : Option Bytes) (text : Option CacheText)
     → IsLeaving name words tree classes old before after why text → IsDoneAt name words tree classes old before after why
-done_by words tree classes old before after why None text leaving = leaving.0
+done_by words tree classes old before after why None text leaving = (leaving.0, leaving.2)
 done_by words tree classes old before after why (Some name) None leaving = absurd leaving
 done_by words tree classes old before after why (Some name) (Some text) leaving = record { found = leaving.found; taken = leaving.taken; done = leaving.done }
 
-leaves : (words : List Bytes) (tree : Option Files) (classes : Option ClassFolders) (old new : Option Files) (before after : Work) (told : CacheNotes) (text : Option CacheText)
+leaves : (words : List Bytes) (tree : Option Files) (classes : Option ClassFolders) (old new : Option Files) (before after : WorkSeen) (told : CacheNotes) (text : Option CacheText)
     → HasCacheText words tree classes old before after told.unused text → IsKeptIf told.is_unwritten old new text → LeavesCache words tree classes old new before after told
 leaves words tree classes old new before after told text has kept = record {
   settings = has.settings;
@@ -216,7 +242,7 @@ leaves words tree classes old new before after told text has kept = record {
   left = left_by words tree classes old new before after told has.settings.cache text has.leaving kept;
 }
 
-pub cache_put : (r : Result Verdict Refusal) (words : List Bytes) (tree : Option Files) (classes : Option ClassFolders) (old mid new : Option Files) (before after : Work) (why : Option Unused) (told : CacheNotes) (text : Option CacheText)
+pub cache_put : (r : Result Verdict Refusal) (words : List Bytes) (tree : Option Files) (classes : Option ClassFolders) (old mid new : Option Files) (before after : WorkSeen) (why : Option Unused) (told : CacheNotes) (text : Option CacheText)
     → IfErr r (λ e. e ≡ SinkFault) → told.unused ≡ why → mid ≡ old → HasCacheText words tree classes old before after why text
     → OnOk r (IsKeptIf told.is_unwritten mid new text) → OnErr r (told.is_unwritten ≡ false) → OnErr r (new ≡ mid)
     → SaysOfCache (outcome_of r) words tree classes old new before after told
@@ -240,11 +266,11 @@ cache_put (Err e) words tree classes old mid new before after why told text faul
 
 -- ---- without a cache
 
-no_text : (words : List Bytes) (tree : Option Files) (classes : Option ClassFolders) (kept : Option Files) (before after : Work) (why : Option Unused) (name : Option Bytes) (text : Option CacheText) → IsLeaving name words tree classes kept before after why text → name ≡ None → text ≡ None
+no_text : (words : List Bytes) (tree : Option Files) (classes : Option ClassFolders) (kept : Option Files) (before after : WorkSeen) (why : Option Unused) (name : Option Bytes) (text : Option CacheText) → IsLeaving name words tree classes kept before after why text → name ≡ None → text ≡ None
 no_text words tree classes kept before after why None text leaving is = leaving.1
 no_text words tree classes kept before after why (Some name) text leaving is = absurd (cc)
 
-pub no_cache_text : (words : List Bytes) (tree : Option Files) (classes : Option ClassFolders) (kept : Option Files) (before after : Work) (why : Option Unused) (text : Option CacheText) → HasCacheText words tree classes kept before after why text
+pub no_cache_text : (words : List Bytes) (tree : Option Files) (classes : Option ClassFolders) (kept : Option Files) (before after : WorkSeen) (why : Option Unused) (text : Option CacheText) → HasCacheText words tree classes kept before after why text
     → ((settings : Settings) → job words ≡ Ok settings → settings.cache ≡ None) → text ≡ None
 no_cache_text words tree classes kept before after why text has none = no_text words tree classes kept before after why has.settings.cache text has.leaving (none has.settings has.asked)
 

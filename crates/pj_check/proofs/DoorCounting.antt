@@ -1,7 +1,10 @@
 -- From the calls of a class path to what is counted of a run.
-use Rattle.std.proofs.Common.{◌≡◌, ◌≢◌, ◌∙◌, ◌≤◌, ne_eqb, ◌==◌, Bool, false, ℕ, List, Option, None, Some, IfErr, IfSome, Result, Ok, Err, inl, inr, ap, sym, subst, refl, arith}
+use Rattle.std.proofs.Common.{◌≡◌, ◌≢◌, ◌∙◌, ◌≤◌, ne_eqb, ◌==◌, Bool, false, ℕ, List, Option, None, Some, IfErr, IfSome, OnOk, Result, Ok, Err, inl, inr, ap, sym, subst, refl, arith}
 use Rattle.std.specs.Bool.{MatchBool}
+use Rattle.std.specs.FinSet as name_sets
 use Rattle.std.specs.Option.{option_map}
+use Rattle.pj_cache.specs.declared.cache.Cache.{Cache}
+use Rattle.pj_names.specs.ClassName.{NameSet}
 use Rattle.pj_names.specs.declared.oracle.AskFault.{AskFault}
 use Rattle.pj_names.specs.declared.oracle.AskFault.TheVariants as unanswered
 use Rattle.pj_outside.specs.Doors.{ClassFolders, TakesFaults, count_and, opened}
@@ -11,10 +14,16 @@ use Rattle.pj_outside.specs.Files.{Bytes, Files}
 use Rattle.pj_outside.specs.declared.refused.Refused.{Refused}
 use Rattle.pj_outside.specs.declared.refused.Refused.TheVariants as unopened
 use Rattle.pj_table.specs.ClassWorld.{folders_world}
+use Rattle.pj_rule_sets.specs.Rules.{EffectiveRules}
 use Rattle.pj_workers.specs.Cold.{World}
-use Rattle.pj_check.specs.Cold.{world_of}
+use Rattle.pj_workers.specs.declared.work.Work.{Work}
+use Rattle.pj_cold.specs.Cold.{world_of}
 use Rattle.pj_check.specs.Outcome.{CountsClassFaults, CountsDoors, DoorCounts, OneDoor}
-use Rattle.pj_check.specs.Steps.{CountsAskFault, CountsDoor, CountsOfClasses, IsOfClasses, after_asking, after_opening, refused}
+use Rattle.pj_cold.proofs.Told.{told_so}
+use Rattle.pj_cold.specs.Finds.{CountsNames}
+use Rattle.pj_cold.specs.Steps.{CountsAskFault}
+use Rattle.pj_check.specs.Caching.{DoneOver}
+use Rattle.pj_check.specs.Steps.{CountsDoor, CountsOfClasses, IsOfClasses, after_asking, after_opening, refused}
 use Rattle.pj_check.specs.declared.refusal.Refusal.{Refusal}
 use Rattle.pj_check.specs.declared.refusal.Refusal.TheVariants.{ClassFault, Memory}
 
@@ -49,12 +58,6 @@ unasked_is unanswered.Memory r is = inr is
 pub unasked_faults : (why : AskFault) (r : Refusal) (old new : ℕ) → r ≡ after_asking why → CountsAskFault old new why → CountsClassFaults (refused r) old new
 unasked_faults unanswered.Failed r old new is counts = subst (λ (x : Refusal). CountsClassFaults (refused x) old new) (sym is) counts
 unasked_faults unanswered.Memory r old new is counts = subst (λ (x : Refusal). CountsClassFaults (refused x) old new) (sym is) counts
-
--- a call that did not fail leaves the count
-pub unfailed_faults : {A : Type 0} (r : Result A Refused) (old new : ℕ) → r ≢ Err unopened.Failed → outside.CountsFaults old new r → new ≡ old
-unfailed_faults (Ok a) old new never counts = counts
-unfailed_faults (Err unopened.Failed) old new never counts = absurd (never refl)
-unfailed_faults (Err unopened.Memory) old new never counts = counts
 
 -- ---- the door was opened, and is shut
 
@@ -111,3 +114,40 @@ pub cold_of_classes : (classes : Option ClassFolders) (door : Option (List Files
     IfSome door (λ folders. P (folders_world folders).answer) → IfSome classes (λ held. P (world_of held names))
 cold_of_classes None door names P is cold = tt
 cold_of_classes (Some held) door names P is cold = subst (λ (o : Option (List Files)). IfSome o (λ folders. P (folders_world folders).answer)) is cold
+
+-- ---- the finds
+
+-- those of a new door are added
+added : (names : NameSet) (begun ended before after : ℕ) → begun ≡ 0 → after ≡ count_and before ended → CountsNames begun ended names → CountsNames before after names
+added names begun ended before after none adds counts = adds ∙ ap (λ n. count_and before n) (counts ∙ ap (λ n. count_and n (name_sets.len names)) none) ∙ twice before (name_sets.len names)
+  where
+    twice : (m n : ℕ) → count_and m (count_and 0 n) ≡ count_and m n
+    twice m n = omega arith
+
+-- What was done over a new door was done over the class path that adds its finds.
+done_of_door : (found : Option Cache) (world : World) (sources : Files) (set : EffectiveRules) (work done : Work) (begun ended before after : ℕ) → begun ≡ 0 → after ≡ count_and before ended
+    → DoneOver found world sources set (record { work = work; finds = begun }) (record { work = done; finds = ended }) → DoneOver found world sources set (record { work = work; finds = before }) (record { work = done; finds = after })
+done_of_door None world sources set work done begun ended before after none adds is = record { names = is.names; asked = is.asked; counts = added is.names begun ended before after none adds is.counts }
+done_of_door (Some found) world sources set work done begun ended before after none adds is = record {
+  meant = is.meant;
+  held = is.held;
+  written = is.written;
+  is_done = is.is_done;
+  looked = λ files are. let looked = is.looked files are in record { names = looked.names; looked = looked.looked; counts = added looked.names begun ended before after none adds looked.counts };
+}
+
+done_if : {A : Type 0} (r : Result A Refusal) (found : Option Cache) (world : World) (sources : Files) (set : EffectiveRules) (work done : Work) (begun ended before after : ℕ) → begun ≡ 0 → after ≡ count_and before ended
+    → OnOk r (DoneOver found world sources set (record { work = work; finds = begun }) (record { work = done; finds = ended })) → OnOk r (DoneOver found world sources set (record { work = work; finds = before }) (record { work = done; finds = after }))
+done_if (Ok a) found world sources set work done begun ended before after none adds is = done_of_door found world sources set work done begun ended before after none adds is
+done_if (Err refusal) found world sources set work done begun ended before after none adds is = tt
+
+-- so it is over a door that was opened for class folders and shut
+pub done_over_classes : {A : Type 0} (r : Result A Refusal) (classes : Option ClassFolders) (door : Option (List Files)) (names : List Bytes) (found : Option Cache) (sources : Files) (set : EffectiveRules) (work done : Work) (begun ended of_door before at_open after : ℕ)
+    → door ≡ option_map (λ held. opened held names) classes → begun ≡ 0 → at_open ≡ before → of_door ≡ ended → after ≡ count_and at_open of_door
+    → IfSome door (λ folders. OnOk r (DoneOver found (folders_world folders).answer sources set (record { work = work; finds = begun }) (record { work = done; finds = ended })))
+    → IfSome classes (λ held. OnOk r (DoneOver found (world_of held names) sources set (record { work = work; finds = before }) (record { work = done; finds = after })))
+done_over_classes r classes door names found sources set work done begun ended of_door before at_open after is none same is_door adds done_so =
+    told_so classes (λ held. OnOk r (DoneOver found (world_of held names) sources set (record { work = work; finds = begun }) (record { work = done; finds = ended })))
+    (λ held. OnOk r (DoneOver found (world_of held names) sources set (record { work = work; finds = before }) (record { work = done; finds = after })))
+    (λ held. done_if r found (world_of held names) sources set work done begun ended before after none (adds ∙ ap (λ n. count_and at_open n) is_door ∙ ap (λ m. count_and m ended) same))
+    (cold_of_classes classes door names (λ (world : World). OnOk r (DoneOver found world sources set (record { work = work; finds = begun }) (record { work = done; finds = ended }))) is done_so)

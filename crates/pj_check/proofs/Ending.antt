@@ -14,15 +14,14 @@ use Rattle.pj_workers.specs.declared.work.Work.{Work}
 use Rattle.pj_check.specs.declared.verdict.Verdict.{Verdict}
 use Rattle.pj_check.specs.declared.verdict.Verdict.TheVariants as verdict
 use Rattle.pj_check.specs.declared.report_rendering.Written.{Written}
-use Rattle.pj_check.specs.Caching.{FindsFitting}
-use Rattle.pj_check.specs.Outcome.{CountsClassFaults, CountsDoors, CountsSinkFaults, CountsTreeFaults, DoorCounts, GetsSome, IsAnalysed, IsCut, IsReported, KeepsWork, OneDoor, Says, SaysOfFiles, SaysOfSink, SaysOfWords}
+use Rattle.pj_check.specs.Outcome.{CountsClassFaults, CountsDoors, CountsSinkFaults, CountsTreeFaults, DoorCounts, GetsSome, IsAnalysed, IsCut, IsReported, KeepsWork, OneDoor, SaysIf, SaysOfFiles, SaysOfSink, SaysOfWords}
 use Rattle.pj_check.specs.Run.{HasRules}
 use Rattle.pj_check.specs.Steps.{CountsFaults, Explains, HasNoReport, IsMade, IsOfClasses, IsOfSome, SaysNoReport, SaysNotPut, SaysRefusal, outcome_of, refused}
 use Rattle.pj_check.specs.declared.outcome.Outcome.{Outcome}
 use Rattle.pj_check.specs.declared.outcome.Outcome.TheVariants as outcome
 use Rattle.pj_check.specs.declared.refusal.Refusal.{Refusal}
 use Rattle.pj_check.specs.declared.refusal.Refusal.TheVariants.{Usage, Rules, TreeFault, ClassFault, SinkFault, Missing, Limit, Memory}
-use Rattle.pj_check.proofs.Told.{all_told, told_both, told_so}
+use Rattle.pj_cold.proofs.Told.{all_told, told_both, told_so}
 
 -- ---- the report is made
 
@@ -89,19 +88,41 @@ doors_idle words told Memory doors h = inl refl
 
 -- ---- the run ends before the report is put
 
-pub says_before : (r : Refusal) (words : List Bytes) (held : Files) (classes : Option ClassFolders) (kept : Option Files) (old new : Option Bytes) (before after : Work) → SaysNoReport words held r → Says (refused r) words held classes kept old new before after
-says_before (Usage fault) words held classes kept old new before after h = h
-says_before (Rules fault) words held classes kept old new before after h = h
-says_before TreeFault words held classes kept old new before after h = tt
-says_before ClassFault words held classes kept old new before after h = h
-says_before SinkFault words held classes kept old new before after h = absurd h
-says_before (Missing path) words held classes kept old new before after h = h
-says_before (Limit kind) words held classes kept old new before after h = h
-says_before Memory words held classes kept old new before after h = tt
+pub says_before : (r : Refusal) (words : List Bytes) (held : Files) (classes : Option ClassFolders) (F : Type 0) (old new : Option Bytes) (before after : Work) → SaysNoReport words held r → SaysIf F (refused r) words held classes old new before after
+says_before (Usage fault) words held classes F old new before after h = h
+says_before (Rules fault) words held classes F old new before after h = h
+says_before TreeFault words held classes F old new before after h = tt
+says_before ClassFault words held classes F old new before after h = h
+says_before SinkFault words held classes F old new before after h = absurd h
+says_before (Missing path) words held classes F old new before after h = h
+says_before (Limit kind) words held classes F old new before after h = h
+says_before Memory words held classes F old new before after h = tt
 
-pub all_say_before : (r : Refusal) (words : List Bytes) (told : Option Files) (classes : Option ClassFolders) (kept : Option Files) (old new : Option Bytes) (before after : Work) → HasNoReport words told r → IfSome told (λ held. Says (refused r) words held classes kept old new before after)
-all_say_before r words told classes kept old new before after e =
-    told_so told (λ held. SaysNoReport words held r) (λ held. Says (refused r) words held classes kept old new before after) (λ held h. says_before r words held classes kept old new before after h) e.cause
+pub all_say_before : (r : Refusal) (words : List Bytes) (told : Option Files) (classes : Option ClassFolders) (F : Type 0) (old new : Option Bytes) (before after : Work) → HasNoReport words told r → IfSome told (λ held. SaysIf F (refused r) words held classes old new before after)
+all_say_before r words told classes F old new before after e =
+    told_so told (λ held. SaysNoReport words held r) (λ held. SaysIf F (refused r) words held classes old new before after) (λ held h. says_before r words held classes F old new before after h) e.cause
+
+-- what is said under a premise is said under one from which that follows
+sooner : (F G : Type 0) → (G → F) → (P : ClassFolders → Type 0) (classes : Option ClassFolders) → IfSome classes (λ folders. F → P folders) → IfSome classes (λ folders. G → P folders)
+sooner F G of P classes h = told_so classes (λ folders. F → P folders) (λ folders. G → P folders) (λ folders is g. is (of g)) h
+
+says_sooner : (F G : Type 0) → (G → F) → (o : Outcome) (words : List Bytes) (held : Files) (classes : Option ClassFolders) (old new : Option Bytes) (before after : Work) → SaysIf F o words held classes old new before after → SaysIf G o words held classes old new before after
+says_sooner F G of outcome.Clean words held classes old new before after h = sooner F G of (λ folders. IsReported verdict.Clean words held folders old new before after) classes h
+says_sooner F G of outcome.Violations words held classes old new before after h = sooner F G of (λ folders. IsReported verdict.Violations words held folders old new before after) classes h
+says_sooner F G of outcome.Errors words held classes old new before after h = sooner F G of (λ folders. IsReported verdict.Errors words held folders old new before after) classes h
+says_sooner F G of (outcome.Usage fault) words held classes old new before after h = h
+says_sooner F G of (outcome.Rules fault) words held classes old new before after h = h
+says_sooner F G of outcome.TreeFault words held classes old new before after h = h
+says_sooner F G of outcome.ClassFault words held classes old new before after h = h
+says_sooner F G of outcome.SinkFault words held classes old new before after h = sooner F G of (λ folders. IsCut words held folders old new before after) classes h
+says_sooner F G of (outcome.Missing path) words held classes old new before after h = h
+says_sooner F G of (outcome.Limit kind) words held classes old new before after h = h
+says_sooner F G of outcome.Memory words held classes old new before after h = h
+
+pub all_say_sooner : (F G : Type 0) → (G → F) → (o : Outcome) (words : List Bytes) (told : Option Files) (classes : Option ClassFolders) (old new : Option Bytes) (before after : Work) → IfSome told (λ held. SaysIf F o words held classes old new before after)
+    → IfSome told (λ held. SaysIf G o words held classes old new before after)
+all_say_sooner F G of o words told classes old new before after says =
+    told_so told (λ held. SaysIf F o words held classes old new before after) (λ held. SaysIf G o words held classes old new before after) (λ held h. says_sooner F G of o words held classes old new before after h) says
 
 -- a refusal before the report is put is no fault of the sink
 pub files_before : (r : Refusal) (words : List Bytes) (told : Option Files) (before after : Work) → SaysNotPut r words → IfSome told (λ held. SaysOfFiles (refused r) words held before after)
@@ -187,28 +208,28 @@ no_class_before Memory n e = absurd (cc)
 -- ---- the report is put
 
 -- what the end of a run says whose report was put, or was cut
-reported_so : (v : Verdict) (words : List Bytes) (held : Files) (classes : Option ClassFolders) (kept : Option Files) (written : Written) (old new : Option Bytes) (before after : Work) → v ≡ written.verdict → Gets old new written.text →
-    IfSome classes (λ folders. FindsFitting words kept → IsMade words held folders before after written) → IfSome classes (λ folders. FindsFitting words kept → IsReported v words held folders old new before after)
-reported_so v words held classes kept written old new before after is got made =
-    told_so classes (λ folders. FindsFitting words kept → IsMade words held folders before after written) (λ folders. FindsFitting words kept → IsReported v words held folders old new before after)
+reported_so : (v : Verdict) (words : List Bytes) (held : Files) (classes : Option ClassFolders) (F : Type 0) (written : Written) (old new : Option Bytes) (before after : Work) → v ≡ written.verdict → Gets old new written.text →
+    IfSome classes (λ folders. F → IsMade words held folders before after written) → IfSome classes (λ folders. F → IsReported v words held folders old new before after)
+reported_so v words held classes F written old new before after is got made =
+    told_so classes (λ folders. F → IsMade words held folders before after written) (λ folders. F → IsReported v words held folders old new before after)
     (λ folders make fits. let m = make fits in record { run = m.run; is_run = m.is_run; comes_to = sym (is ∙ m.comes_to); got = subst (λ (t : Bytes). Gets old new t) m.text got; worked = m.worked }) made
 
-pub ends_so : (v : Verdict) (words : List Bytes) (held : Files) (classes : Option ClassFolders) (kept : Option Files) (written : Written) (old new : Option Bytes) (before after : Work) → v ≡ written.verdict → Gets old new written.text →
-    IfSome classes (λ folders. FindsFitting words kept → IsMade words held folders before after written) → Says (outcome_of (Ok v)) words held classes kept old new before after
-ends_so verdict.Clean words held classes kept written old new before after is got made = reported_so verdict.Clean words held classes kept written old new before after is got made
-ends_so verdict.Violations words held classes kept written old new before after is got made = reported_so verdict.Violations words held classes kept written old new before after is got made
-ends_so verdict.Errors words held classes kept written old new before after is got made = reported_so verdict.Errors words held classes kept written old new before after is got made
+pub ends_so : (v : Verdict) (words : List Bytes) (held : Files) (classes : Option ClassFolders) (F : Type 0) (written : Written) (old new : Option Bytes) (before after : Work) → v ≡ written.verdict → Gets old new written.text →
+    IfSome classes (λ folders. F → IsMade words held folders before after written) → SaysIf F (outcome_of (Ok v)) words held classes old new before after
+ends_so verdict.Clean words held classes F written old new before after is got made = reported_so verdict.Clean words held classes F written old new before after is got made
+ends_so verdict.Violations words held classes F written old new before after is got made = reported_so verdict.Violations words held classes F written old new before after is got made
+ends_so verdict.Errors words held classes F written old new before after is got made = reported_so verdict.Errors words held classes F written old new before after is got made
 
-pub put_says : (r : Result Verdict Refusal) (words : List Bytes) (told : Option Files) (classes : Option ClassFolders) (kept : Option Files) (written : Written) (old new : Option Bytes) (before after : Work) →
+pub put_says : (r : Result Verdict Refusal) (words : List Bytes) (told : Option Files) (classes : Option ClassFolders) (F : Type 0) (written : Written) (old new : Option Bytes) (before after : Work) →
     IfOk r (λ v. v ≡ written.verdict) → OnOk r (Gets old new written.text) → OnErr r (GetsPrefix old new written.text) → IfErr r (λ e. e ≡ SinkFault) →
-    IfSome told (λ held. IfSome classes (λ folders. FindsFitting words kept → IsMade words held folders before after written)) → IfSome told (λ held. Says (outcome_of r) words held classes kept old new before after)
-put_says (Ok v) words told classes kept written old new before after is got cut fault made =
-    told_so told (λ held. IfSome classes (λ folders. FindsFitting words kept → IsMade words held folders before after written)) (λ held. Says (outcome_of (Ok v)) words held classes kept old new before after)
-    (λ held m. ends_so v words held classes kept written old new before after is got m) made
-put_says (Err r) words told classes kept written old new before after is got cut fault made =
-    told_so told (λ held. IfSome classes (λ folders. FindsFitting words kept → IsMade words held folders before after written)) (λ held. Says (refused r) words held classes kept old new before after)
-    (λ held of_folders. subst (λ (e : Refusal). Says (refused e) words held classes kept old new before after) (sym fault)
-    (told_so classes (λ folders. FindsFitting words kept → IsMade words held folders before after written) (λ folders. FindsFitting words kept → IsCut words held folders old new before after)
+    IfSome told (λ held. IfSome classes (λ folders. F → IsMade words held folders before after written)) → IfSome told (λ held. SaysIf F (outcome_of r) words held classes old new before after)
+put_says (Ok v) words told classes F written old new before after is got cut fault made =
+    told_so told (λ held. IfSome classes (λ folders. F → IsMade words held folders before after written)) (λ held. SaysIf F (outcome_of (Ok v)) words held classes old new before after)
+    (λ held m. ends_so v words held classes F written old new before after is got m) made
+put_says (Err r) words told classes F written old new before after is got cut fault made =
+    told_so told (λ held. IfSome classes (λ folders. F → IsMade words held folders before after written)) (λ held. SaysIf F (refused r) words held classes old new before after)
+    (λ held of_folders. subst (λ (e : Refusal). SaysIf F (refused e) words held classes old new before after) (sym fault)
+    (told_so classes (λ folders. F → IsMade words held folders before after written) (λ folders. F → IsCut words held folders old new before after)
     (λ folders make fits. let m = make fits in record { run = m.run; is_run = m.is_run; got = subst (λ (t : Bytes). GetsPrefix old new t) m.text cut; worked = m.worked }) of_folders)) made
 
 pub put_files : (r : Result Verdict Refusal) (words : List Bytes) (told : Option Files) (before after : Work) → IfErr r (λ e. e ≡ SinkFault) → IfSome told (λ held. IsAnalysed words held before after) →
@@ -318,11 +339,6 @@ memory_end A e = absurd (cc)
 -- the same refusal of another result
 pub other_end : (A B : Type 0) (r : Refusal) → (let w : Result A Refusal = Err r in w) ≢ Err ClassFault → (let w : Result B Refusal = Err r in w) ≢ Err ClassFault
 other_end A B r never e = let same : r ≡ ClassFault = cc in never (ap (λ (x : Refusal). Err x) same)
-
-module _ {A E : Type 0} where
-  -- what holds of the end with this error
-  pub result_on : (P : Result A E → Type 0) (r : Result A E) (e x : E) → r ≡ Err e → e ≡ x → P (Err x) → P r
-  result_on P r e x is same h = subst P (sym is) (subst (λ (y : E). P (Err y)) (sym same) h)
 
 pub explains_later : (words : List Bytes) (o p : Option Files) (r : Refusal) → p ≡ o → Explains words p r → Explains words o r
 explains_later words o p r e h = subst (λ (w : Option Files). Explains words w r) e h

@@ -26,7 +26,7 @@ use Rattle.pj_check.specs.Limits.{limit_of}
 use Rattle.pj_check.specs.Run.{HasRules, HasSources}
 use Rattle.pj_check.specs.Steps.{Explains, SaysRefusal, after_listing, after_loading, after_reading, after_words}
 use Rattle.pj_check.specs.declared.refusal.Refusal.TheVariants.{Limit}
-use Rattle.pj_check.proofs.Told.{all_told, told_both, told_so}
+use Rattle.pj_cold.proofs.Told.{all_told, told_both, told_so}
 
 -- ---- words
 

@@ -1,5 +1,5 @@
 -- From what was found and analysed to what a run has made.
-use Rattle.std.proofs.Common.{◌≡◌, ◌≢◌, ◌∙◌, ◌++◌, ℕ, List, map, filter, not, Option, None, Some, IfSome, inl, inr, ap, sym, subst, refl}
+use Rattle.std.proofs.Common.{◌≡◌, ◌≢◌, ◌∙◌, ◌++◌, ℕ, List, map, filter, not, Option, None, Some, IfSome, inl, inr, ap, sym, subst}
 use Rattle.pj_cache.specs.declared.cache.Cache.{Cache}
 use Rattle.pj_cache_store.specs.Loading.{IsLoaded}
 use Rattle.pj_cache_store.specs.declared.loading.Loaded.{Loaded}
@@ -13,41 +13,34 @@ use Rattle.pj_outside.specs.Files.{Bytes, Files, bytes_at, reading_of}
 use Rattle.pj_rule_sets.specs.Rules.{EffectiveRules}
 use Rattle.pj_workers.specs.Cold.{World}
 use Rattle.pj_workers.specs.declared.work.Work.{Work}
-use Rattle.pj_check.specs.Caching.{FitsUnder, IsDoneOver, IsLeftOver, IsLeftText, TakesCache}
-use Rattle.pj_check.specs.Cold.{IsColdOf, world_of}
-use Rattle.pj_check.specs.Steps.{DoneOver, FitsIfFound, IsLeftIfFound, IsOver, IsTakenBy, IsTextBy, IsTextOf, IsToldAt, WorkedBy, WorkedOver}
+use Rattle.pj_cold.specs.Cold.{IsColdOf, world_of}
+use Rattle.pj_check.specs.Caching.{DoneOver, IsDoneOver, IsLeftOver, IsLeftText, TakesCache, TakesFit}
+use Rattle.pj_check.specs.Steps.{FitsIfFound, IsLeftIfFound, IsOver, IsTakenBy, IsTextBy, IsTextOf, IsToldAt, WorkedBy, WorkedOver}
 use Rattle.pj_check.specs.declared.analysing.Analysed.{Analysed}
 use Rattle.pj_check.specs.declared.cache.CacheText.{CacheText}
 use Rattle.pj_check.specs.declared.preparing.Ready.{Ready}
 use Rattle.pj_check.specs.declared.refusal.Refusal.{Refusal}
 use Rattle.pj_check.specs.Kept.{IsToldOf}
 use Rattle.pj_check.specs.Steps as steps
-use Rattle.pj_check.proofs.Told.{told_so}
+use Rattle.pj_cold.proofs.Told.{told_so}
 
 -- ---- what was loaded is what is found
 
 abbrev pub FoundLaw : Type 0
 FoundLaw = (content : Option (List ℕ)) (loaded : Loaded) → IsLoaded (reading_of limit content) loaded → loaded.unused ≢ Some unused.NotRead → IsFound content loaded.cache
 
-abbrev pub NotReadLaw : Type 0
-NotReadLaw = (content : Option (List ℕ)) (loaded : Loaded) → IsLoaded (reading_of limit content) loaded → loaded.unused ≡ Some unused.NotRead → IsFound None loaded.cache
+-- what a run takes for its cache is found somewhere where it fits
+pub fits_loaded : FoundLaw → (name : Bytes) (kept : Option Files) (found : Cache) (why : Option Unused) → TakesCache kept name found why → TakesFit (Some name) kept why → FitsIfFound (Some found)
+fits_loaded law name kept found (Some why) taken fits = record { content = None; is_found = taken.0; fits = λ files are. tt }
+fits_loaded law name None found None taken fits = absurd fits
+fits_loaded law name (Some kept) found None taken fits =
+    record { content = bytes_at kept name; is_found = law (bytes_at kept name) (record { cache = found; unused = None }) taken.1 (λ e. absurd (cc)); fits = fits }
 
-pub fits_loaded : FoundLaw → NotReadLaw → (name : Bytes) (kept : Files) (found : Cache) (why : Option Unused) → TakesCache (Some kept) name found why → FitsUnder (Some name) (Some kept) → FitsIfFound (Some found)
-fits_loaded law not_read name kept found None taken fits =
-    record { content = bytes_at kept name; is_found = law (bytes_at kept name) (record { cache = found; unused = None }) taken (λ e. absurd (cc)); fits = fits }
-fits_loaded law not_read name kept found (Some unused.NotRead) taken fits =
-    record { content = None; is_found = not_read (bytes_at kept name) (record { cache = found; unused = Some unused.NotRead }) taken refl; fits = λ files are. tt }
-fits_loaded law not_read name kept found (Some unused.TooLong) taken fits =
-    record { content = bytes_at kept name; is_found = law (bytes_at kept name) (record { cache = found; unused = Some unused.TooLong }) taken (λ e. absurd (cc)); fits = fits }
-fits_loaded law not_read name kept found (Some (unused.Refused fault)) taken fits =
-    record { content = bytes_at kept name; is_found = law (bytes_at kept name) (record { cache = found; unused = Some (unused.Refused fault) }) taken (λ e. absurd (cc)); fits = fits }
-
-pub fits_found : FoundLaw → NotReadLaw → (name : Option Bytes) (kept : Option Files) (found : Option Cache) (why : Option Unused) → IsTakenBy name kept found why → FitsUnder name kept → FitsIfFound found
-fits_found law not_read None kept None why taken fits = tt
-fits_found law not_read None kept (Some found) why taken fits = absurd taken
-fits_found law not_read (Some name) kept None why taken fits = absurd taken
-fits_found law not_read (Some name) None (Some found) why taken fits = absurd fits
-fits_found law not_read (Some name) (Some kept) (Some found) why taken fits = fits_loaded law not_read name kept found why taken fits
+pub fits_found : FoundLaw → (name : Option Bytes) (kept : Option Files) (found : Option Cache) (why : Option Unused) → IsTakenBy name kept found why → TakesFit name kept why → FitsIfFound found
+fits_found law None kept None why taken fits = tt
+fits_found law None kept (Some found) why taken fits = absurd taken
+fits_found law (Some name) kept None why taken fits = absurd taken
+fits_found law (Some name) kept (Some found) why taken fits = fits_loaded law name kept found why taken fits
 
 -- ---- the report
 
@@ -58,9 +51,9 @@ over_is_cold (Some found) world sources set analysed over = over.0
 -- ---- the cache
 
 -- what is noted of the work begins with what was there
-done_of_work : (found : Cache) (world : World) (sources : Files) (set : EffectiveRules) (work done after : Work) → done.analysed ≡ work.analysed → done.reused ≡ work.reused
-    → IsDoneOver found world sources set done after → IsDoneOver found world sources set work after
-done_of_work found world sources set work done after analysed reused is = record {
+done_of_work : (found : Cache) (world : World) (sources : Files) (set : EffectiveRules) (work done after : Work) (old new : ℕ) → done.analysed ≡ work.analysed → done.reused ≡ work.reused
+    → IsDoneOver found world sources set (record { work = done; finds = old }) (record { work = after; finds = new }) → IsDoneOver found world sources set (record { work = work; finds = old }) (record { work = after; finds = new })
+done_of_work found world sources set work done after old new analysed reused is = record {
   meant = is.meant;
   held = is.held;
   written = is.written;
@@ -68,15 +61,16 @@ done_of_work found world sources set work done after analysed reused is = record
     reused = done_so.reused ∙ ap (λ (names : List Bytes). names ++ paths_of (filter (is_reusable files found world is.held) sources)) reused;
     analysed = done_so.analysed ∙ ap (λ (names : List Bytes). names ++ paths_of (filter (λ file. not (is_reusable files found world is.held file)) sources)) analysed;
   };
+  looked = is.looked;
 }
 
-pub text_by : FoundLaw → NotReadLaw → (ready : Ready) (name : Option Bytes) (classes : Option ClassFolders) (kept : Option Files) (found : Option Cache) (why : Option Unused) (analysed : Analysed) (text : Option CacheText) (work done after : Work)
+pub text_by : FoundLaw → (ready : Ready) (name : Option Bytes) (classes : Option ClassFolders) (kept : Option Files) (found : Option Cache) (why : Option Unused) (analysed : Analysed) (text : Option CacheText) (work done after : Work) (old new : ℕ)
     → done.analysed ≡ work.analysed → done.reused ≡ work.reused
     → IsTakenBy name kept found why → IsLeftIfFound found analysed.left → IsTextOf name analysed.left text
     → IfSome classes (λ folders. FitsIfFound found → IsOver found (world_of folders ready.settings.classes) ready.sources ready.rules analysed)
-    → IfSome classes (λ folders. DoneOver found (world_of folders ready.settings.classes) ready.sources ready.rules done after)
-    → IsTextBy name ready classes kept work after why text
-text_by law not_read ready name classes kept found why analysed text work done after same_analysed same_reused taken left text_is over done_so =
+    → IfSome classes (λ folders. DoneOver found (world_of folders ready.settings.classes) ready.sources ready.rules (record { work = done; finds = old }) (record { work = after; finds = new }))
+    → IsTextBy name ready classes kept (record { work = work; finds = old }) (record { work = after; finds = new }) why text
+text_by law ready name classes kept found why analysed text work done after old new same_analysed same_reused taken left text_is over done_so =
     go name found analysed.left text taken left text_is
     (told_so classes (λ folders. FitsIfFound found → IsOver found (world_of folders ready.settings.classes) ready.sources ready.rules analysed) (λ folders. FitsIfFound found → LeftIs found folders analysed.left) (λ folders is fits. of_over found folders (is fits)) over)
     done_so
@@ -91,9 +85,9 @@ text_by law not_read ready name classes kept found why analysed text work done a
     of_over (Some found) folders is = is.1
 
     go : (name : Option Bytes) (found left : Option Cache) (text : Option CacheText) → IsTakenBy name kept found why → IsLeftIfFound found left → IsTextOf name left text
-        → IfSome classes (λ folders. FitsIfFound found → LeftIs found folders left) → IfSome classes (λ folders. DoneOver found (world_of folders ready.settings.classes) ready.sources ready.rules done after)
-        → IsTextBy name ready classes kept work after why text
-    go None None left text taken is_left text_is over done_so = (taken, text_is)
+        → IfSome classes (λ folders. FitsIfFound found → LeftIs found folders left) → IfSome classes (λ folders. DoneOver found (world_of folders ready.settings.classes) ready.sources ready.rules (record { work = done; finds = old }) (record { work = after; finds = new }))
+        → IsTextBy name ready classes kept (record { work = work; finds = old }) (record { work = after; finds = new }) why text
+    go None None left text taken is_left text_is over done_so = (taken, text_is, done_so)
     go None (Some found) left text taken is_left text_is over done_so = absurd taken
     go (Some name) None left text taken is_left text_is over done_so = absurd taken
     go (Some name) (Some found) None text taken is_left text_is over done_so = absurd is_left
@@ -102,14 +96,15 @@ text_by law not_read ready name classes kept found why analysed text work done a
       name_is = text_is.0;
       found = found;
       taken = taken;
-      left = told_so classes (λ folders. FitsIfFound (Some found) → LeftIs (Some found) folders (Some left)) (λ folders. FitsUnder (Some name) kept → IsLeftText found (world_of folders ready.settings.classes) ready.sources ready.rules text.text) (λ folders is fits. record {
+      left = told_so classes (λ folders. FitsIfFound (Some found) → LeftIs (Some found) folders (Some left)) (λ folders. TakesFit (Some name) kept why → IsLeftText found (world_of folders ready.settings.classes) ready.sources ready.rules text.text) (λ folders is fits. record {
         left = left;
-        is_left = is (fits_found law not_read (Some name) kept (Some found) why taken fits);
+        is_left = is (fits_found law (Some name) kept (Some found) why taken fits);
         room = text_is.2;
         text_is = text_is.1;
       }) over;
-      done = told_so classes (λ folders. DoneOver (Some found) (world_of folders ready.settings.classes) ready.sources ready.rules done after) (λ folders. IsDoneOver found (world_of folders ready.settings.classes) ready.sources ready.rules work after)
-          (λ folders is. done_of_work found (world_of folders ready.settings.classes) ready.sources ready.rules work done after same_analysed same_reused is) done_so;
+      done = told_so classes (λ folders. DoneOver (Some found) (world_of folders ready.settings.classes) ready.sources ready.rules (record { work = done; finds = old }) (record { work = after; finds = new }))
+          (λ folders. IsDoneOver found (world_of folders ready.settings.classes) ready.sources ready.rules (record { work = work; finds = old }) (record { work = after; finds = new }))
+          (λ folders is. done_of_work found (world_of folders ready.settings.classes) ready.sources ready.rules work done after old new same_analysed same_reused is) done_so;
     }
 
 -- ---- the work

@@ -5,7 +5,7 @@ use Rattle.pj_outside.specs.Files.{Bytes}
 use Rattle.pj_sources.specs.Paths.{byte_order}
 use Rattle.pj_workers.specs.Laws.{ColdFindsWhatIsDenoted, ColdIsInOrder}
 use Rattle.pj_workers.specs.JavaReplies.{java_replies}
-use Rattle.pj_check.specs.Cold.{world_of}
+use Rattle.pj_cold.specs.Cold.{world_of}
 use Rattle.pj_check.specs.Laws.{ReportFindsWhatIsDenoted, ReportIsInOrder}
 
 pub report_in_order : ColdIsInOrder → ReportIsInOrder

@@ -1,6 +1,4 @@
-mod Told
 mod Explaining
-mod Gathering
 mod DoorCounting
 mod Ending
 mod Excluding

@@ -20,10 +20,10 @@ use Rattle.pj_workers.specs.Cold.{AreRowsOf, World}
 use Rattle.pj_workers.specs.Laws.{AreAlike, ListsAreTexts, OneCold}
 use Rattle.pj_workers.specs.JavaReplies.{java_replies}
 use Rattle.pj_workers.specs.Rules.{IsRuleOf, Rule}
-use Rattle.pj_check.specs.Cold.{IsColdOf, world_of}
+use Rattle.pj_cold.specs.Cold.{IsColdOf, world_of}
 use Rattle.pj_check.specs.Run.{IsRun, Run}
 use Rattle.pj_check.proofs.Excluding.{same_settings}
-use Rattle.pj_check.proofs.Gathering.{rows_are}
+use Rattle.pj_cold.proofs.Gathering.{rows_are}
 
 -- rules of one set are alike
 alike : (marker : Text) (kept : List EffectiveRule) (xs ys : List Rule) → AllZip (IsRuleOf marker) kept xs → AllZip (IsRuleOf marker) kept ys → AreAlike xs ys

@@ -1,16 +1,21 @@
 -- What is made over the cache that was found.
-use Rattle.std.proofs.Common.{◌≡◌, ◌∙◌, ℕ, List, [], ◌∷◌, map, Option, None, Some, IfSome, Result, Ok, Err, IfOk, OnOk, inl, inr, ap, sym, subst, refl}
+use Rattle.std.proofs.Common.{◌≡◌, ◌∙◌, ℕ, Bool, ◌||◌, List, [], ◌∷◌, map, Option, None, Some, IfSome, Result, Ok, Err, IfOk, OnOk, inl, inr, ap, sym, subst, refl}
+use Rattle.std.specs.Cmp.Lexicographic.{nat_list_cmp_total, slice_cmp}
+use Rattle.std.specs.FinSet as name_sets
+use Rattle.std.specs.FinSet.{contains-empty, contains-union}
 use Rattle.std.specs.List.{All, AllZip}
+use Rattle.std.specs.Ordering.{nat_cmp}
 use Rattle.std.proofs.lemmas.List.Elements.{All-head, All-nil, All-weaker}
 use Rattle.pj_cache.specs.declared.cache.Cache.{Cache}
 use Rattle.pj_cache_laws.specs.Reported.{report_of, rules_of}
 use Rattle.pj_cache_laws.specs.Written.{AreFiles, AreWrittenRules, WrittenRule}
 use Rattle.pj_cached_files.specs.LeftFile.{IsRun, StandsIn}
-use Rattle.pj_cached_files.specs.LeftFiles.{Lists, HasClassesByName, LeavesAll}
+use Rattle.pj_cached_files.specs.LeftFiles.{HasClassesByName, LeavesAll, Lists, LooksAtAll}
 use Rattle.pj_cached_files.specs.declared.files.LeftFiles.{LeftFiles}
 use Rattle.pj_fitting.specs.Fits.{CacheFits, IsFound, empty}
 use Rattle.pj_fitting.specs.Left.{IsLeftCache}
 use Rattle.pj_fitting.specs.Right as right
+use Rattle.pj_names.proofs.NameLists.{same_names}
 use Rattle.pj_names.specs.ClassName.{NameSet}
 use Rattle.pj_names.specs.Told.{Told}
 use Rattle.pj_names.specs.declared.oracle.AskFault.{AskFault}
@@ -25,11 +30,11 @@ use Rattle.pj_workers.specs.Cold.{IsCold, World}
 use Rattle.pj_workers.specs.FileMeaning.{Replies}
 use Rattle.pj_workers.specs.JavaReplies.{java_replies}
 use Rattle.pj_workers.specs.Rules.{AreRulesOf, IsRuleOf, Rule}
-use Rattle.pj_workers.specs.declared.work.Work.{Work}
-use Rattle.pj_check.specs.Caching.{IsDoneOver, IsFitting, IsLeftOver}
-use Rattle.pj_check.specs.Cold.{IsColdOf}
+use Rattle.pj_cold.specs.Cold.{IsColdOf}
+use Rattle.pj_cold.specs.Finds.{CountsNames}
+use Rattle.pj_cold.proofs.Gathering.{rows_are}
+use Rattle.pj_check.specs.Caching.{IsDoneOver, IsFitting, IsLeftOver, WorkSeen}
 use Rattle.pj_check.specs.Steps.{AreDoneFiles, IsLeftFiles}
-use Rattle.pj_check.proofs.Gathering.{rows_are}
 
 -- ---- laws of the layers below
 
@@ -133,40 +138,40 @@ over_door (Some folders) set found sources listed left report meant held files s
 
 -- ---- what was done
 
--- over a door that tells its folders, what was done with files is what is done in their world
-pub done_over_door : {K : Type 0} (folders : Option (List Files)) (kept : K) (asked : NameSet) (faults : ℕ) (t : Told K) (set : EffectiveRules) (found : Cache) (sources : Files) (before after : Work) (r : Result LeftFiles AskFault)
-    → t ≡ tells_of kept folders asked faults → OnOk r (Lists t set found sources before after)
+none_besides : (names : NameSet) → name_sets.union name_sets.empty names ≡ names
+none_besides names = same_names (name_sets.union name_sets.empty names) names (λ q.
+    contains-union nat_list_cmp_total name_sets.empty names q ∙ ap (λ (b : Bool). b || name_sets.contains names q) (contains-empty (slice_cmp nat_cmp) q))
+
+-- over a door that tells its folders, what was done with files is what is done in their world, and just the names that are asked for there were looked for
+pub done_over_door : {K : Type 0} (folders : Option (List Files)) (kept : K) (faults : ℕ) (t : Told K) (asked : NameSet) (set : EffectiveRules) (found : Cache) (sources : Files) (before after : WorkSeen) (r : Result LeftFiles AskFault)
+    → t ≡ tells_of kept folders name_sets.empty faults → OnOk r (Lists t set found sources before.work after.work) → IfOk r (λ left. LooksAtAll t asked set found sources) → CountsNames before.finds after.finds asked
     → IfSome folders (λ held. OnOk r (AreDoneFiles (folders_world held).answer set found sources before after))
-done_over_door None kept asked faults t set found sources before after r tells does = tt
-done_over_door (Some folders) kept asked faults t set found sources before after (Err fault) tells does = tt
-done_over_door {K} (Some folders) kept asked faults t set found sources before after (Ok left) tells does =
+done_over_door None kept faults t asked set found sources before after r tells does looks counts = tt
+done_over_door (Some folders) kept faults t asked set found sources before after (Err fault) tells does looks counts = tt
+done_over_door {K} (Some folders) kept faults t asked set found sources before after (Ok left) tells does looks counts =
     λ files rules held are written.
-    let stands : StandsIn t set files (folders_world folders).answer rules held = record {
+    let world = (folders_world folders).answer in
+    let stands : StandsIn t set files world rules held = record {
       files_are = are;
       rules_are = written;
       is_told = λ i. (tells i).is_told;
       one_world = λ depth far. (λ i. ((tells i).world depth).answer);
-    } in does files (folders_world folders).answer rules held stands
+    } in
+    let looked = looks files world rules held stands (λ depth far name. (λ i. ((tells i).world depth).needs name)) in
+    let same : asked ≡ looked.0 = looked.2 ∙ ap (λ (names : NameSet). name_sets.union names looked.0) (λ i. (tells i).asked) ∙ none_besides looked.0 in (
+      does files world rules held stands,
+      record { names = looked.0; looked = looked.1; counts = subst (λ (names : NameSet). CountsNames before.finds after.finds names) same counts },
+    )
 
 -- so it is noted of the sources, by rules as they are written
-pub done_at_door : (folders : Option (List Files)) (set : EffectiveRules) (found : Cache) (sources listed : Files) (before after : Work) (meant : List Rule) (held : List WrittenRule) → listed ≡ sources → AreWrittenRules set meant held
+pub done_at_door : (folders : Option (List Files)) (set : EffectiveRules) (found : Cache) (sources listed : Files) (before after : WorkSeen) (meant : List Rule) (held : List WrittenRule) → listed ≡ sources → AreWrittenRules set meant held
     → IfSome folders (λ held. AreDoneFiles (folders_world held).answer set found listed before after) → IfSome folders (λ held. IsDoneOver found (folders_world held).answer sources set before after)
 done_at_door None set found sources listed before after meant held same written done = tt
-done_at_door (Some folders) set found sources listed before after meant held same written done = record {
-  meant = meant;
-  held = held;
-  written = written;
-  is_done = λ files are. (subst (λ (list : Files). AreDoneFiles (folders_world folders).answer set found list before after) same done) files meant held are written;
-}
-
--- ---- where nothing is made
-
--- nothing is said of a refusal
-pub not_over : {A X E : Type 0} (F : Type 0) (P : A → X → Type 0) (told : Option A) (r : Result X E) (e : E) → r ≡ Err e → IfSome told (λ held. F → IfOk r (P held))
-not_over F P None r e is = tt
-not_over {A} {X} {E} F P (Some held) r e is = λ fits. subst (λ (w : Result X E). IfOk w (P held)) (sym is) tt
-
--- what is said without a cache is said of none
-pub over_none : {A : Type 0} (F : Type 0) (P : A → Type 0) (told : Option A) → IfSome told P → IfSome told (λ held. F → P held)
-over_none F P None h = tt
-over_none F P (Some held) h = λ fits. h
+done_at_door (Some folders) set found sources listed before after meant held same written done =
+    let here : AreDoneFiles (folders_world folders).answer set found sources before after = subst (λ (list : Files). AreDoneFiles (folders_world folders).answer set found list before after) same done in record {
+      meant = meant;
+      held = held;
+      written = written;
+      is_done = λ files are. (here files meant held are written).0;
+      looked = λ files are. (here files meant held are written).1;
+    }

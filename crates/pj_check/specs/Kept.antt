@@ -9,10 +9,10 @@ use Rattle.pj_settings.specs.Job.{job}
 use Rattle.pj_settings.specs.declared.settings.Settings.{Settings}
 use Rattle.pj_sources.specs.Reading.{AreRead}
 use Rattle.pj_sources.specs.declared.listing.Listing.{Listing}
-use Rattle.pj_workers.specs.declared.work.Work.{Work}
-use Rattle.pj_check.specs.Caching.{CountsKeeper, FindsFitting, IsDoneOver, IsKept, IsLeftText, TakesCache, nothing_told}
-use Rattle.pj_check.specs.Cold.{world_of}
+use Rattle.pj_cold.specs.Cold.{world_of}
+use Rattle.pj_check.specs.Caching.{CountsKeeper, DoneOver, IsKept, IsLeftText, TakesCache, TakesFitting, WorkSeen, nothing_told}
 use Rattle.pj_check.specs.Notes.{GetNotes, notes_with}
+use Rattle.pj_check.specs.Outcome.{SaysIf}
 use Rattle.pj_check.specs.Run.{HasRules, IsRun, Run}
 use Rattle.pj_check.specs.declared.cache.CacheNotes.{CacheNotes}
 use Rattle.pj_check.specs.declared.outcome.Outcome.{Outcome}
@@ -39,54 +39,54 @@ pub record IsLeftBy (words : List Bytes) (held : Files) (classes : ClassFolders)
   pub is_run : IsRun words held classes run
   pub left : IsLeftText found (world_of classes run.settings.classes) run.sources run.rules text
 
--- What was done with the sources to which words and files come, over the cache that was found, whatever that says.
-pub record IsDoneBy (words : List Bytes) (held : Files) (classes : ClassFolders) (found : Cache) (before after : Work) : Type 0 where
+-- What was done with the sources to which words and files come, and how many classes were looked for, over the cache that was found, whatever that says, or without one.
+pub record IsDoneBy (words : List Bytes) (held : Files) (classes : ClassFolders) (found : Option Cache) (before after : WorkSeen) : Type 0 where
   pub settings : Settings
   pub listing : Listing
   pub rules : EffectiveRules
   pub sources : Files
   pub has_rules : HasRules words held settings listing rules
   pub read : AreRead held listing.paths sources
-  pub done : IsDoneOver found (world_of classes settings.classes) sources rules before after
+  pub done : DoneOver found (world_of classes settings.classes) sources rules before after
 
 -- so it is where the files and the class folders tell what they hold
-abbrev pub DoesBy : List Bytes → Option Files → Option ClassFolders → Cache → Work → Work → Type 0
+abbrev pub DoesBy : List Bytes → Option Files → Option ClassFolders → Option Cache → WorkSeen → WorkSeen → Type 0
 DoesBy words tree classes found before after = IfSome tree (λ held. IfSome classes (λ folders. IsDoneBy words held folders found before after))
 
--- A text was to be put under the name of the cache; it is the one that the run leaves, where the files, the class folders and the keeper tell what they hold, and what the
--- keeper has there fits.
-pub record IsLeftUnder (name : Bytes) (words : List Bytes) (tree : Option Files) (classes : Option ClassFolders) (old new : Option Files) (before after : Work) (told : CacheNotes) : Type 0 where
+-- A text was to be put under the name of the cache; it is the one that the run leaves, where the files and the class folders tell what they hold, and what the run took for its cache
+-- fits: so it is whatever the keeper has there, if the run does not use it.
+pub record IsLeftUnder (name : Bytes) (words : List Bytes) (tree : Option Files) (classes : Option ClassFolders) (old new : Option Files) (before after : WorkSeen) (told : CacheNotes) : Type 0 where
   pub found : Cache
   pub taken : TakesCache old name found told.unused
   pub text : Bytes
   pub kept : IsKept told.is_unwritten old new name text
-  pub left : IfSome tree (λ held. IfSome classes (λ folders. FindsFitting words old → IsLeftBy words held folders found text))
-  pub done : DoesBy words tree classes found before after
+  pub left : IfSome tree (λ held. IfSome classes (λ folders. TakesFitting words old told.unused → IsLeftBy words held folders found text))
+  pub done : DoesBy words tree classes (Some found) before after
 
 -- by the name of the cache, if there is one
-abbrev pub IsLeft : Option Bytes → List Bytes → Option Files → Option ClassFolders → Option Files → Option Files → Work → Work → CacheNotes → Type 0
-IsLeft None words tree classes old new before after told = (told ≡ nothing_told) × (new ≡ old)
+abbrev pub IsLeft : Option Bytes → List Bytes → Option Files → Option ClassFolders → Option Files → Option Files → WorkSeen → WorkSeen → CacheNotes → Type 0
+IsLeft None words tree classes old new before after told = (told ≡ nothing_told) × (new ≡ old) × DoesBy words tree classes None before after
 IsLeft (Some name) words tree classes old new before after told = IsLeftUnder name words tree classes old new before after told
 
 -- by the words
-pub record LeavesCache (words : List Bytes) (tree : Option Files) (classes : Option ClassFolders) (old new : Option Files) (before after : Work) (told : CacheNotes) : Type 0 where
+pub record LeavesCache (words : List Bytes) (tree : Option Files) (classes : Option ClassFolders) (old new : Option Files) (before after : WorkSeen) (told : CacheNotes) : Type 0 where
   pub settings : Settings
   pub asked : job words ≡ Ok settings
   pub left : IsLeft settings.cache words tree classes old new before after told
 
 -- What was done over the cache for which the words ask, if they ask for one, where its successor was not to be put.
-pub record IsDoneUnder (name : Bytes) (words : List Bytes) (tree : Option Files) (classes : Option ClassFolders) (kept : Option Files) (before after : Work) (unused : Option Unused) : Type 0 where
+pub record IsDoneUnder (name : Bytes) (words : List Bytes) (tree : Option Files) (classes : Option ClassFolders) (kept : Option Files) (before after : WorkSeen) (unused : Option Unused) : Type 0 where
   pub found : Cache
   pub taken : TakesCache kept name found unused
-  pub done : DoesBy words tree classes found before after
+  pub done : DoesBy words tree classes (Some found) before after
 
 -- by the name of the cache, if there is one
-abbrev pub IsDoneAt : Option Bytes → List Bytes → Option Files → Option ClassFolders → Option Files → Work → Work → Option Unused → Type 0
-IsDoneAt None words tree classes kept before after unused = unused ≡ None
+abbrev pub IsDoneAt : Option Bytes → List Bytes → Option Files → Option ClassFolders → Option Files → WorkSeen → WorkSeen → Option Unused → Type 0
+IsDoneAt None words tree classes kept before after unused = (unused ≡ None) × DoesBy words tree classes None before after
 IsDoneAt (Some name) words tree classes kept before after unused = IsDoneUnder name words tree classes kept before after unused
 
 -- by the words
-pub record HasDone (words : List Bytes) (tree : Option Files) (classes : Option ClassFolders) (kept : Option Files) (before after : Work) (unused : Option Unused) : Type 0 where
+pub record HasDone (words : List Bytes) (tree : Option Files) (classes : Option ClassFolders) (kept : Option Files) (before after : WorkSeen) (unused : Option Unused) : Type 0 where
   pub settings : Settings
   pub asked : job words ≡ Ok settings
   pub done : IsDoneAt settings.cache words tree classes kept before after unused
@@ -97,7 +97,7 @@ IsUntouched old new told = (new ≡ old) × (told.is_unwritten ≡ false)
 
 -- What an outcome says of what the keeper holds, and of what is told of the cache: a run that comes to its report leaves a cache, if the words ask for one; every other run leaves
 -- the keeper as it is. A run that ends before its sources are read has loaded nothing; where memory is wanting it may have, or not. Where the report could not be put, the work has what was done.
-abbrev pub SaysOfCache : Outcome → List Bytes → Option Files → Option ClassFolders → Option Files → Option Files → Work → Work → CacheNotes → Type 0
+abbrev pub SaysOfCache : Outcome → List Bytes → Option Files → Option ClassFolders → Option Files → Option Files → WorkSeen → WorkSeen → CacheNotes → Type 0
 SaysOfCache Clean words tree classes old new before after told = LeavesCache words tree classes old new before after told
 SaysOfCache Violations words tree classes old new before after told = LeavesCache words tree classes old new before after told
 SaysOfCache Errors words tree classes old new before after told = LeavesCache words tree classes old new before after told
@@ -118,9 +118,10 @@ pub record NotesSeen : Type 0 where
   pub held : Option Bytes
   pub faults : ℕ
 
--- What a run does with its cache, and which lines the notes get.
-pub record KeepsCache (outcome : Outcome) (words : List Bytes) (tree : Option Files) (classes : Option ClassFolders) (old new : KeeperSeen) (before after : Work) (notes notes_after : NotesSeen) : Type 0 where
+-- What a run does with its cache, and which lines the notes get. What is said of the report needs no more of the keeper than that what the run took for its cache fits.
+pub record KeepsCache (outcome : Outcome) (words : List Bytes) (tree : Option Files) (classes : Option ClassFolders) (old new : KeeperSeen) (out out_after : Option Bytes) (before after : WorkSeen) (notes notes_after : NotesSeen) : Type 0 where
   pub told : CacheNotes
+  pub reported : IfSome tree (λ held. SaysIf (TakesFitting words old.holds told.unused) outcome words held classes out out_after before.work after.work)
   pub says : SaysOfCache outcome words tree classes old.holds new.holds before after told
   pub counts : CountsKeeper old.faults new.faults told
   pub noted : GetNotes (notes_with outcome told) notes.held notes_after.held notes.faults notes_after.faults

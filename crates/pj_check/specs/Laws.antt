@@ -1,28 +1,25 @@
 -- What follows from the definitions.
-use Rattle.std.specs.Prelude.{⊤, ◌≡◌, ◌⊎◌, ℕ, Bool, List, [], ◌∷◌, map, Option, Some, IfSome, Ok}
+use Rattle.std.specs.Prelude.{⊤, ◌≡◌, ◌⊎◌, false, List, [], ◌∷◌, map, Option, Some, IfSome, Ok}
 use Rattle.std.specs.List.{All, AllByRecursion, AllZip}
 use Rattle.std.specs.List.Sorted.{IsStrictlySortedBy}
 use Rattle.pj_outside.specs.Doors.{ClassFolders}
 use Rattle.pj_outside.specs.Files.{Files, Bytes, bytes_at}
-use Rattle.pj_reports.specs.declared.report.Report.{Report}
 use Rattle.pj_reports.specs.declared.rows.FileRows.{FileRows}
 use Rattle.pj_rule_sets.specs.Rules.{EffectiveRules}
-use Rattle.pj_rules.specs.Load.{IsEffective}
 use Rattle.pj_settings.specs.Job.{job}
 use Rattle.pj_settings.specs.declared.settings.Settings.{Settings}
 use Rattle.pj_sources.specs.Paths.{byte_order}
 use Rattle.pj_sources.specs.Reading.{AreRead}
 use Rattle.pj_sources.specs.declared.listing.Listing.{Listing}
-use Rattle.pj_workers.specs.Calls.{RuleCallsOnly, asks_nothing}
-use Rattle.pj_workers.specs.Cold.{FileSettles, SourceSettles, World}
+use Rattle.pj_workers.specs.Calls.{asks_nothing}
 use Rattle.pj_workers.specs.JavaReplies.{java_replies}
 use Rattle.pj_workers.specs.Laws.{AreInOrder, FindWhatIsDenoted}
 use Rattle.pj_workers.specs.Rules.{AreRulesOf, Rule}
-use Rattle.pj_xexpressions.specs.declared.pmd_function.PmdFunction.{PmdFunction}
-use Rattle.pj_workers.specs.declared.work.Work.{Work}
-use Rattle.pj_check.specs.Caching.{ContentFits, FindsFitting}
-use Rattle.pj_check.specs.Cold.{IsColdOf, world_of}
-use Rattle.pj_check.specs.Kept.{SaysOfCache}
+use Rattle.pj_cache_store.specs.declared.loading.Unused.{Unused}
+use Rattle.pj_cold.specs.Cold.{world_of}
+use Rattle.pj_cold.specs.Laws.{SetCallsOnly, SetSettles}
+use Rattle.pj_check.specs.Caching.{ContentFits, FindsFitting, WorkSeen}
+use Rattle.pj_check.specs.Kept.{LeavesCache, SaysOfCache}
 use Rattle.pj_check.specs.Refused.{IsRefused}
 use Rattle.pj_check.specs.Run.{HasRules, IsRun, Run}
 use Rattle.pj_check.specs.declared.cache.CacheNotes.{CacheNotes}
@@ -51,28 +48,7 @@ abbrev pub ReportFindsWhatIsDenoted : Type 0
 ReportFindsWhatIsDenoted = (words : List Bytes) (held : Files) (classes : ClassFolders) (run : Run) → IsRun words held classes run
     → (rules : List Rule) × AreRulesOf run.rules rules × AllZip (FindWhatIsDenoted java_replies (world_of classes run.settings.classes) rules) run.sources run.report.files
 
--- What a set of rules means at each source comes to something over a world of classes.
-abbrev pub SetSettles : World → Files → EffectiveRules → Type 0
-SetSettles world sources set = (rules : List Rule) → AreRulesOf set rules → AllByRecursion (FileSettles java_replies world rules) sources
-
--- The rules of a set call only such functions of PMD.
-abbrev pub SetCallsOnly : (PmdFunction → Bool) → EffectiveRules → Type 0
-SetCallsOnly may set = (rules : List Rule) → AreRulesOf set rules → AllByRecursion (RuleCallsOnly may) rules
-
--- Where what these functions reply in each source comes to something, what the rules mean does.
-abbrev pub SetSettlesByReplies : Type 0
-SetSettlesByReplies = (may : PmdFunction → Bool) (world : World) (sources : Files) (set : EffectiveRules) → SetCallsOnly may set → AllByRecursion (SourceSettles may java_replies world) sources → SetSettles world sources set
-
--- So it is with rules that do not look at types: what they mean comes to something in every world.
-abbrev pub SetSettlesWithoutTypes : Type 0
-SetSettlesWithoutTypes = (world : World) (sources : Files) (set : EffectiveRules) → SetCallsOnly asks_nothing set → SetSettles world sources set
-
--- The rules that rulesets come to have a cold report of every list of sources, in every world of classes over which what they mean comes to something.
-abbrev pub SomeReport : Type 0
-SomeReport = (files : Files) (paths : List Bytes) (minimum : ℕ) (marker : Bytes) (set : EffectiveRules) → IsEffective files paths minimum marker set → (world : World) (sources : Files)
-    → SetSettles world sources set → (report : Report) × IsColdOf world sources set report
-
--- So it is with the rules and the sources to which words and files come, over the class folders of the words.
+-- What the rules to which words and files come mean at their sources comes to something, over the class folders of the words.
 abbrev pub RunSettles : List Bytes → Files → ClassFolders → Type 0
 RunSettles words held classes = (settings : Settings) (listing : Listing) (rules : EffectiveRules) (sources : Files) → HasRules words held settings listing rules → AreRead held listing.paths sources
     → SetSettles (world_of classes settings.classes) sources rules
@@ -89,7 +65,7 @@ RunOrRefusalWithoutTypes = (words : List Bytes) (held : Files) (classes : ClassF
 -- What stands under a name of a keeper fits again after a run over a tree and a class path that tell what they hold, if it did before: whatever came of the run, whether the name
 -- is that of its cache or another, and also where the new cache was not put in its place.
 abbrev pub KeepersStayFit : Type 0
-KeepersStayFit = (outcome : Outcome) (words : List Bytes) (held : Files) (classes : ClassFolders) (kept : Files) (new : Option Files) (before after : Work) (told : CacheNotes) (name : Bytes)
+KeepersStayFit = (outcome : Outcome) (words : List Bytes) (held : Files) (classes : ClassFolders) (kept : Files) (new : Option Files) (before after : WorkSeen) (told : CacheNotes) (name : Bytes)
     → SaysOfCache outcome words (Some held) (Some classes) (Some kept) new before after told → ContentFits (bytes_at kept name) → IfSome new (λ now. ContentFits (bytes_at now name))
 
 -- So it does after every list of such runs, whatever is changed between them: the files, the class folders, the rulesets and the words.
@@ -98,8 +74,8 @@ pub record RunOver (old new : Files) : Type 0 where
   pub words : List Bytes
   pub held : Files
   pub classes : ClassFolders
-  pub before : Work
-  pub after : Work
+  pub before : WorkSeen
+  pub after : WorkSeen
   pub told : CacheNotes
   pub says : SaysOfCache outcome words (Some held) (Some classes) (Some old) (Some new) before after told
 
@@ -110,6 +86,12 @@ RunsOver old (new ∷ later) = RunOver old new × RunsOver new later
 
 abbrev pub KeepersStayFitForever : Type 0
 KeepersStayFitForever = (kept : Files) (later : List Files) (name : Bytes) → RunsOver kept later → ContentFits (bytes_at kept name) → All (λ (held : Files). ContentFits (bytes_at held name)) later
+
+-- What stands under the name of its cache fits after a run that has put the new cache there, whatever stood there before, if the run did not use it: so where the keeper failed.
+abbrev pub KeepersMend : Type 0
+KeepersMend = (words : List Bytes) (settings : Settings) (name : Bytes) (held : Files) (classes : ClassFolders) (kept : Files) (new : Option Files) (before after : WorkSeen) (told : CacheNotes) (why : Unused)
+    → job words ≡ Ok settings → settings.cache ≡ Some name → LeavesCache words (Some held) (Some classes) (Some kept) new before after told → told.unused ≡ Some why → told.is_unwritten ≡ false
+    → IfSome new (λ now. ContentFits (bytes_at now name))
 
 -- Where what stands under the name of the cache fits, the run finds what fits: so its report is that of a run without a cache.
 abbrev pub FitKeepersServe : Type 0

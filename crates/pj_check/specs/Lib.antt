@@ -1,5 +1,4 @@
 -- definitions, in the order in which they are read
-pub mod Cold
 pub mod Formats
 pub mod Verdicts
 pub mod Run

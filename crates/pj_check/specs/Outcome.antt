@@ -54,20 +54,24 @@ pub record IsReady (words : List Bytes) (held : Files) : Type 0 where
   pub read : AreRead held listing.paths sources
 
 -- What an outcome says of the words and the files of a tree that tells them, of the class folders, where the class path tells
--- them, of what the sink held and holds, and of the work. The report is that of a run without a cache, if what the keeper has under the name of the cache fits. Of a fault of the tree and of want of memory it says nothing. A fault of the
+-- them, of what the sink held and holds, and of the work. The report is that of a run without a cache, if a premise on the cache holds. Of a fault of the tree and of want of memory it says nothing. A fault of the
 -- class path comes once the sources are read.
+abbrev pub SaysIf : Type 0 → Outcome → List Bytes → Files → Option ClassFolders → Option Bytes → Option Bytes → Work → Work → Type 0
+SaysIf Fits Clean words held told old new before after = IfSome told (λ classes. Fits → IsReported verdict.Clean words held classes old new before after)
+SaysIf Fits Violations words held told old new before after = IfSome told (λ classes. Fits → IsReported verdict.Violations words held classes old new before after)
+SaysIf Fits Errors words held told old new before after = IfSome told (λ classes. Fits → IsReported verdict.Errors words held classes old new before after)
+SaysIf Fits (Usage fault) words held told old new before after = IsRefused words held (Usage fault)
+SaysIf Fits (Rules fault) words held told old new before after = IsRefused words held (Rules fault)
+SaysIf Fits TreeFault words held told old new before after = ⊤
+SaysIf Fits ClassFault words held told old new before after = IsReady words held
+SaysIf Fits SinkFault words held told old new before after = IfSome told (λ classes. Fits → IsCut words held classes old new before after)
+SaysIf Fits (Missing path) words held told old new before after = IsRefused words held (Missing path)
+SaysIf Fits (Limit kind) words held told old new before after = IsRefused words held (Limit kind)
+SaysIf Fits Memory words held told old new before after = ⊤
+
+-- so it is if what the keeper has under the name of the cache fits
 abbrev pub Says : Outcome → List Bytes → Files → Option ClassFolders → Option Files → Option Bytes → Option Bytes → Work → Work → Type 0
-Says Clean words held told kept old new before after = IfSome told (λ classes. FindsFitting words kept → IsReported verdict.Clean words held classes old new before after)
-Says Violations words held told kept old new before after = IfSome told (λ classes. FindsFitting words kept → IsReported verdict.Violations words held classes old new before after)
-Says Errors words held told kept old new before after = IfSome told (λ classes. FindsFitting words kept → IsReported verdict.Errors words held classes old new before after)
-Says (Usage fault) words held told kept old new before after = IsRefused words held (Usage fault)
-Says (Rules fault) words held told kept old new before after = IsRefused words held (Rules fault)
-Says TreeFault words held told kept old new before after = ⊤
-Says ClassFault words held told kept old new before after = IsReady words held
-Says SinkFault words held told kept old new before after = IfSome told (λ classes. FindsFitting words kept → IsCut words held classes old new before after)
-Says (Missing path) words held told kept old new before after = IsRefused words held (Missing path)
-Says (Limit kind) words held told kept old new before after = IsRefused words held (Limit kind)
-Says Memory words held told kept old new before after = ⊤
+Says outcome words held told kept old new before after = SaysIf (FindsFitting words kept) outcome words held told old new before after
 
 -- The sources were read and analysed by the rules of the rulesets, or used again where a cache is asked for: each one or the other, in their order.
 pub record IsAnalysed (words : List Bytes) (held : Files) (before after : Work) : Type 0 where

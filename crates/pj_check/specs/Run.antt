@@ -11,8 +11,8 @@ use Rattle.pj_sources.specs.Limits.{most_files}
 use Rattle.pj_sources.specs.Listing.{IsListing}
 use Rattle.pj_sources.specs.Reading.{AreRead}
 use Rattle.pj_sources.specs.declared.listing.Listing.{Listing}
+use Rattle.pj_cold.specs.Cold.{IsColdOf, world_of}
 use Rattle.pj_check.specs.Formats.{report_text}
-use Rattle.pj_check.specs.Cold.{IsColdOf, world_of}
 
 -- all that a run works out, step by step
 pub record Run : Type 0 where

@@ -1,6 +1,5 @@
 -- The steps of a run, for private clauses: what they give, and what their refusals say.
 use Rattle.std.specs.Prelude.{⊤, ◌≡◌, ◌⊎◌, ◌++◌, ℕ, Bool, false, List, map, Option, None, Some, Result, Ok, Err, IfSome}
-use Rattle.std.specs.List.{AllZip}
 use Rattle.std.specs.List.Sorted.{IsStrictlySortedBy}
 use Rattle.pj_cache.specs.Places.{byte_order}
 use Rattle.pj_cache.specs.declared.cache.Cache.{Cache}
@@ -21,7 +20,6 @@ use Rattle.pj_outside.specs.Files.{Files, Bytes}
 use Rattle.pj_outside.specs.declared.refused.Refused.{Refused}
 use Rattle.pj_outside.specs.declared.refused.Refused.TheVariants as unopened
 use Rattle.pj_reports.specs.declared.report.Report.{Report}
-use Rattle.pj_reports.specs.declared.rows.FileRows.{FileRows}
 use Rattle.pj_rule_sets.specs.Rules.{EffectiveRules}
 use Rattle.pj_rules.specs.declared.fault.RuleRefused.{RuleRefused}
 use Rattle.pj_rules.specs.declared.fault.RuleRefused.TheVariants as unloaded
@@ -35,12 +33,12 @@ use Rattle.pj_sources.specs.declared.refused.ListRefused.{ListRefused}
 use Rattle.pj_sources.specs.declared.refused.ListRefused.TheVariants as unlisted
 use Rattle.pj_sources.specs.declared.refused.ReadRefused.{ReadRefused}
 use Rattle.pj_sources.specs.declared.refused.ReadRefused.TheVariants as unread
-use Rattle.pj_workers.specs.Cold.{AreRowsOf, World}
+use Rattle.pj_workers.specs.Cold.{World}
 use Rattle.pj_workers.specs.JavaReplies.{java_replies}
-use Rattle.pj_workers.specs.Rules.{AreRulesOf, Rule}
+use Rattle.pj_workers.specs.Rules.{Rule}
 use Rattle.pj_workers.specs.declared.work.Work.{Work}
-use Rattle.pj_check.specs.Caching.{FindsFitting, FitsUnder, IsDoneOver, IsFitting, IsKept, IsLeftOver, IsLeftText, TakesCache}
-use Rattle.pj_check.specs.Cold.{IsColdOf, world_of}
+use Rattle.pj_cold.specs.Cold.{IsColdOf, world_of}
+use Rattle.pj_check.specs.Caching.{CountsLooked, DoneOver, IsDoneOver, IsFitting, IsKept, IsLeftOver, IsLeftText, TakesCache, TakesFit, TakesFitting, WorkSeen}
 use Rattle.pj_check.specs.Formats.{report_text}
 use Rattle.pj_check.specs.Kept.{DoesBy, HasLoaded, IsLeftBy, IsToldOf}
 use Rattle.pj_check.specs.Verdicts.{verdict_of}
@@ -148,21 +146,11 @@ pub record HasNoReport (words : List Bytes) (told : Option Files) (refusal : Ref
   pub cause : IfSome told (λ held. SaysNoReport words held refusal)
   pub of_words : SaysNotPut refusal words
 
--- what is counted of a door with a fault of asking
-abbrev pub CountsAskFault : ℕ → ℕ → AskFault → Type 0
-CountsAskFault old new unanswered.Failed = Rises old new
-CountsAskFault old new unanswered.Memory = new ≡ old
-
 -- the refusal is one of class folders
 abbrev pub IsOfClasses : Refusal → Type 0
 IsOfClasses refusal = (refusal ≡ ClassFault) ⊎ (refusal ≡ Memory)
 
 module _ {A : Type 0} where
-  -- The door's faults rise exactly with `Failed`.
-  abbrev pub CountsDoorFaults : ℕ → ℕ → Result A AskFault → Type 0
-  CountsDoorFaults old new (Ok a) = new ≡ old
-  CountsDoorFaults old new (Err fault) = CountsAskFault old new fault
-
   -- The tree's faults rise exactly with `TreeFault`.
   abbrev pub CountsFaults : ℕ → ℕ → Result A Refusal → Type 0
   CountsFaults old new (Ok a) = new ≡ old
@@ -180,10 +168,6 @@ module _ {A : Type 0} where
   CountsDoor old new (Err refusal) = CountsDoors (refused refusal) old new
 
 -- ---- what they give
-
--- the rows of files in a world, of the rules of the set
-abbrev pub AreRows : World → EffectiveRules → Files → List (Bytes × FileRows) → Type 0
-AreRows world set files rows = (rules : List Rule) → AreRulesOf set rules → AllZip (AreRowsOf java_replies world rules) files rows
 
 -- the report of a run as it is to be put, with the work so far
 pub record IsMade (words : List Bytes) (held : Files) (classes : ClassFolders) (before after : Work) (written : Written) : Type 0 where
@@ -216,10 +200,11 @@ IsLeftFiles world set found sources left =
     (files : right.Files WrittenRule) (rules : List Rule) (held : List WrittenRule) → AreFiles java_replies files → AreWrittenRules set rules held → right.IsRightCache files found
     → AreLeftFiles files world found held sources left
 
--- what was done with sources over a world of classes and a cache that was found, right or not
-abbrev pub AreDoneFiles : World → EffectiveRules → Cache → Files → Work → Work → Type 0
+-- what was done with sources over a world of classes and a cache that was found, right or not, and how many classes were looked for
+abbrev pub AreDoneFiles : World → EffectiveRules → Cache → Files → WorkSeen → WorkSeen → Type 0
 AreDoneFiles world set found sources before after =
-    (files : right.Files WrittenRule) (rules : List Rule) (held : List WrittenRule) → AreFiles java_replies files → AreWrittenRules set rules held → IsDone files world found held sources before after
+    (files : right.Files WrittenRule) (rules : List Rule) (held : List WrittenRule) → AreFiles java_replies files → AreWrittenRules set rules held
+    → IsDone files world found held sources before.work after.work × CountsLooked files world found held sources before.finds after.finds
 
 -- it is what a run finds where that fits, if there is one
 abbrev pub FitsIfFound : Option Cache → Type 0
@@ -235,11 +220,6 @@ IsOver (Some found) world sources set analysed = IsColdOf world sources set anal
 abbrev pub WorkedOver : Option Cache → Files → Work → Work → Type 0
 WorkedOver None sources before after = (after.analysed ≡ before.analysed ++ map (λ (file : Bytes × Bytes). file.0) sources) × (after.reused ≡ before.reused)
 WorkedOver (Some found) sources before after = ArePartedBy (map (λ (file : Bytes × Bytes). file.0) sources) before after
-
--- and which of them, over a world of classes
-abbrev pub DoneOver : Option Cache → World → Files → EffectiveRules → Work → Work → Type 0
-DoneOver None world sources set before after = ⊤
-DoneOver (Some found) world sources set before after = IsDoneOver found world sources set before after
 
 -- a cache is left where one was found, with its answers in the order of their names
 abbrev pub IsLeftIfFound : Option Cache → Option Cache → Type 0
@@ -264,15 +244,16 @@ IsTextOf (Some name) (Some left) None = ⊥
 IsTextOf (Some name) (Some left) (Some text) = (text.name ≡ name) × (text.text ≡ text_to_leave left) × FitsFields left
 
 -- the text that is to be left under the name of the cache, if there is one: over a world of classes it is that of the cache that the run leaves
-pub record IsTextUnder (name : Bytes) (ready : Ready) (classes : Option ClassFolders) (kept : Option Files) (before after : Work) (unused : Option Unused) (text : CacheText) : Type 0 where
+pub record IsTextUnder (name : Bytes) (ready : Ready) (classes : Option ClassFolders) (kept : Option Files) (before after : WorkSeen) (unused : Option Unused) (text : CacheText) : Type 0 where
   pub name_is : text.name ≡ name
   pub found : Cache
   pub taken : TakesCache kept name found unused
-  pub left : IfSome classes (λ folders. FitsUnder (Some name) kept → IsLeftText found (world_of folders ready.settings.classes) ready.sources ready.rules text.text)
+  pub left : IfSome classes (λ folders. TakesFit (Some name) kept unused → IsLeftText found (world_of folders ready.settings.classes) ready.sources ready.rules text.text)
   pub done : IfSome classes (λ folders. IsDoneOver found (world_of folders ready.settings.classes) ready.sources ready.rules before after)
 
-abbrev pub IsTextBy : Option Bytes → Ready → Option ClassFolders → Option Files → Work → Work → Option Unused → Option CacheText → Type 0
-IsTextBy None ready classes kept before after unused text = (unused ≡ None) × (text ≡ None)
+abbrev pub IsTextBy : Option Bytes → Ready → Option ClassFolders → Option Files → WorkSeen → WorkSeen → Option Unused → Option CacheText → Type 0
+IsTextBy None ready classes kept before after unused text =
+    (unused ≡ None) × (text ≡ None) × IfSome classes (λ folders. DoneOver None (world_of folders ready.settings.classes) ready.sources ready.rules before after)
 IsTextBy (Some name) ready classes kept before after unused None = ⊥
 IsTextBy (Some name) ready classes kept before after unused (Some text) = IsTextUnder name ready classes kept before after unused text
 
@@ -301,20 +282,20 @@ pub record IsSomeReport (ready : Ready) (written : Written) : Type 0 where
 
 -- ---- what a run leaves
 
-pub record IsLeavingUnder (name : Bytes) (words : List Bytes) (tree : Option Files) (classes : Option ClassFolders) (kept : Option Files) (before after : Work) (unused : Option Unused) (text : CacheText) : Type 0 where
+pub record IsLeavingUnder (name : Bytes) (words : List Bytes) (tree : Option Files) (classes : Option ClassFolders) (kept : Option Files) (before after : WorkSeen) (unused : Option Unused) (text : CacheText) : Type 0 where
   pub name_is : text.name ≡ name
   pub found : Cache
   pub taken : TakesCache kept name found unused
-  pub left : IfSome tree (λ held. IfSome classes (λ folders. FindsFitting words kept → IsLeftBy words held folders found text.text))
-  pub done : DoesBy words tree classes found before after
+  pub left : IfSome tree (λ held. IfSome classes (λ folders. TakesFitting words kept unused → IsLeftBy words held folders found text.text))
+  pub done : DoesBy words tree classes (Some found) before after
 
 -- by the words: the text that is to be left, if they ask for a cache
-abbrev pub IsLeaving : Option Bytes → List Bytes → Option Files → Option ClassFolders → Option Files → Work → Work → Option Unused → Option CacheText → Type 0
-IsLeaving None words tree classes kept before after unused text = (unused ≡ None) × (text ≡ None)
+abbrev pub IsLeaving : Option Bytes → List Bytes → Option Files → Option ClassFolders → Option Files → WorkSeen → WorkSeen → Option Unused → Option CacheText → Type 0
+IsLeaving None words tree classes kept before after unused text = (unused ≡ None) × (text ≡ None) × DoesBy words tree classes None before after
 IsLeaving (Some name) words tree classes kept before after unused None = ⊥
 IsLeaving (Some name) words tree classes kept before after unused (Some text) = IsLeavingUnder name words tree classes kept before after unused text
 
-pub record HasCacheText (words : List Bytes) (tree : Option Files) (classes : Option ClassFolders) (kept : Option Files) (before after : Work) (unused : Option Unused) (text : Option CacheText) : Type 0 where
+pub record HasCacheText (words : List Bytes) (tree : Option Files) (classes : Option ClassFolders) (kept : Option Files) (before after : WorkSeen) (unused : Option Unused) (text : Option CacheText) : Type 0 where
   pub settings : Settings
   pub asked : job words ≡ Ok settings
   pub leaving : IsLeaving settings.cache words tree classes kept before after unused text

@@ -10,10 +10,10 @@ ghost use Rattle.pj_grammar.specs.Java17.{java_17_forms};
 ghost use Rattle.pj_peg_grammar.specs.Form.{forms_of};
 ghost use Rattle.pj_rule_keys.specs.Keys.{FitsKey, HasRoom};
 ghost use Rattle.pj_table.specs.ClassWorld.{folders_world};
-ghost use Rattle.pj_check.specs.Caching.{IsDoneOver};
-ghost use Rattle.pj_check.specs.Steps.{AreDoneFiles, CountsDoorFaults, DoneOver, FitsIfFound, IsLeftFiles, IsLeftIfFound, IsOver, WorkedOver};
+ghost use Rattle.pj_cold.specs.Steps.{CountsDoorFaults};
+ghost use Rattle.pj_check.specs.Caching.{DoneOver, IsDoneOver};
+ghost use Rattle.pj_check.specs.Steps.{AreDoneFiles, FitsIfFound, IsLeftFiles, IsLeftIfFound, IsOver, WorkedOver};
 
-use crate::cold::{cold_report, door_of, report_of};
 use pj_base::{Bytes, NoMemory, Text};
 use pj_cache::{Cache, Keys};
 use pj_cache_laws::{
@@ -21,6 +21,7 @@ use pj_cache_laws::{
 };
 use pj_cache_store::class_folders_answer_by_name;
 use pj_cached_files::{LeftFiles, Run, files_over_cache};
+use pj_cold::{cold_report, door_of, report_of};
 use pj_grammar::java_17;
 use pj_names::AskFault;
 use pj_outside::{ClassDoor, Files};
@@ -69,7 +70,7 @@ fn files_over_door<D: ClassDoor>(
     requires keys { run.now.keys.now ≡ keys_of_set run.now.rules.now }
     requires paths { IsStrictlySortedBy byte_order (map (λ file. file.0) files.now) }
     ensures left { IfSome (D.holds door.old) (λ folders. IfOk result (IsLeftFiles (folders_world folders).answer run.now.rules.now run.now.found.now files.now)) }
-    ensures done { IfSome (D.holds door.old) (λ folders. OnOk result (AreDoneFiles (folders_world folders).answer run.now.rules.now run.now.found.now files.now work.old work.new)) }
+    ensures done { IfSome (D.holds door.old) (λ folders. OnOk result (AreDoneFiles (folders_world folders).answer run.now.rules.now run.now.found.now files.now (record { work = work.old; finds = D.finds door.old }) (record { work = work.new; finds = D.finds door.new }))) }
     ensures parts { OnOk result (ArePartedBy (map (λ file. file.0) files.now) work.old work.new) }
     ensures ascending { IfOk result (λ left. IsStrictlySortedBy byte_order (map (λ answer. answer.0) left.cache.answers)) }
     ensures faults { CountsDoorFaults (D.faults door.old) (D.faults door.new) result }
@@ -95,7 +96,7 @@ fn cached_report<D: ClassDoor>(
     requires in_order { IsInOrder found.now }
     requires paths { IsStrictlySortedBy byte_order (map (λ file. file.0) sources.now) }
     ensures over { IfSome (D.holds door.old) (λ folders. FitsIfFound (Some found.now) → IfOk result (IsOver (Some found.now) (folders_world folders).answer sources.now rules.now)) }
-    ensures done { IfSome (D.holds door.old) (λ folders. OnOk result (IsDoneOver found.now (folders_world folders).answer sources.now rules.now work.old work.new)) }
+    ensures done { IfSome (D.holds door.old) (λ folders. OnOk result (IsDoneOver found.now (folders_world folders).answer sources.now rules.now (record { work = work.old; finds = D.finds door.old }) (record { work = work.new; finds = D.finds door.new }))) }
     ensures parts { OnOk result (ArePartedBy (map (λ file. file.0) sources.now) work.old work.new) }
     ensures left { IfOk result (λ analysed. IsLeftIfFound (Some found.now) analysed.left) }
     ensures faults { CountsDoorFaults (D.faults door.old) (D.faults door.new) result }
@@ -134,7 +135,7 @@ pub fn analyse_over<D: ClassDoor>(
     requires in_order { IfSome found.now IsInOrder }
     requires paths { IsStrictlySortedBy byte_order (map (λ file. file.0) sources.now) }
     ensures over { IfSome (D.holds door.old) (λ folders. FitsIfFound found.now → IfOk result (IsOver found.now (folders_world folders).answer sources.now rules.now)) }
-    ensures done { IfSome (D.holds door.old) (λ folders. OnOk result (DoneOver found.now (folders_world folders).answer sources.now rules.now work.old work.new)) }
+    ensures done { IfSome (D.holds door.old) (λ folders. OnOk result (DoneOver found.now (folders_world folders).answer sources.now rules.now (record { work = work.old; finds = D.finds door.old }) (record { work = work.new; finds = D.finds door.new }))) }
     ensures left { IfOk result (λ analysed. IsLeftIfFound found.now analysed.left) }
     ensures worked { OnOk result (WorkedOver found.now sources.now work.old work.new) }
     ensures faults { CountsDoorFaults (D.faults door.old) (D.faults door.new) result }

@@ -3,9 +3,9 @@ ghost use Rattle.std.specs.Prelude.{◌≡◌, ◌≢◌, Err, IfOk, IfErr, IfSo
 ghost use Rattle.pj_cache_store.specs.Loading.{CountsLoad};
 ghost use Rattle.pj_outside.specs.Faults.{Rises};
 ghost use Rattle.pj_outside.specs.Putting.{Gets, GetsPrefix};
-ghost use Rattle.pj_check.specs.Caching.{CountsKeeper, CountsWrite, FindsFitting, nothing_told};
+ghost use Rattle.pj_check.specs.Caching.{CountsKeeper, CountsWrite, TakesFitting, nothing_told};
 ghost use Rattle.pj_check.specs.Kept.{AsksForNoCache, IsBeforeLoading, KeepsCache, SaysOfCache};
-ghost use Rattle.pj_check.specs.Outcome.{CountsClassFaults, CountsDoors, CountsSinkFaults, CountsTreeFaults, IsAnalysed, KeepsWork, Says, SaysOfFiles, SaysOfSink, SaysOfWords};
+ghost use Rattle.pj_check.specs.Outcome.{CountsClassFaults, CountsDoors, CountsSinkFaults, CountsTreeFaults, IsAnalysed, KeepsWork, Says, SaysIf, SaysOfFiles, SaysOfSink, SaysOfWords};
 ghost use Rattle.pj_check.specs.Steps.{CountsDoor, CountsFaults, CountsOfClasses, HasCacheText, HasNoReport, IsKeptIf, IsMade, IsOfSome, IsToldBefore, outcome_of, refused};
 
 use crate::cache::{CacheNotes, leave_cache};
@@ -31,11 +31,11 @@ fn make_report<T: Tree, C: ClassPath, K: Keeper>(
     work: &mut Work,
 ) -> Result<Made, Refusal>
     requires { told.old ≡ nothing_told }
-    ensures made { IfSome (T.holds tree.old) (λ held. IfSome (C.holds classes.old) (λ folders. FindsFitting words.now (K.holds keeper.old) → IfOk result (λ made. IsMade words.now held folders work.old work.new made.report))) }
+    ensures made { IfSome (T.holds tree.old) (λ held. IfSome (C.holds classes.old) (λ folders. TakesFitting words.now (K.holds keeper.old) told.new.unused → IfOk result (λ made. IsMade words.now held folders work.old work.new made.report))) }
     ensures analysed { IfSome (T.holds tree.old) (λ held. OnOk result (IsAnalysed words.now held work.old work.new)) }
     ensures of_some { IfOk result (λ made. IsOfSome words.now made.report) }
     ensures refused { IfErr result (HasNoReport words.now (T.holds tree.old)) }
-    ensures left { IfOk result (λ made. HasCacheText words.now (T.holds tree.old) (C.holds classes.old) (K.holds keeper.old) work.old work.new told.new.unused made.left) }
+    ensures left { IfOk result (λ made. HasCacheText words.now (T.holds tree.old) (C.holds classes.old) (K.holds keeper.old) (record { work = work.old; finds = C.finds classes.old }) (record { work = work.new; finds = C.finds classes.new }) told.new.unused made.left) }
     ensures told { IfErr result (λ refusal. IsToldBefore refusal words.now (K.holds keeper.old) told.new.unused) }
     ensures unwritten { told.new.is_unwritten ≡ false }
     ensures same_names { K.holds keeper.new ≡ K.holds keeper.old }
@@ -109,11 +109,11 @@ fn run<T: Tree, C: ClassPath, K: Keeper, S: Sink>(
     work: &mut Work,
 ) -> Result<Verdict, Refusal>
     requires { told.old ≡ nothing_told }
-    ensures says { IfSome (T.holds tree.old) (λ held. Says (outcome_of result) words.now held (C.holds classes.old) (K.holds keeper.old) (S.held out.old) (S.held out.new) work.old work.new) }
+    ensures says { IfSome (T.holds tree.old) (λ held. SaysIf (TakesFitting words.now (K.holds keeper.old) told.new.unused) (outcome_of result) words.now held (C.holds classes.old) (S.held out.old) (S.held out.new) work.old work.new) }
     ensures of_files { IfSome (T.holds tree.old) (λ held. SaysOfFiles (outcome_of result) words.now held work.old work.new) }
     ensures of_words { SaysOfWords (outcome_of result) words.now }
     ensures of_sink { SaysOfSink (outcome_of result) words.now (S.held out.old) (S.held out.new) }
-    ensures of_cache { SaysOfCache (outcome_of result) words.now (T.holds tree.old) (C.holds classes.old) (K.holds keeper.old) (K.holds keeper.new) work.old work.new told.new }
+    ensures of_cache { SaysOfCache (outcome_of result) words.now (T.holds tree.old) (C.holds classes.old) (K.holds keeper.old) (K.holds keeper.new) (record { work = work.old; finds = C.finds classes.old }) (record { work = work.new; finds = C.finds classes.new }) told.new }
     ensures counts_keeper { CountsKeeper (K.faults keeper.old) (K.faults keeper.new) told.new }
     ensures same_keeper { AsksForNoCache words.now → keeper.new ≡ keeper.old }
     ensures not_called { IsBeforeLoading (outcome_of result) → keeper.new ≡ keeper.old }
@@ -141,7 +141,7 @@ fn run<T: Tree, C: ClassPath, K: Keeper, S: Sink>(
 /// keeper holds as it was; each refusal but that of the sink leaves `work` as it was. A fault of the notes changes nothing else.
 ///
 /// The report is that of a run without a cache, if what the keeper has under the name of the cache fits: nothing is there, or what an earlier run left. A keeper that
-/// fails, and what is no cache, are a run without one; a line in the notes tells it. Words without a cache call the keeper not.
+/// fails, and what is no cache, are a run without one, whatever is there; a line in the notes tells it. Words without a cache call the keeper not.
 pub fn check_alone<T: Tree, C: ClassPath, K: Keeper, S: Sink, N: Sink>(
     alloc: Global,
     words: &Words,
@@ -156,7 +156,7 @@ pub fn check_alone<T: Tree, C: ClassPath, K: Keeper, S: Sink, N: Sink>(
     ensures of_files { IfSome (T.holds tree.old) (λ held. SaysOfFiles result words.now held work.old work.new) }
     ensures of_words { SaysOfWords result words.now }
     ensures of_sink { SaysOfSink result words.now (S.held out.old) (S.held out.new) }
-    ensures cache { KeepsCache result words.now (T.holds tree.old) (C.holds classes.old) (record { holds = K.holds keeper.old; faults = K.faults keeper.old }) (record { holds = K.holds keeper.new; faults = K.faults keeper.new }) work.old work.new (record { held = N.held notes.old; faults = N.faults notes.old }) (record { held = N.held notes.new; faults = N.faults notes.new }) }
+    ensures cache { KeepsCache result words.now (T.holds tree.old) (C.holds classes.old) (record { holds = K.holds keeper.old; faults = K.faults keeper.old }) (record { holds = K.holds keeper.new; faults = K.faults keeper.new }) (S.held out.old) (S.held out.new) (record { work = work.old; finds = C.finds classes.old }) (record { work = work.new; finds = C.finds classes.new }) (record { held = N.held notes.old; faults = N.faults notes.old }) (record { held = N.held notes.new; faults = N.faults notes.new }) }
     ensures same_keeper { AsksForNoCache words.now → keeper.new ≡ keeper.old }
     ensures not_called { IsBeforeLoading result → keeper.new ≡ keeper.old }
     ensures same_files { T.holds tree.new ≡ T.holds tree.old }

@@ -7,14 +7,15 @@ ghost use Rattle.pj_cache_format.specs.Ordered.{IsInOrder};
 ghost use Rattle.pj_outside.specs.Doors.{opened};
 ghost use Rattle.pj_outside.specs.Faults.{next_count};
 ghost use Rattle.pj_table.specs.ClassWorld.{folders_world};
-ghost use Rattle.pj_check.specs.Cold.{world_of};
-ghost use Rattle.pj_check.specs.Steps.{CountsDoor, CountsOfClasses, DoneOver, FitsIfFound, IsLeftIfFound, IsOfClasses, IsOver, WorkedOver};
+ghost use Rattle.pj_cold.specs.Cold.{world_of};
+ghost use Rattle.pj_check.specs.Caching.{DoneOver};
+ghost use Rattle.pj_check.specs.Steps.{CountsDoor, CountsOfClasses, FitsIfFound, IsLeftIfFound, IsOfClasses, IsOver, WorkedOver};
 
 use crate::analysing::{Analysed, analyse_over};
 use crate::refusal::{Refusal, after_asking, after_opening};
-use crate::steady_door::{Knowing, SteadyDoor};
 use pj_base::Names;
 use pj_cache::Cache;
+use pj_cold::{Knowing, SteadyDoor};
 use pj_outside::{ClassDoor, ClassPath, Files};
 use pj_rules::RuleSet;
 use pj_workers::Work;
@@ -32,6 +33,7 @@ fn open_door<C: ClassPath>(classes: &mut C, folders: &Names) -> Result<C::Door, 
     ensures same_finds { C.finds classes.new ≡ C.finds classes.old }
     ensures steady { C.never_fails classes.old → C.never_fails classes.new × (result ≢ Err Refusal.ClassFault) }
     ensures steady_door { C.never_fails classes.old → IfOk result (λ door. C.Door.never_fails door) }
+    ensures no_finds { IfOk result (λ door. C.Door.finds door ≡ 0) }
     ensures no_faults { IfOk result (λ door. C.Door.faults door ≡ 0) }
     ensures door { IfOk result (λ door. C.Door.holds door ≡ option_map (λ held. opened held folders.now) (C.holds classes.old)) }
 {
@@ -53,7 +55,7 @@ fn report_over<D: ClassDoor>(
     requires in_order { IfSome found.now IsInOrder }
     requires paths { IsStrictlySortedBy byte_order (map (λ file. file.0) sources.now) }
     ensures over { IfSome (D.holds door.old) (λ folders. FitsIfFound found.now → IfOk result (IsOver found.now (folders_world folders).answer sources.now rules.now)) }
-    ensures done { IfSome (D.holds door.old) (λ folders. OnOk result (DoneOver found.now (folders_world folders).answer sources.now rules.now work.old work.new)) }
+    ensures done { IfSome (D.holds door.old) (λ folders. OnOk result (DoneOver found.now (folders_world folders).answer sources.now rules.now (record { work = work.old; finds = D.finds door.old }) (record { work = work.new; finds = D.finds door.new }))) }
     ensures refused { IfErr result IsOfClasses }
     ensures faults { CountsOfClasses (D.faults door.old) (D.faults door.new) result }
     ensures left { IfOk result (λ analysed. IsLeftIfFound found.now analysed.left) }
@@ -81,7 +83,7 @@ fn report_over_classes<C: ClassPath, V: Knowing + Send>(
     requires paths { IsStrictlySortedBy byte_order (map (λ file. file.0) sources.now) }
     requires known { V.never_fails → C.never_fails classes.old }
     ensures over { IfSome (C.holds classes.old) (λ held. FitsIfFound found.now → IfOk result (IsOver found.now (world_of held folders.now) sources.now rules.now)) }
-    ensures done { IfSome (C.holds classes.old) (λ held. OnOk result (DoneOver found.now (world_of held folders.now) sources.now rules.now work.old work.new)) }
+    ensures done { IfSome (C.holds classes.old) (λ held. OnOk result (DoneOver found.now (world_of held folders.now) sources.now rules.now (record { work = work.old; finds = C.finds classes.old }) (record { work = work.new; finds = C.finds classes.new }))) }
     ensures refused { IfErr result IsOfClasses }
     ensures same_folders { C.holds classes.new ≡ C.holds classes.old }
     ensures class_faults { CountsOfClasses (C.faults classes.old) (C.faults classes.new) result }
@@ -112,7 +114,7 @@ pub fn analyse_sources<C: ClassPath>(
     requires in_order { IfSome found.now IsInOrder }
     requires paths { IsStrictlySortedBy byte_order (map (λ file. file.0) sources.now) }
     ensures over { IfSome (C.holds classes.old) (λ held. FitsIfFound found.now → IfOk result (IsOver found.now (world_of held folders.now) sources.now rules.now)) }
-    ensures done { IfSome (C.holds classes.old) (λ held. OnOk result (DoneOver found.now (world_of held folders.now) sources.now rules.now work.old work.new)) }
+    ensures done { IfSome (C.holds classes.old) (λ held. OnOk result (DoneOver found.now (world_of held folders.now) sources.now rules.now (record { work = work.old; finds = C.finds classes.old }) (record { work = work.new; finds = C.finds classes.new }))) }
     ensures refused { IfErr result IsOfClasses }
     ensures same_folders { C.holds classes.new ≡ C.holds classes.old }
     ensures class_faults { CountsOfClasses (C.faults classes.old) (C.faults classes.new) result }

@@ -1,14 +1,15 @@
 //! Laws of the definitions, each the contract of a function that does nothing.
-ghost use Rattle.pj_check.specs.Laws.{FitKeepersServe, KeepersStayFit, KeepersStayFitForever, OneRefusal, OneRun, ReportFindsWhatIsDenoted, ReportIsInOrder, RunIsNotRefused, RunOrRefusal, RunOrRefusalWithoutTypes, SetSettlesByReplies, SetSettlesWithoutTypes, SomeReport};
+ghost use Rattle.pj_check.specs.Laws.{FitKeepersServe, KeepersMend, KeepersStayFit, KeepersStayFitForever, OneRefusal, OneRun, ReportFindsWhatIsDenoted, ReportIsInOrder, RunIsNotRefused, RunOrRefusal, RunOrRefusalWithoutTypes};
 
 use pj_cache_store::what_is_loaded_is_found;
+use pj_cold::{rules_have_reports, what_sets_mean_settles};
 use pj_outside::one_name_is_replaced;
 use pj_rule_laws::rules_or_first_fault;
-use pj_rules::{one_first_fault, one_set, rules_are_sound, rules_or_fault};
+use pj_rules::{one_first_fault, one_set, rules_or_fault};
 use pj_sources::{one_listing, one_reading};
 use pj_workers::{
     cold_reports_are_in_order, cold_reports_find_what_is_denoted, one_cold_report,
-    rules_are_their_texts, settled_cold_report, what_rules_mean_settles,
+    rules_are_their_texts,
 };
 
 /// Words and files that have a run are not refused.
@@ -60,23 +61,6 @@ pub fn reports_find_what_is_denoted()
     cold_reports_find_what_is_denoted();
 }
 
-/// The rules that rulesets come to have a cold report of every list of sources, where what they mean comes to something.
-pub fn rules_have_reports()
-    ensures { SomeReport }
-{
-    rules_are_sound();
-    settled_cold_report();
-}
-
-/// What the rules of a set mean at sources comes to something over a world of classes, if what the functions of PMD that they call reply in these sources does: so
-/// it is over every world of rules that call none of `typeIs`, `typeIsExactly`, `hasAnnotation` and `matchesSig`.
-pub fn what_sets_mean_settles()
-    ensures replies { SetSettlesByReplies }
-    ensures without_types { SetSettlesWithoutTypes }
-{
-    what_rules_mean_settles();
-}
-
 /// Words, files and class folders have a run or a cause of refusal, if what the rules mean comes to something.
 pub fn some_run_or_refusal()
     ensures { RunOrRefusal }
@@ -96,11 +80,13 @@ pub fn some_run_or_refusal_without_types()
 }
 
 /// What stands under a name of a keeper fits after a run, if it did before (`stay`), and so after each of a list of runs, whatever their words are, and whatever is changed in files,
-/// rulesets and classes between them (`forever`). Where what stands under the name of the cache fits, the report is that of a run without a cache (`serve`). A name under which
+/// rulesets and classes between them (`forever`). After a run that does not use what stands there, whatever that is, as where the keeper failed, what it puts there fits (`mend`).
+/// Where what stands under the name of the cache fits, the report is that of a run without a cache (`serve`). A name under which
 /// nothing stands fits. The runs are over trees and class paths that tell what they hold.
 pub fn keepers_stay_fit()
     ensures stay { KeepersStayFit }
     ensures forever { KeepersStayFitForever }
+    ensures mend { KeepersMend }
     ensures serve { FitKeepersServe }
 {
     what_is_loaded_is_found();

@@ -8,7 +8,6 @@ mod analysing;
 mod cache;
 mod check;
 mod classes;
-mod cold;
 mod laws;
 mod limit;
 mod making;
@@ -21,7 +20,6 @@ mod refusal;
 mod report_laws;
 mod report_putting;
 mod report_rendering;
-mod steady_door;
 mod steps;
 mod verdict;
 
@@ -29,8 +27,7 @@ pub use cache::CacheNotes;
 pub use check::check_alone;
 pub use laws::{
     keepers_stay_fit, one_refusal, one_run, reports_are_in_order, reports_find_what_is_denoted,
-    rules_have_reports, runs_are_not_refused, some_run_or_refusal,
-    some_run_or_refusal_without_types, what_sets_mean_settles,
+    runs_are_not_refused, some_run_or_refusal, some_run_or_refusal_without_types,
 };
 pub use limit::LimitKind;
 pub use note::{put_outcome, put_run};

@@ -4,8 +4,8 @@ ghost use Rattle.std.specs.List.Sorted.{IsStrictlySortedBy};
 ghost use Rattle.pj_cache.specs.Places.{byte_order};
 ghost use Rattle.pj_cache_format.specs.Ordered.{IsInOrder};
 ghost use Rattle.pj_cache_store.specs.Loading.{CountsLoad};
-ghost use Rattle.pj_check.specs.Caching.{FitsUnder, nothing_told};
-ghost use Rattle.pj_check.specs.Cold.{world_of};
+ghost use Rattle.pj_cold.specs.Cold.{world_of};
+ghost use Rattle.pj_check.specs.Caching.{TakesFit, nothing_told};
 ghost use Rattle.pj_check.specs.Formats.{report_text};
 ghost use Rattle.pj_check.specs.Steps.{CountsDoor, CountsOfClasses, IsLeftIfFound, IsOfClasses, IsReportOf, IsSomeReport, IsTakenBy, IsTextBy, IsTextOf, IsToldAt, WorkedBy};
 ghost use Rattle.pj_check.specs.Verdicts.{verdict_of};
@@ -93,9 +93,9 @@ pub fn finish<C: ClassPath, K: Keeper>(
 ) -> Result<Made, Refusal>
     requires nothing_told { told.old ≡ nothing_told }
     requires paths { IsStrictlySortedBy byte_order (map (λ file. file.0) ready.now.sources) }
-    ensures made { IfSome (C.holds classes.old) (λ folders. FitsUnder ready.now.settings.cache (K.holds keeper.old) → IfOk result (λ made. IsReportOf ready.now (world_of folders ready.now.settings.classes) made.report)) }
+    ensures made { IfSome (C.holds classes.old) (λ folders. TakesFit ready.now.settings.cache (K.holds keeper.old) told.new.unused → IfOk result (λ made. IsReportOf ready.now (world_of folders ready.now.settings.classes) made.report)) }
     ensures some { IfOk result (λ made. IsSomeReport ready.now made.report) }
-    ensures left { IfOk result (λ made. IsTextBy ready.now.settings.cache ready.now (C.holds classes.old) (K.holds keeper.old) work.old work.new told.new.unused made.left) }
+    ensures left { IfOk result (λ made. IsTextBy ready.now.settings.cache ready.now (C.holds classes.old) (K.holds keeper.old) (record { work = work.old; finds = C.finds classes.old }) (record { work = work.new; finds = C.finds classes.new }) told.new.unused made.left) }
     ensures worked { OnOk result (WorkedBy ready.now.settings.cache ready.now work.old work.new) }
     ensures refused { IfErr result IsOfClasses }
     ensures told { IfErr result (λ refusal. IsToldAt refusal ready.now.settings.cache (K.holds keeper.old) told.new.unused) }

@@ -11,7 +11,7 @@ use Rattle.pj_sources.specs.Paths.{byte_order}
 use Rattle.pj_workers.specs.Cold.{World}
 use Rattle.pj_workers.specs.JavaReplies.{java_replies}
 use Rattle.pj_workers.specs.Rules.{AreRulesOf, Rule}
-use Rattle.pj_check.specs.Cold.{world_of}
+use Rattle.pj_cold.specs.Cold.{world_of}
 use Rattle.pj_check.specs.Run.{IsRun, Run}
 use Rattle.pj_report_laws.specs.FileSays.{SaysOfSource}
 

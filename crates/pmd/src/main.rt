@@ -34,7 +34,7 @@ fn run<T: Tree, C: ClassPath, K: Keeper, S: Sink, N: Sink>(
     ensures of_files { IfSome (T.holds tree.old) (λ held. SaysOfFiles result words.now held work.old work.new) }
     ensures of_words { SaysOfWords result words.now }
     ensures of_sink { SaysOfSink result words.now (S.held out.old) (S.held out.new) }
-    ensures cache { KeepsCache result words.now (T.holds tree.old) (C.holds classes.old) (record { holds = K.holds keeper.old; faults = K.faults keeper.old }) (record { holds = K.holds keeper.new; faults = K.faults keeper.new }) work.old work.new (record { held = N.held notes.old; faults = N.faults notes.old }) (record { held = N.held notes.new; faults = N.faults notes.new }) }
+    ensures cache { KeepsCache result words.now (T.holds tree.old) (C.holds classes.old) (record { holds = K.holds keeper.old; faults = K.faults keeper.old }) (record { holds = K.holds keeper.new; faults = K.faults keeper.new }) (S.held out.old) (S.held out.new) (record { work = work.old; finds = C.finds classes.old }) (record { work = work.new; finds = C.finds classes.new }) (record { held = N.held notes.old; faults = N.faults notes.old }) (record { held = N.held notes.new; faults = N.faults notes.new }) }
     ensures same_keeper { AsksForNoCache words.now → keeper.new ≡ keeper.old }
     ensures not_called { IsBeforeLoading result → keeper.new ≡ keeper.old }
     ensures same_files { T.holds tree.new ≡ T.holds tree.old }

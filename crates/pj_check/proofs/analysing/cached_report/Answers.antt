@@ -5,9 +5,10 @@ use Rattle.pj_names.specs.declared.oracle.AskFault.{AskFault}
 use Rattle.pj_names.specs.declared.oracle.AskFault.TheVariants.{Memory}
 use Rattle.pj_outside.specs.Files.{Bytes, Files}
 use Rattle.pj_workers.specs.JavaReplies.{java_replies}
-use Rattle.pj_check.specs.Steps.{CountsDoorFaults}
+use Rattle.pj_cold.specs.Steps.{CountsDoorFaults}
+use Rattle.pj_check.specs.Caching.{WorkSeen}
 use Rattle.pj_check.specs.declared.analysing.Analysed.{Analysed}
-use Rattle.pj_check.proofs.Ending.{result_on}
+use Rattle.pj_cold.proofs.Told.{result_on}
 use Rattle.pj_check.proofs.OverCache.{done_at_door, held_of, over_door}
 use Rattle.pj_check.proofs.analysing.cached_report.Goals as goal
 
@@ -48,9 +49,11 @@ returns-clause-over g c =
 pub returns-clause-done : goal.returns-clause-done
 returns-clause-done g c =
     let set = c.args.rules.now in
+    let before : WorkSeen = record { work = c.args.work.now; finds = g.D.ClassDoor.finds c.args.door.now } in
+    let after : WorkSeen = record { work = c.files_over_door.new.work; finds = g.D.ClassDoor.finds c.files_over_door.new.door } in
     let meant = c.sets_have_rules.ensures.0 in
     let held = held_of set meant c.sets_have_rules.ensures.1 c.in_ok-keys.ensures.room c.rules_of_sets_are_written.ensures in
-    done_at_door (g.D.ClassDoor.holds c.args.door.now) set c.args.found.now c.args.sources.now c.as_slice.result.now c.args.work.now c.files_over_door.new.work meant held.0 c.as_slice.ensures held.1 c.in_ok-left.ensures.done
+    done_at_door (g.D.ClassDoor.holds c.args.door.now) set c.args.found.now c.args.sources.now c.as_slice.result.now before after meant held.0 c.as_slice.ensures held.1 c.in_ok-left.ensures.done
 
 pub returns-clause-parts : goal.returns-clause-parts
 returns-clause-parts g c =

@@ -1,7 +1,7 @@
 use Rattle.std.proofs.Common.{◌≢◌, Err, Result}
 use Rattle.std.proofs.lemmas.Result.{err_from_is_err_and}
 use Rattle.pj_sources.specs.Reading.{AreRead}
-use Rattle.pj_check.specs.Caching.{FindsFitting}
+use Rattle.pj_check.specs.Caching.{TakesFitting, WorkSeen}
 use Rattle.pj_check.specs.Outcome.{DoorCounts, IsAnalysed}
 use Rattle.pj_check.specs.Run.{HasRules}
 use Rattle.pj_check.specs.Steps.{CountsDoor, CountsOfClasses, HasNoReport, IsMade, IsPrepared, IsToldBefore}
@@ -9,8 +9,8 @@ use Rattle.pj_check.specs.declared.making.Made.{Made}
 use Rattle.pj_check.specs.declared.refusal.Refusal.{Refusal}
 use Rattle.pj_check.specs.declared.refusal.Refusal.TheVariants.{ClassFault}
 use Rattle.pj_check.proofs.Caches.{has_cache_text, is_analysed_by, is_made_by, is_of_some, of_classes_after, reused_on, told_before, told_nothing}
-use Rattle.pj_check.proofs.Ending.{classes_idle, classes_steady, doors_idle, no_report, no_report_on, no_tree_on, nothing_done, nothing_over, refused_on, result_on, tree_on}
-use Rattle.pj_check.proofs.Told.{told_so}
+use Rattle.pj_check.proofs.Ending.{classes_idle, classes_steady, doors_idle, no_report, no_report_on, no_tree_on, nothing_done, nothing_over, refused_on, tree_on}
+use Rattle.pj_cold.proofs.Told.{result_on, told_so}
 use Rattle.pj_check.proofs.check.make_report.Goals as goal
 
 -- ---- the run is refused before the sources are analysed
@@ -18,7 +18,7 @@ use Rattle.pj_check.proofs.check.make_report.Goals as goal
 pub returns-in_err-ready-clause-made : goal.returns-in_err-ready-clause-made
 returns-in_err-ready-clause-made g c =
     let exit = err_from_is_err_and c.from_residual.result c.from_residual.ensures.1 in
-    nothing_over (FindsFitting c.args.words.now (g.K.Keeper.holds c.args.keeper.now)) (λ held folders (made : Made). IsMade c.args.words.now held folders c.args.work.now c.args.work.now made.report)
+    nothing_over (TakesFitting c.args.words.now (g.K.Keeper.holds c.args.keeper.now) c.args.told.now.unused) (λ held folders (made : Made). IsMade c.args.words.now held folders c.args.work.now c.args.work.now made.report)
     (g.T.Tree.holds c.args.tree.now) (g.C.ClassPath.holds c.args.classes.now) c.from_residual.result exit.0 exit.1
 
 pub returns-in_err-ready-clause-analysed : goal.returns-in_err-ready-clause-analysed
@@ -69,7 +69,7 @@ returns-in_err-ready-clause-steady_classes g c = λ never.
 
 pub returns-clause-made : goal.returns-clause-made
 returns-clause-made g c =
-    is_made_by c.args.words.now (g.T.Tree.holds c.args.tree.now) (g.C.ClassPath.holds c.args.classes.now) (g.K.Keeper.holds c.args.keeper.now) c.in_ok-ready.ready c.args.work.now c.finish.new.work c.finish.result
+    is_made_by c.args.words.now (g.T.Tree.holds c.args.tree.now) (g.C.ClassPath.holds c.args.classes.now) (g.K.Keeper.holds c.args.keeper.now) c.finish.new.told.unused c.in_ok-ready.ready c.args.work.now c.finish.new.work c.finish.result
     c.in_ok-ready.ensures.asked c.in_ok-ready.ensures.within c.in_ok-ready.ensures.prepared c.finish.ensures.worked c.finish.ensures.made
 
 pub returns-clause-analysed : goal.returns-clause-analysed
@@ -92,7 +92,9 @@ returns-clause-refused g c =
 
 pub returns-clause-left : goal.returns-clause-left
 returns-clause-left g c =
-    has_cache_text c.args.words.now (g.T.Tree.holds c.args.tree.now) (g.C.ClassPath.holds c.args.classes.now) (g.K.Keeper.holds c.args.keeper.now) c.in_ok-ready.ready c.args.work.now c.finish.new.work c.finish.new.told.unused c.finish.result
+    let before : WorkSeen = record { work = c.args.work.now; finds = g.C.ClassPath.finds c.args.classes.now } in
+    let after : WorkSeen = record { work = c.finish.new.work; finds = g.C.ClassPath.finds c.finish.new.classes } in
+    has_cache_text c.args.words.now (g.T.Tree.holds c.args.tree.now) (g.C.ClassPath.holds c.args.classes.now) (g.K.Keeper.holds c.args.keeper.now) c.in_ok-ready.ready before after c.finish.new.told.unused c.finish.result
     c.in_ok-ready.ensures.asked c.in_ok-ready.ensures.prepared c.finish.ensures.made c.finish.ensures.left
 
 pub returns-clause-told : goal.returns-clause-told

@@ -2,9 +2,10 @@ use Rattle.std.proofs.Common.{◌≡◌, ◌≢◌, ◌∙◌, Bool, Err, IfSome
 use Rattle.std.proofs.lemmas.Result.{err_from_is_err_and}
 use Rattle.pj_cache_store.specs.Loading.{CountsLoad}
 use Rattle.pj_cache_store.specs.declared.loading.Unused.{Unused}
-use Rattle.pj_check.specs.Caching.{CountsWrite}
+use Rattle.pj_check.specs.Caching.{CountsWrite, TakesFitting, WorkSeen}
 use Rattle.pj_check.specs.Kept.{IsBeforeLoading, SaysOfCache}
-use Rattle.pj_check.specs.Outcome.{CountsClassFaults, CountsDoors, CountsSinkFaults, CountsTreeFaults, DoorCounts, KeepsWork, Says, SaysOfFiles, SaysOfSink, SaysOfWords}
+use Rattle.pj_check.specs.Outcome.{CountsClassFaults, CountsDoors, CountsSinkFaults, CountsTreeFaults, DoorCounts, KeepsWork, SaysIf, SaysOfFiles, SaysOfSink, SaysOfWords}
+use Rattle.pj_check.specs.Steps.{IsMade}
 use Rattle.pj_check.specs.declared.outcome.Outcome.{Outcome}
 use Rattle.pj_check.specs.declared.outcome.Outcome.TheVariants.{ClassFault, TreeFault}
 use Rattle.pj_check.specs.declared.refusal.Refusal.{Refusal}
@@ -22,8 +23,9 @@ returns-in_err-made-clause-says g c =
     let out = g.S.Sink.held c.args.out.now in
     let refusal = c.in_err-made.field-0.0 in
     let exit = err_from_is_err_and c.from_residual.result c.from_residual.ensures.1 in
-    ends_before (λ (o : Outcome). IfSome told (λ held. Says o c.args.words.now held classes (g.K.Keeper.holds c.args.keeper.now) out out c.args.work.now c.make_report.new.work)) c.from_residual.result exit.0 refusal exit.1 exit.2
-    (all_say_before refusal c.args.words.now told classes (g.K.Keeper.holds c.args.keeper.now) out out c.args.work.now c.make_report.new.work c.in_err-made.ensures.refused)
+    let fits = TakesFitting c.args.words.now (g.K.Keeper.holds c.args.keeper.now) c.make_report.new.told.unused in
+    ends_before (λ (o : Outcome). IfSome told (λ held. SaysIf fits o c.args.words.now held classes out out c.args.work.now c.make_report.new.work)) c.from_residual.result exit.0 refusal exit.1 exit.2
+    (all_say_before refusal c.args.words.now told classes fits out out c.args.work.now c.make_report.new.work c.in_err-made.ensures.refused)
 
 pub returns-in_err-made-clause-of_files : goal.returns-in_err-made-clause-of_files
 returns-in_err-made-clause-of_files g c =
@@ -108,10 +110,12 @@ returns-in_err-made-clause-of_cache g c =
     let classes = g.C.ClassPath.holds c.args.classes.now in
     let old = g.K.Keeper.holds c.args.keeper.now in
     let new = g.K.Keeper.holds c.make_report.new.keeper in
+    let before : WorkSeen = record { work = c.args.work.now; finds = g.C.ClassPath.finds c.args.classes.now } in
+    let after : WorkSeen = record { work = c.make_report.new.work; finds = g.C.ClassPath.finds c.make_report.new.classes } in
     let refusal = c.in_err-made.field-0.0 in
     let exit = err_from_is_err_and c.from_residual.result c.from_residual.ensures.1 in
-    ends_before (λ (o : Outcome). SaysOfCache o c.args.words.now tree classes old new c.args.work.now c.make_report.new.work c.make_report.new.told) c.from_residual.result exit.0 refusal exit.1 exit.2
-    (cache_before refusal c.args.words.now tree classes old new c.args.work.now c.make_report.new.work c.make_report.new.told (c.in_err-made.ensures.refused).of_words
+    ends_before (λ (o : Outcome). SaysOfCache o c.args.words.now tree classes old new before after c.make_report.new.told) c.from_residual.result exit.0 refusal exit.1 exit.2
+    (cache_before refusal c.args.words.now tree classes old new before after c.make_report.new.told (c.in_err-made.ensures.refused).of_words
     (c.in_err-made.ensures.same_names, c.in_err-made.ensures.unwritten) c.in_err-made.ensures.told)
 
 pub returns-in_err-made-clause-counts_keeper : goal.returns-in_err-made-clause-counts_keeper
@@ -130,8 +134,11 @@ returns-in_err-made-clause-not_called g c =
 
 pub returns-clause-says : goal.returns-clause-says
 returns-clause-says g c =
-    put_says c.put_made.result c.args.words.now (g.T.Tree.holds c.args.tree.now) (g.C.ClassPath.holds c.args.classes.now) (g.K.Keeper.holds c.args.keeper.now) c.in_ok-made.made.report (g.S.Sink.held c.args.out.now) (g.S.Sink.held c.put_made.new.out) c.args.work.now c.make_report.new.work
-    c.put_made.ensures.verdict c.put_made.ensures.got c.put_made.ensures.cut c.put_made.ensures.refused c.in_ok-made.ensures.made
+    let fits = TakesFitting c.args.words.now (g.K.Keeper.holds c.args.keeper.now) in
+    put_says c.put_made.result c.args.words.now (g.T.Tree.holds c.args.tree.now) (g.C.ClassPath.holds c.args.classes.now) (fits c.put_made.new.told.unused) c.in_ok-made.made.report (g.S.Sink.held c.args.out.now) (g.S.Sink.held c.put_made.new.out) c.args.work.now c.make_report.new.work
+    c.put_made.ensures.verdict c.put_made.ensures.got c.put_made.ensures.cut c.put_made.ensures.refused
+    (subst (λ (why : Option Unused). IfSome (g.T.Tree.holds c.args.tree.now) (λ held. IfSome (g.C.ClassPath.holds c.args.classes.now) (λ folders. fits why → IsMade c.args.words.now held folders c.args.work.now c.make_report.new.work c.in_ok-made.made.report)))
+    (sym c.put_made.ensures.same_told) c.in_ok-made.ensures.made)
 
 pub returns-clause-of_files : goal.returns-clause-of_files
 returns-clause-of_files g c =
@@ -173,8 +180,10 @@ returns-clause-steady_classes g c = λ never. ((c.in_ok-made.ensures.steady_clas
 
 pub returns-clause-of_cache : goal.returns-clause-of_cache
 returns-clause-of_cache g c =
+    let before : WorkSeen = record { work = c.args.work.now; finds = g.C.ClassPath.finds c.args.classes.now } in
+    let after : WorkSeen = record { work = c.make_report.new.work; finds = g.C.ClassPath.finds c.make_report.new.classes } in
     cache_put c.put_made.result c.args.words.now (g.T.Tree.holds c.args.tree.now) (g.C.ClassPath.holds c.args.classes.now) (g.K.Keeper.holds c.args.keeper.now) (g.K.Keeper.holds c.make_report.new.keeper) (g.K.Keeper.holds c.put_made.new.keeper)
-    c.args.work.now c.make_report.new.work c.make_report.new.told.unused c.put_made.new.told c.in_ok-made.made.left c.put_made.ensures.refused c.put_made.ensures.same_told c.in_ok-made.ensures.same_names c.in_ok-made.ensures.left
+    before after c.make_report.new.told.unused c.put_made.new.told c.in_ok-made.made.left c.put_made.ensures.refused c.put_made.ensures.same_told c.in_ok-made.ensures.same_names c.in_ok-made.ensures.left
     c.put_made.ensures.kept c.put_made.ensures.not_kept c.put_made.ensures.same_names
 
 pub returns-clause-counts_keeper : goal.returns-clause-counts_keeper
@@ -189,5 +198,7 @@ returns-clause-not_called g c = put_after c.args.keeper.now c.put_made.new.keepe
 
 pub returns-clause-same_keeper : goal.returns-clause-same_keeper
 returns-clause-same_keeper g c = λ none.
-    c.put_made.ensures.same_keeper (no_cache_text c.args.words.now (g.T.Tree.holds c.args.tree.now) (g.C.ClassPath.holds c.args.classes.now) (g.K.Keeper.holds c.args.keeper.now) c.args.work.now c.make_report.new.work c.make_report.new.told.unused c.in_ok-made.made.left
+    let before : WorkSeen = record { work = c.args.work.now; finds = g.C.ClassPath.finds c.args.classes.now } in
+    let after : WorkSeen = record { work = c.make_report.new.work; finds = g.C.ClassPath.finds c.make_report.new.classes } in
+    c.put_made.ensures.same_keeper (no_cache_text c.args.words.now (g.T.Tree.holds c.args.tree.now) (g.C.ClassPath.holds c.args.classes.now) (g.K.Keeper.holds c.args.keeper.now) before after c.make_report.new.told.unused c.in_ok-made.made.left
     c.in_ok-made.ensures.left none) ∙ c.in_ok-made.ensures.same_keeper none

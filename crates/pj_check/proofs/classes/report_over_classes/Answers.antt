@@ -1,13 +1,14 @@
-use Rattle.std.proofs.Common.{◌≢◌, ◌∙◌, Err, IfOk, OnOk, Result}
+use Rattle.std.proofs.Common.{◌≢◌, ◌∙◌, Err, IfOk, Result}
 use Rattle.std.proofs.lemmas.Result.{err_from_is_err_and}
 use Rattle.pj_workers.specs.Cold.{World}
 use Rattle.pj_check.specs.Outcome.{DoorCounts}
-use Rattle.pj_check.specs.Steps.{CountsDoor, CountsOfClasses, DoneOver, FitsIfFound, IsOfClasses, IsOver}
+use Rattle.pj_check.specs.Steps.{CountsDoor, CountsOfClasses, FitsIfFound, IsOfClasses, IsOver}
 use Rattle.pj_check.specs.declared.analysing.Analysed.{Analysed}
 use Rattle.pj_check.specs.declared.refusal.Refusal.{Refusal}
 use Rattle.pj_check.specs.declared.refusal.Refusal.TheVariants.{ClassFault}
-use Rattle.pj_check.proofs.DoorCounting.{cold_of_classes, no_class_fault, no_door, one_door, shut_door, shut_faults}
-use Rattle.pj_check.proofs.Ending.{other_end, refused_on, result_on}
+use Rattle.pj_check.proofs.DoorCounting.{cold_of_classes, done_over_classes, no_class_fault, no_door, one_door, shut_door, shut_faults}
+use Rattle.pj_cold.proofs.Told.{result_on}
+use Rattle.pj_check.proofs.Ending.{other_end, refused_on}
 use Rattle.pj_check.proofs.classes.report_over_classes.Goals as goal
 
 -- ---- no door is opened
@@ -56,8 +57,10 @@ returns-clause-over g c =
 
 pub returns-clause-done : goal.returns-clause-done
 returns-clause-done g c =
-    cold_of_classes (g.C.ClassPath.holds c.args.classes.now) _ c.args.folders.now (λ (world : World). OnOk c.report_over-analysed.result (DoneOver c.args.found.now world c.args.sources.now c.args.rules.now c.args.work.now c.report_over-analysed.new.work))
-    (c.new-door.ensures.holds ∙ c.in_ok-opened.ensures.door) c.report_over-analysed.ensures.done
+    done_over_classes c.report_over-analysed.result (g.C.ClassPath.holds c.args.classes.now) _ c.args.folders.now c.args.found.now c.args.sources.now c.args.rules.now c.args.work.now c.report_over-analysed.new.work _ _ _
+    (g.C.ClassPath.finds c.args.classes.now) (g.C.ClassPath.finds c.open_door.new.classes) (g.C.ClassPath.finds c.shut.new.self)
+    (c.new-door.ensures.holds ∙ c.in_ok-opened.ensures.door) (c.new-door.ensures.finds ∙ c.in_ok-opened.ensures.no_finds) c.in_ok-opened.ensures.same_finds c.into_door.ensures.finds c.shut.ensures.counts_finds
+    c.report_over-analysed.ensures.done
 
 pub returns-clause-class_faults : goal.returns-clause-class_faults
 returns-clause-class_faults g c =

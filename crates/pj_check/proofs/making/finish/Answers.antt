@@ -1,17 +1,17 @@
 use Rattle.std.proofs.Common.{◌≢◌, Err, Result, inl, inr, refl}
 use Rattle.std.proofs.lemmas.Result.{err_from_is_err_and}
 use Rattle.pj_outside.specs.Doors.{ClassFolders}
-use Rattle.pj_check.specs.Caching.{FitsUnder}
-use Rattle.pj_check.specs.Cold.{world_of}
+use Rattle.pj_cold.specs.Cold.{world_of}
+use Rattle.pj_check.specs.Caching.{TakesFit}
 use Rattle.pj_check.specs.Outcome.{DoorCounts}
 use Rattle.pj_check.specs.Steps.{CountsDoor, CountsOfClasses, FitsIfFound, IsOfClasses, IsOver, IsReportOf, IsToldAt}
 use Rattle.pj_check.specs.declared.analysing.Analysed.{Analysed}
 use Rattle.pj_check.specs.declared.making.Made.{Made}
 use Rattle.pj_check.specs.declared.refusal.Refusal.{Refusal}
 use Rattle.pj_check.specs.declared.refusal.Refusal.TheVariants.{ClassFault, Memory}
-use Rattle.pj_check.proofs.Ending.{memory_end, nothing_under, other_end, refused_on, result_on}
+use Rattle.pj_check.proofs.Ending.{memory_end, nothing_under, other_end, refused_on}
 use Rattle.pj_check.proofs.Finishing.{fits_found, over_is_cold, text_by, told_at, told_of, worked_by}
-use Rattle.pj_check.proofs.Told.{told_so}
+use Rattle.pj_cold.proofs.Told.{result_on, told_so}
 use Rattle.pj_check.proofs.making.finish.Goals as goal
 
 -- ---- memory is wanting before the sources are analysed
@@ -20,7 +20,7 @@ pub returns-in_err-begun-clause-made : goal.returns-in_err-begun-clause-made
 returns-in_err-begun-clause-made g c =
     let ready = c.args.ready.now in
     let exit = err_from_is_err_and c.from_residual.result c.from_residual.ensures.1 in
-    nothing_under (FitsUnder ready.settings.cache (g.K.Keeper.holds c.args.keeper.now)) (λ folders (made : Made). IsReportOf ready (world_of folders ready.settings.classes) made.report) (g.C.ClassPath.holds c.args.classes.now) c.from_residual.result exit.0 exit.1
+    nothing_under (TakesFit ready.settings.cache (g.K.Keeper.holds c.args.keeper.now) c.begin.new.told.unused) (λ folders (made : Made). IsReportOf ready (world_of folders ready.settings.classes) made.report) (g.C.ClassPath.holds c.args.classes.now) c.from_residual.result exit.0 exit.1
 
 pub returns-in_err-begun-clause-refused : goal.returns-in_err-begun-clause-refused
 returns-in_err-begun-clause-refused g c =
@@ -58,7 +58,7 @@ pub returns-in_err-analysed-clause-made : goal.returns-in_err-analysed-clause-ma
 returns-in_err-analysed-clause-made g c =
     let ready = c.args.ready.now in
     let exit = err_from_is_err_and c.from_residual-in_err-analysed.result c.from_residual-in_err-analysed.ensures.1 in
-    nothing_under (FitsUnder ready.settings.cache (g.K.Keeper.holds c.args.keeper.now)) (λ folders (made : Made). IsReportOf ready (world_of folders ready.settings.classes) made.report) (g.C.ClassPath.holds c.args.classes.now) c.from_residual-in_err-analysed.result exit.0 exit.1
+    nothing_under (TakesFit ready.settings.cache (g.K.Keeper.holds c.args.keeper.now) c.begin.new.told.unused) (λ folders (made : Made). IsReportOf ready (world_of folders ready.settings.classes) made.report) (g.C.ClassPath.holds c.args.classes.now) c.from_residual-in_err-analysed.result exit.0 exit.1
 
 pub returns-in_err-analysed-clause-refused : goal.returns-in_err-analysed-clause-refused
 returns-in_err-analysed-clause-refused g c =
@@ -97,7 +97,7 @@ pub returns-in_err-made-clause-made : goal.returns-in_err-made-clause-made
 returns-in_err-made-clause-made g c =
     let ready = c.args.ready.now in
     let exit = err_from_is_err_and c.from_residual-in_err-made.result c.from_residual-in_err-made.ensures.1 in
-    nothing_under (FitsUnder ready.settings.cache (g.K.Keeper.holds c.args.keeper.now)) (λ folders (made : Made). IsReportOf ready (world_of folders ready.settings.classes) made.report) (g.C.ClassPath.holds c.args.classes.now) c.from_residual-in_err-made.result exit.0 exit.1
+    nothing_under (TakesFit ready.settings.cache (g.K.Keeper.holds c.args.keeper.now) c.begin.new.told.unused) (λ folders (made : Made). IsReportOf ready (world_of folders ready.settings.classes) made.report) (g.C.ClassPath.holds c.args.classes.now) c.from_residual-in_err-made.result exit.0 exit.1
 
 pub returns-in_err-made-clause-refused : goal.returns-in_err-made-clause-refused
 returns-in_err-made-clause-refused g c =
@@ -140,11 +140,11 @@ returns-clause-made g c =
     let analysed = c.in_ok-analysed.analysed in
     let world = λ (folders : ClassFolders). world_of folders ready.settings.classes in
     told_so (g.C.ClassPath.holds c.args.classes.now) (λ folders. FitsIfFound found → IsOver found (world folders) ready.sources ready.rules analysed)
-    (λ folders. FitsUnder name kept → IsReportOf ready (world folders) c.in_ok-made.made.report)
+    (λ folders. TakesFit name kept c.begin.new.told.unused → IsReportOf ready (world folders) c.in_ok-made.made.report)
     (λ folders over fits. record {
       report = analysed.report;
       cold = over_is_cold found (world folders) ready.sources ready.rules analysed
-          (over (fits_found c.what_is_loaded_is_found.ensures.read c.what_is_loaded_is_found.ensures.not_read name kept found c.begin.new.told.unused c.in_ok-begun.ensures.taken fits));
+          (over (fits_found c.what_is_loaded_is_found.ensures.read name kept found c.begin.new.told.unused c.in_ok-begun.ensures.taken fits));
       text = c.in_ok-made.ensures.text;
       comes_to = c.in_ok-made.ensures.verdict;
     })
@@ -156,8 +156,8 @@ returns-clause-some g c = record { report = c.in_ok-analysed.analysed.report; te
 pub returns-clause-left : goal.returns-clause-left
 returns-clause-left g c =
     let ready = c.args.ready.now in
-    text_by c.what_is_loaded_is_found.ensures.read c.what_is_loaded_is_found.ensures.not_read ready ready.settings.cache (g.C.ClassPath.holds c.args.classes.now) (g.K.Keeper.holds c.args.keeper.now) c.in_ok-begun.begun.found c.begin.new.told.unused
-    c.in_ok-analysed.analysed c.in_ok-made.made.left c.args.work.now c.in_ok-begun.begun.done c.analyse_sources.new.work
+    text_by c.what_is_loaded_is_found.ensures.read ready ready.settings.cache (g.C.ClassPath.holds c.args.classes.now) (g.K.Keeper.holds c.args.keeper.now) c.in_ok-begun.begun.found c.begin.new.told.unused
+    c.in_ok-analysed.analysed c.in_ok-made.made.left c.args.work.now c.in_ok-begun.begun.done c.analyse_sources.new.work (g.C.ClassPath.finds c.args.classes.now) (g.C.ClassPath.finds c.analyse_sources.new.classes)
     (λ i. (c.in_ok-begun.ensures.done i).analysed) (λ i. (c.in_ok-begun.ensures.done i).reused)
     c.in_ok-begun.ensures.taken c.in_ok-analysed.ensures.left c.in_ok-made.ensures.left c.in_ok-analysed.ensures.over c.in_ok-analysed.ensures.done
 

@@ -4,7 +4,7 @@ use Rattle.pj_outside.specs.Files.{Bytes}
 use Rattle.pj_outside.specs.declared.refused.Failed.{Failed}
 use Rattle.pj_check.specs.NoteText.{lines_of_note}
 use Rattle.pj_check.specs.Notes.{GetLines, notes_of, notes_with, unused_lines, unwritten_lines}
-use Rattle.pj_check.proofs.Ending.{result_on}
+use Rattle.pj_cold.proofs.Told.{result_on}
 use Rattle.pj_check.proofs.Lines.{lines_first, lines_second, lines_three, note_lines}
 use Rattle.pj_check.proofs.note.put_all.Goals as goal
 

@@ -8,7 +8,7 @@ use Rattle.pj_check.specs.Run.{HasRules, HasSources}
 use Rattle.pj_check.specs.Steps.{Explains, IsPrepared}
 use Rattle.pj_check.specs.declared.preparing.Ready.{Ready}
 use Rattle.pj_check.proofs.Ending.{explains_later, nothing_on, refused_on, told_later}
-use Rattle.pj_check.proofs.Told.{told_both}
+use Rattle.pj_cold.proofs.Told.{told_both}
 use Rattle.pj_check.proofs.preparing.prepare.Goals as goal
 
 -- ---- the words ask for nothing

@@ -1,0 +1,5 @@
+pub mod Told
+mod Faults
+pub mod Gathering
+pub mod Asked
+mod SomeReport
