@@ -16,7 +16,7 @@ pub struct Project {
     /// The class files of the same classes, by their paths in a class folder.
     pub classes: Files,
     /// A ruleset with two rules: `T` finds the classes that are a `gen.C2`, and `I` operators between operands.
-    pub ruleset: Text,
+    pub rules: Text,
 }
 
 /// The source of class `i`, with its path.
@@ -66,12 +66,12 @@ fn classes(alloc: Global, n: u32) -> Result<Files, NoMemory>
 pub fn project_of(alloc: Global, n: u32) -> Result<Project, NoMemory>
     ensures files { IfOk result (λ made. made.files ≡ sources n) }
     ensures classes { IfOk result (λ made. made.classes ≡ classes n) }
-    ensures ruleset { IfOk result (λ made. made.ruleset ≡ rules_text) }
+    ensures rules { IfOk result (λ made. made.rules ≡ rules_text) }
 {
     Ok(Project {
         files: sources(alloc, n)?,
         classes: classes(alloc, n)?,
-        ruleset: Text::from_str(
+        rules: Text::from_str(
             alloc,
             "<ruleset name=\"generated\">\n<rule name=\"T\" language=\"java\" message=\"A class that is a C2\" class=\"net.sourceforge.pmd.lang.rule.xpath.XPathRule\"><properties><property name=\"xpath\"><value>//ClassDeclaration[pmd-java:typeIs('gen.C2')]</value></property></properties></rule>\n<rule name=\"I\" language=\"java\" message=\"An operator between operands\" class=\"net.sourceforge.pmd.lang.rule.xpath.XPathRule\"><properties><property name=\"xpath\"><value>//InfixExpression</value></property></properties></rule>\n</ruleset>\n",
         )?,
