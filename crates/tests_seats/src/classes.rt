@@ -68,3 +68,13 @@ pub fn folder_names(alloc: Global) -> Result<Names, NoMemory> {
     names.push(Text::from_str(alloc, "one")?)?;
     Ok(names)
 }
+
+/// Whether each file has its turn, and its class is absent where this says so.
+pub fn are(answers: &[Arc<Answer>], absent: &[bool]) -> bool {
+    for (answer, absent) in answers.iter().zip(absent) {
+        if (**answer == Answer::Absent) != *absent {
+            return false;
+        }
+    }
+    answers.len() == absent.len()
+}

@@ -1,0 +1,24 @@
+use Rattle.std.proofs.Common.{◌≡◌, ◌∙◌, ◌+◌, ℕ, ap, arith, subst, sym}
+use Rattle.std.specs.List.{AllByRecursion}
+use Rattle.std.specs.Option.{option_map}
+use Rattle.pj_outside.specs.Doors.{ClassFolders, opened}
+use Rattle.pj_outside.specs.Faults.{next_count}
+use Rattle.pj_crew.proofs.Reversed.{all_last}
+use Rattle.pj_crew.specs.Opening.{IsNewDoor}
+use Rattle.pj_crew.proofs.opening.open_doors.Goals as goal
+
+pub loop-preserved : goal.loop-preserved
+loop-preserved g c =
+    let kept = c.loop.invariant in let one = c.in_ok-door.ensures in
+    let new = IsNewDoor g.C.Door.ClassDoor.holds g.C.Door.ClassDoor.finds g.C.Door.ClassDoor.faults (option_map (λ held. opened held c.args.folders.now) (g.C.ClassPath.holds c.args.classes.now)) in
+    record {
+      doors = subst (λ l. AllByRecursion new l) (sym c.push_reserved.ensures.items)
+          (all_last new c.loop.doors.items c.in_ok-door.door kept.doors (record { world_is = one.door ∙ ap (λ o. option_map (λ (held : ClassFolders). opened held c.args.folders.now) o) kept.same_folders; no_finds = one.no_finds; no_faults = one.no_faults }));
+      many = c.push_reserved.ensures.len ∙ ap (λ (n : ℕ). n + 1) kept.many;
+      room = (let a = c.push_reserved.ensures.capacity in let b = kept.room in omega arith);
+      given = one.counts_given ∙ ap next_count kept.given;
+      same_folders = one.same_folders ∙ kept.same_folders;
+      same_taken = one.same_taken ∙ kept.same_taken;
+      same_finds = one.same_finds ∙ kept.same_finds;
+      same_faults = one.counts_faults ∙ kept.same_faults;
+    }

@@ -1,0 +1,6 @@
+-- definitions
+pub mod Together
+pub mod Opening
+-- for private clauses
+pub mod Crew
+pub mod Placing
