@@ -8,8 +8,8 @@ use Rattle.pj_crew.proofs.together.work_together.Goals as goal
 
 pub put_together-requires-clause-table : goal.put_together-requires-clause-table
 put_together-requires-clause-table g c =
-    let open = c.in_ok-table.ensures in let work = c.work_all-ends.ensures.worked in
-    (c.work_all-ends.ensures.table.0 ∙ open.0, ap (λ l. l.number) (own_is _ _ _ _ _ _ _ _ _ _ work) ∙ open.1)
+    let begun = c.in_ok-table.ensures in let work = c.work_all-ends.ensures.worked in
+    (c.work_all-ends.ensures.table.0 ∙ begun.0, ap (λ l. l.number) (own_is _ _ _ _ _ _ _ _ _ _ work) ∙ begun.1)
 
 pub put_together-requires-clause-files : goal.put_together-requires-clause-files
 put_together-requires-clause-files g c = files_are _ _ _ _ _ _ _ _ _ _ c.work_all-ends.ensures.worked ∙ c.in_ok-table.ensures.2
