@@ -1,11 +1,11 @@
 -- Doors that are opened and shut.
-use Rattle.std.proofs.Common.{◌≡◌, ◌≢◌, ◌∙◌, ℕ, Bool, eq-eqb, ne_eqb, zero, suc, ◌+◌, ◌-◌, ◌^◌, ◌<◌, ◌≤◌, min, List, [], ◌∷◌, length, refl, sym, subst, arith}
+use Rattle.std.proofs.Common.{◌≡◌, ◌≢◌, ◌∙◌, ℕ, Bool, eq-eqb, ne_eqb, zero, suc, ◌+◌, ◌-◌, ◌^◌, ◌<◌, ◌≤◌, min, List, [], ◌∷◌, length, refl, sym, ap, subst, arith}
 use Rattle.std.specs.Bool.{MatchBool}
 use Rattle.std.specs.List.{AllByRecursion}
 use Rattle.pj_outside.specs.Doors.{TakesFaults}
-use Rattle.pj_outside.specs.Faults.{Rises}
+use Rattle.pj_outside.specs.Faults.{Rises, next_count}
 use Rattle.pj_table.specs.Worlds.{World}
-use Rattle.pj_crew.specs.Opening.{IsNewDoor, TakesAllFaults}
+use Rattle.pj_crew.specs.Opening.{IsNewDoor, counted_on}
 use Rattle.pj_crew.specs.Together.{AreOfOneWorld, AreOfWorld, first_world}
 
 module _ {D : Type 0} (holds : D → World) (finds faults : D → ℕ) (world : World) where
@@ -24,20 +24,20 @@ module _ {D : Type 0} (holds : D → World) (finds faults : D → ℕ) (world : 
 
 -- ---- faults
 
-takes_none : (old new n : ℕ) → n ≡ 0 → TakesAllFaults old new n → new ≡ old
+takes_none : (old new n : ℕ) → n ≡ 0 → TakesFaults old new n → new ≡ old
 takes_none old new n none all = subst (λ (b : Bool). MatchBool b (new ≡ old) (Rises old new)) (eq-eqb n 0 none) all
 
-takes_some : (old new n : ℕ) → n ≢ 0 → TakesAllFaults old new n → Rises old new
+takes_some : (old new n : ℕ) → n ≢ 0 → TakesFaults old new n → Rises old new
 takes_some old new n other all = subst (λ (b : Bool). MatchBool b (new ≡ old) (Rises old new)) (ne_eqb n 0 other) all
 
-stays : (old new n : ℕ) → n ≡ 0 → new ≡ old → TakesAllFaults old new n
+stays : (old new n : ℕ) → n ≡ 0 → new ≡ old → TakesFaults old new n
 stays old new n none is = subst (λ (b : Bool). MatchBool b (new ≡ old) (Rises old new)) (sym (eq-eqb n 0 none)) is
 
-rises : (old new n : ℕ) → n ≢ 0 → Rises old new → TakesAllFaults old new n
+rises : (old new n : ℕ) → n ≢ 0 → Rises old new → TakesFaults old new n
 rises old new n other is = subst (λ (b : Bool). MatchBool b (new ≡ old) (Rises old new)) (sym (ne_eqb n 0 other)) is
 
 -- one more door is taken
-pub takes_more : (old mid new f t : ℕ) → TakesAllFaults old mid t → TakesFaults mid new f → TakesAllFaults old new (f + t)
+pub takes_more : (old mid new f t : ℕ) → TakesFaults old mid t → TakesFaults mid new f → TakesFaults old new (f + t)
 takes_more old mid new zero zero all one = stays old new (zero + zero) (omega arith) (takes_none mid new zero refl one ∙ takes_none old mid zero refl all)
 takes_more old mid new zero (suc t) all one =
     let a = takes_some old mid (suc t) (λ e. omega (arith, e)) all in let same = takes_none mid new zero refl one in let b = a.never_falls in let d = a.rose in
@@ -49,3 +49,9 @@ takes_more old mid new (suc f) (suc t) all one =
     let a = takes_some mid new (suc f) (λ e. omega (arith, e)) one in let c = takes_some old mid (suc t) (λ e. omega (arith, e)) all in
     let b = a.never_falls in let d = c.never_falls in let r = c.rose in
     rises old new (suc f + suc t) (λ e. omega (arith, e)) (record { never_falls = omega (arith, b, d); rose = omega (arith, b, r) })
+
+-- ---- counts of doors
+
+-- one door more
+pub counted_more : (more count : ℕ) → counted_on (more + 1) count ≡ next_count (counted_on more count)
+counted_more more count = let next : more + 1 ≡ suc more = omega arith in ap (λ (n : ℕ). counted_on n count) next

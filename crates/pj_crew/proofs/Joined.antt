@@ -16,8 +16,7 @@ use Rattle.pj_table.proofs.Claims.{total_append}
 use Rattle.pj_table.specs.Names.{part_of}
 use Rattle.pj_table.specs.Plays.{new_view}
 use Rattle.pj_table.specs.Rule.{line_claims, mark, times, total}
-use Rattle.pj_table.specs.Seats.{view_of}
-use Rattle.pj_table.specs.Seats as seats
+use Rattle.pj_table.specs.Seats.{HasEnded, view_of}
 use Rattle.pj_table.specs.Worlds.{World}
 use Rattle.pj_table.specs.declared.seat.TypeTable.{TypeTable}
 use Rattle.pj_table.specs.declared.part.Part.{Part}
@@ -29,7 +28,7 @@ use Rattle.pj_crew.proofs.Reversed.{IsIn}
 use Rattle.pj_crew.proofs.Seated.{AreSingle, lines_of}
 use Rattle.pj_crew.specs.Crew.{AreSeatedFrom, AreShown, HasWorked, ends_of, with_numbers_given}
 use Rattle.pj_crew.specs.Placing.{all_results}
-use Rattle.pj_crew.specs.Together.{IsFilled, IsMadeOver}
+use Rattle.pj_crew.specs.Together.{IsFilled}
 use Rattle.pj_crew.specs.declared.worker.Worker.{Worker}
 
 -- A worker worked to its end, with this share.
@@ -53,7 +52,7 @@ module _ {D M : Type 0} (start : View) (holds : D → World) (finds faults : D �
       (subst (λ (e : Result (Share M) AskFault). IfOk e (λ (t : Share M). IsShare (holds w.station.door) comes (view_of w.station.seat) (view_of v.station.seat) (finds w.station.door) (finds v.station.door) t.results.items)) is worked.ended.share) in
       let before : (view_of w.station.seat).own.asked ≡ [] = ap (λ (u : View). u.own.asked) new.1 in
       record {
-        past = subst (λ (e : Result (Share M) AskFault). OnOk e (seats.HasEnded v.station.seat)) is worked.ended.past;
+        past = subst (λ (e : Result (Share M) AskFault). OnOk e (HasEnded v.station.seat)) is worked.ended.past;
         single = s.works.rests.4 ∙ ap (λ (u : View). u.joined) new.1;
         claims = ap (λ (l : Line). l.claims) s.works.own ∙ ap (λ (u : View). u.own.claims ++ map (λ (r : ℕ × M). r.0) share.results.items) new.1;
         asked = s.asked;
@@ -129,7 +128,7 @@ module _ (view : View) (parts : List Part) (shown : AreShown view parts) (l : Li
   one_filled a name part is at =
       let p = part_of name in let x = shown p (omega arith) in let told = x.2.joined there.0 l there.1 in
       let kept = in_filter (λ (b : Asked). b.part == p) l.asked a at.0 at.1 (same_number a.part p part) in
-      let named = told.named kept.0 a kept.1 in (x.0, a.place, x.1, named.0, named.1, named.2 ∙ is)
+      let named = told.named kept.0 a kept.1 in (x.0, a.place, x.1, (named.0, named.1, named.2 ∙ is))
 
   each_filled : (names : List Name) (looks : List Asked) → map made_at looks ≡ map lies_at names → ((a : Asked) → IsIn looks a → IsIn l.asked a) → AllByRecursion (IsFilled parts) names
   each_filled [] looks is within = tt
@@ -140,36 +139,3 @@ module _ (view : View) (parts : List Part) (shown : AreShown view parts) (l : Li
 
   pub all_filled : (names : List Name) → AreLooksOf names l.asked → AllByRecursion (IsFilled parts) names
   all_filled names are = each_filled names l.asked are (λ a at. at)
-
--- ---- what came of a file
-
-piece_of : {A : Type 0} (P : A → Type 0) (piece rest : List A) → AllByRecursion P (piece ++ rest) → AllByRecursion P piece × AllByRecursion P rest
-piece_of P [] rest all = (tt, all)
-piece_of P (x ∷ piece) rest all = let more = piece_of P piece rest all.1 in ((all.0, more.0), more.1)
-
-module _ {M : Type 0} (world : World) (comes : ℕ → Worlds → NameSet → M → Type 0) (parts : List Part) where
-  in_share : (results : List (ℕ × M)) (asked : List (List Name)) (r : ℕ × M) (k : ℕ) → AllZip (λ (s : ℕ × M) names. IsMadeOf world (comes s.0) s.1 names) results asked → AllByRecursion (IsFilled parts) (flat_map (λ (names : List Name). names) asked)
-      → k < length results → get_or results k r ≡ r → IsMadeOver world (comes r.0) parts r.1
-  in_share [] asked r k made filled below is = absurd (omega (arith, below))
-  in_share (s ∷ results) [] r k made filled below is = absurd made
-  in_share (s ∷ results) (names ∷ asked) r zero made filled below is =
-      subst (λ (t : ℕ × M). IsMadeOver world (comes t.0) parts t.1) is (record { names = names; made_so = made.0; filled = (piece_of (IsFilled parts) names (flat_map (λ (l : List Name). l) asked) filled).0 })
-  in_share (s ∷ results) (names ∷ asked) r (suc k) made filled below is =
-      in_share results asked r k made.1 (piece_of (IsFilled parts) names (flat_map (λ (l : List Name). l) asked) filled).1 (omega (arith, below)) is
-
-  in_either : (xs ys : List (ℕ × M)) (r : ℕ × M) (k : ℕ) → k < length (xs ++ ys) → get_or (xs ++ ys) k r ≡ r → Contains xs r ⊎ Contains ys r
-  in_either [] ys r k below is = inr (k, below, is)
-  in_either (x ∷ xs) ys r zero below is = inl (0, omega arith, is)
-  in_either (x ∷ xs) ys r (suc k) below is = elim (in_either xs ys r k (omega (arith, below)) is) [ inl at ↦ inl (suc at.0, (let l = at.1 in omega arith), at.2) | inr at ↦ inr at ]
-
-  module _ {D : Type 0} (view : View) (shown : AreShown view parts) where
-    pub made_over : (vs : List (Worker D M)) (shares : List (Share M)) (r : ℕ × M) → AllZip (IsDone world comes) vs shares → ((l : Line) → IsIn (lines_of vs) l → IsIn view.joined l) → Contains (all_results shares) r → IsMadeOver world (comes r.0) parts r.1
-    made_over [] [] r done within at = let below = at.1 in absurd (omega (arith, below))
-    made_over [] (s ∷ shares) r done within at = absurd done
-    made_over (v ∷ vs) [] r done within at = absurd done
-    made_over (v ∷ vs) (s ∷ shares) r done within at =
-        elim (in_either s.results.items (all_results shares) r at.0 at.1 at.2) [
-          | inl here ↦ in_share s.results.items done.0.asked r here.0 done.0.made
-              (all_filled view parts shown (view_of v.station.seat).own (within (view_of v.station.seat).own (0, refl)) (flat_map (λ (l : List Name). l) done.0.asked) done.0.looks) here.1 here.2
-          | inr later ↦ made_over vs shares r done.1 (λ l there. within l (suc there.0, there.1)) later
-        ]

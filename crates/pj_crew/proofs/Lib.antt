@@ -2,6 +2,7 @@ pub mod Lists
 pub mod Reversed
 pub mod Seated
 pub mod Joined
+pub mod SeatWorks
 pub mod Whole
 pub mod Faults
 pub mod Doors

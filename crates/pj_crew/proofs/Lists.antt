@@ -8,7 +8,6 @@ use Rattle.std.specs.List.{All, AllByRecursion, AllZip, Contains, flat_map}
 use Rattle.std.proofs.lemmas.List.{get_or-map, length-map, length-replicate, length-set, take-append-le}
 use Rattle.std.proofs.Math.Seq.{take-length}
 use Rattle.std.proofs.lemmas.Bool.{lt-ltb, ltb-true}
-use Rattle.std.proofs.lemmas.Grind.{flat_map-append}
 use Rattle.pj_seats.specs.declared.worker.Share.{Share}
 use Rattle.pj_table.specs.Rule.{once_below, times, total}
 use Rattle.pj_crew.specs.Placing.{AreBelow, AreOnceEach, ArePlaced, all_results, put_all}
@@ -22,10 +21,10 @@ put_all_append places (r ∷ first) second = put_all_append (slice_set places r.
 abbrev Reads : {M : Type 0} (places : List (Option M)) (results : List (ℕ × M)) (i : ℕ) → Type 0
 Reads {M} places results i = ((times i (map (λ (r : ℕ × M). r.0) results) ≡ 0) × (get_or (put_all places results) i None ≡ get_or places i None)) ⊎ ((one : M) × Contains results (i, one) × (get_or (put_all places results) i None ≡ Some one))
 
-in_first : {A : Type 0} (x y : A) (xs : List A) → x ≡ y → Contains (x ∷ xs) y
+pub in_first : {A : Type 0} (x y : A) (xs : List A) → x ≡ y → Contains (x ∷ xs) y
 in_first x y xs is = (0, omega arith, is)
 
-in_later : {A : Type 0} (x y : A) (xs : List A) → Contains xs y → Contains (x ∷ xs) y
+pub in_later : {A : Type 0} (x y : A) (xs : List A) → Contains xs y → Contains (x ∷ xs) y
 in_later x y xs at = (suc at.0, (let l = at.1 in omega arith), at.2)
 
 set_there : {X : Type 0} (xs : List X) (i : ℕ) (y d : X) → i < length xs → get_or (set xs i y) i d ≡ y
@@ -47,7 +46,7 @@ reads {M} places (r ∷ results) i below =
       | inl not_later ↦ dite (ℕ_discrete i r.0)
           (λ same. inr (r.1, in_first r (i, r.1) results (λ k. (sym same k, r.1)), not_later.1 ∙ ap (λ (n : ℕ). get_or (set places r.0 (Some r.1)) n None) same ∙ set_there places r.0 (Some r.1) None (subst (λ (n : ℕ). n < length places) same below)))
           (λ other. inl (
-            (let none = not_later.0 in let apart : cond (r.0 == i) 1 0 ≡ 0 = ap (λ (b : Bool). cond b 1 0) (other_number r.0 i (λ e. other (sym e))) in omega (arith, none, apart)),
+            (let none = not_later.0 in let apart : ◌≡◌ {A = ℕ} (cond (r.0 == i) 1 0) 0 = ap (λ (b : Bool). cond b 1 0) (other_number r.0 i (λ e. other (sym e))) in omega (arith, none, apart)),
             not_later.1 ∙ get_or-set_other places r.0 i (Some r.1) None other,
           ))
     ]
@@ -57,12 +56,7 @@ all_members : {A : Type 0} (P : A → Type 0) (xs : List A) → ((x : A) → Con
 all_members P [] f = tt
 all_members P (x ∷ xs) f = (f x (in_first x x xs refl), all_members P xs (λ y at. f y (in_later x y xs at)))
 
-all_between : {A : Type 0} (P : A → Type 0) (front middle back : List A) → AllByRecursion P (front ++ (middle ++ back)) → AllByRecursion P middle
-all_between P [] [] back all = tt
-all_between P [] (x ∷ middle) back all = (all.0, all_between P [] middle back all.1)
-all_between P (x ∷ front) middle back all = all_between P front middle back all.1
-
-length_put : {M : Type 0} (places : List (Option M)) (results : List (ℕ × M)) → length (put_all places results) ≡ length places
+pub length_put : {M : Type 0} (places : List (Option M)) (results : List (ℕ × M)) → length (put_all places results) ≡ length places
 length_put places [] = refl
 length_put places (r ∷ results) = length_put (set places r.0 (Some r.1)) results ∙ length-set places r.0 (Some r.1)
 
@@ -111,12 +105,23 @@ are_placed {M} files results made once is =
           subst (λ (one : M). Contains results (n, one)) (sym (ap (λ (o : Option M). unwrap_or o d) same)) at.1;
     }
 
--- the results of a share at its turn
-pub share_below : {M : Type 0} (files : ℕ) (shares front back : List (Share M)) (share : Share M) → shares ≡ front ++ (share ∷ back) → AreBelow files (all_results shares) → AreBelow files share.results.items
-share_below {M} files shares front back share is below =
-    let results : Share M → List (ℕ × M) = λ s. s.results.items in
-    all_between (λ (r : ℕ × M). r.0 < files) (all_results front) share.results.items (all_results back)
-    (subst (λ (l : List (ℕ × M)). AreBelow files l) (ap all_results is ∙ flat_map-append results front (share ∷ back)) below)
+split : {A : Type 0} (P : A → Type 0) (first second : List A) → AllByRecursion P (first ++ second) → AllByRecursion P first × AllByRecursion P second
+split P [] second all = (tt, all)
+split P (x ∷ first) second all = let more = split P first second all.1 in ((all.0, more.0), more.1)
+
+-- the next share of those that are left
+
+pub next_below : {M : Type 0} (files : ℕ) (rest later : List (Share M)) (share : Share M) → rest ≡ share ∷ later → AreBelow files (all_results rest) → AreBelow files share.results.items × AreBelow files (all_results later)
+next_below {M} files rest later share is below =
+    split (λ (r : ℕ × M). r.0 < files) share.results.items (all_results later) (subst (λ (l : List (Share M)). AreBelow files (all_results l)) is below)
+
+pub next_put : {M : Type 0} (places more whole : List (Option M)) (rest later : List (Share M)) (share : Share M) → rest ≡ share ∷ later → more ≡ put_all places share.results.items → put_all places (all_results rest) ≡ whole → put_all more (all_results later) ≡ whole
+next_put {M} places more whole rest later share is put so_far =
+    ap (λ (l : List (Option M)). put_all l (all_results later)) put ∙ sym (put_all_append places share.results.items (all_results later)) ∙ sym (ap (λ (l : List (Share M)). put_all places (all_results l)) is) ∙ so_far
+
+pub is_empty : {A : Type 0} (xs : List A) → length xs ≡ 0 → xs ≡ []
+is_empty [] none = refl
+is_empty (x ∷ xs) none = absurd (omega (arith, none))
 
 -- what is left behind a slice that was lent whole
 pub left_whole : {A : Type 0} (n : ℕ) (new old : List A) → n ≡ length old → length new ≡ length old → take n (new ++ drop (length new) old) ≡ new

@@ -42,16 +42,16 @@ of_first holds (door ∷ doors) first any is = ap holds (sym is)
 
 module _ {D M : Type 0} (table : TypeTable) (start : View) (holds : D → World) (finds faults : D → ℕ) (comes : ℕ → Worlds → NameSet → M → Type 0) (before after : List D) (last : View) (ends : List (Result (Share M) AskFault)) (work : HaveWorked table start holds finds faults comes before after last ends) where
   abbrev hired : List (Worker D M)
-  hired = reverse work.hired
+  hired = reverse work.before_work
 
   abbrev worked : List (Worker D M)
-  worked = reverse work.worked
+  worked = reverse work.after_work
 
   each : AllZip (HasWorked holds finds faults comes) hired worked
-  each = zip_reverse (HasWorked holds finds faults comes) work.hired work.worked work.each
+  each = zip_reverse (HasWorked holds finds faults comes) work.before_work work.after_work work.each
 
   before_is : before ≡ doors_of hired
-  before_is = work.are_hired.doors_are ∙ sym (map_reverse (λ (w : Worker D M). w.station.door) work.hired)
+  before_is = work.are_hired.doors_are ∙ sym (map_reverse (λ (w : Worker D M). w.station.door) work.before_work)
 
   -- the doors are those that they were
   pub doors_stay : AllZip (λ after before. holds after ≡ holds before) after before
@@ -70,7 +70,7 @@ module _ {D M : Type 0} (table : TypeTable) (start : View) (holds : D → World)
 
   -- the opening seat is the one that it was
   pub own_is : last.own ≡ start.own
-  own_is = ap (λ (v : View). v.own) work.last_is ∙ own_stays worked (with_numbers_given (length work.hired) start)
+  own_is = ap (λ (v : View). v.own) work.last_is ∙ own_stays worked (with_numbers_given (length work.before_work) start)
 
   pub files_are : last.files ≡ start.files
-  files_are = ap (λ (v : View). v.files) work.last_is ∙ files_stay worked (with_numbers_given (length work.hired) start)
+  files_are = ap (λ (v : View). v.files) work.last_is ∙ files_stay worked (with_numbers_given (length work.before_work) start)

@@ -12,8 +12,7 @@ use Rattle.pj_seats.specs.Working.{IsShare}
 use Rattle.pj_table.specs.Names.{part_of}
 use Rattle.pj_table.specs.Plays.{new_view, united}
 use Rattle.pj_table.specs.Rule.{HasAll, Shows, claimed, marks, once_below}
-use Rattle.pj_table.specs.Seats as seats
-use Rattle.pj_table.specs.Seats.{IsOf, IsSameSeat, files_of, view_of, world_of}
+use Rattle.pj_table.specs.Seats.{HasEnded, IsOf, IsSameSeat, files_of, view_of, world_of}
 use Rattle.pj_table.specs.Worlds.{CountsFaults, World}
 use Rattle.pj_table.specs.declared.part.Part.{Part}
 use Rattle.pj_table.specs.declared.seat.TableSeat.{TableSeat}
@@ -24,9 +23,9 @@ use Rattle.pj_crew.specs.Placing.{AreOnceEach, ArePlaced, all_results}
 use Rattle.pj_crew.specs.declared.worker.Worker.{Worker}
 
 -- What a worker ended with, by its seat and the counts of its door before and after.
-pub record HasEnded {M : Type 0} (world : World) (comes : ℕ → Worlds → NameSet → M → Type 0) (old new faults since : ℕ) (before after : TableSeat) (end : Result (Share M) AskFault) : Type 0 where
+pub record HasWorkedAt {M : Type 0} (world : World) (comes : ℕ → Worlds → NameSet → M → Type 0) (old new faults since : ℕ) (before after : TableSeat) (end : Result (Share M) AskFault) : Type 0 where
   pub seat : IsSameSeat before after
-  pub past : OnOk end (seats.HasEnded after)
+  pub past : OnOk end (HasEnded after)
   pub share : IfOk end (λ share. IsShare world comes (view_of before) (view_of after) old new share.results.items)
   pub counts : CountsFaults faults since end
 
@@ -51,7 +50,7 @@ IsReady table holds files w = IsOf table w.station.seat × (holds w.station.door
 -- A worker worked.
 pub record HasWorked {D M : Type 0} (holds : D → World) (finds faults : D → ℕ) (comes : ℕ → Worlds → NameSet → M → Type 0) (before after : Worker D M) : Type 0 where
   pub same_folders : holds after.station.door ≡ holds before.station.door
-  pub ended : HasEnded (holds before.station.door) comes (finds before.station.door) (finds after.station.door) (faults before.station.door) (faults after.station.door) before.station.seat after.station.seat after.ended
+  pub ended : HasWorkedAt (holds before.station.door) comes (finds before.station.door) (finds after.station.door) (faults before.station.door) (faults after.station.door) before.station.seat after.station.seat after.ended
 
 -- All have seats of the table.
 abbrev pub AreSeatedAt : {D M : Type 0} → TypeTable → List (Worker D M) → Type 0
@@ -74,13 +73,13 @@ HasNotFailed end = end ≢ Err Failed
 
 -- Workers were hired for doors, and worked; the opening seat knows what theirs knew, and this is what they ended with.
 pub record HaveWorked {D M : Type 0} (table : TypeTable) (start : View) (holds : D → World) (finds faults : D → ℕ) (comes : ℕ → Worlds → NameSet → M → Type 0) (before after : List D) (last : View) (ends : List (Result (Share M) AskFault)) : Type 0 where
-  pub hired : List (Worker D M)
-  pub worked : List (Worker D M)
-  pub are_hired : AreHired table start before hired
-  pub each : AllZip (HasWorked holds finds faults comes) hired worked
-  pub last_is : last ≡ with_seats_of (reverse worked) (with_numbers_given (length hired) start)
-  pub after_is : after ≡ doors_of (reverse worked)
-  pub ends_are : ends ≡ ends_of (reverse worked)
+  pub before_work : List (Worker D M)
+  pub after_work : List (Worker D M)
+  pub are_hired : AreHired table start before before_work
+  pub each : AllZip (HasWorked holds finds faults comes) before_work after_work
+  pub last_is : last ≡ with_seats_of (reverse after_work) (with_numbers_given (length before_work) start)
+  pub after_is : after ≡ doors_of (reverse after_work)
+  pub ends_are : ends ≡ ends_of (reverse after_work)
 
 -- Where all ended with shares, the opening seat has all numbers, and, as far as each file was claimed once, each stands in the shares once.
 abbrev pub AreJoined : {M : Type 0} → View → ℕ → List (Share M) → Type 0
@@ -94,6 +93,7 @@ AreShown view parts = (p : ℕ) → p < 64 → (x : Part) × (get_elem? parts p 
 pub record ArePut {M : Type 0} (view : View) (files : ℕ) (ends : List (Result (Share M) AskFault)) (made : List M) (parts : List Part) : Type 0 where
   pub shares : List (Share M)
   pub all_ok : map (λ (s : Share M). Ok s) shares ≡ ends
+  pub once : AreOnceEach files (all_results shares)
   pub placed : ArePlaced files (all_results shares) made
   pub many : length parts ≡ 64
   pub shown : AreShown view parts

@@ -1,8 +1,7 @@
 -- Doors for several workers.
-use Rattle.std.specs.Prelude.{◌≡◌, ℕ, zero, suc, ◌==◌, List, [], ◌∷◌}
-use Rattle.std.specs.Bool.{MatchBool}
+use Rattle.std.specs.Prelude.{◌≡◌, ℕ, zero, suc, List, [], ◌∷◌}
 use Rattle.pj_outside.specs.Doors.{count_and}
-use Rattle.pj_outside.specs.Faults.{Rises, next_count}
+use Rattle.pj_outside.specs.Faults.{next_count}
 use Rattle.pj_table.specs.Worlds.{World}
 
 -- A door of this world was just opened.
@@ -10,10 +9,6 @@ pub record IsNewDoor {D : Type 0} (holds : D → World) (finds faults : D → �
   pub world_is : holds door ≡ world
   pub no_finds : finds door ≡ 0
   pub no_faults : faults door ≡ 0
-
--- The count rises exactly where some door has faults.
-abbrev pub TakesAllFaults : ℕ → ℕ → ℕ → Type 0
-TakesAllFaults old new of_doors = MatchBool (of_doors == 0) (new ≡ old) (Rises old new)
 
 -- a count after so many more, or the greatest number that a count can have
 abbrev pub counted_on : ℕ → ℕ → ℕ

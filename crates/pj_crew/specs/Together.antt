@@ -1,17 +1,18 @@
 -- What several workers come to.
-use Rattle.std.specs.Prelude.{◌≡◌, ℕ, ◌+◌, ◌<◌, List, [], ◌∷◌, None, length, slice_index_or}
-use Rattle.std.specs.List.{AllByRecursion}
+use Rattle.std.specs.Prelude.{◌≡◌, ℕ, ◌+◌, ◌<◌, ◌==◌, ◌⊎◌, List, [], ◌∷◌, None, filter, length, map, slice_index_or}
+use Rattle.std.specs.List.{AllByRecursion, Contains, flat_map}
 use mathlib.Core.Option.{some}
 use lib.ListN.{get_elem?}
 use Rattle.pj_names.specs.ClassName.{Name, NameSet}
 use Rattle.pj_names.specs.Told.{Worlds}
-use Rattle.pj_outside.specs.Doors.{count_and}
+use Rattle.pj_seats.specs.Looks.{AreLooksOf, CountsFinds}
 use Rattle.pj_seats.specs.Working.{IsMadeOf}
-use Rattle.pj_table.specs.Book.{IsSound, Stands}
+use Rattle.pj_table.specs.Book.{IsSound, Stands, look_of, looks_of}
 use Rattle.pj_table.specs.Names.{part_of}
-use Rattle.pj_table.specs.Rule.{total}
+use Rattle.pj_table.specs.Rule.{once_below, times}
 use Rattle.pj_table.specs.Worlds.{World}
 use Rattle.pj_table.specs.declared.part.Part.{Part}
+use Rattle.pj_table.specs.declared.view.Asked.{Asked}
 use Rattle.pj_table.specs.declared.view.Entry.{Entry}
 
 -- A name stands among the entries of its part.
@@ -28,21 +29,63 @@ pub record AreRightParts (world : World) (parts : List Part) : Type 0 where
   pub many : length parts ≡ 64
   pub each : (p : ℕ) (x : Part) → get_elem? parts p ≡ some x → IsRightPart world p x
 
--- What came of a file came so in the world, with some names, and each of these is filled.
-pub record IsMadeOver {M : Type 0} (world : World) (comes : Worlds → NameSet → M → Type 0) (parts : List Part) (made : M) : Type 0 where
+-- What the worker at one seat did: the number of the seat; the files that it claimed, in its order, each with the names that were
+-- asked for it; and its looks at the table.
+pub record SeatWork : Type 0 where
+  pub number : ℕ
+  pub files : List (ℕ × List Name)
+  pub looks : List Asked
+
+-- the names that were asked for a seat's files
+abbrev pub names_of : SeatWork → List Name
+names_of seat = flat_map (λ (file : ℕ × List Name). file.1) seat.files
+
+-- the files that seats claimed, each with the names that were asked for it
+abbrev pub claimed_by : List SeatWork → List (ℕ × List Name)
+claimed_by seats = flat_map (λ (seat : SeatWork). seat.files) seats
+
+-- The last seat has the number 1, and each before it the next number.
+abbrev pub AreNumbered : List SeatWork → Type 0
+AreNumbered [] = Unit {0}
+AreNumbered (seat ∷ seats) = (seat.number ≡ 1 + length seats) × AreNumbered seats
+
+-- The history of a part has just these looks of the seat.
+abbrev pub HasLooks : ℕ → Part → SeatWork → Type 0
+HasLooks p part seat = looks_of seat.number part.looks.items ≡ map (look_of seat.number) (filter (λ (look : Asked). look.part == p) seat.looks)
+
+-- What was done at the table: each file below the number of files was claimed once, at one seat, and no other; each seat looked just
+-- for the names that were asked for its files, in their order; the history of each part has just these looks, and none of another seat.
+pub record IsWorkOf (files : ℕ) (parts : List Part) (seats : List SeatWork) : Type 0 where
+  pub numbered : AreNumbered seats
+  pub once : (n : ℕ) → times n (map (λ (file : ℕ × List Name). file.0) (claimed_by seats)) ≡ once_below n files
+  pub looks : AllByRecursion (λ (seat : SeatWork). AreLooksOf (names_of seat) seat.looks) seats
+  pub told : (p : ℕ) (x : Part) → get_elem? parts p ≡ some x → AllByRecursion (HasLooks p x) seats
+  pub others : (p n : ℕ) (x : Part) → get_elem? parts p ≡ some x → (n ≡ 0) ⊎ (length seats < n) → looks_of n x.looks.items ≡ []
+
+-- There is a seat for each door, and the count of the door's finds rose by the number of fills among the looks of its seat.
+abbrev pub HaveFound : {D : Type 0} → (D → ℕ) → List D → List D → List SeatWork → Type 0
+HaveFound finds [] [] [] = Unit {0}
+HaveFound finds [] [] (seat ∷ seats) = ⊥
+HaveFound finds [] (after ∷ afters) seats = ⊥
+HaveFound finds (before ∷ befores) [] seats = ⊥
+HaveFound finds (before ∷ befores) (after ∷ afters) [] = ⊥
+HaveFound finds (before ∷ befores) (after ∷ afters) (seat ∷ seats) = CountsFinds (finds before) (finds after) seat.looks × HaveFound finds befores afters seats
+
+-- What came of a file came so in the world, with the names that were asked for it at the seat that claimed it, and each of these is filled.
+pub record IsMadeOver {M : Type 0} (world : World) (comes : Worlds → NameSet → M → Type 0) (parts : List Part) (seats : List SeatWork) (file : ℕ) (made : M) : Type 0 where
   pub names : List Name
+  pub claimed : Contains (claimed_by seats) (file, names)
   pub made_so : IsMadeOf world comes made names
   pub filled : AllByRecursion (IsFilled parts) names
 
--- What came of each file, by its number; and the parts of the table.
-pub record IsTogether {M : Type 0} (world : World) (comes : ℕ → Worlds → NameSet → M → Type 0) (files : ℕ) (made : List M) (parts : List Part) : Type 0 where
+-- What came of each file, by its number; the parts of the table; and what was done at each seat, that of the first door first.
+pub record IsMadeByAll {D M : Type 0} (world : World) (comes : ℕ → Worlds → NameSet → M → Type 0) (finds : D → ℕ) (files : ℕ) (before after : List D) (made : List M) (parts : List Part) : Type 0 where
+  pub seats : List SeatWork
   pub many : length made ≡ files
-  pub each : (n : ℕ) (d : M) → n < files → IsMadeOver world (comes n) parts (slice_index_or made n d)
+  pub each : (n : ℕ) (d : M) → n < files → IsMadeOver world (comes n) parts seats n (slice_index_or made n d)
   pub right : AreRightParts world parts
-
--- the counts of doors, together
-abbrev pub total_of : {D : Type 0} → (D → ℕ) → List D → ℕ
-total_of count doors = total count doors
+  pub work : IsWorkOf files parts seats
+  pub found : HaveFound finds before after seats
 
 -- All doors have this world.
 abbrev pub AreOfWorld : {D : Type 0} → (D → World) → World → List D → Type 0

@@ -11,4 +11,4 @@ mod together;
 mod worker;
 
 pub use opening::{open_doors, shut_doors};
-pub use together::{Together, work_together};
+pub use together::{CrewResult, work_together};

@@ -19,7 +19,7 @@ fn no_results<M: Drop>(alloc: Global, files: u32) -> Result<Vec<Option<M>>, NoMe
 }
 
 /// Puts what came of the files of a share at their numbers.
-#[tactic(auto, using(crate::proofs::Lists::put_all_append))]
+#[tactic(auto, using(crate::proofs::Lists::is_empty))]
 fn put_share<M: Drop>(places: &mut [Option<M>], share: Share<M>)
     requires { AreBelow (length places.old) share.results.items }
     ensures { places.new ≡ put_all places.old share.results.items }
@@ -46,7 +46,7 @@ fn all_there<M: Drop>(alloc: Global, places: Vec<Option<M>>) -> Result<Vec<M>, N
 }
 
 /// What came of files, in the order of their numbers. The condition is that each number stands in one share, once.
-#[tactic(auto, using(crate::proofs::Lists::are_below, crate::proofs::Lists::are_placed, crate::proofs::Lists::are_there, crate::proofs::Lists::put_all_append, crate::proofs::Lists::share_below))]
+#[tactic(auto, using(crate::proofs::Lists::are_placed, crate::proofs::Lists::are_there, crate::proofs::Lists::is_empty))]
 pub fn by_number<M: Drop>(
     alloc: Global,
     files: u32,

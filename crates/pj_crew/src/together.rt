@@ -5,9 +5,10 @@ ghost use Rattle.pj_names.specs.Told.{UnlessFailed};
 ghost use Rattle.pj_names.specs.declared.oracle.AskFault.TheVariants as faults;
 ghost use Rattle.pj_seats.specs.declared.worker.Share.{Share as AnyShare};
 ghost use Rattle.pj_table.specs.Seats.{IsOf, IsOpening, IsSameSeat, files_of, view_of, world_of};
+ghost use Rattle.pj_table.specs.Rule.{total};
 ghost use Rattle.pj_table.specs.Worlds.{CountsFaults};
 ghost use Rattle.pj_crew.specs.Crew.{AreJoined, ArePut, HasNotFailed, HasWorked, HaveWorked, IsReady};
-ghost use Rattle.pj_crew.specs.Together.{AreOfOneWorld, AreOfWorld, IsTogether, first_world, total_of};
+ghost use Rattle.pj_crew.specs.Together.{AreOfOneWorld, AreOfWorld, IsMadeByAll, first_world};
 
 use crate::hiring::hire;
 use crate::placing::by_number;
@@ -25,7 +26,7 @@ use std::thread::Threads;
 
 /// What several workers came to.
 #[derive(Drop)]
-pub struct Together<M> {
+pub struct CrewResult<M> {
     /// What came of each file, in the order of the numbers.
     pub made: Vec<M>,
     /// The table at its end.
@@ -89,21 +90,22 @@ fn put_together<M: Drop>(
     table: TypeTable,
     seat: TableSeat,
     ends: Vec<Result<Share<M>, AskFault>>,
-) -> Result<Together<M>, AskFault>
+) -> Result<CrewResult<M>, AskFault>
     requires table { IsOf table seat × IsOpening seat }
     requires files { files_of seat ≡ files }
     requires joined { (shares : List (AnyShare M)) → map (λ share. Ok share) shares ≡ ends.items → AreJoined (view_of seat) files shares }
-    ensures put { IfOk result (λ together. ArePut (view_of seat) files ends.items together.made.items together.closed.parts.items) }
+    ensures put { IfOk result (λ crew. ArePut (view_of seat) files ends.items crew.made.items crew.closed.parts.items) }
     ensures failed { result ≡ Err faults.Failed → Contains ends.items (Err faults.Failed) }
     ensures not_failed { UnlessFailed result (All HasNotFailed ends.items) }
 {
     let shares = all_shares(alloc, ends)?;
     let closed = table.close(seat);
     let made = by_number(alloc, files, shares)?;
-    Ok(Together { made, closed })
+    Ok(CrewResult { made, closed })
 }
 
-/// Works at all files with a worker for each door, through one table. What comes of a file does not depend on who works at it. The doors
+/// Works at all files with a worker for each door, through one table. Each file is claimed by one worker, and each class that is asked
+/// for is found once, by the door of the worker that asks for it first. What comes of a file does not depend on who works at it. The doors
 /// are those that they were, in their order.
 ///
 /// A failed door goes before want of memory. It waits for the threads and for the turns of the table.
@@ -115,14 +117,15 @@ pub fn work_together<R: Threads + Wait + Sync, D: ClassDoor, G: Gate + Sync, W: 
     files: u32,
     work: &W,
     gate: &G,
-) -> Result<Together<W::Made>, AskFault>
+) -> Result<CrewResult<W::Made>, AskFault>
     requires many { (0 < vec_len doors.old) × (vec_len doors.old + 1 < 2 ^ 32) }
     requires world { AreOfOneWorld D.holds doors.old.items }
     requires ready { W.is_ready work.now }
     requires files { files ≡ W.count work.now }
     ensures same_doors { AllZip (λ after before. D.holds after ≡ D.holds before) doors.new.items doors.old.items }
-    ensures together { IfOk result (λ together. IsTogether (first_world D.holds doors.old.items) (W.comes work.now) files together.made.items together.closed.parts.items) }
-    ensures faults { CountsFaults (total_of D.faults doors.old.items) (total_of D.faults doors.new.items) result }
+    // What came of each file, the parts of the table, and what was done at the seat of each door.
+    ensures together { IfOk result (λ crew. IsMadeByAll (first_world D.holds doors.old.items) (W.comes work.now) D.finds files doors.old.items doors.new.items crew.made.items crew.closed.parts.items) }
+    ensures faults { CountsFaults (total D.faults doors.old.items) (total D.faults doors.new.items) result }
 {
     let ends = Vec::with_capacity(alloc, doors.len())?;
     let (table, mut seat) = TypeTable::open(alloc, &doors[0], files)?;

@@ -1,7 +1,7 @@
 //! A worker, whom one thread runs.
 ghost use Rattle.std.specs.Prelude.{◌≡◌};
 ghost use Rattle.pj_table.specs.Seats.{IsOf, files_of, world_of};
-ghost use Rattle.pj_crew.specs.Crew.{HasEnded};
+ghost use Rattle.pj_crew.specs.Crew.{HasWorkedAt};
 
 use pj_names::AskFault;
 use pj_outside::ClassDoor;
@@ -32,7 +32,7 @@ pub fn run_worker<D: ClassDoor, G: Gate, W: FileWork, R: Wait>(
     requires ready { W.is_ready work.now }
     requires files { files_of worker.old.station.seat ≡ W.count work.now }
     ensures same_folders { D.holds worker.new.station.door ≡ D.holds worker.old.station.door }
-    ensures ended { HasEnded (D.holds worker.old.station.door) (W.comes work.now) (D.finds worker.old.station.door) (D.finds worker.new.station.door) (D.faults worker.old.station.door) (D.faults worker.new.station.door) worker.old.station.seat worker.new.station.seat worker.new.ended }
+    ensures ended { HasWorkedAt (D.holds worker.old.station.door) (W.comes work.now) (D.finds worker.old.station.door) (D.finds worker.new.station.door) (D.faults worker.old.station.door) (D.faults worker.new.station.door) worker.old.station.seat worker.new.station.seat worker.new.ended }
 {
     worker.ended = claim_loop(rt, alloc, table, &mut worker.station, work, gate);
 }

@@ -3,6 +3,7 @@ use Rattle.std.specs.List.{AllByRecursion}
 use Rattle.std.specs.Option.{option_map}
 use Rattle.pj_outside.specs.Doors.{ClassFolders, opened}
 use Rattle.pj_outside.specs.Faults.{next_count}
+use Rattle.pj_crew.proofs.Doors.{counted_more}
 use Rattle.pj_crew.proofs.Reversed.{all_last}
 use Rattle.pj_crew.specs.Opening.{IsNewDoor}
 use Rattle.pj_crew.proofs.opening.open_doors.Goals as goal
@@ -16,9 +17,12 @@ loop-preserved g c =
           (all_last new c.loop.doors.items c.in_ok-door.door kept.doors (record { world_is = one.door ∙ ap (λ o. option_map (λ (held : ClassFolders). opened held c.args.folders.now) o) kept.same_folders; no_finds = one.no_finds; no_faults = one.no_faults }));
       many = c.push_reserved.ensures.len ∙ ap (λ (n : ℕ). n + 1) kept.many;
       room = (let a = c.push_reserved.ensures.capacity in let b = kept.room in omega arith);
-      given = one.counts_given ∙ ap next_count kept.given;
+      given = one.counts_given ∙ ap next_count kept.given ∙ sym (counted_more c.loop.counter (g.C.ClassPath.given c.args.classes.now));
       same_folders = one.same_folders ∙ kept.same_folders;
       same_taken = one.same_taken ∙ kept.same_taken;
       same_finds = one.same_finds ∙ kept.same_finds;
       same_faults = one.counts_faults ∙ kept.same_faults;
+      steady = λ never. (one.steady (kept.steady never)).0;
+      steady_doors = λ never. subst (λ l. AllByRecursion g.C.Door.ClassDoor.never_fails l) (sym c.push_reserved.ensures.items)
+          (all_last g.C.Door.ClassDoor.never_fails c.loop.doors.items c.in_ok-door.door (kept.steady_doors never) (one.steady_door (kept.steady never)));
     }

@@ -15,4 +15,6 @@ invariant-loop g l = record {
   same_taken : g.C.ClassPath.taken l.classes ≡ g.C.ClassPath.taken l.initial.classes;
   same_finds : g.C.ClassPath.finds l.classes ≡ g.C.ClassPath.finds l.initial.classes;
   same_faults : g.C.ClassPath.faults l.classes ≡ g.C.ClassPath.faults l.initial.classes;
+  steady : g.C.ClassPath.never_fails l.initial.classes → g.C.ClassPath.never_fails l.classes;
+  steady_doors : g.C.ClassPath.never_fails l.initial.classes → AllByRecursion g.C.Door.ClassDoor.never_fails l.doors.items;
 }

@@ -1,6 +1,7 @@
 use Rattle.std.proofs.Common.{◌≡◌, ◌+◌, ◌++◌, List, vec_len}
-use Rattle.pj_crew.specs.Opening.{TakesAllFaults, counted_on, with_finds}
-use Rattle.pj_crew.specs.Together.{total_of}
+use Rattle.pj_outside.specs.Doors.{TakesFaults}
+use Rattle.pj_table.specs.Rule.{total}
+use Rattle.pj_crew.specs.Opening.{counted_on, with_finds}
 use Rattle.pj_crew.proofs.opening.shut_doors.Given as goal
 
 abbrev pub invariant-loop : goal.invariant-loop
@@ -8,7 +9,8 @@ invariant-loop g l = record {
   left : vec_len l.doors + l.counter ≡ vec_len l.initial.doors;
   taken : g.C.ClassPath.taken l.classes ≡ counted_on l.counter (g.C.ClassPath.taken l.initial.classes);
   so_far : (gone : List g.row.C-Door.Denot) × (l.initial.doors.items ≡ l.doors.items ++ gone) × (g.C.ClassPath.finds l.classes ≡ with_finds g.C.Door.ClassDoor.finds gone (g.C.ClassPath.finds l.initial.classes))
-      × TakesAllFaults (g.C.ClassPath.faults l.initial.classes) (g.C.ClassPath.faults l.classes) (total_of g.C.Door.ClassDoor.faults gone);
+      × TakesFaults (g.C.ClassPath.faults l.initial.classes) (g.C.ClassPath.faults l.classes) (total g.C.Door.ClassDoor.faults gone);
   same_given : g.C.ClassPath.given l.classes ≡ g.C.ClassPath.given l.initial.classes;
   same_folders : g.C.ClassPath.holds l.classes ≡ g.C.ClassPath.holds l.initial.classes;
+  steady : g.C.ClassPath.never_fails l.initial.classes → g.C.ClassPath.never_fails l.classes;
 }

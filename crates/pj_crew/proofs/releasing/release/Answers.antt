@@ -27,15 +27,15 @@ loop-preserved g c =
       table = (c.join.ensures.table.0 ∙ kept.table.0, c.join.ensures.table.1 ∙ kept.table.1);
       left = (let a = c.take_last-station.ensures.len in let b = kept.left in omega arith);
       room = (let a = c.push_reserved.ensures.capacity in let b = kept.room in omega arith);
-      room_for_ends = (let a = c.push_reserved-2.ensures.capacity in let b = kept.room_for_ends in omega arith);
+      room_for_ends = (let a = c.push_reserved-in-loop.ensures.capacity in let b = kept.room_for_ends in omega arith);
       so_far = (
         gone ++ w ∷ [],
         so_far.1 ∙ ap (λ l. l ++ reverse gone) c.take_last-station.ensures.items ∙ append_assoc rest (w ∷ []) (reverse gone) ∙ ap (λ l. rest ++ l) (sym (reverse_last gone w)),
         c.join.ensures.united ∙ ap (λ (v : View). united v (view_of w.station.seat)) so_far.2 ∙ sym (joined_last gone w (view_of c.args.seat.now)),
         c.push_reserved.ensures.items ∙ ap (λ l. l ++ w.station.door ∷ []) so_far.3 ∙ sym (map-append (λ (u : Worker g.row.D.Denot g.row.M.Denot). u.station.door) gone (w ∷ [])),
-        c.push_reserved-2.ensures.items ∙ ap (λ l. l ++ w.ended ∷ []) so_far.4 ∙ sym (map-append (λ (u : Worker g.row.D.Denot g.row.M.Denot). u.ended) gone (w ∷ [])),
+        c.push_reserved-in-loop.ensures.items ∙ ap (λ l. l ++ w.ended ∷ []) so_far.4 ∙ sym (map-append (λ (u : Worker g.row.D.Denot g.row.M.Denot). u.ended) gone (w ∷ [])),
       );
-      many = (c.push_reserved.ensures.len ∙ ap (λ (n : ℕ). n + 1) kept.many.0, c.push_reserved-2.ensures.len ∙ ap (λ (n : ℕ). n + 1) kept.many.1);
+      many = (c.push_reserved.ensures.len ∙ ap (λ (n : ℕ). n + 1) kept.many.0, c.push_reserved-in-loop.ensures.len ∙ ap (λ (n : ℕ). n + 1) kept.many.1);
     }
 
 -- the worker at the end has a seat of the table
@@ -43,4 +43,4 @@ pub join-requires : goal.join-requires
 join-requires g c =
     let kept = c.loop.invariant in
     let all = subst (λ l. AllByRecursion (λ (u : Worker g.row.D.Denot g.row.M.Denot). IsOf c.args.table.now u.station.seat) l) (kept.so_far.1 ∙ ap (λ l. l ++ reverse kept.so_far.0) c.take_last-station.ensures.items ∙ append_assoc c.take_last-station.new.self.items (c.take_last-station.result ∷ []) (reverse kept.so_far.0)) c.requires.table.1 in
-    (kept.table.0 ∙ c.requires.table.0, all_last_of (λ (u : Worker g.row.D.Denot g.row.M.Denot). IsOf c.args.table.now u.station.seat) c.take_last-station.new.self.items c.take_last-station.result (reverse kept.so_far.0) all)
+    record { table = (kept.table.0 ∙ c.requires.table.0, all_last_of (λ (u : Worker g.row.D.Denot g.row.M.Denot). IsOf c.args.table.now u.station.seat) c.take_last-station.new.self.items c.take_last-station.result (reverse kept.so_far.0) all) }

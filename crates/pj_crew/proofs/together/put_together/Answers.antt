@@ -11,10 +11,13 @@ by_number-requires g c =
     joined.1 (λ marked x. c.close-closed.ensures.claims marked x ∙ ap (once_below x) c.requires.files)
 
 pub returns-clause-put : goal.returns-clause-put
-returns-clause-put g c = record {
-  shares = c.in_ok-shares.shares.items;
-  all_ok = c.in_ok-shares.ensures.ok;
-  placed = c.in_ok-made.ensures;
-  many = c.close-closed.ensures.parts;
-  shown = c.close-closed.ensures.shows;
-}
+returns-clause-put g c =
+    let joined = c.requires.joined c.in_ok-shares.shares.items c.in_ok-shares.ensures.ok in
+    record {
+      shares = c.in_ok-shares.shares.items;
+      all_ok = c.in_ok-shares.ensures.ok;
+      once = joined.1 (λ marked x. c.close-closed.ensures.claims marked x ∙ ap (once_below x) c.requires.files);
+      placed = c.in_ok-made.ensures;
+      many = c.close-closed.ensures.parts;
+      shown = c.close-closed.ensures.shows;
+    }

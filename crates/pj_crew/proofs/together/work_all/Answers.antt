@@ -9,7 +9,7 @@ use Rattle.pj_crew.specs.declared.worker.Worker.{Worker}
 use Rattle.pj_crew.proofs.together.work_all.Goals as goal
 
 pub run_all-requires-clause-seated : goal.run_all-requires-clause-seated
-run_all-requires-clause-seated g c =
+run_all-requires-clause-seated g c κs within =
     let holds = g.D.ClassDoor.holds in let files = g.W.FileWork.count c.args.work.now in
     subst (λ (l : List (Worker g.row.D.Denot g.row.W-Made.Denot)). All (IsReady c.args.table.now holds files) l) (sym c.as_mut_slice.ensures.value)
     (all_ready c.args.table.now (view_of c.args.seat.now) holds files c.args.doors.now.items c.hire-workers.result.items c.requires.files c.hire-workers.ensures.workers c.requires.world)
@@ -36,8 +36,8 @@ returns-clause-worked g c =
     let back : take c.hire-workers.result.len (vs ++ drop (length vs) ws) ≡ vs = left_whole c.hire-workers.result.len vs ws (let a = c.hire-workers.result.ok in omega arith) long in
     let many : c.args.doors.now.len ≡ length ws = (let a = c.hire-workers.ensures.many in let b = c.hire-workers.result.ok in omega arith) in
     record {
-      hired = ws;
-      worked = vs;
+      before_work = ws;
+      after_work = vs;
       are_hired = c.hire-workers.ensures.workers;
       each = subst (λ (l : List (Worker g.row.D.Denot g.row.W-Made.Denot)). AllZip (HasWorked holds finds faults comes) l vs) c.as_mut_slice.ensures.value each;
       last_is = c.release.ensures.united ∙ ap (λ (l : List (Worker g.row.D.Denot g.row.W-Made.Denot)). with_seats_of (reverse l) (view_of c.hire-workers.new.seat)) back
