@@ -12,7 +12,7 @@ use Rattle.pj_cached_files.specs.LeftFile.{IsLeftFile, IsRun, Leaves}
 use Rattle.pj_cached_files.specs.LeftFiles.{paths_of}
 use Rattle.pj_cached_files.specs.declared.entry.LeftFile.{LeftFile}
 use Rattle.pj_cached_files.specs.declared.files.Gathered.{Gathered}
-use Rattle.pj_crew.specs.Together.{IsTogether}
+use Rattle.pj_crew.specs.Together.{IsMadeByAll}
 use Rattle.pj_fitting.specs.Left.{File, IsLeftEntry}
 use Rattle.pj_fitting.specs.Looked.{is_reusable}
 use Rattle.pj_fitting.specs.Right.{Files}
@@ -82,9 +82,9 @@ zip_up R [] (left ∷ made) long each = absurd (omega (arith, long))
 zip_up R (file ∷ list) [] long each = absurd (omega (arith, long))
 zip_up R (file ∷ list) (left ∷ made) long each = (each 0 left file (omega arith) refl, zip_up R list made (omega (arith, long)) (λ n d one below is. each (suc n) d one (omega (arith, below)) is))
 
-pub left_of_each : (world : table.World) (rules : EffectiveRules) (found : Cache) (list : List File) (count : ℕ) (made : List LeftFile) (parts : List Part) → IsTrue (is_some world) → count ≡ length list → IsTogether world (comes_of rules found list) count made parts
+pub left_of_each : {D : Type 0} (finds : D → ℕ) (before after : List D) (world : table.World) (rules : EffectiveRules) (found : Cache) (list : List File) (count : ℕ) (made : List LeftFile) (parts : List Part) → IsTrue (is_some world) → count ≡ length list → IsMadeByAll world (comes_of rules found list) finds count before after made parts
     → AllZip (Leaves (told_in (worlds_of world)) rules found) list made
-left_of_each world rules found list count made parts told many together =
+left_of_each finds before after world rules found list count made parts told many together =
     zip_up (Leaves (told_in (worlds_of world)) rules found) list made (together.many ∙ many) (λ n d one below is.
     let over = together.each n d (omega (arith, below, many)) in (over.made_so.comes_so told one is).leaves)
 

@@ -9,7 +9,7 @@ use Rattle.pj_cache.specs.declared.cache.Cache.{Cache}
 use Rattle.pj_cached_files.proofs.Gathering.{StaysTold, does_all, leaves_all}
 use Rattle.pj_cached_files.specs.Gathered.{Gathers, HasText, path_rows}
 use Rattle.pj_cached_files.specs.declared.entry.LeftFile.{LeftFile}
-use Rattle.pj_crew.specs.Together.{IsTogether}
+use Rattle.pj_crew.specs.Together.{IsMadeByAll}
 use Rattle.pj_fitting.specs.Left.{File}
 use Rattle.pj_left_cache.specs.Leaving.{left_cache}
 use Rattle.pj_names.specs.Asking.{Asking}
@@ -35,9 +35,9 @@ made_by m first t u (Err e) is asks = tt
 pub never_failed : {A K : Type 0} (m : Asking A) (t u : Told K) (r : Result A AskFault) → t.faults ≡ 0 → u.faults ≡ 0 → Asks m t u r → r ≡ Err Failed → ⊥
 never_failed m t u r none still asks is = let rose = asks.failed is in omega (arith, rose, none, still)
 
-module _ (world : World) (rules : EffectiveRules) (found : Cache) (list : List File) (count : ℕ) (made : List LeftFile) (parts : List Part) (told : IsTrue (is_some world)) (many : count ≡ length list) (together : IsTogether world (comes_of rules found list) count made parts) where
+module _ {D : Type 0} (finds : D → ℕ) (olds news : List D) (world : World) (rules : EffectiveRules) (found : Cache) (list : List File) (count : ℕ) (made : List LeftFile) (parts : List Part) (told : IsTrue (is_some world)) (many : count ≡ length list) (together : IsMadeByAll world (comes_of rules found list) finds count olds news made parts) where
   all_gathered : Gathers (told_in (worlds_of world)) rules found list (all_left rules made)
-  all_gathered = gathers_all (told_in (worlds_of world)) rules found list made (left_of_each world rules found list count made parts told many together)
+  all_gathered = gathers_all (told_in (worlds_of world)) rules found list made (left_of_each finds olds news world rules found list count made parts told many together)
 
   pub leaves : (c : Cache) (new : Told (Unit {0})) → IsStrictlySortedBy byte_order (map (λ (file : File). file.0) list) → AllByRecursion HasText (entries_of made) → Asks (left_cache (entries_of made)) (tells_of tt world set.empty 0) new (Ok c)
       → LeavesAllIn world rules found list (record { cache = c; rows = map (path_rows rules) (entries_of made) })

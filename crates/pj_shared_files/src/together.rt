@@ -6,12 +6,13 @@ ghost use Rattle.std.specs.List.Sorted.{IsStrictlySortedBy};
 ghost use Rattle.pj_cache.specs.Places.{byte_order};
 ghost use Rattle.pj_cache_format.specs.Ordered.{IsInOrder};
 ghost use Rattle.pj_cached_files.specs.Asked.{keys_of_set};
-ghost use Rattle.pj_crew.specs.Together.{AreOfOneWorld, AreRightParts, first_world, total_of};
+ghost use Rattle.pj_crew.specs.Together.{AreOfOneWorld, AreRightParts, first_world};
 ghost use Rattle.pj_grammar.specs.Java17.{java_17_forms};
 ghost use Rattle.pj_left_cache.specs.Leaving.{left_cache};
 ghost use Rattle.pj_names.specs.Told.{Asks, Told};
 ghost use Rattle.pj_names.specs.declared.oracle.AskFault.TheVariants as faults;
 ghost use Rattle.pj_peg_grammar.specs.Form.{forms_of};
+ghost use Rattle.pj_table.specs.Rule.{total};
 ghost use Rattle.pj_table.specs.Telling.{tells_of};
 ghost use Rattle.pj_table.specs.Worlds.{CountsFaults};
 ghost use Rattle.pj_shared_files.specs.InWorlds.{DoesIn, LeavesAllIn};
@@ -22,7 +23,7 @@ use crate::gathering::{AllLeft, gather, note_done};
 use pj_base::{Bytes, Text};
 use pj_cache::{Cache, Entries};
 use pj_cached_files::{LeftFile, LeftFiles, Run};
-use pj_crew::{Together, work_together};
+use pj_crew::{CrewResult, work_together};
 use pj_left_cache::left_cache;
 use pj_names::AskFault;
 use pj_outside::ClassDoor;
@@ -63,7 +64,7 @@ fn files_known<R: Threads + Wait + Sync, D: ClassDoor, G: Gate + Sync, W: Knowin
     requires paths { IsStrictlySortedBy byte_order (map (λ file. file.0) files.now) }
     requires few { length files.now < 2 ^ 32 }
     ensures same_doors { AllZip (λ after before. D.holds after ≡ D.holds before) doors.new.items doors.old.items }
-    ensures faults { CountsFaults (total_of D.faults doors.old.items) (total_of D.faults doors.new.items) result }
+    ensures faults { CountsFaults (total D.faults doors.old.items) (total D.faults doors.new.items) result }
     // Over a right cache, in a world that has classes by their names, the one that is left is the one that the run has to leave, whoever worked.
     ensures left { IsTrue (is_some (first_world D.holds doors.old.items)) → IfOk result (LeavesAllIn (first_world D.holds doors.old.items) run.now.rules.now run.now.found.now files.now) }
     ensures done { IsTrue (is_some (first_world D.holds doors.old.items)) → OnOk result (DoesIn (first_world D.holds doors.old.items) run.now.rules.now run.now.found.now files.now work.old work.new) }
@@ -72,7 +73,7 @@ fn files_known<R: Threads + Wait + Sync, D: ClassDoor, G: Gate + Sync, W: Knowin
 {
     let all = FilesWork { run, files };
     let count = files.len() as u32;
-    let Together { made, closed } = work_together(rt, alloc, doors, count, &all, gate)?;
+    let CrewResult { made, closed } = work_together(rt, alloc, doors, count, &all, gate)?;
     let AllLeft {
         entries,
         rows,
@@ -109,7 +110,7 @@ pub fn files_together<R: Threads + Wait + Sync, D: ClassDoor, G: Gate + Sync>(
     requires paths { IsStrictlySortedBy byte_order (map (λ file. file.0) files.now) }
     requires few { length files.now < 2 ^ 32 }
     ensures same_doors { AllZip (λ after before. D.holds after ≡ D.holds before) doors.new.items doors.old.items }
-    ensures faults { CountsFaults (total_of D.faults doors.old.items) (total_of D.faults doors.new.items) result }
+    ensures faults { CountsFaults (total D.faults doors.old.items) (total D.faults doors.new.items) result }
     // Over a right cache, in a world that has classes by their names, the one that is left is the one that the run has to leave, whoever worked.
     ensures left { IsTrue (is_some (first_world D.holds doors.old.items)) → IfOk result (LeavesAllIn (first_world D.holds doors.old.items) run.now.rules.now run.now.found.now files.now) }
     ensures done { IsTrue (is_some (first_world D.holds doors.old.items)) → OnOk result (DoesIn (first_world D.holds doors.old.items) run.now.rules.now run.now.found.now files.now work.old work.new) }

@@ -55,10 +55,12 @@ fn folders(alloc: Global) -> Result<Folders, NoMemory> {
     Ok(folders)
 }
 
-/// A class path with the folder, of which the find of this number is to fail at the first door, from 1; with 0 none is.
+/// A class path with the folder, of which the find of this number is to fail at each of 64 doors, from 1; with 0 none is.
 pub fn class_path(alloc: Global, fails: u32) -> Result<MemClassPath, NoMemory> {
     let mut pairs = Pairs::new(alloc);
-    pairs.push((0, fails))?;
+    for door in 0..64 {
+        pairs.push((door, fails))?;
+    }
     Ok(MemClassPath::new(alloc, folders(alloc)?, Numbers::new(alloc), pairs))
 }
 

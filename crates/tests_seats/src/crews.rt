@@ -1,6 +1,6 @@
 //! Several workers, each with a door, at files that ask for one class each.
 use crate::classes::{OneClass, are, class_path, folder_names, names};
-use pj_crew::{Together, open_doors, shut_doors, work_together};
+use pj_crew::{CrewResult, open_doors, shut_doors, work_together};
 use pj_names::{Answer, AskFault};
 use pj_outside::Refused;
 use pj_seats::{Gate, OpenGate};
@@ -42,7 +42,7 @@ fn work_by<R: Threads + Wait + Sync, G: Gate + Sync>(
     classes: &[&str],
     fails: u32,
     gate: &G,
-) -> Result<(Result<Together<Arc<Answer>>, AskFault>, u64), Fail> {
+) -> Result<(Result<CrewResult<Arc<Answer>>, AskFault>, u64), Fail> {
     if workers == 0 || workers > 64 {
         return Err(Fail::new("1 to 64 workers"));
     }
@@ -63,8 +63,8 @@ fn work_by<R: Threads + Wait + Sync, G: Gate + Sync>(
     Ok((made, path.finds()))
 }
 
-/// Workers: what a row shows; how many there are; the classes of the files; the find of the first door that fails; for each file whether its
-/// class is absent, or nothing where a worker fails; and how many finds the doors had together, where none fails.
+/// Workers: what a row shows; how many there are; the classes of the files; the find of each door that fails; for each file whether its class
+/// is absent, or nothing where a worker fails; and how many finds the doors had together.
 type Row = (
     &'static str,
     u32,
@@ -74,7 +74,7 @@ type Row = (
     u64,
 );
 
-static ROWS: [Row; 6] = [
+static ROWS: [Row; 7] = [
     ("no file", 2, &[], 0, Some(&[]), 0),
     (
         "one worker",
@@ -116,12 +116,20 @@ static ROWS: [Row; 6] = [
         None,
         2,
     ),
+    (
+        "both workers fail at their first find",
+        2,
+        &["p.A", "p.B"],
+        1,
+        None,
+        2,
+    ),
 ];
 
 /// Whether the work came to what the row says.
-fn is_made(made: &Result<Together<Arc<Answer>>, AskFault>, wanted: Option<&[bool]>) -> bool {
+fn is_made(made: &Result<CrewResult<Arc<Answer>>, AskFault>, wanted: Option<&[bool]>) -> bool {
     match (made, wanted) {
-        (Ok(together), Some(absent)) => are(together.made.as_slice(), absent),
+        (Ok(crew), Some(absent)) => are(crew.made.as_slice(), absent),
         (Err(AskFault::Failed), None) => true,
         _ => false,
     }

@@ -9,7 +9,8 @@ bounds-places-file g c = (subst (λ (l : List (ℕ × g.row.M.Denot)). AreBelow 
 
 pub offset_bounds-places-file : goal.offset_bounds-places-file
 offset_bounds-places-file g c =
-    let below : c.in-Some.file < length c.loop-file.places = (subst (λ (l : List (ℕ × g.row.M.Denot)). AreBelow (length c.loop-file.places) l) c.in-Some.ensures.steps.0 c.loop-file.invariant.below).0 in
+    let there = (subst (λ (l : List (ℕ × g.row.M.Denot)). AreBelow (length c.loop-file.places) l) c.in-Some.ensures.steps.0 c.loop-file.invariant.below).0 in
+    let below : c.in-Some.file < length c.args.places.now = subst (λ (n : ℕ). c.in-Some.file < n) c.loop-file.auto.places there in
     search rules
 
 pub loop-file-preserved : goal.loop-file-preserved
