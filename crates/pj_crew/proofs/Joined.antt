@@ -1,8 +1,8 @@
 -- What is known of workers that worked, by the opening seat that has theirs.
-use Rattle.std.proofs.Common.{◌≡◌, ◌∙◌, ℕ, zero, suc, ◌+◌, ◌<◌, ◌≤◌, ◌==◌, List, [], ◌∷◌, ◌++◌, map, reverse, length, drop, filter, Bool, true, false, cond, Option, refl, sym, ap, subst, arith, get_or, inl, inr}
-use Rattle.std.specs.Prelude.{◌⊎◌, Result, Ok, Err, IfOk, OnOk}
-use Rattle.std.specs.List.{AllByRecursion, AllZip, Contains, flat_map}
-use Rattle.std.proofs.lemmas.List.{append-nil, append_assoc, map-append}
+use Rattle.std.proofs.Common.{◌≡◌, ◌∙◌, ℕ, zero, suc, ◌+◌, ◌<◌, ◌==◌, List, [], ◌∷◌, ◌++◌, map, length, drop, filter, Bool, true, false, cond, refl, sym, ap, subst, arith, get_or}
+use Rattle.std.specs.Prelude.{Result, Ok, Err, IfOk, OnOk}
+use Rattle.std.specs.List.{AllByRecursion, AllZip, flat_map}
+use Rattle.std.proofs.lemmas.List.{map-append}
 use mathlib.Core.Option.{some, some-injective}
 use lib.ListN.{get_elem?}
 use Rattle.pj_names.specs.declared.oracle.AskFault.{AskFault}
@@ -10,7 +10,7 @@ use Rattle.pj_names.specs.declared.oracle.AskFault.TheVariants.{Memory}
 use Rattle.pj_names.specs.ClassName.{Name, NameSet}
 use Rattle.pj_names.specs.Told.{Worlds}
 use Rattle.pj_seats.specs.declared.worker.Share.{Share}
-use Rattle.pj_seats.specs.Looks.{AreLooksOf, lies_at, looks_since, made_at}
+use Rattle.pj_seats.specs.Looks.{AreLooksOf, lies_at, made_at}
 use Rattle.pj_seats.specs.Working.{IsMadeOf, IsShare}
 use Rattle.pj_table.proofs.Claims.{total_append}
 use Rattle.pj_table.specs.Names.{part_of}

@@ -1,15 +1,15 @@
 -- Lists of workers, and of what came of files.
-use Rattle.std.proofs.Common.{◌≡◌, ◌≢◌, ◌∙◌, ℕ, zero, suc, ◌+◌, ◌-◌, ◌<◌, ◌≤◌, ◌==◌, List, [], ◌∷◌, ◌++◌, map, length, take, drop, replicate, Option, Some, None, Bool, true, false, cond, IsTrue, refl, sym, ap, subst, arith, inl, inr, get_or, set, get_or-set_other, eq-eqb, ne_eqb}
-use Rattle.std.specs.Prelude.{◌⊎◌, slice_set, slice_index_or, IsSome, nat_lt}
+use Rattle.std.proofs.Common.{◌≡◌, ◌≢◌, ◌∙◌, ℕ, zero, suc, ◌<◌, ◌==◌, List, [], ◌∷◌, ◌++◌, map, length, take, drop, replicate, Option, Some, None, Bool, true, false, cond, refl, sym, ap, subst, arith, inl, inr, get_or, set, get_or-set_other, eq-eqb, ne_eqb}
+use Rattle.std.specs.Prelude.{◌⊎◌, slice_set, IsSome, nat_lt}
 use Rattle.std.specs.Option.{unwrap_or}
 use mathlib.Core.Logic.{dite}
 use native.Mathlib.Decide.{ℕ_discrete}
-use Rattle.std.specs.List.{All, AllByRecursion, AllZip, Contains, flat_map}
+use Rattle.std.specs.List.{AllByRecursion, Contains}
 use Rattle.std.proofs.lemmas.List.{get_or-map, length-map, length-replicate, length-set, take-append-le}
 use Rattle.std.proofs.Math.Seq.{take-length}
 use Rattle.std.proofs.lemmas.Bool.{lt-ltb, ltb-true}
 use Rattle.pj_seats.specs.declared.worker.Share.{Share}
-use Rattle.pj_table.specs.Rule.{once_below, times, total}
+use Rattle.pj_table.specs.Rule.{once_below, times}
 use Rattle.pj_crew.specs.Placing.{AreBelow, AreOnceEach, ArePlaced, all_results, put_all}
 
 -- ---- places

@@ -12,7 +12,6 @@ use Rattle.pj_table.specs.Rule.{total}
 use Rattle.pj_table.specs.Seats.{view_of}
 use Rattle.pj_table.specs.Worlds.{CountsFaults, World}
 use Rattle.pj_table.specs.declared.seat.TypeTable.{TypeTable}
-use Rattle.pj_table.specs.declared.view.Line.{Line}
 use Rattle.pj_table.specs.declared.view.View.{View}
 use Rattle.pj_crew.proofs.Faults.{counts_all, same_worlds}
 use Rattle.pj_crew.proofs.Reversed.{map_reverse, zip_reverse}

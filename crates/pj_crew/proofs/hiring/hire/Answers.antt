@@ -1,11 +1,10 @@
-use Rattle.std.proofs.Common.{◌≡◌, ◌∙◌, ◌+◌, ◌++◌, ◌∷◌, [], ℕ, List, ap, arith, length, map, refl, reverse, rules, subst, sym, vec_len}
+use Rattle.std.proofs.Common.{◌≡◌, ◌∙◌, ◌+◌, ◌++◌, ◌∷◌, [], ℕ, List, ap, arith, length, refl, reverse, subst, sym}
 use Rattle.std.proofs.lemmas.List.{append-nil, append_assoc, map-append}
 use Rattle.pj_table.specs.Plays.{new_view, with_number_given}
 use Rattle.pj_table.specs.Seats.{view_of}
-use Rattle.pj_table.specs.declared.view.View.{View}
 use Rattle.pj_crew.proofs.Reversed.{reverse_last}
 use Rattle.pj_crew.proofs.Seated.{seated_last}
-use Rattle.pj_crew.specs.Crew.{AreSeatedFrom, doors_of, with_numbers_given}
+use Rattle.pj_crew.specs.Crew.{AreSeatedFrom, doors_of}
 use Rattle.pj_crew.specs.declared.worker.Worker.{Worker}
 use Rattle.pj_crew.proofs.hiring.hire.Goals as goal
 

@@ -1,5 +1,5 @@
-use Rattle.std.proofs.Common.{◌≡◌, ◌+◌, ◌++◌, ◌≤◌, ◌<◌, ◌^◌, map, reverse, vec_len, vec_capacity}
-use Rattle.pj_table.specs.Seats.{IsOf, IsOpening, IsSameSeat, view_of}
+use Rattle.std.proofs.Common.{◌≡◌, ◌+◌, ◌++◌, ◌≤◌, reverse, vec_len, vec_capacity}
+use Rattle.pj_table.specs.Seats.{IsSameSeat, view_of}
 use Rattle.pj_crew.specs.Crew.{AreSeatedFrom, doors_of, with_numbers_given}
 use Rattle.pj_crew.proofs.hiring.hire.Given as goal
 

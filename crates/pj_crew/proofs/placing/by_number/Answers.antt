@@ -1,4 +1,4 @@
-use Rattle.std.proofs.Common.{◌≡◌, ◌∙◌, ◌++◌, ℕ, List, None, Option, ap, arith, drop, length, replicate, rules, subst, sym, take}
+use Rattle.std.proofs.Common.{◌≡◌, ◌∙◌, ◌++◌, ℕ, List, None, Option, ap, arith, drop, length, subst, sym, take}
 use Rattle.std.proofs.lemmas.List.{length-replicate}
 use Rattle.pj_seats.specs.declared.worker.Share.{Share}
 use Rattle.pj_crew.proofs.Lists.{are_below, left_whole, length_put, next_below, next_put}

@@ -1,6 +1,5 @@
-use Rattle.std.proofs.Common.{◌≡◌, ◌∙◌, ◌<◌, ℕ, List, ap, length, rules, subst, sym}
+use Rattle.std.proofs.Common.{◌∙◌, ◌<◌, ℕ, List, ap, length, rules, subst, sym}
 use Rattle.std.proofs.lemmas.List.{length-set}
-use Rattle.pj_crew.proofs.Lists.{is_empty}
 use Rattle.pj_crew.specs.Placing.{AreBelow, put_all}
 use Rattle.pj_crew.proofs.placing.put_share.Goals as goal
 

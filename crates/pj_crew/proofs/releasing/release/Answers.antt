@@ -1,12 +1,11 @@
-use Rattle.std.proofs.Common.{◌≡◌, ◌∙◌, ◌+◌, ◌++◌, ◌∷◌, [], ℕ, List, ap, arith, length, map, refl, reverse, rules, subst, sym, vec_len}
+use Rattle.std.proofs.Common.{◌∙◌, ◌+◌, ◌++◌, ◌∷◌, [], ℕ, ap, arith, refl, reverse, subst, sym}
 use Rattle.std.specs.List.{AllByRecursion}
 use Rattle.std.proofs.lemmas.List.{append-nil, append_assoc, map-append}
 use Rattle.pj_table.specs.Plays.{united}
 use Rattle.pj_table.specs.Seats.{IsOf, view_of}
 use Rattle.pj_table.specs.declared.view.View.{View}
-use Rattle.pj_crew.proofs.Reversed.{reverse_first, reverse_last}
+use Rattle.pj_crew.proofs.Reversed.{reverse_last}
 use Rattle.pj_crew.proofs.Seated.{all_last_of, joined_last}
-use Rattle.pj_crew.specs.Crew.{doors_of, ends_of, with_seats_of}
 use Rattle.pj_crew.specs.declared.worker.Worker.{Worker}
 use Rattle.pj_crew.proofs.releasing.release.Goals as goal
 

@@ -1,5 +1,5 @@
 use Rattle.std.proofs.Common.{◌≡◌, ◌+◌, ◌++◌, ◌≤◌, List, reverse, vec_len, vec_capacity}
-use Rattle.pj_table.specs.Seats.{IsOf, IsSameSeat, view_of}
+use Rattle.pj_table.specs.Seats.{IsSameSeat, view_of}
 use Rattle.pj_crew.specs.Crew.{doors_of, ends_of, with_seats_of}
 use Rattle.pj_crew.specs.declared.worker.Worker.{Worker}
 use Rattle.pj_crew.proofs.releasing.release.Given as goal

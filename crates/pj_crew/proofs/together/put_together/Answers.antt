@@ -1,4 +1,4 @@
-use Rattle.std.proofs.Common.{◌≡◌, ◌∙◌, ap}
+use Rattle.std.proofs.Common.{◌∙◌, ap}
 use Rattle.pj_table.specs.Rule.{once_below}
 use Rattle.pj_crew.proofs.together.put_together.Goals as goal
 

@@ -1,6 +1,5 @@
-use Rattle.std.proofs.Common.{◌≡◌, ◌∙◌, ap, rules, subst, sym}
+use Rattle.std.proofs.Common.{◌∙◌, ap, rules, subst, sym}
 use Rattle.std.proofs.lemmas.Result.{IfOk-weaker}
-use Rattle.pj_table.specs.Seats.{view_of}
 use Rattle.pj_table.specs.Worlds.{World}
 use Rattle.pj_crew.proofs.Whole.{joined_of, made_of}
 use Rattle.pj_crew.proofs.Worked.{counts, doors_stay, files_are, of_first, own_is}
@@ -35,5 +34,5 @@ returns-clause-together g c =
     let same = of_first holds doors c.index.result.now (search rules) c.index.ensures in
     let all : AreOfWorld holds world doors = subst (λ (w : World). AreOfWorld holds w doors) same c.requires.world in
     IfOk-weaker c.put_together.result _ _ (λ (crew : CrewResult g.row.W-Made.Denot) put.
-        subst (λ (w : World). IsMadeByAll w comes finds c.args.files doors c.work_all-ends.new.doors.items crew.made.items crew.closed.parts.items) (sym same)
-        (made_of _ holds finds faults comes world c.args.files doors _ _ _ _ c.in_ok-table.ensures.3 c.work_all-ends.ensures.worked all crew.made.items crew.closed.parts.items put)) c.put_together.ensures.put
+    subst (λ (w : World). IsMadeByAll w comes finds c.args.files doors c.work_all-ends.new.doors.items crew.made.items crew.closed.parts.items) (sym same)
+    (made_of _ holds finds faults comes world c.args.files doors _ _ _ _ c.in_ok-table.ensures.3 c.work_all-ends.ensures.worked all crew.made.items crew.closed.parts.items put)) c.put_together.ensures.put
