@@ -1,5 +1,5 @@
 -- The rules that are missing where some results stay are those that have to be evaluated.
-use Rattle.std.proofs.Common.{◌≡◌, ◌+◌, ◌++◌, ◌∙◌, ℕ, zero, suc, Bool, true, false, not, cond, ◌&&◌, ◌||◌, List, [], ◌∷◌, Option, Some, None, add-one, ap, append-nil, arith, filter, length, map, refl, slice_get, subst, sym, take}
+use Rattle.std.proofs.Common.{◌≡◌, ◌+◌, ◌++◌, ◌∙◌, ℕ, suc, Bool, true, false, not, cond, ◌&&◌, ◌||◌, List, [], ◌∷◌, Some, ap, arith, filter, length, map, refl, slice_get, sym, take}
 use Rattle.std.specs.Prelude.{if◌then◌else◌}
 use Rattle.std.specs.BTreeMap.{is_at}
 use Rattle.std.specs.List.{AllByRecursion, range_with_len}
@@ -21,7 +21,6 @@ use Rattle.pj_fitting.specs.Right.{Files, Key, RulesAt, rules_at}
 use Rattle.pj_left_cache.specs.Missing.{keys_of_all, missing_from, missing_rules}
 use Rattle.pj_names.specs.ClassName.{Name}
 use Rattle.pj_names.specs.declared.answer.Answer.{Answer}
-use Rattle.pj_reports.specs.declared.ruled.Head.{Head}
 use Rattle.pj_reuse.specs.Serving.{has_key, keys_of}
 use Rattle.pj_workers.specs.Chosen.{numbers_to}
 
@@ -35,8 +34,8 @@ at_end [] x rest = refl
 at_end (y ∷ front) x rest = at_end front x rest
 
 up_to_end : {A : Type 0} (front rest : List A) → take (length front) (front ++ rest) ≡ front
-up_to_end [] rest = refl
-up_to_end (y ∷ front) rest = ap (λ (l : List _). y ∷ l) (up_to_end front rest)
+up_to_end {A} [] rest = refl
+up_to_end {A} (y ∷ front) rest = ap (λ (l : List A). y ∷ l) (up_to_end front rest)
 
 has_stay : (stay : List CachedResult) (q : Key) → has_result stay q ≡ has_key (keys_of_all stay) q
 has_stay [] q = refl
@@ -136,7 +135,7 @@ module _ {R : Type 0} (rules : RulesAt R) (found : Cache) (world : Name → Answ
     tells_by held before rule false h is tells q want = tells q want ∙ ap (λ (b : Bool). served q || b) (sym (or_none (has_key (active_keys rules before) q)))
 
     tells_next : (held : List Key) (before : List R) (rule : R) → Tells held before → Tells (cond (rules.is_active rule && not (has_key held (key rule))) (key rule ∷ held) held) (before ++ rule ∷ [])
-    tells_next held before rule tells q want =
+    tells_next held before rule tells = λ q want.
         tells_by held before rule (rules.is_active rule) (has_key held (key rule)) refl tells q want ∙ ap (λ (b : Bool). served q || b) (sym (has_last before rule q))
 
     -- the test of a number where its rule stands
@@ -168,7 +167,7 @@ module _ {R : Type 0} (rules : RulesAt R) (found : Cache) (world : Name → Answ
         both_by at (key rule) held (map key rest) (map rules.is_active rest) b (test at) (filter test (range_with_len (at + 1) (length rest))) same more
 
     tells_first : Tells (keys_of_all (kept found.answers world wanted old)) []
-    tells_first q want = sym (has_stay (kept found.answers world wanted old) q) ∙ kept_serves found.answers world wanted old q want ∙ sym (or_none (served q))
+    tells_first = λ q want. sym (has_stay (kept found.answers world wanted old) q) ∙ kept_serves found.answers world wanted old q want ∙ sym (or_none (served q))
 
     -- the rules that are missing where those results stay that can
     pub needed_are : map number (missing_rules (kept found.answers world wanted old) (map key all) (map rules.is_active all)) ≡ filter (is_needed_at rules found world file all) (numbers_to (length all))
