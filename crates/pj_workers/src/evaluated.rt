@@ -50,7 +50,13 @@ pub fn evaluated_on(
 {
     let mut ran = Ran::new(alloc);
     for of_file in found {
-        put_evaluated(alloc, &mut ran, rules, &of_file.0, of_file.1.runs.as_slice())?;
+        put_evaluated(
+            alloc,
+            &mut ran,
+            rules,
+            &of_file.0,
+            of_file.1.runs.as_slice(),
+        )?;
     }
     Ok(ran)
 }

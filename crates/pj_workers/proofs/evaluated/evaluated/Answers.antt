@@ -1,5 +1,5 @@
-use Rattle.std.proofs.Common.{◌≡◌, ◌∙◌, sym}
-use Rattle.pj_workers.proofs.Ran.{none_evaluated, some_evaluated}
+use Rattle.std.proofs.Common.{◌∙◌, sym}
+use Rattle.pj_workers.proofs.Ran.{none_evaluated}
 use Rattle.pj_workers.proofs.evaluated.evaluated.Goals as goal
 
 pub returns-then-is_empty : goal.returns-then-is_empty
