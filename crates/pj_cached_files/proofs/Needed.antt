@@ -162,8 +162,8 @@ module _ {R : Type 0} (rules : RulesAt R) (found : Cache) (world : Name → Answ
         let next : suc at ≡ at + 1 = omega arith in
         let same : test at ≡ b = tested before rule rest at is ∙ need_by held before rule (rules.is_active rule) wants.0 tells in
         let more = needed_from (before ++ rule ∷ []) rest (cond b (key rule ∷ held) held) (suc at) later wants.1 (tells_next held before rule tells)
-            ∙ ap (λ (l : List R). filter (is_needed_at rules found world file l) (range_with_len (suc at) (length rest))) moved
-            ∙ ap (λ (n : ℕ). filter test (range_with_len n (length rest))) next in
+        ∙ ap (λ (l : List R). filter (is_needed_at rules found world file l) (range_with_len (suc at) (length rest))) moved
+        ∙ ap (λ (n : ℕ). filter test (range_with_len n (length rest))) next in
         both_by at (key rule) held (map key rest) (map rules.is_active rest) b (test at) (filter test (range_with_len (at + 1) (length rest))) same more
 
     tells_first : Tells (keys_of_all (kept found.answers world wanted old)) []

@@ -1,10 +1,9 @@
 -- Which rules were evaluated on files, by what came of them.
-use Rattle.std.proofs.Common.{◌≡◌, ◌<◌, ◌+◌, ◌++◌, ◌∙◌, ◌==◌, ℕ, zero, suc, Bool, true, false, cond, List, [], ◌∷◌, Result, Ok, Err, ap, arith, filter, get_or, length, map, refl, slice_get, sym}
+use Rattle.std.proofs.Common.{◌≡◌, ◌<◌, ◌+◌, ◌++◌, ◌∙◌, ◌==◌, ℕ, zero, suc, Bool, true, false, cond, List, [], ◌∷◌, Result, Ok, Err, ap, append-nil, arith, filter, get_or, length, map, refl, slice_get, sym}
 use Rattle.std.specs.Prelude.{flat_map, if◌then◌else◌}
 use Rattle.std.specs.List.{AllZip}
 use Rattle.std.specs.Option.{option_map_or}
 use Rattle.std.proofs.lemmas.Bool.{eqb-true}
-use Rattle.std.proofs.lemmas.List.{append_assoc, map-append}
 use Rattle.std.proofs.lemmas.List.Elements.{filter-append}
 use Rattle.pj_findings.specs.declared.run.RuleRun.{RuleRun}
 use Rattle.pj_names.specs.Told.{Told}
@@ -34,11 +33,7 @@ told_at f (x ∷ xs) (suc i) b d below is = told_at f xs i b d (omega (arith, be
 
 put_by : (test : ℕ → Bool) (front : List ℕ) (i : ℕ) (b c : Bool) → test i ≡ b → c ≡ b → filter test front ++ filter test (i ∷ []) ≡ (if c then filter test front ++ i ∷ [] else filter test front)
 put_by test front i true true is same = ap (λ (t : Bool). filter test front ++ cond t (i ∷ []) []) is
-put_by test front i false false is same = ap (λ (t : Bool). filter test front ++ cond t (i ∷ []) []) is ∙ nothing (filter test front)
-  where
-    nothing : (l : List ℕ) → l ++ [] ≡ l
-    nothing [] = refl
-    nothing (x ∷ xs) = ap (λ (l : List ℕ). x ∷ l) (nothing xs)
+put_by test front i false false is same = ap (λ (t : Bool). filter test front ++ cond t (i ∷ []) []) is ∙ append-nil (filter test front)
 put_by test front i true false is same = absurd cc
 put_by test front i false true is same = absurd cc
 
@@ -51,28 +46,15 @@ active_more set path i b d numbers more below is so_far put =
     ∙ sym (filter-append (λ n. is_active_at set n path) (numbers_to i) (i ∷ []))
     ∙ ap (λ (l : List ℕ). filter (λ n. is_active_at set n path) l) (sym (one_number_more i))
 
--- one more rule of a file is put behind the others
-pub with_more : (path : Bytes) (old so_far more : List (Bytes × ℕ)) (front next : List ℕ) (n : ℕ) → so_far ≡ old ++ with_path path front → more ≡ so_far ++ (path, n) ∷ [] → next ≡ front ++ n ∷ [] → more ≡ old ++ with_path path next
-with_more path old so_far more front next n is put grown =
-    put ∙ ap (λ (l : List (Bytes × ℕ)). l ++ (path, n) ∷ []) is ∙ append_assoc old (with_path path front) ((path, n) ∷ [])
-    ∙ ap (λ (l : List (Bytes × ℕ)). old ++ l) (sym (map-append (λ (k : ℕ). (path, k)) front (n ∷ [])) ∙ ap (λ (l : List ℕ). with_path path l) (sym grown))
-
 -- ---- by what came of files
 
 not_none : (n : ℕ) → (suc n == 0) ≡ true → ⊥
 not_none n is = let never : suc n ≡ 0 = eqb-true (suc n) 0 is in omega (arith, never)
 
-zero_is : (0 == 0) ≡ true
-zero_is = refl
-
 -- without runs no rule was evaluated
 pub none_evaluated : (set : EffectiveRules) (path : Bytes) (runs : List RuleRun) → (length runs == 0) ≡ true → [] ≡ evaluated_by set path runs
 none_evaluated set path [] is = refl
 none_evaluated set path (run ∷ runs) is = absurd (not_none (length runs) is)
-
-pub some_evaluated : (set : EffectiveRules) (path : Bytes) (runs : List RuleRun) → (length runs == 0) ≡ false → active_numbers set path ≡ evaluated_by set path runs
-some_evaluated set path [] is = let never : true ≡ false = sym zero_is ∙ is in absurd cc
-some_evaluated set path (run ∷ runs) is = refl
 
 none_of : {X Y : Type 0} (R : X → Y → Type 0) (xs : List X) → AllZip R xs [] → 0 ≡ length xs
 none_of R xs zip = zip_length R xs [] zip
