@@ -14,7 +14,7 @@ use Rattle.pj_parse.specs.declared.file_fault.FileFault.{FileFault}
 use Rattle.pj_rule_sets.specs.Active.{is_active, is_active_at}
 use Rattle.pj_rule_sets.specs.Rules.{EffectiveRule, EffectiveRules}
 use Rattle.pj_workers.specs.Chosen.{numbers_to}
-use Rattle.pj_workers.specs.Evaluated.{active_numbers, evaluated, evaluated_on, with_path}
+use Rattle.pj_workers.specs.Evaluated.{evaluated, evaluated_on, with_path}
 use Rattle.pj_workers.specs.JavaReplies.{java_replies}
 use Rattle.pj_workers.specs.Results.{IsResultAt, rules_in}
 use Rattle.pj_workers.specs.Rules.{AreRulesOf, IsRuleOf, Rule}
