@@ -5,7 +5,7 @@ use Rattle.pj_xframes.specs.declared.frame.ForTurns.{ForTurns}
 use Rattle.pj_xframes.specs.declared.frame.Next.TheVariants as next
 use Rattle.pj_xframes.specs.Frames.{for_left}
 use Rattle.pj_xframes.specs.Going.{ForTurnsOfTree, Goes}
-use Rattle.pj_xframes.specs.Scopes.{Scoped, variables_of, with_variable}
+use Rattle.pj_xframes.specs.Scopes.{variables_of, with_variable}
 use Rattle.pj_xeval.proofs.Binding.{for-ended, for-taken}
 use Rattle.pj_xeval.proofs.Kept.{taken-of_tree}
 use Rattle.pj_xeval.proofs.OfTree.{of_tree-before}
