@@ -1,6 +1,6 @@
 use Rattle.std.proofs.Common.{ap, sym, ◌∙◌}
 use Rattle.pj_old_reading.specs.Spelled.{version_in}
-use Rattle.pj_old_reading.proofs.Sealed.{long_of, short_of}
+use Rattle.pj_old_reading.proofs.AnyDecoded.{long_of, short_of}
 use Rattle.pj_old_reading.proofs.decoding.any_in.Goals as goal
 
 pub version_of-requires : goal.version_of-requires

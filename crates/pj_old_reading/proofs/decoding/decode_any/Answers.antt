@@ -1,4 +1,4 @@
-use Rattle.pj_old_reading.proofs.Sealed.{not_decoded}
+use Rattle.pj_old_reading.proofs.AnyDecoded.{not_decoded}
 use Rattle.pj_old_reading.proofs.decoding.decode_any.Goals as goal
 
 pub returns-in-Err : goal.returns-in-Err

@@ -1,4 +1,4 @@
-use Rattle.pj_old_reading.proofs.Sealed.{old_decoded, old_refused}
+use Rattle.pj_old_reading.proofs.AnyDecoded.{old_decoded, old_refused}
 use Rattle.pj_old_reading.proofs.decoding.first_in.Goals as goal
 
 pub returns-in-Ok : goal.returns-in-Ok

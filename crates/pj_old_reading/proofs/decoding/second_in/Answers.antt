@@ -1,4 +1,4 @@
-use Rattle.pj_old_reading.proofs.Sealed.{new_decoded, new_refused}
+use Rattle.pj_old_reading.proofs.AnyDecoded.{new_decoded, new_refused}
 use Rattle.pj_old_reading.proofs.decoding.second_in.Goals as goal
 
 pub returns-in-Ok : goal.returns-in-Ok
