@@ -60,7 +60,7 @@ followed_read m n bytes at =
     first_then m (λ front. n >>= λ more. Done (front ++ more)) bytes at
     ∙ ap (λ (f : List ℕ × ℕ → Read). first m bytes at and_then f) (λ i x. behind x.0 x.1 i)
   where
-    ended : (front : List ℕ) → (λ (y : List ℕ × ℕ). first (Done (front ++ y.0)) bytes y.1) ≡ (λ (y : List ℕ × ℕ). good (front ++ y.0) y.1)
+    ended : (front : List ℕ) → ◌≡◌ {A = List ℕ × ℕ → Read} (λ y. first (Done (front ++ y.0)) bytes y.1) (λ y. good (front ++ y.0) y.1)
     ended front = λ i y. first_done (front ++ y.0) bytes y.1 i
 
     behind : (front : List ℕ) (from : ℕ) → first (n >>= λ more. Done (front ++ more)) bytes from ≡ (first n bytes from and_then λ y. good (front ++ y.0) y.1)
@@ -94,10 +94,8 @@ unfolding all_tested
 more_tests test tests = refl
 
 -- one test more
-pub tests_left : {X : Type 0} (f : X → Text → Bool) (xs : List X) (i : ℕ) (x : X) → i < length xs → x ≡ get_or xs i x → all_tested (map f (drop i xs)) ≡ tested (f x) followed_by all_tested (map f (drop (i + 1) xs))
-tests_left {X} f xs i x lt is =
-    let left : drop i xs ≡ x ∷ drop (i + 1) xs = drop_more xs i x lt ∙ ap (λ (y : X). y ∷ drop (i + 1) xs) (sym is) in
-    ap (λ (l : List X). all_tested (map f l)) left ∙ more_tests (f x) (map f (drop (i + 1) xs))
+pub tests_left : {X : Type 0} (f : X → Text → Bool) (xs : List X) (i : ℕ) (d : X) → i < length xs → all_tested (map f (drop i xs)) ≡ tested (f (get_or xs i d)) followed_by all_tested (map f (drop (i + 1) xs))
+tests_left {X} f xs i d lt = ap (λ (l : List X). all_tested (map f l)) (drop_more xs i d lt) ∙ more_tests (f (get_or xs i d)) (map f (drop (i + 1) xs))
 
 pub tests_done : {X : Type 0} (f : X → Text → Bool) (xs : List X) (i : ℕ) (bytes : List ℕ) (at : ℕ) → length xs ≤ i → first (all_tested (map f (drop i xs))) bytes at ≡ good [] at
 tests_done {X} f xs i bytes at le = ap (λ (l : List X). first (all_tested (map f l)) bytes at) (drop_all i xs le) ∙ no_tests bytes at
@@ -142,9 +140,9 @@ test_copies test bytes at end words old new read is put =
 
 -- ---- an empty copy
 
-pub nothing_before : (r : Read) (copy : List ℕ) (end : ℕ) → behind_copy [] r ≡ good copy end → r ≡ good copy end
-nothing_before (Ok x) copy end e = e
-nothing_before (Err f) copy end e = absurd cc
+pub nothing_before : (r : Read) (none copy : List ℕ) (end : ℕ) → none ≡ [] → behind_copy none r ≡ good copy end → r ≡ good copy end
+nothing_before (Ok x) none copy end is e = ap (λ (front : List ℕ). good (front ++ x.0) x.1) (sym is) ∙ e
+nothing_before (Err f) none copy end is e = absurd cc
 
 -- ---- members
 
@@ -222,7 +220,7 @@ listed_read item bytes at =
     ∙ ap (λ (r : Read). r and_then λ x. behind_copy (string x.0) (first (members item (value_of x.0)) bytes x.1)) (first_sized_as (passing is_number) bytes at)
     ∙ regroup (first sized bytes at)
   where
-    ended : (front : List ℕ) → (λ (y : List ℕ × ℕ). first (Done (front ++ y.0)) bytes y.1) ≡ (λ (y : List ℕ × ℕ). good (front ++ y.0) y.1)
+    ended : (front : List ℕ) → ◌≡◌ {A = List ℕ × ℕ → Read} (λ y. first (Done (front ++ y.0)) bytes y.1) (λ y. good (front ++ y.0) y.1)
     ended front = λ i y. first_done (front ++ y.0) bytes y.1 i
 
     behind : (count : List ℕ) (from : ℕ) → first (members item (value_of count) >>= λ all. Done (string count ++ all)) bytes from ≡ behind_copy (string count) (first (members item (value_of count)) bytes from)

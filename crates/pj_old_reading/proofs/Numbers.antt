@@ -38,9 +38,10 @@ too_large {E} bs e h is =
 
 -- where it succeeds, it is the number
 pub the_number : {E : Type 0} (bs : List ℕ) (n : ℕ) (r : Result ℕ E) → r ≡ Ok n → ParsesUnsigned 32 10 bs r → is_number bs ≡ true → n ≡ value_of bs
-the_number bs n (Ok m) is h number =
+the_number {E} bs n (Ok m) is h number =
     let same : m ≡ n = cc in
-    sym same ∙ (parse_digits own 32 bs (Ok m) h (number_digits bs number).0).1
+    let read : Result ℕ E = Ok m in
+    sym same ∙ (parse_digits own 32 bs read h (number_digits bs number).0).1
 the_number bs n (Err e) is h number = absurd cc
 
 -- ---- numbers of top rulesets

@@ -13,4 +13,4 @@ returns-in_err-behind c =
 pub returns : goal.returns
 unfolding list_key
 returns c =
-    copies_then (all_tested word_tests) (listed rule) c.args.bytes.now c.args.at c.in_ok-behind.behind c.args.copy.now.items c.copy_all-behind.new.copy.items c.copy_rule_list.new.copy.items c.copy_rule_list.result c.in_ok-behind.ensures c.copy_rule_list.ensures
+    copies_then (all_tested word_tests) (listed rule) c.args.bytes.now c.args.at c.in_ok-behind.behind c.args.copy.now.items c.copy_all.new.copy.items c.copy_rule_list.new.copy.items c.copy_rule_list.result c.in_ok-behind.ensures c.copy_rule_list.ensures

@@ -12,4 +12,4 @@ returns-in_err-behind c =
 
 pub returns : goal.returns
 returns c =
-    copies_then (listed (all_tested property_tests)) patterns c.args.bytes.now c.args.at c.in_ok-behind.behind c.args.copy.now.items c.copy_list-behind.new.copy.items c.copy_patterns.new.copy.items c.copy_patterns.result c.in_ok-behind.ensures c.copy_patterns.ensures
+    copies_then (listed (all_tested property_tests)) patterns c.args.bytes.now c.args.at c.in_ok-behind.behind c.args.copy.now.items c.copy_list.new.copy.items c.copy_patterns.new.copy.items c.copy_patterns.result c.in_ok-behind.ensures c.copy_patterns.ensures

@@ -15,7 +15,7 @@ returns-in_err-behind c =
 
 pub loop-preserved : goal.loop-preserved
 loop-preserved c =
-    loop_goes (all_tested (map test_of c.args.tests.now)) (members (all_tested (map test_of c.args.tests.now)) (c.args.count - (c.loop.counter + 1))) _ _ c.args.bytes.now c.loop.place c.in_ok-behind.behind c.args.copy.now.items c.loop.copy.items c.copy_all-behind.new.copy.items
+    loop_goes (all_tested (map test_of c.args.tests.now)) (members (all_tested (map test_of c.args.tests.now)) (c.args.count - (c.loop.counter + 1))) _ _ c.args.bytes.now c.loop.place c.in_ok-behind.behind c.args.copy.now.items c.loop.copy.items c.copy_all.new.copy.items
     (members_more (all_tested (map test_of c.args.tests.now)) c.args.count c.loop.counter c.args.bytes.now c.loop.place c.loop-test.true) c.in_ok-behind.ensures c.loop.invariant
 
 pub returns : goal.returns

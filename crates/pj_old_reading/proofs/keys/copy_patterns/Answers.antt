@@ -11,4 +11,4 @@ returns-in_err-behind c =
 
 pub returns : goal.returns
 returns c =
-    copies_then (listed (all_tested word_tests)) (listed (all_tested word_tests)) c.args.bytes.now c.args.at c.in_ok-behind.behind c.args.copy.now.items c.copy_list-behind.new.copy.items c.copy_list.new.copy.items c.copy_list.result c.in_ok-behind.ensures c.copy_list.ensures
+    copies_then (listed (all_tested word_tests)) (listed (all_tested word_tests)) c.args.bytes.now c.args.at c.in_ok-behind.behind c.args.copy.now.items c.copy_list.new.copy.items c.copy_list-2.new.copy.items c.copy_list-2.result c.in_ok-behind.ensures c.copy_list-2.ensures

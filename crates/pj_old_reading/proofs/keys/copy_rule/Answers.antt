@@ -14,4 +14,4 @@ returns-in_err-behind c =
 pub returns : goal.returns
 unfolding rule
 returns c =
-    copies_then (all_tested rule_tests) lists c.args.bytes.now c.args.at c.in_ok-behind.behind c.args.copy.now.items c.copy_words-behind.new.copy.items c.copy_lists.new.copy.items c.copy_lists.result c.in_ok-behind.ensures c.copy_lists.ensures
+    copies_then (all_tested rule_tests) lists c.args.bytes.now c.args.at c.in_ok-behind.behind c.args.copy.now.items c.copy_words.new.copy.items c.copy_lists.new.copy.items c.copy_lists.result c.in_ok-behind.ensures c.copy_lists.ensures

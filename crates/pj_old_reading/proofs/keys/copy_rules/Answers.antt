@@ -14,7 +14,7 @@ returns-in_err-behind c =
 
 pub loop-preserved : goal.loop-preserved
 loop-preserved c =
-    loop_goes rule (members rule (c.args.count - (c.loop.counter + 1))) _ _ c.args.bytes.now c.loop.place c.in_ok-behind.behind c.args.copy.now.items c.loop.copy.items c.copy_rule-behind.new.copy.items
+    loop_goes rule (members rule (c.args.count - (c.loop.counter + 1))) _ _ c.args.bytes.now c.loop.place c.in_ok-behind.behind c.args.copy.now.items c.loop.copy.items c.copy_rule.new.copy.items
     (members_more rule c.args.count c.loop.counter c.args.bytes.now c.loop.place c.loop-test.true) c.in_ok-behind.ensures c.loop.invariant
 
 pub returns : goal.returns
