@@ -140,9 +140,9 @@ test_copies test bytes at end words old new read is put =
 
 -- ---- an empty copy
 
-pub nothing_before : (r : Read) (none copy : List ℕ) (end : ℕ) → none ≡ [] → behind_copy none r ≡ good copy end → r ≡ good copy end
-nothing_before (Ok x) none copy end is e = ap (λ (front : List ℕ). good (front ++ x.0) x.1) (sym is) ∙ e
-nothing_before (Err f) none copy end is e = absurd cc
+pub nothing_before : (r : Read) (none copy made : List ℕ) (end : ℕ) → none ≡ [] → behind_copy none r ≡ good copy end → made ≡ copy → r ≡ good made end
+nothing_before (Ok x) none copy made end is e same = ap (λ (front : List ℕ). good (front ++ x.0) x.1) (sym is) ∙ e ∙ ap (λ (l : List ℕ). good l end) (sym same)
+nothing_before (Err f) none copy made end is e same = absurd cc
 
 -- ---- members
 
