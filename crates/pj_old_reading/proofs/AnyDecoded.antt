@@ -1,9 +1,8 @@
 -- What is read of bytes with a right seal is what they are as a cache of either format.
-use Rattle.std.proofs.Common.{◌≡◌, ℕ, ◌-◌, ◌≤◌, List, length, take, Result, Ok, Err, sym, ap, subst, ◌∙◌, arith}
+use Rattle.std.proofs.Common.{◌≡◌, ℕ, ◌-◌, ◌≤◌, List, length, Ok, Err, sym, ap, subst, arith}
 use Rattle.std.proofs.lemmas.List.{length-take-le}
 use Rattle.pj_format.specs.Format.{IsFirst, Spells, fault, whole}
 use Rattle.pj_cache.specs.declared.cache.Cache.{Cache}
-use Rattle.pj_cache.specs.declared.cache.Stored.{Stored}
 use Rattle.pj_cache.specs.declared.cache.Stored.TheVariants as formats
 use Rattle.pj_cache.specs.declared.old.OldCache.{OldCache}
 use Rattle.pj_cache_format.specs.declared.fault.CacheFault.{CacheFault}

@@ -1,7 +1,6 @@
 -- The number of the format settles by which format all but the seal is read.
-use Rattle.std.proofs.Common.{◌≡◌, ℕ, ◌+◌, ◌≤◌, Bool, true, false, ◌||◌, cond, eqb, List, length, take, drop, Result, Ok, Err, nat_eq, nat_lt, refl, sym, ap, subst, ◌∙◌, arith}
+use Rattle.std.proofs.Common.{◌≡◌, ℕ, ◌≤◌, Bool, true, false, ◌||◌, cond, eqb, List, length, take, drop, Result, Ok, Err, nat_eq, nat_lt, refl, sym, ap, subst, ◌∙◌, arith}
 use Rattle.std.proofs.lemmas.Bool.{eqb-true, le-ltb}
-use Rattle.std.specs.Int.{w32, from_be_bytes}
 use Rattle.pj_format.specs.declared.fault.Fault.{Fault}
 use Rattle.pj_format.specs.Format.{Format, Done, End, ◌>>=◌, first, fault, judged, ◌and_then◌, whole, Means}
 use Rattle.pj_format.specs.Fields.{run, u32, u32_as}

@@ -3,8 +3,8 @@ use Rattle.pj_old_reading.specs.Spelled.{version_in}
 use Rattle.pj_old_reading.proofs.AnyDecoded.{long_of, short_of}
 use Rattle.pj_old_reading.proofs.decoding.any_in.Goals as goal
 
-pub version_of-requires : goal.version_of-requires
-version_of-requires c = long_of c.args.bytes.now c.args.content.now c.requires.is_sealed c.requires.content
+pub version_of-version-requires : goal.version_of-version-requires
+version_of-version-requires c = long_of c.args.bytes.now c.args.content.now c.requires.is_sealed c.requires.content
 
 pub first_in-requires-clause-small : goal.first_in-requires-clause-small
 first_in-requires-clause-small c = short_of c.args.bytes.now c.args.content.now 4294967294 c.requires.content c.requires.small

@@ -1,4 +1,4 @@
-use Rattle.std.proofs.Common.{◌≡◌, List, [], ap, ◌∙◌}
+use Rattle.std.proofs.Common.{◌≡◌, [], ap, ◌∙◌}
 use Rattle.pj_cache_format.specs.FormatTwo.{with_more}
 use Rattle.pj_cache_format.proofs.Noted.{noted_more}
 use Rattle.pj_old_reading.proofs.named.old_names_of.Goals as goal
