@@ -100,7 +100,7 @@ fn keys_of(alloc: Global, words: &str) -> Result<Keys, RowFault> {
 }
 
 /// What a cache of format 1 becomes for the rules of the section.
-fn carried(alloc: Global, section: &Section, old: OldCache) -> Result<String, RowFault>
+fn new_text(alloc: Global, section: &Section, old: OldCache) -> Result<String, RowFault>
     requires { IsStrictlySortedBy byte_order (map (λ a. a.0) old.answers) }
 {
     let key = bytes_of(alloc, section.setting("key").unwrap_or(""))?;
@@ -113,7 +113,7 @@ fn carried(alloc: Global, section: &Section, old: OldCache) -> Result<String, Ro
 fn carried_text(alloc: Global, section: &Section, bytes: &[u8]) -> Result<String, RowFault> {
     old_order_is_strict();
     match read(alloc, bytes)? {
-        Ok(Stored::One(old)) => carried(alloc, section, old),
+        Ok(Stored::One(old)) => new_text(alloc, section, old),
         Ok(Stored::Two(_)) => Err(RowFault::Unread("a cache of format 2")),
         Err(fault) => fault_text(alloc, fault),
     }
