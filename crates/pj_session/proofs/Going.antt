@@ -1,5 +1,5 @@
 -- Worlds one after the other, as a loop goes through them.
-use Rattle.std.proofs.Common.{◌≡◌, ◌∙◌, ◌≤◌, ◌<◌, ◌++◌, ℕ, zero, suc, List, [], ◌∷◌, Result, Err, IfErr, ap, arith, drop, get_or, length, refl, sym, take, ◌+◌}
+use Rattle.std.proofs.Common.{◌≡◌, ◌∙◌, ◌≤◌, ◌<◌, ◌++◌, ℕ, zero, suc, List, [], ◌∷◌, Err, ap, arith, drop, get_or, length, refl, sym, take, ◌+◌}
 use Rattle.std.proofs.lemmas.List.{drop_more, take-append-drop}
 use Rattle.std.specs.List.{All, AllZip}
 use Rattle.pj_outside.specs.Files.{Bytes}

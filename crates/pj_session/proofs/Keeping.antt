@@ -1,10 +1,8 @@
 -- What a keeper holds after the run over a world.
-use Rattle.std.proofs.Common.{◌≡◌, ◌≢◌, ◌∙◌, Bool, true, false, List, Option, None, Some, Ok, inl, inr, ap}
+use Rattle.std.proofs.Common.{◌≡◌, ◌≢◌, ◌∙◌, Bool, true, false, List, Option, None, Some, inl, inr, ap}
 use Rattle.pj_outside.specs.Files.{Bytes, Files, bytes_at}
 use Rattle.pj_outside.specs.Keeping.{replaced}
-use Rattle.pj_settings.specs.Job.{job}
-use Rattle.pj_settings.specs.declared.settings.Settings.{Settings}
-use Rattle.pj_check.specs.Caching.{ContentFits, FindsFitting, FitsUnder, IsKept, WorkSeen}
+use Rattle.pj_check.specs.Caching.{FindsFitting, FitsUnder, IsKept, WorkSeen}
 use Rattle.pj_check.specs.Kept.{IsLeft, LeavesCache, SaysOfCache}
 use Rattle.pj_check.specs.Laws.{KeepersStayFit}
 use Rattle.pj_check.specs.declared.cache.CacheNotes.{CacheNotes}

@@ -1,15 +1,14 @@
 -- One list of reports, and one first refusal.
-use Rattle.std.proofs.Common.{◌≡◌, ◌∙◌, ◌⊎◌, ◌++◌, ℕ, suc, List, [], ◌∷◌, Result, Ok, Err, ap, inl, inr, length, refl, subst, sym}
+use Rattle.std.proofs.Common.{◌≡◌, ◌∙◌, ◌++◌, ℕ, suc, List, [], ◌∷◌, Ok, Err, ap, inl, inr, length, refl, subst, sym}
 use Rattle.std.proofs.lemmas.List.Elements.{All-head, All-tail, All-weaker}
-use Rattle.std.specs.List.{All, AllZip}
+use Rattle.std.specs.List.{All}
 use Rattle.pj_outside.specs.Files.{Bytes}
 use Rattle.pj_check.specs.Laws.{OneRefusal, OneRun, RunIsNotRefused}
 use Rattle.pj_check.specs.Refused.{IsRefused}
 use Rattle.pj_check.specs.Run.{text_of}
 use Rattle.pj_check.specs.declared.outcome.Outcome.{Outcome}
 use Rattle.pj_session.specs.Laws.{FirstRefusalIsTold, OneListOfReports}
-use Rattle.pj_session.specs.Session.{HasRun, IsRefusedBehind, IsReportOf, IsUnrefused, Says, class_folders}
-use Rattle.pj_session.specs.declared.fault.SessionFault.{SessionFault}
+use Rattle.pj_session.specs.Session.{HasRun, IsReportOf, IsUnrefused, class_folders}
 use Rattle.pj_session.specs.declared.fault.SessionFault.TheVariants as fault
 use Rattle.pj_session.specs.declared.world.World.{World}
 use Rattle.pj_session.proofs.Going.{have_runs}

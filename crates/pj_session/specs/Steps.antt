@@ -7,7 +7,7 @@ use Rattle.pj_check.specs.Outcome as check
 use Rattle.pj_check.specs.Refused.{IsRefused}
 use Rattle.pj_check.specs.declared.cache.CacheNotes.{CacheNotes}
 use Rattle.pj_check.specs.declared.outcome.Outcome.{Outcome}
-use Rattle.pj_check.specs.declared.outcome.Outcome.TheVariants.{Clean, Violations, Errors, Usage, Rules, TreeFault, ClassFault, SinkFault, Missing, Limit, Memory}
+use Rattle.pj_check.specs.declared.outcome.Outcome.TheVariants.{Clean, Violations, Errors, Usage, Rules, TreeFault, ClassFault, Missing, Limit}
 use Rattle.pj_session.specs.Session.{class_folders}
 use Rattle.pj_session.specs.declared.fault.SessionFault.{SessionFault}
 use Rattle.pj_session.specs.declared.fault.SessionFault.TheVariants as fault

@@ -1,6 +1,5 @@
-use Rattle.std.proofs.Common.{◌≡◌, List, Some, length, take}
+use Rattle.std.proofs.Common.{◌≡◌, Some, length, take}
 use Rattle.std.specs.List.{All, AllZip}
-use Rattle.pj_outside.specs.Files.{Bytes}
 use Rattle.pj_check.specs.Caching.{FindsFitting}
 use Rattle.pj_check.specs.Kept.{AsksForNoCache}
 use Rattle.pj_session.specs.Session.{IsReadyIn, IsReportOf, KeepsOthers, StaysFitting}
