@@ -1,0 +1,4 @@
+pub mod InWorlds
+pub mod AllLeft
+pub mod Answering
+pub mod Finally

@@ -1,0 +1,100 @@
+//! What is left of files, put together.
+ghost use Rattle.std.specs.Prelude.{◌≡◌, ◌++◌, ◌∷◌, [], IfOk, OnErr, OnOk, map, not};
+ghost use Rattle.std.specs.List.{AllByRecursion};
+ghost use Rattle.pj_cached_files.specs.Asked.{keys_of_set};
+ghost use Rattle.pj_cached_files.specs.Gathered.{HasText, path_rows, put_if};
+ghost use Rattle.pj_shared_files.specs.Gathering.{analysed_of, entries_of, reused_of};
+
+use crate::rows::rows_by;
+use pj_base::{Copied, Names, NoMemory, Text};
+use pj_cache::Entries;
+use pj_cached_files::{LeftFile, Run};
+use pj_reports::PathRows;
+use pj_workers::Work;
+use std::alloc::Global;
+
+/// What was made of files.
+#[derive(Drop)]
+pub struct AllLeft {
+    /// The entries that are left.
+    pub entries: Entries,
+    /// The rows of each file, with its path.
+    pub rows: PathRows,
+    /// The paths of those that are used again as they are.
+    pub reused: Names,
+    /// The paths of those that were analysed.
+    pub analysed: Names,
+}
+
+/// Puts a path behind others, if it is to be put there.
+fn put_path(paths: &mut Names, path: &Text, is_put: bool) -> Result<(), NoMemory>
+    ensures { OnOk result (paths.new ≡ put_if is_put paths.old path.now) }
+{
+    if !is_put {
+        return Ok(());
+    }
+    paths.push(path.copied()?)?;
+    Ok(())
+}
+
+impl AllLeft {
+    /// Of no files.
+    fn new(alloc: Global) -> AllLeft
+        ensures { result ≡ record { entries = []; rows = []; reused = []; analysed = [] } }
+    {
+        AllLeft {
+            entries: Entries::new(alloc),
+            rows: PathRows::new(alloc),
+            reused: Names::new(alloc),
+            analysed: Names::new(alloc),
+        }
+    }
+
+    /// Puts what is left of a file behind the others.
+    fn put(&mut self, alloc: Global, run: &Run<'_>, left: LeftFile) -> Result<(), NoMemory>
+        requires { run.now.keys.now ≡ keys_of_set run.now.rules.now }
+        ensures entries { OnOk result (self.new.entries ≡ self.old.entries ++ left.entry ∷ []) }
+        ensures rows { OnOk result (self.new.rows ≡ self.old.rows ++ path_rows run.now.rules.now left.entry ∷ []) }
+        ensures reused { OnOk result (self.new.reused ≡ put_if left.is_reused self.old.reused left.entry.path) }
+        ensures analysed { OnOk result (self.new.analysed ≡ put_if (not left.is_reused) self.old.analysed left.entry.path) }
+        ensures text { OnOk result (HasText left.entry) }
+    {
+        let LeftFile { entry, is_reused } = left;
+        let rows = rows_by(alloc, run, &entry)?;
+        self.rows.push((entry.path.copied()?, rows))?;
+        put_path(&mut self.reused, &entry.path, is_reused)?;
+        put_path(&mut self.analysed, &entry.path, !is_reused)?;
+        self.entries.push(entry)?;
+        Ok(())
+    }
+}
+
+/// What is left of files, one behind the other. The condition is that the keys are those of the rules, in their order.
+pub fn gather(alloc: Global, run: &Run<'_>, made: Vec<LeftFile>) -> Result<AllLeft, NoMemory>
+    requires { run.now.keys.now ≡ keys_of_set run.now.rules.now }
+    ensures entries { IfOk result (λ all. all.entries ≡ entries_of made.items) }
+    ensures rows { IfOk result (λ all. all.rows ≡ map (path_rows run.now.rules.now) all.entries) }
+    ensures reused { IfOk result (λ all. all.reused ≡ reused_of made.items) }
+    ensures analysed { IfOk result (λ all. all.analysed ≡ analysed_of made.items) }
+    ensures texts { IfOk result (λ all. AllByRecursion HasText all.entries) }
+{
+    let mut all = AllLeft::new(alloc);
+    for left in made {
+        all.put(alloc, run, left)?;
+    }
+    Ok(all)
+}
+
+/// Notes what was done with the files. After a refusal nothing is noted.
+pub fn note_done(work: &mut Work, reused: Names, analysed: Names) -> Result<(), NoMemory>
+    ensures reused { OnOk result (work.new.reused ≡ work.old.reused ++ reused) }
+    ensures analysed { OnOk result (work.new.analysed ≡ work.old.analysed ++ analysed) }
+    ensures skipped { work.new.skipped ≡ work.old.skipped }
+    ensures err { OnErr result (work.new ≡ work.old) }
+{
+    let mut all_reused = work.reused.copied()?;
+    all_reused.append(reused)?;
+    work.analysed.append(analysed)?;
+    work.reused = all_reused;
+    Ok(())
+}
