@@ -1,16 +1,19 @@
 -- What is left of files, put together, for private clauses.
-use Rattle.std.specs.Prelude.{List, [], ◌∷◌, filter, map, not}
+use Rattle.std.specs.Prelude.{List, [], ◌∷◌, Bool, map}
 use Rattle.pj_cache.specs.declared.cache.Entry.{Entry}
 use Rattle.pj_cached_files.specs.declared.entry.LeftFile.{LeftFile}
-use Rattle.pj_outside.specs.Files.{Bytes}
+use Rattle.pj_fitting.specs.Left.{File}
 
-abbrev pub entries_of : List LeftFile → List Entry
-entries_of made = map (λ (left : LeftFile). left.entry) made
+-- the entry that is left of a file, under the path of the file
+abbrev pub entry_of : File → LeftFile → Entry
+entry_of file left = record left.entry { path = file.0 }
 
--- the paths of those that are used again as they are
-abbrev pub reused_of : List LeftFile → List Bytes
-reused_of made = map (λ (left : LeftFile). left.entry.path) (filter (λ (left : LeftFile). left.is_reused) made)
+-- of files, one after the other
+abbrev pub entries_of : List File → List LeftFile → List Entry
+entries_of [] made = []
+entries_of (file ∷ list) [] = []
+entries_of (file ∷ list) (left ∷ made) = entry_of file left ∷ entries_of list made
 
--- the paths of those that were analysed
-abbrev pub analysed_of : List LeftFile → List Bytes
-analysed_of made = map (λ (left : LeftFile). left.entry.path) (filter (λ (left : LeftFile). not left.is_reused) made)
+-- for each of them whether it is used again as it is
+abbrev pub flags_of : List LeftFile → List Bool
+flags_of made = map (λ (left : LeftFile). left.is_reused) made

@@ -5,11 +5,12 @@ ghost use Rattle.std.specs.Option.{option_map};
 ghost use Rattle.pj_cache.specs.Places.{byte_order};
 ghost use Rattle.pj_cache_format.specs.Ordered.{IsInOrder};
 ghost use Rattle.pj_cached_files.specs.Asked.{keys_of_set};
+ghost use Rattle.pj_cached_files.specs.LeftFiles.{ArePartedBy, path_rows};
 ghost use Rattle.pj_grammar.specs.Java17.{java_17_forms};
 ghost use Rattle.pj_outside.specs.Doors.{opened};
 ghost use Rattle.pj_peg_grammar.specs.Form.{forms_of};
 ghost use Rattle.pj_table.specs.Worlds.{CountsFaults};
-ghost use Rattle.pj_shared_files.specs.InWorlds.{DoesIn, GivesAllBack, LeavesAllIn};
+ghost use Rattle.pj_shared_files.specs.InWorlds.{FoundInWorld, GivesAllBack, LeavesAllIn, ListsIn};
 
 use crate::together::files_together;
 use pj_base::{Bytes, Names, Text};
@@ -46,9 +47,15 @@ pub fn files_by_threads<R: Threads + Wait + Sync, C: ClassPath, G: Gate + Sync>(
     ensures doors { GivesAllBack (C.given classes.old) (C.given classes.new) (C.taken classes.old) (C.taken classes.new) }
     ensures faults { CountsFaults (C.faults classes.old) (C.faults classes.new) result }
     ensures left { IsTrue (is_some (C.holds classes.old)) → IfOk result (LeavesAllIn (option_map (λ held. opened held folders.now) (C.holds classes.old)) run.now.rules.now run.now.found.now files.now) }
-    ensures done { IsTrue (is_some (C.holds classes.old)) → OnOk result (DoesIn (option_map (λ held. opened held folders.now) (C.holds classes.old)) run.now.rules.now run.now.found.now files.now work.old work.new) }
+    ensures listed { IsTrue (is_some (C.holds classes.old)) → OnOk result (ListsIn (option_map (λ held. opened held folders.now) (C.holds classes.old)) run.now.rules.now run.now.found.now files.now work.old work.new) }
+    ensures finds { IsTrue (is_some (C.holds classes.old)) → OnOk result (FoundInWorld (option_map (λ held. opened held folders.now) (C.holds classes.old)) run.now.rules.now run.now.found.now files.now (C.finds classes.old) (C.finds classes.new)) }
     ensures skipped { work.new.skipped ≡ work.old.skipped }
     ensures err { OnErr result (work.new ≡ work.old) }
+    // What follows holds also where the class path tells nothing of its folders.
+    ensures parts { OnOk result (ArePartedBy (map (λ file. file.0) files.now) work.old work.new) }
+    ensures paths { IfOk result (λ left. map (λ entry. entry.path) left.cache.entries ≡ map (λ file. file.0) files.now) }
+    ensures rows { IfOk result (λ left. left.rows ≡ map (path_rows run.now.rules.now) left.cache.entries) }
+    ensures ascending { IfOk result (λ left. IsStrictlySortedBy byte_order (map (λ a. a.0) left.cache.answers)) }
 {
     let mut doors = Vec::with_capacity(alloc, threads as usize)?;
     let opened = open_doors(classes, folders, threads, &mut doors);

@@ -1,5 +1,5 @@
 //! An oracle over a table at its end.
-ghost use Rattle.std.specs.Prelude.{◌≡◌, length};
+ghost use Rattle.std.specs.Prelude.{◌≡◌, None, length};
 ghost use Rattle.std.specs.FinSet as set;
 ghost use Rattle.pj_crew.specs.Together.{AreRightParts};
 ghost use Rattle.pj_shared_files.specs.Answering.{HaveRightEntries, right_entries_prop};

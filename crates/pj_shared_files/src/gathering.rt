@@ -1,13 +1,14 @@
 //! What is left of files, put together.
-ghost use Rattle.std.specs.Prelude.{◌≡◌, ◌++◌, ◌∷◌, [], IfOk, OnErr, OnOk, map, not};
+ghost use Rattle.std.specs.Prelude.{◌≡◌, ◌++◌, ◌∷◌, [], IfOk, OnErr, OnOk, length, map, not};
 ghost use Rattle.std.specs.List.{AllByRecursion};
 ghost use Rattle.pj_cached_files.specs.Asked.{keys_of_set};
-ghost use Rattle.pj_cached_files.specs.Gathered.{HasText, path_rows, put_if};
-ghost use Rattle.pj_shared_files.specs.Gathering.{analysed_of, entries_of, reused_of};
+ghost use Rattle.pj_cached_files.specs.Gathered.{HasText, put_if};
+ghost use Rattle.pj_cached_files.specs.LeftFiles.{path_rows, picked};
+ghost use Rattle.pj_shared_files.specs.Gathering.{entries_of, entry_of, flags_of};
 
 use crate::rows::rows_by;
-use pj_base::{Copied, Names, NoMemory, Text};
-use pj_cache::Entries;
+use pj_base::{Bytes, Copied, Names, NoMemory, Text};
+use pj_cache::{Entries, Entry};
 use pj_cached_files::{LeftFile, Run};
 use pj_reports::PathRows;
 use pj_workers::Work;
@@ -24,6 +25,25 @@ pub struct AllLeft {
     pub reused: Names,
     /// The paths of those that were analysed.
     pub analysed: Names,
+}
+
+/// An entry under a path.
+fn with_path(entry: Entry, path: &Text) -> Result<Entry, NoMemory>
+    ensures { IfOk result (λ under. under ≡ record entry { path = path.now }) }
+{
+    let path = path.copied()?;
+    let Entry {
+        bytes,
+        head,
+        results,
+        ..
+    } = entry;
+    Ok(Entry {
+        path,
+        bytes,
+        head,
+        results,
+    })
 }
 
 /// Puts a path behind others, if it is to be put there.
@@ -50,16 +70,24 @@ impl AllLeft {
         }
     }
 
-    /// Puts what is left of a file behind the others.
-    fn put(&mut self, alloc: Global, run: &Run<'_>, left: LeftFile) -> Result<(), NoMemory>
+    /// Puts what is left of a file behind the others, under the path of the file: what a worker makes is told to be of its file only where
+    /// the class folders tell what they hold.
+    fn put(
+        &mut self,
+        alloc: Global,
+        run: &Run<'_>,
+        file: &(Text, Bytes),
+        left: LeftFile,
+    ) -> Result<(), NoMemory>
         requires { run.now.keys.now ≡ keys_of_set run.now.rules.now }
-        ensures entries { OnOk result (self.new.entries ≡ self.old.entries ++ left.entry ∷ []) }
-        ensures rows { OnOk result (self.new.rows ≡ self.old.rows ++ path_rows run.now.rules.now left.entry ∷ []) }
-        ensures reused { OnOk result (self.new.reused ≡ put_if left.is_reused self.old.reused left.entry.path) }
-        ensures analysed { OnOk result (self.new.analysed ≡ put_if (not left.is_reused) self.old.analysed left.entry.path) }
-        ensures text { OnOk result (HasText left.entry) }
+        ensures entries { OnOk result (self.new.entries ≡ self.old.entries ++ entry_of file.now left ∷ []) }
+        ensures rows { OnOk result (self.new.rows ≡ self.old.rows ++ path_rows run.now.rules.now (entry_of file.now left) ∷ []) }
+        ensures reused { OnOk result (self.new.reused ≡ put_if left.is_reused self.old.reused file.now.0) }
+        ensures analysed { OnOk result (self.new.analysed ≡ put_if (not left.is_reused) self.old.analysed file.now.0) }
+        ensures text { OnOk result (HasText (entry_of file.now left)) }
     {
         let LeftFile { entry, is_reused } = left;
+        let entry = with_path(entry, &file.0)?;
         let rows = rows_by(alloc, run, &entry)?;
         self.rows.push((entry.path.copied()?, rows))?;
         put_path(&mut self.reused, &entry.path, is_reused)?;
@@ -69,18 +97,27 @@ impl AllLeft {
     }
 }
 
-/// What is left of files, one behind the other. The condition is that the keys are those of the rules, in their order.
-pub fn gather(alloc: Global, run: &Run<'_>, made: Vec<LeftFile>) -> Result<AllLeft, NoMemory>
-    requires { run.now.keys.now ≡ keys_of_set run.now.rules.now }
-    ensures entries { IfOk result (λ all. all.entries ≡ entries_of made.items) }
+/// What is left of files, one behind the other. The conditions are that the keys are those of the rules, in their order, and that there is
+/// what was made of each file.
+pub fn gather(
+    alloc: Global,
+    run: &Run<'_>,
+    files: &[(Text, Bytes)],
+    made: Vec<LeftFile>,
+) -> Result<AllLeft, NoMemory>
+    requires keys { run.now.keys.now ≡ keys_of_set run.now.rules.now }
+    requires many { length made.items ≡ length files.now }
+    ensures entries { IfOk result (λ all. all.entries ≡ entries_of files.now made.items) }
     ensures rows { IfOk result (λ all. all.rows ≡ map (path_rows run.now.rules.now) all.entries) }
-    ensures reused { IfOk result (λ all. all.reused ≡ reused_of made.items) }
-    ensures analysed { IfOk result (λ all. all.analysed ≡ analysed_of made.items) }
+    ensures reused { IfOk result (λ all. all.reused ≡ picked (flags_of made.items) (map (λ file. file.0) files.now)) }
+    ensures analysed { IfOk result (λ all. all.analysed ≡ picked (map not (flags_of made.items)) (map (λ file. file.0) files.now)) }
     ensures texts { IfOk result (λ all. AllByRecursion HasText all.entries) }
 {
     let mut all = AllLeft::new(alloc);
+    let mut place: usize = 0;
     for left in made {
-        all.put(alloc, run, left)?;
+        all.put(alloc, run, &files[place], left)?;
+        place += 1;
     }
     Ok(all)
 }

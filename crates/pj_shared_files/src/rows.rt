@@ -1,7 +1,8 @@
 //! The rows of a file by its entry.
 ghost use Rattle.std.specs.Prelude.{◌≡◌, IfOk, map};
 ghost use Rattle.pj_cached_files.specs.Asked.{keys_of_set};
-ghost use Rattle.pj_cached_files.specs.Gathered.{HasText, rows_said};
+ghost use Rattle.pj_cached_files.specs.Gathered.{HasText};
+ghost use Rattle.pj_cached_files.specs.LeftFiles.{rows_said};
 
 use pj_base::{Copied, ListOf, NoMemory};
 use pj_cache::Entry;

@@ -11,14 +11,14 @@ returns-in_err-copied g c = asks-stop (search rules)
 pub returns-in_err-insert : goal.returns-in_err-insert
 returns-in_err-insert g c = rw c.in_err-insert.ensures.err (asks-stop (search rules))
 
-pub returns-in_err-clone : goal.returns-in_err-clone
-returns-in_err-clone g c = asks-name-memory (search rules) (search rules) (search rules) (search rules) (search rules)
+pub returns-in_err-clone-in-Some : goal.returns-in_err-clone-in-Some
+returns-in_err-clone-in-Some g c = asks-name-memory (search rules) (search rules) (search rules) (search rules) (search rules)
 
 pub returns-in-None : goal.returns-in-None
 returns-in-None g c = asks-name-memory (search rules) (search rules) (search rules) (search rules) (search rules)
 
-pub returns-in-Some : goal.returns-in-Some
-returns-in-Some g c =
+pub returns-in_ok-clone-in-Some : goal.returns-in_ok-clone-in-Some
+returns-in_ok-clone-in-Some g c =
     let s = c.args.self.now in let name = c.args.name.now in
     asks-name-answer {a = c.in-Some.answer.now.value} (search rules) (search rules) (search rules) (search rules) (search rules)
     (found_is g.W.Knowing.world s.closed.now.parts.items (part_of name) name c.in-Some.answer.now s.right c.in-Some.ensures.some)

@@ -7,9 +7,9 @@ use Rattle.pj_shared_files.proofs.InWorlds.{item_is, leaves_in}
 use Rattle.pj_shared_files.specs.InWorlds.{LeavesIn}
 use Rattle.pj_shared_files.proofs.files_work.FilesWorkFileWork.work.Goals as goal
 
-both : {A E : Type 0} {P Q R : A → Type 0} (r : Result A E) → ((x : A) → P x → Q x → R x) → IfOk r P → IfOk r Q → IfOk r R
-both (Ok x) f p q = f x p q
-both (Err e) f p q = tt
+all_three : {A E : Type 0} {P Q R S : A → Type 0} (r : Result A E) → ((x : A) → P x → Q x → R x → S x) → IfOk r P → IfOk r Q → IfOk r R → IfOk r S
+all_three (Ok x) f p q s = f x p q s
+all_three (Err e) f p q s = tt
 
 pub returns-clause-stays : goal.returns-clause-stays
 returns-clause-stays g c = asks_stay (λ (left : LeftFile). left.is_reused) c.file_entry.result (c.file_entry.ensures.asks c.sets_have_rules.ensures.0 c.sets_have_rules.ensures.1)
@@ -17,7 +17,7 @@ returns-clause-stays g c = asks_stay (λ (left : LeftFile). left.is_reused) c.fi
 pub returns-clause-comes : goal.returns-clause-comes
 returns-clause-comes g c = λ told.
     let t = g.O.Oracle.tells c.args.oracle.now in let asked = (g.O.Oracle.tells c.file_entry.new.oracle).asked in
-    let rules = c.args.self.now.run.now.rules.now in let found = c.args.self.now.run.now.found.now in let files = c.args.self.now.files.now in let item = c.index-of_number.result.now in
-    both c.file_entry.result (λ left leaves looks one is.
-    subst (λ (f : File). LeavesIn rules found f t.world asked left) (c.index-of_number.ensures ∙ item_is files c.args.file one item is) (leaves_in t rules found item asked left told c.requires.fresh leaves looks))
-    c.file_entry.ensures.left c.file_entry.ensures.looked
+    let rules = c.args.self.now.run.now.rules.now in let found = c.args.self.now.run.now.found.now in let files = c.args.self.now.files.now in let item = c.index-files-of_number.result in
+    all_three c.file_entry.result (λ left leaves reuses looks one is.
+    subst (λ (f : File). LeavesIn rules found f t.world asked left) (c.index-files-of_number.is ∙ item_is files c.args.file one item is) (leaves_in t rules found item asked left told c.requires.fresh leaves reuses looks))
+    c.file_entry.ensures.left c.file_entry.ensures.reused c.file_entry.ensures.looked
