@@ -139,7 +139,7 @@ module _ {M : Type 0} (world : World) (comes : ℕ → Worlds → NameSet → M 
     all_told view p x shows (v ∷ vs) [] done within = absurd done
     all_told view p x shows (v ∷ vs) (s ∷ shares) done within =
         let own = (view_of v.station.seat).own in let at = within own (0, refl) in
-        ((shows.joined at.0 own at.1).same, all_told view p x shows vs shares done.1 (λ l there. within l (suc there.0, there.1)))
+        (shows.joined at.0 own at.1, all_told view p x shows vs shares done.1 (λ l there. within l (suc there.0, there.1)))
 
     pub made_over : (parts : List Part) (view : View) → AreShown view parts → (vs : List (Worker D M)) (shares : List (Share M)) (r : ℕ × M) (done : AllZip (IsDone world comes) vs shares) → ((l : Line) → IsIn (lines_of vs) l → IsIn view.joined l)
         → Contains (all_results shares) r → IsMadeOver world (comes r.0) parts (works_of vs shares done) r.0 r.1

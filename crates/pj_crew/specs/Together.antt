@@ -7,7 +7,7 @@ use Rattle.pj_names.specs.ClassName.{Name, NameSet}
 use Rattle.pj_names.specs.Told.{Worlds}
 use Rattle.pj_seats.specs.Looks.{AreLooksOf, CountsFinds}
 use Rattle.pj_seats.specs.Working.{IsMadeOf}
-use Rattle.pj_table.specs.Book.{IsSound, Stands, look_of, looks_of}
+use Rattle.pj_table.specs.Book.{IsSound, IsTold, Stands, looks_of}
 use Rattle.pj_table.specs.Names.{part_of}
 use Rattle.pj_table.specs.Rule.{once_below, times}
 use Rattle.pj_table.specs.Worlds.{World}
@@ -49,12 +49,13 @@ abbrev pub AreNumbered : List SeatWork → Type 0
 AreNumbered [] = Unit {0}
 AreNumbered (seat ∷ seats) = (seat.number ≡ 1 + length seats) × AreNumbered seats
 
--- The history of a part has just these looks of the seat.
+-- The history of a part has just these looks of the seat, and each of them stands at the place of its name.
 abbrev pub HasLooks : ℕ → Part → SeatWork → Type 0
-HasLooks p part seat = looks_of seat.number part.looks.items ≡ map (look_of seat.number) (filter (λ (look : Asked). look.part == p) seat.looks)
+HasLooks p part seat = IsTold part.entries.items part.looks.items seat.number (filter (λ (look : Asked). look.part == p) seat.looks)
 
 -- What was done at the table: each file below the number of files was claimed once, at one seat, and no other; each seat looked just
--- for the names that were asked for its files, in their order; the history of each part has just these looks, and none of another seat.
+-- for the names that were asked for its files, in their order; the history of each part has just these looks, at the places of their
+-- names, and none of another seat.
 pub record IsWorkOf (files : ℕ) (parts : List Part) (seats : List SeatWork) : Type 0 where
   pub numbered : AreNumbered seats
   pub once : (n : ℕ) → times n (map (λ (file : ℕ × List Name). file.0) (claimed_by seats)) ≡ once_below n files

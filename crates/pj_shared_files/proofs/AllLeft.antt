@@ -99,9 +99,14 @@ weaken P Q (x ∷ xs) (y ∷ ys) f all = (f x y all.0, weaken P Q xs ys f all.1)
 
 -- ---- one more file
 
+-- no entries of nothing
+pub none_left : (list : List File) → entries_of list [] ≡ []
+none_left [] = refl
+none_left (file ∷ list) = refl
+
 pub entries_last : (list : List File) (made : List LeftFile) (left : LeftFile) (file : File) → length made < length list → get_or list (length made) file ≡ file → entries_of list (made ++ left ∷ []) ≡ entries_of list made ++ entry_of file left ∷ []
 entries_last [] made left file below is = absurd (omega (arith, below))
-entries_last (f ∷ list) [] left file below is = λ i. entry_of (is i) left ∷ entries_of list []
+entries_last (f ∷ list) [] left file below is = λ i. entry_of (is i) left ∷ none_left list i
 entries_last (f ∷ list) (m ∷ made) left file below is = ap (λ (es : List Entry). entry_of f m ∷ es) (entries_last list made left file (omega (arith, below)) is)
 
 next_put : (flag b : Bool) (y x : List ℕ) (more those : List (List ℕ)) → more ≡ put_if b those x → (if flag then y ∷ more else more) ≡ put_if b (if flag then y ∷ those else those) x

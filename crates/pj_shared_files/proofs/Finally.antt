@@ -1,7 +1,7 @@
 -- What several workers leave is what a run has to leave.
-use Rattle.std.proofs.Common.{◌≡◌, ◌∙◌, ◌++◌, ℕ, ◌+◌, ◌-◌, ◌^◌, ◌≤◌, min, Bool, List, IsTrue, arith, length, map, not, refl, sym, subst, ap}
+use Rattle.std.proofs.Common.{◌≡◌, ◌∙◌, ◌++◌, Bool, List, IsTrue, length, map, not, refl, sym, subst, ap}
 use Rattle.std.proofs.lemmas.List.{length-map}
-use Rattle.std.specs.Prelude.{Result, Ok, Err, IfOk, is_some}
+use Rattle.std.specs.Prelude.{Ok, is_some}
 use Rattle.std.specs.FinSet as set
 use Rattle.std.specs.List.{AllByRecursion, AllZip}
 use Rattle.std.specs.List.Sorted.{IsStrictlySortedBy}
@@ -21,8 +21,6 @@ use Rattle.pj_left_cache.specs.Bytes.{AreByBytesAt}
 use Rattle.pj_left_cache.specs.Leaving.{left_cache}
 use Rattle.pj_names.specs.Asking.{Asking}
 use Rattle.pj_names.specs.Told.{Asks, Told}
-use Rattle.pj_names.specs.declared.oracle.AskFault.{AskFault}
-use Rattle.pj_names.specs.declared.oracle.AskFault.TheVariants.{Failed}
 use Rattle.pj_outside.specs.Files.{Bytes}
 use Rattle.pj_reports.specs.declared.rows.FileRows.{FileRows}
 use Rattle.pj_rule_sets.specs.Rules.{EffectiveRules}
@@ -36,12 +34,8 @@ use Rattle.pj_shared_files.specs.InWorlds.{LeavesAllIn, ListsIn}
 
 -- ---- an oracle that never fails
 
-pub made_by : {A K : Type 0} (m : Asking A) (first t u : Told K) (r : Result A AskFault) → t ≡ first → Asks m t u r → IfOk r (λ a. (new : Told K) × Asks m first new (Ok a))
-made_by {K = K} m first t u (Ok a) is asks = (u, subst (λ (v : Told K). Asks m v u (Ok a)) is asks)
-made_by m first t u (Err e) is asks = tt
-
-pub never_failed : {A K : Type 0} (m : Asking A) (t u : Told K) (r : Result A AskFault) → t.faults ≡ 0 → u.faults ≡ 0 → Asks m t u r → r ≡ Err Failed → ⊥
-never_failed m t u r none still asks is = let rose = asks.failed is in omega (arith, rose, none, still)
+pub made_by : {A K : Type 0} (m : Asking A) (first t u : Told K) (value : A) → t ≡ first → Asks m t u (Ok value) → (new : Told K) × Asks m first new (Ok value)
+made_by {K = K} m first t u value is asks = (u, subst (λ (v : Told K). Asks m v u (Ok value)) is asks)
 
 -- ---- in the world of the doors
 

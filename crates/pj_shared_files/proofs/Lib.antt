@@ -2,3 +2,6 @@ pub mod InWorlds
 pub mod AllLeft
 pub mod Answering
 pub mod Finally
+-- finds
+pub mod Counting
+pub mod Finds

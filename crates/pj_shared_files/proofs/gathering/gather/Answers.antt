@@ -10,7 +10,7 @@ use Rattle.pj_cached_files.specs.LeftFiles.{path_rows, picked}
 use Rattle.pj_cached_files.specs.declared.entry.LeftFile.{LeftFile}
 use Rattle.pj_fitting.specs.Left.{File}
 use Rattle.pj_outside.specs.Files.{Bytes}
-use Rattle.pj_shared_files.proofs.AllLeft.{entries_last, picked_last}
+use Rattle.pj_shared_files.proofs.AllLeft.{entries_last, none_left, picked_last}
 use Rattle.pj_shared_files.specs.Gathering.{entries_of, entry_of, flags_of}
 use Rattle.pj_shared_files.proofs.gathering.gather.Goals as goal
 
@@ -19,7 +19,8 @@ loop-left-init c =
     let is = c.new-all.ensures in
     record {
       place = refl;
-      entries = ap (λ a. a.entries) is;
+      count = search rules;
+      entries = ap (λ a. a.entries) is ∙ sym (none_left c.args.files.now);
       rows = ap (λ a. a.rows) is ∙ ap (λ a. map (path_rows c.args.run.now.rules.now) a.entries) (sym is);
       reused = ap (λ a. a.reused) is;
       analysed = ap (λ a. a.analysed) is;
@@ -32,7 +33,9 @@ loop-left-preserved c =
     let file : File = c.index-files-place.result in
     let paths : List Bytes = map (λ (f : File). f.0) list in
     let all = c.loop-left.all in let more = c.put.new.self in
-    let inside : c.loop-left.place < length list = search rules in
+    let rest : c.loop-left.left-iterator.rest.items ≡ left ∷ c.next.new.self.rest.items = search rules in
+    let count = kept.count in let many = c.requires.many in let longer = ap (λ (l : List LeftFile). length l) rest in
+    let inside : c.loop-left.place < length list = omega (arith, count, many, longer) in
     let place = kept.place in
     let below : length so_far < length list = omega (arith, inside, place) in
     let at : get_or list (length so_far) file ≡ file = ap (λ n. get_or list n file) (sym place) ∙ sym c.index-files-place.is in
@@ -41,6 +44,7 @@ loop-left-preserved c =
     let nots = map not flags in
     let long_nots : length nots ≡ length so_far = length-map flags not ∙ long in
     record {
+      count = omega (arith, count, longer);
       place = (let n = length-append so_far (left ∷ []) in omega (arith, place, n));
       entries = put.entries ∙ ap (λ (l : List Entry). l ++ entry_of file left ∷ []) kept.entries ∙ sym (entries_last list so_far left file below at);
       rows = rows_last c.args.run.now.rules.now all.entries more.entries all.rows more.rows (entry_of file left) kept.rows put.entries put.rows;

@@ -9,6 +9,7 @@ use Rattle.pj_shared_files.proofs.gathering.gather.Given as goal
 abbrev pub invariant-loop-left : goal.invariant-loop-left
 invariant-loop-left l = record {
   place : l.place ≡ length l.yielded;
+  count : l.place + length l.left-iterator.rest.items ≡ length l.fn.made.items;
   entries : l.all.entries ≡ entries_of l.files l.yielded;
   rows : l.all.rows ≡ map (path_rows l.run.rules.now) l.all.entries;
   reused : l.all.reused ≡ picked (flags_of l.yielded) (map (λ (file : File). file.0) l.files);

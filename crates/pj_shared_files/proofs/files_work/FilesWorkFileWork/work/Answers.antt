@@ -17,7 +17,7 @@ returns-clause-stays g c = asks_stay (λ (left : LeftFile). left.is_reused) c.fi
 pub returns-clause-comes : goal.returns-clause-comes
 returns-clause-comes g c = λ told.
     let t = g.O.Oracle.tells c.args.oracle.now in let asked = (g.O.Oracle.tells c.file_entry.new.oracle).asked in
-    let rules = c.args.self.now.run.now.rules.now in let found = c.args.self.now.run.now.found.now in let files = c.args.self.now.files.now in let item = c.index-files-of_number.result in
+    let rules = c.args.self.now.run.now.rules.now in let found = c.args.self.now.run.now.found.now in let files = c.args.self.now.files.now in let item = c.index-self-file.result in
     all_three c.file_entry.result (λ left leaves reuses looks one is.
-    subst (λ (f : File). LeavesIn rules found f t.world asked left) (c.index-files-of_number.is ∙ item_is files c.args.file one item is) (leaves_in t rules found item asked left told c.requires.fresh leaves reuses looks))
+    subst (λ (f : File). LeavesIn rules found f t.world asked left) (c.index-self-file.is ∙ item_is files c.args.file one item is) (leaves_in t rules found item asked left told c.requires.fresh leaves reuses looks))
     c.file_entry.ensures.left c.file_entry.ensures.reused c.file_entry.ensures.looked
