@@ -5,3 +5,4 @@ pub mod Finally
 -- finds
 pub mod Counting
 pub mod Finds
+pub mod ByThreads

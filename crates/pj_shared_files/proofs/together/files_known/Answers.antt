@@ -1,4 +1,4 @@
-use Rattle.std.proofs.Common.{rules, ◌≡◌, ◌∙◌, ◌<◌, ◌++◌, ℕ, List, Ok, ap, length, map, not, subst, sym}
+use Rattle.std.proofs.Common.{rules, ◌≡◌, ◌∙◌, ◌<◌, ◌++◌, ℕ, List, Ok, ap, length, map, not, refl, subst, sym}
 use Rattle.std.specs.FinSet as set
 use Rattle.std.specs.List.{AllByRecursion}
 use Rattle.pj_cache.specs.declared.cache.Entry.{Entry}
@@ -22,8 +22,7 @@ returns-clause-left g c = λ told.
     let world : World = first_world g.D.ClassDoor.holds c.args.doors.now.items in
     let set_of = c.args.run.now.rules.now in let found = c.args.run.now.found.now in let list = c.args.files.now in
     let made = c.in_ok-crew.crew.made.items in let all = c.in_ok-left.left in let done = c.in_ok-left.ensures in
-    let many : c.cast-count.result ≡ length list = search rules in
-    let came = came_of_each g.D.ClassDoor.finds c.args.doors.now.items c.work_together.new.doors.items world set_of found list _ made c.in_ok-crew.crew.closed.parts.items told many c.in_ok-crew.ensures.together in
+    let came = came_of_each g.D.ClassDoor.finds c.args.doors.now.items c.work_together.new.doors.items world set_of found list (length list) made c.in_ok-crew.crew.closed.parts.items told refl c.in_ok-crew.ensures.together in
     let asks = subst (λ (w : World). (new : Told (Unit {0})) × Asks (left_cache all.entries) (tells_of tt w set.empty 0) new (Ok c.in_ok-cache.cache)) c.requires.known c.in_ok-cache.ensures.asks in
     leaves world set_of found list made told came all.entries all.rows c.in_ok-cache.cache asks.0 c.requires.paths done.entries done.rows done.texts asks.1
 
@@ -32,8 +31,7 @@ returns-clause-listed g c = λ told.
     let world : World = first_world g.D.ClassDoor.holds c.args.doors.now.items in
     let set_of = c.args.run.now.rules.now in let found = c.args.run.now.found.now in let list = c.args.files.now in
     let made = c.in_ok-crew.crew.made.items in let done = c.in_ok-left.ensures in let note = c.in_ok-note_done.ensures in
-    let many : c.cast-count.result ≡ length list = search rules in
-    let came = came_of_each g.D.ClassDoor.finds c.args.doors.now.items c.work_together.new.doors.items world set_of found list _ made c.in_ok-crew.crew.closed.parts.items told many c.in_ok-crew.ensures.together in
+    let came = came_of_each g.D.ClassDoor.finds c.args.doors.now.items c.work_together.new.doors.items world set_of found list (length list) made c.in_ok-crew.crew.closed.parts.items told refl c.in_ok-crew.ensures.together in
     let before = c.args.work.now in
     lists world set_of found list made told came before c.note_done.new.work (note.reused ∙ ap (λ (l : List Bytes). before.reused ++ l) done.reused) (note.analysed ∙ ap (λ (l : List Bytes). before.analysed ++ l) done.analysed)
 
@@ -41,9 +39,8 @@ pub returns-clause-finds : goal.returns-clause-finds
 returns-clause-finds g c = λ told.
     let world : World = first_world g.D.ClassDoor.holds c.args.doors.now.items in
     let list = c.args.files.now in
-    let many : c.cast-count.result ≡ length list = search rules in
     let any : 0 < length c.args.doors.now.items = search rules in
-    find_in_world g.D.ClassDoor.finds c.args.doors.now.items c.work_together.new.doors.items world c.args.run.now.rules.now c.args.run.now.found.now list _ c.in_ok-crew.crew.made.items c.in_ok-crew.crew.closed.parts.items told many any c.in_ok-crew.ensures.together
+    find_in_world g.D.ClassDoor.finds c.args.doors.now.items c.work_together.new.doors.items world c.args.run.now.rules.now c.args.run.now.found.now list (length list) c.in_ok-crew.crew.made.items c.in_ok-crew.crew.closed.parts.items told refl any c.in_ok-crew.ensures.together
 
 pub returns-clause-paths : goal.returns-clause-paths
 returns-clause-paths g c =
