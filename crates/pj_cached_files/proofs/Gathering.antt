@@ -1,6 +1,7 @@
 -- What is left of files in a run over an oracle, with one more file behind the others.
-use Rattle.std.proofs.Common.{◌≡◌, ◌≤◌, ◌+◌, ◌∙◌, ◌++◌, ℕ, Bool, not, List, [], ◌∷◌, Ok, ap, arith, filter, length, map, refl, subst, sym}
+use Rattle.std.proofs.Common.{◌≡◌, ◌≤◌, ◌+◌, ◌∙◌, ◌++◌, ℕ, Bool, not, List, [], ◌∷◌, Ok, ap, append-nil, arith, filter, length, map, refl, subst, sym}
 use Rattle.std.proofs.lemmas.List.{length-append, length-map, map-append}
+use Rattle.std.proofs.lemmas.List.Concat.{flat_map-append}
 use Rattle.std.specs.FinSet as names_in
 use Rattle.std.specs.List.{AllByRecursion, AllZip}
 use Rattle.std.specs.List.Sorted.{IsStrictlySortedBy}
@@ -15,8 +16,9 @@ use Rattle.pj_cached_files.proofs.OneMore.{all_last, looked_last, passing_last, 
 use Rattle.pj_cached_files.proofs.Rules.{activity_are, are_rules, keys_are}
 use Rattle.pj_cached_files.specs.Asked.{activity, asked_at_all, keys_of_set}
 use Rattle.pj_cached_files.specs.Gathered.{AreParted, Gathers, HasText, ListsGathered, NamesAreAskedAt, put_if}
-use Rattle.pj_cached_files.specs.LeftFile.{IsRun, Leaves, Looks, Reuses, StandsIn}
+use Rattle.pj_cached_files.specs.LeftFile.{Evaluates, IsRun, Leaves, Looks, Reuses, StandsIn}
 use Rattle.pj_cached_files.specs.LeftFiles.{ArePartedBy, Does, LeavesAll, Lists, LooksAtAll, path_rows, picked}
+use Rattle.pj_cached_files.specs.Ran.{ran_at, ran_at_all}
 use Rattle.pj_cached_files.specs.declared.entry.LeftFile.{LeftFile}
 use Rattle.pj_cached_files.specs.declared.files.Gathered.{Gathered}
 use Rattle.pj_findings.specs.Merged.{merge}
@@ -36,6 +38,7 @@ use Rattle.pj_reports.specs.declared.ruled.Ruled.{Ruled}
 use Rattle.pj_rule_sets.specs.Rules.{EffectiveRules}
 use Rattle.pj_workers.proofs.Running.{zip_last}
 use Rattle.pj_workers.specs.Cold.{World}
+use Rattle.pj_workers.specs.Evaluated.{with_path}
 use Rattle.pj_workers.specs.JavaReplies.{java_replies}
 use Rattle.pj_workers.specs.Rules.{AreRulesOf, Rule}
 use Rattle.pj_workers.specs.declared.work.Work.{Work}
@@ -95,20 +98,25 @@ gathers_last t u set found list file all more left stays so_far leaves entries =
     }
 
 -- no path of no files stands in a list
-pub lists_none : {K : Type 0} (t : Told K) (set : EffectiveRules) (found : Cache) (all : Gathered) → all.reused ≡ [] → all.analysed ≡ [] → ListsGathered t set found [] all
-lists_none t set found all reused analysed = λ files world rules held run. record { reused = reused; analysed = analysed }
+pub lists_none : {K : Type 0} (t : Told K) (set : EffectiveRules) (found : Cache) (all : Gathered) → all.reused ≡ [] → all.analysed ≡ [] → all.ran ≡ [] → ListsGathered t set found [] all
+lists_none t set found all reused analysed ran = λ files world rules held run. record { reused = reused; analysed = analysed; ran = ran }
 
 -- the path of one more file is put behind those of the others
 pub lists_last : {K : Type 0} (t u : Told K) (set : EffectiveRules) (found : Cache) (list : List File) (file : File) (all more : Gathered) (left : LeftFile) → StaysTold set t u → ListsGathered t set found list all → Reuses u set found file left
-    → left.entry.path ≡ file.0 → more.reused ≡ put_if left.is_reused all.reused left.entry.path → more.analysed ≡ put_if (not left.is_reused) all.analysed left.entry.path → ListsGathered t set found (list ++ file ∷ []) more
-lists_last t u set found list file all more left stays so_far reuses path reused analysed = λ files world rules held run.
+    → Evaluates u set found file left → left.entry.path ≡ file.0 → more.reused ≡ put_if left.is_reused all.reused left.entry.path → more.analysed ≡ put_if (not left.is_reused) all.analysed left.entry.path
+    → more.ran ≡ all.ran ++ with_path left.entry.path left.ran → ListsGathered t set found (list ++ file ∷ []) more
+lists_last t u set found list file all more left stays so_far reuses evaluates path reused analysed ran = λ files world rules held run.
     let same = stays rules (are_rules set rules held run.rules_are) in
-    let one = reuses files world rules held (stands_later t u set files world rules held same.0 same.1 run) in
+    let later = stands_later t u set files world rules held same.0 same.1 run in
+    let one = reuses files world rules held later in
+    let own = evaluates files world rules held later in
     let listed = so_far files world rules held run in
     let path_of : File → Bytes = λ f. f.0 in
+    let ran_of : File → List (Bytes × ℕ) = λ f. with_path f.0 (ran_at files found world held f) in
     record {
       reused = reused ∙ put_alike _ _ _ _ _ _ one listed.reused path ∙ sym (passing_last path_of (is_reusable files found world held) file list);
       analysed = analysed ∙ put_alike _ _ _ _ _ _ (ap not one) listed.analysed path ∙ sym (passing_last path_of (λ (f : File). not (is_reusable files found world held f)) file list);
+      ran = ran ∙ (λ i. listed.ran i ++ with_path (path i) (own i)) ∙ ap (λ (l : List (Bytes × ℕ)). ran_at_all files found world held list ++ l) (sym (append-nil (ran_of file))) ∙ sym (flat_map-append ran_of list (file ∷ []));
     }
 
 -- the paths of no files are parted into nothing
@@ -187,12 +195,13 @@ leaves_all t u v set found list all c stays ascending gathers rows texts asks = 
 
 -- the paths are put behind those before
 pub lists_all : {K : Type 0} (t : Told K) (set : EffectiveRules) (found : Cache) (list : List File) (all : Gathered) (before after : Work) → ListsGathered t set found list all → after.reused ≡ before.reused ++ all.reused → after.analysed ≡ before.analysed ++ all.analysed
-    → Lists t set found list before after
-lists_all t set found list all before after lists reused analysed = λ files world rules held run.
+    → after.ran ≡ before.ran ++ all.ran → Lists t set found list before after
+lists_all t set found list all before after lists reused analysed ran = λ files world rules held run.
     let listed = lists files world rules held run in
     record {
       reused = reused ∙ ap (λ (l : List Bytes). before.reused ++ l) listed.reused;
       analysed = analysed ∙ ap (λ (l : List Bytes). before.analysed ++ l) listed.analysed;
+      ran = ran ∙ ap (λ (l : List (Bytes × ℕ)). before.ran ++ l) listed.ran;
     }
 
 -- so it is in a run over a right cache

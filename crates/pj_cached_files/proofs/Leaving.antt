@@ -19,14 +19,16 @@ use Rattle.pj_cache_format.specs.Ordered.{AreRowsInOrder, IsInOrder}
 use Rattle.pj_cache_laws.specs.Written.{AreFiles, AreWrittenRules, WrittenRule}
 use Rattle.pj_cached_files.proofs.Entries.{are_left, has_tree_at, left_again, left_treeless, left_with_tree, no_tree_at, none_old, old_by_bytes, old_head}
 use Rattle.pj_cached_files.proofs.NewResults.{none_made, none_of}
+use Rattle.pj_cached_files.proofs.Needed.{needed_are, ran_needed, ran_none}
 use Rattle.pj_cached_files.proofs.New.{chosen_seen, each_new}
 use Rattle.pj_cached_files.proofs.OneAsked.{both_tests, none_asked, none_named, same_asked}
 use Rattle.pj_cached_files.proofs.Reusing.{reused_value}
 use Rattle.pj_cached_files.proofs.Rules.{active_keys_are, activity_are, are_rules, keys_are}
 use Rattle.pj_cached_files.specs.Asked.{active_keys_of, activity, keys_of_set, looked_at, missing_in, missing_numbers, reused_at, reused_by, then_missing}
-use Rattle.pj_cached_files.specs.Completed.{AreMade, AreTogether, IsCompleted, IsUsedAgain, missing_keys}
+use Rattle.pj_cached_files.specs.Completed.{AreMade, AreTogether, IsCompleted, IsUsedAgain, missing_keys, where_tree}
 use Rattle.pj_cached_files.specs.LeftFile.{IsLeftFile, StandsIn}
 use Rattle.pj_cached_files.specs.Made.{IsClassText, new_result, new_results}
+use Rattle.pj_cached_files.specs.Ran.{is_needed_at, ran_at}
 use Rattle.pj_cached_files.specs.declared.entry.LeftFile.{LeftFile}
 use Rattle.pj_findings.specs.Laws.{IsAscending}
 use Rattle.pj_findings.specs.declared.run.RuleRun.{RuleRun}
@@ -67,7 +69,7 @@ use Rattle.pj_reuse.proofs.Standing.{has_itself}
 use Rattle.pj_reuse.specs.Serving.{has_key, is_served, kept_results, keys_of, looked_in}
 use Rattle.pj_rule_sets.specs.Rules.{EffectiveRules}
 use Rattle.pj_symbols.specs.Names.{package_name}
-use Rattle.pj_workers.specs.Chosen.{chosen, chosen_meaning}
+use Rattle.pj_workers.specs.Chosen.{chosen, chosen_meaning, numbers_to}
 use Rattle.pj_workers.specs.Cold.{World}
 use Rattle.pj_workers.specs.FileMeaning.{head_of, rule_meaning}
 use Rattle.pj_workers.specs.JavaReplies.{java_replies}
@@ -228,6 +230,22 @@ module _ {K : Type 0} (t : Told K) (set : EffectiveRules) (found : Cache) (file 
         ∙ ap (λ (w : World). value_of longest w (kept_results found.answers old wanted)) (run.one_world longest far)
         ∙ results_kept longest world found.answers old wanted
         ∙ ap (λ (ks : List Key). kept found.answers world ks old) (sym keys_here)
+
+    -- ---- which rules are evaluated
+
+    -- none of a file that is used again
+    pub evaluates_none : (u : Told K) (b : Bool) (ran : List ℕ) → b ≡ true → AsksReused u (Ok b) → ran ≡ [] → ran ≡ ran_at files found world held file
+    evaluates_none u b ran is asks none = none ∙ ran_none files found world held file (sym (reused_here u b asks) ∙ is)
+
+    -- of one at which rules are looked at those that are missing, which are those that have to be
+    pub evaluates_completed : (stay : List CachedResult) (left : LeftFile) (u v : Told K) → Asks (kept_results found.answers old wanted) t u (Ok stay) → IsCompleted u set file stay left → AsksReused v (Ok left.is_reused)
+        → left.ran ≡ ran_at files found world held file
+    evaluates_completed stay left u v asks done reused =
+        let needed : missing_numbers set file.0 stay ≡ filter (is_needed_at here found world file held) (numbers_to (length held)) =
+        ap (λ (l : List (ℕ × Key)). map (λ (m : ℕ × Key). m.0) l) (sym (missing_here stay))
+        ∙ ap (λ (l : List CachedResult). map (λ (m : ℕ × Key). m.0) (missing_rules l (map here.key held) (map here.is_active held))) (stays u stay asks)
+        ∙ needed_are here found world file held in
+        done.ran ∙ (λ i. where_tree (sym (run.files_are.head file.1) i) (needed i)) ∙ ran_needed files found world held file (sym (reused_here v left.is_reused reused) ∙ done.reused)
 
     -- ---- new results
 

@@ -1,6 +1,7 @@
 pub mod ActiveKeys
 pub mod Asks
 pub mod Entries
+pub mod Needed
 pub mod Leaving
 pub mod New
 pub mod NewResults

@@ -1,11 +1,12 @@
 -- What is left of a file by what stays of its old results, as it is made. This serves private clauses.
-use Rattle.std.specs.Prelude.{◌≡◌, ◌++◌, false, true, List, [], map}
+use Rattle.std.specs.Prelude.{◌≡◌, ◌++◌, ℕ, false, true, List, [], map, if◌then◌else◌}
 use Rattle.std.specs.List.{All, AllZip, IsDistinct}
 use Rattle.std.specs.List.Sorted.{IsPermutation, IsStrictlySortedBy}
 use Rattle.pj_cache.specs.Places.{byte_order}
 use Rattle.pj_cache.specs.declared.cache.CachedResult.{CachedResult}
 use Rattle.pj_cached_files.specs.Asked.{keys_of_set, missing_numbers}
 use Rattle.pj_cached_files.specs.Made.{IsClassText, new_results}
+use Rattle.pj_cached_files.specs.Ran.{has_tree}
 use Rattle.pj_cached_files.specs.declared.entry.LeftFile.{LeftFile}
 use Rattle.pj_findings.specs.declared.run.RuleRun.{RuleRun}
 use Rattle.pj_fitting.specs.Left.{File}
@@ -34,6 +35,11 @@ pub record IsUsedAgain (file : File) (head : Head) (stay : List CachedResult) (l
   pub head_is : left.entry.head ≡ head
   pub results : AreTogether stay [] left.entry.results
   pub reused : left.is_reused ≡ true
+  pub ran : left.ran ≡ []
+
+-- numbers of rules that are looked at at a file with this head: none of them is evaluated where there is no tree
+abbrev pub where_tree : Head → List ℕ → List ℕ
+where_tree head numbers = if has_tree head then numbers else []
 
 -- the keys of the rules that are missing
 abbrev pub missing_keys : EffectiveRules → File → List CachedResult → List Key
@@ -53,6 +59,7 @@ pub record IsCompleted {K : Type 0} (told : Told K) (set : EffectiveRules) (file
   pub bytes : left.entry.bytes ≡ file.1
   pub head_is : left.entry.head ≡ head_of (outcome_of file.1)
   pub reused : left.is_reused ≡ false
+  pub ran : left.ran ≡ where_tree (head_of (outcome_of file.1)) (missing_numbers set file.0 stay)
   pub made : List CachedResult
   pub are_made : AreMade told set file stay made
   pub results : AreTogether stay made left.entry.results

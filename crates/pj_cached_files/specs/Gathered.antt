@@ -9,6 +9,7 @@ use Rattle.pj_cache_laws.specs.Written.{WrittenRule}
 use Rattle.pj_cached_files.specs.Asked.{asked_at_all}
 use Rattle.pj_cached_files.specs.LeftFile.{AreAmong, IsRun, StandsIn}
 use Rattle.pj_cached_files.specs.LeftFiles.{paths_of, picked}
+use Rattle.pj_cached_files.specs.Ran.{ran_at_all}
 use Rattle.pj_cached_files.specs.declared.files.Gathered.{Gathered}
 use Rattle.pj_fitting.specs.Left.{File, IsLeftEntry}
 use Rattle.pj_fitting.specs.Looked.{is_reusable}
@@ -44,10 +45,11 @@ abbrev pub Gathers : {K : Type 0} → Told K → EffectiveRules → Cache → Li
 Gathers told set found list all =
     (files : Files WrittenRule) (world : World) (rules : List Rule) (held : List WrittenRule) → IsRun told set found files world rules held → AreGathered files world found held list all
 
--- The paths of files stand with those of files that are used again, or are analysed.
+-- The paths of files stand with those of files that are used again, or are analysed, and with the rules that were evaluated.
 pub record AreListed (files : Files WrittenRule) (world : World) (found : Cache) (held : List WrittenRule) (list : List File) (all : Gathered) : Type 0 where
   pub reused : all.reused ≡ paths_of (filter (is_reusable files found world held) list)
   pub analysed : all.analysed ≡ paths_of (filter (λ file. not (is_reusable files found world held file)) list)
+  pub ran : all.ran ≡ ran_at_all files found world held list
 
 -- in every run over the oracle, whether the cache is right or not
 abbrev pub ListsGathered : {K : Type 0} → Told K → EffectiveRules → Cache → List File → Gathered → Type 0

@@ -6,6 +6,7 @@ use Rattle.pj_cache.specs.declared.cache.Cache.{Cache}
 use Rattle.pj_cache.specs.declared.cache.CachedResult.{CachedResult}
 use Rattle.pj_cache_laws.specs.Written.{AreFiles, AreWrittenRules, WrittenRule}
 use Rattle.pj_cached_files.specs.Asked.{reused_at}
+use Rattle.pj_cached_files.specs.Ran.{ran_at}
 use Rattle.pj_cached_files.specs.declared.entry.LeftFile.{LeftFile}
 use Rattle.pj_fitting.specs.Left.{File, IsLeftEntry}
 use Rattle.pj_fitting.specs.Looked.{LookedFile, is_reusable}
@@ -50,6 +51,11 @@ Leaves told set found file left =
 abbrev pub Reuses : {K : Type 0} → Told K → EffectiveRules → Cache → File → LeftFile → Type 0
 Reuses told set found file left =
     (files : Files WrittenRule) (world : World) (rules : List Rule) (held : List WrittenRule) → StandsIn told set files world rules held → left.is_reused ≡ is_reusable files found world held file
+
+-- Just the rules are evaluated that have to be, whether the cache is right or not.
+abbrev pub Evaluates : {K : Type 0} → Told K → EffectiveRules → Cache → File → LeftFile → Type 0
+Evaluates told set found file left =
+    (files : Files WrittenRule) (world : World) (rules : List Rule) (held : List WrittenRule) → StandsIn told set files world rules held → left.ran ≡ ran_at files found world held file
 
 -- To the names asked come just those for which a run asks at the file, whether the cache is right or not.
 abbrev pub Looks : {K : Type 0} → Told K → NameSet → EffectiveRules → Cache → File → Type 0

@@ -8,6 +8,7 @@ use Rattle.pj_cache_laws.specs.Reported.{all_rows}
 use Rattle.pj_cache_laws.specs.Written.{WrittenRule}
 use Rattle.pj_cached_files.specs.Asked.{activity, keys_of_set}
 use Rattle.pj_cached_files.specs.LeftFile.{IsRun, StandsIn}
+use Rattle.pj_cached_files.specs.Ran.{ran_at_all}
 use Rattle.pj_cached_files.specs.declared.files.LeftFiles.{LeftFiles}
 use Rattle.pj_findings.specs.Merged.{merge}
 use Rattle.pj_fitting.specs.Left.{File, IsLeftCache}
@@ -41,10 +42,11 @@ path_rows set entry = (entry.path, rows_said set entry)
 abbrev pub paths_of : List File → List Bytes
 paths_of list = map (λ (file : File). file.0) list
 
--- What was done: the files that can be used again as they are were, and the others were analysed, in their order.
+-- What was done: the files that can be used again as they are were, and the others were analysed, in their order; and just the rules were evaluated that have to be.
 pub record IsDone (files : Files WrittenRule) (world : World) (found : Cache) (held : List WrittenRule) (list : List File) (before after : Work) : Type 0 where
   pub reused : after.reused ≡ before.reused ++ paths_of (filter (is_reusable files found world held) list)
   pub analysed : after.analysed ≡ before.analysed ++ paths_of (filter (λ file. not (is_reusable files found world held file)) list)
+  pub ran : after.ran ≡ before.ran ++ ran_at_all files found world held list
 
 -- the members of a list at whose places `true` stands
 abbrev pub picked : {A : Type 0} → List Bool → List A → List A

@@ -1,7 +1,7 @@
 //! What a run leaves of a file.
 ghost use Rattle.std.specs.Prelude.{◌≡◌, IfOk};
 
-use pj_base::{Bytes, Copied, NoMemory, Text};
+use pj_base::{Bytes, Copied, NoMemory, Numbers, Text};
 use pj_cache::{Entry, Results};
 use pj_reports::Head;
 use std::alloc::Global;
@@ -13,6 +13,8 @@ pub struct LeftFile {
     pub entry: Entry,
     /// Whether the file is used again as it is: nothing of it was analysed.
     pub is_reused: bool,
+    /// The numbers, from 0, of the rules that were evaluated on the file, ascending; none where it is used again as it is, or has no tree.
+    pub ran: Numbers,
 }
 
 /// An equal head.

@@ -10,8 +10,8 @@ ghost use Rattle.pj_peg_grammar.specs.Form.{forms_of};
 ghost use Rattle.pj_reuse.specs.Serving.{kept_results};
 ghost use Rattle.pj_workers.specs.Rules.{AreRulesOf, Rule as MeantRule};
 ghost use Rattle.pj_cached_files.specs.Asked.{active_keys_of, keys_of_set, looked_at, missing_numbers, reused_at};
-ghost use Rattle.pj_cached_files.specs.Completed.{IsCompleted, IsUsedAgain};
-ghost use Rattle.pj_cached_files.specs.LeftFile.{Leaves, Looks, NamesAreAsked, Reuses};
+ghost use Rattle.pj_cached_files.specs.Completed.{IsCompleted, IsUsedAgain, where_tree};
+ghost use Rattle.pj_cached_files.specs.LeftFile.{Evaluates, Leaves, Looks, NamesAreAsked, Reuses};
 
 use crate::activity::active_keys;
 use crate::entry::{LeftFile, copied_head, entry_with};
@@ -59,6 +59,16 @@ fn part_of<O: Oracle>(
     Ok(Part { stay, missing })
 }
 
+/// Of the rules of these numbers that were looked at at a file with this head those that were evaluated: none where it has no tree.
+fn evaluated(alloc: Global, head: &Head, numbers: Numbers) -> Numbers
+    ensures { result ≡ where_tree head.now numbers }
+{
+    match head {
+        Head::Package(_) => numbers,
+        Head::Message(_) => Numbers::new(alloc),
+    }
+}
+
 /// What is left of a file of which rules are missing: they are looked at.
 fn completed<O: Oracle>(
     alloc: Global,
@@ -80,10 +90,12 @@ fn completed<O: Oracle>(
     let FileRuns { head, runs } = found;
     let made = new_results(alloc, run.keys.as_slice(), missing.as_slice(), runs)?;
     let results = in_order(stay, made)?;
+    let ran = evaluated(alloc, &head, missing);
     let entry = entry_with(path, bytes, head, results)?;
     Ok(LeftFile {
         entry,
         is_reused: false,
+        ran,
     })
 }
 
@@ -102,6 +114,7 @@ fn used_again(
     Ok(LeftFile {
         entry,
         is_reused: true,
+        ran: Numbers::new(alloc),
     })
 }
 
@@ -122,6 +135,7 @@ fn entry_again<O: Oracle>(
         → Asks (reused_at run.now.found.now run.now.rules.now meant (path.now, bytes.now)) (O.tells oracle.old) (O.tells oracle.new) (seen (λ left. left.is_reused) result) }
     ensures left { IfOk result (Leaves (O.tells oracle.old) run.now.rules.now run.now.found.now (path.now, bytes.now)) }
     ensures reused { IfOk result (Reuses (O.tells oracle.old) run.now.rules.now run.now.found.now (path.now, bytes.now)) }
+    ensures ran { IfOk result (Evaluates (O.tells oracle.old) run.now.rules.now run.now.found.now (path.now, bytes.now)) }
     ensures looked { IfOk result (λ _. Looks (O.tells oracle.old) (O.tells oracle.new).asked run.now.rules.now run.now.found.now (path.now, bytes.now)) }
     ensures named { IfOk result (λ left. NamesAreAsked (O.tells oracle.old) run.now.rules.now run.now.found.now (path.now, bytes.now) left.entry.results) }
     ensures path { IfOk result (λ left. left.entry.path ≡ path.now) }
@@ -156,6 +170,7 @@ fn entry_anew<O: Oracle>(
         → Asks (reused_at run.now.found.now run.now.rules.now meant (path.now, bytes.now)) (O.tells oracle.old) (O.tells oracle.new) (seen (λ left. left.is_reused) result) }
     ensures left { IfOk result (Leaves (O.tells oracle.old) run.now.rules.now run.now.found.now (path.now, bytes.now)) }
     ensures reused { IfOk result (Reuses (O.tells oracle.old) run.now.rules.now run.now.found.now (path.now, bytes.now)) }
+    ensures ran { IfOk result (Evaluates (O.tells oracle.old) run.now.rules.now run.now.found.now (path.now, bytes.now)) }
     ensures looked { IfOk result (λ _. Looks (O.tells oracle.old) (O.tells oracle.new).asked run.now.rules.now run.now.found.now (path.now, bytes.now)) }
     ensures named { IfOk result (λ left. NamesAreAsked (O.tells oracle.old) run.now.rules.now run.now.found.now (path.now, bytes.now) left.entry.results) }
     ensures path { IfOk result (λ left. left.entry.path ≡ path.now) }
@@ -191,6 +206,8 @@ pub fn file_entry<O: Oracle>(
     ensures left { IfOk result (Leaves (O.tells oracle.old) run.now.rules.now run.now.found.now (path.now, bytes.now)) }
     // Over any cache, right or not, it is used again where it can be.
     ensures reused { IfOk result (Reuses (O.tells oracle.old) run.now.rules.now run.now.found.now (path.now, bytes.now)) }
+    // Just those rules are evaluated that are active and not served, of each key the first one.
+    ensures ran { IfOk result (Evaluates (O.tells oracle.old) run.now.rules.now run.now.found.now (path.now, bytes.now)) }
     // The names asked are those by which it is told which results stand, and those for which the other rules ask.
     ensures looked { IfOk result (λ _. Looks (O.tells oracle.old) (O.tells oracle.new).asked run.now.rules.now run.now.found.now (path.now, bytes.now)) }
     // The classes that the entry names are among them.

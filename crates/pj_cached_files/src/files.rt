@@ -10,10 +10,11 @@ ghost use Rattle.pj_left_cache.specs.Leaving.{left_cache};
 ghost use Rattle.pj_names.specs.Asking.{bind, each};
 ghost use Rattle.pj_names.specs.Told.{Asks, seen};
 ghost use Rattle.pj_peg_grammar.specs.Form.{forms_of};
+ghost use Rattle.pj_workers.specs.Evaluated.{with_path};
 ghost use Rattle.pj_workers.specs.Rules.{AreRulesOf, Rule as MeantRule};
 ghost use Rattle.pj_cached_files.specs.Asked.{asked_at_all, keys_of_set, reused_at};
 ghost use Rattle.pj_cached_files.specs.Gathered.{AreParted, Gathers, HasText, ListsGathered, NamesAreAskedAt, apart, put_if};
-ghost use Rattle.pj_cached_files.specs.LeftFile.{Leaves, Looks, NamesAreAsked, Reuses};
+ghost use Rattle.pj_cached_files.specs.LeftFile.{Evaluates, Leaves, Looks, NamesAreAsked, Reuses};
 ghost use Rattle.pj_cached_files.specs.LeftFiles.{ArePartedBy, Does, LeavesAll, Lists, LooksAtAll, path_rows};
 
 use crate::entry::LeftFile;
@@ -25,7 +26,7 @@ use pj_cache::{Cache, Entries};
 use pj_left_cache::left_cache;
 use pj_names::{AskFault, Oracle};
 use pj_reports::PathRows;
-use pj_workers::Work;
+use pj_workers::{Ran, Work, put_ran};
 use std::alloc::Global;
 
 /// What a run leaves of files.
@@ -48,6 +49,8 @@ struct Gathered {
     reused: Names,
     /// The paths of those that were analysed.
     analysed: Names,
+    /// The rules that were evaluated, each with the path of its file.
+    ran: Ran,
 }
 
 /// Puts a path behind others, if it is to be put there.
@@ -64,13 +67,14 @@ fn put_path(paths: &mut Names, path: &Text, is_put: bool) -> Result<(), NoMemory
 impl Gathered {
     /// Of no files.
     fn new(alloc: Global) -> Gathered
-        ensures { result ≡ record { entries = []; rows = []; reused = []; analysed = [] } }
+        ensures { result ≡ record { entries = []; rows = []; reused = []; analysed = []; ran = [] } }
     {
         Gathered {
             entries: Entries::new(alloc),
             rows: PathRows::new(alloc),
             reused: Names::new(alloc),
             analysed: Names::new(alloc),
+            ran: Ran::new(alloc),
         }
     }
 
@@ -81,13 +85,19 @@ impl Gathered {
         ensures rows { OnOk result (self.new.rows ≡ self.old.rows ++ path_rows run.now.rules.now left.entry ∷ []) }
         ensures reused { OnOk result (self.new.reused ≡ put_if left.is_reused self.old.reused left.entry.path) }
         ensures analysed { OnOk result (self.new.analysed ≡ put_if (not left.is_reused) self.old.analysed left.entry.path) }
+        ensures ran { OnOk result (self.new.ran ≡ self.old.ran ++ with_path left.entry.path left.ran) }
         ensures text { OnOk result (HasText left.entry) }
     {
-        let LeftFile { entry, is_reused } = left;
+        let LeftFile {
+            entry,
+            is_reused,
+            ran,
+        } = left;
         let rows = rows_by(alloc, run, &entry)?;
         self.rows.push((entry.path.copied()?, rows))?;
         put_path(&mut self.reused, &entry.path, is_reused)?;
         put_path(&mut self.analysed, &entry.path, !is_reused)?;
+        put_ran(&mut self.ran, &entry.path, ran.as_slice())?;
         self.entries.push(entry)?;
         Ok(())
     }
@@ -107,6 +117,7 @@ fn next_entry<O: Oracle>(
         → Asks (reused_at run.now.found.now run.now.rules.now meant file.now) (O.tells oracle.old) (O.tells oracle.new) (seen (λ left. left.is_reused) result) }
     ensures left { IfOk result (Leaves (O.tells oracle.old) run.now.rules.now run.now.found.now file.now) }
     ensures reused { IfOk result (Reuses (O.tells oracle.old) run.now.rules.now run.now.found.now file.now) }
+    ensures ran { IfOk result (Evaluates (O.tells oracle.old) run.now.rules.now run.now.found.now file.now) }
     ensures looked { IfOk result (λ _. Looks (O.tells oracle.old) (O.tells oracle.new).asked run.now.rules.now run.now.found.now file.now) }
     ensures named { IfOk result (λ left. NamesAreAsked (O.tells oracle.old) run.now.rules.now run.now.found.now file.now left.entry.results) }
     ensures path { IfOk result (λ left. left.entry.path ≡ file.now.0) }
@@ -144,21 +155,25 @@ fn gather_files<O: Oracle>(
 }
 
 /// Notes what was done with the files. After a refusal nothing is noted.
-fn note_done(work: &mut Work, reused: Names, analysed: Names) -> Result<(), NoMemory>
+fn note_done(work: &mut Work, reused: Names, analysed: Names, ran: Ran) -> Result<(), NoMemory>
     ensures reused { OnOk result (work.new.reused ≡ work.old.reused ++ reused) }
     ensures analysed { OnOk result (work.new.analysed ≡ work.old.analysed ++ analysed) }
+    ensures ran { OnOk result (work.new.ran ≡ work.old.ran ++ ran) }
     ensures skipped { work.new.skipped ≡ work.old.skipped }
     ensures err { OnErr result (work.new ≡ work.old) }
 {
     let mut all_reused = work.reused.copied()?;
     all_reused.append(reused)?;
+    let mut all_ran = work.ran.copied()?;
+    all_ran.append(ran)?;
     work.analysed.append(analysed)?;
     work.reused = all_reused;
+    work.ran = all_ran;
     Ok(())
 }
 
 /// What a run leaves of files, one after the other, in their order: the cache, and the rows of each. One tree is held at a time. The paths of the files that are used
-/// again as they are, and of those that are analysed, are put behind those of `work`; after a refusal `work` is as it was.
+/// again as they are, those of the files that are analysed, and the rules that are evaluated are put behind those of `work`; after a refusal `work` is as it was.
 ///
 /// The conditions are those of `file_entry`, and that the files stand in the order of their paths' bytes, each path once.
 pub fn files_over_cache<O: Oracle>(
@@ -180,7 +195,7 @@ pub fn files_over_cache<O: Oracle>(
         → Asks (asked_at_all run.now.found.now run.now.rules.now meant files.now) (O.tells oracle.old) (O.tells oracle.new) (seen (λ left. tt) result) }
     // Over a right cache, in a world that has classes by their names, the one that is left is the one that the run has to leave, and the rows are what it says.
     ensures left { IfOk result (LeavesAll (O.tells oracle.old) run.now.rules.now run.now.found.now files.now) }
-    // Over any cache, right or not, these are the names asked, and the files that can be used again are.
+    // Over any cache, right or not, these are the names asked, the files that can be used again are, and no rule is evaluated but one that has to be.
     ensures looked { IfOk result (λ _. LooksAtAll (O.tells oracle.old) (O.tells oracle.new).asked run.now.rules.now run.now.found.now files.now) }
     ensures listed { OnOk result (Lists (O.tells oracle.old) run.now.rules.now run.now.found.now files.now work.old work.new) }
     ensures done { OnOk result (Does (O.tells oracle.old) run.now.rules.now run.now.found.now files.now work.old work.new) }
@@ -198,8 +213,9 @@ pub fn files_over_cache<O: Oracle>(
         rows,
         reused,
         analysed,
+        ran,
     } = all;
     let cache = left_cache(alloc, oracle, entries)?;
-    note_done(work, reused, analysed)?;
+    note_done(work, reused, analysed, ran)?;
     Ok(LeftFiles { cache, rows })
 }

@@ -8,6 +8,7 @@ use Rattle.pj_outside.specs.Files.{Bytes, Files}
 use Rattle.pj_settings.specs.Job.{job}
 use Rattle.pj_settings.specs.declared.settings.Settings.{Settings}
 use Rattle.pj_sources.specs.Reading.{AreWithin}
+use Rattle.pj_workers.specs.Evaluated.{evaluated_on}
 use Rattle.pj_workers.specs.declared.work.Work.{Work}
 use Rattle.pj_cold.specs.Cold.{world_of}
 use Rattle.pj_check.specs.Caching.{DoneOver, FindsFitting, FitsUnder, IsKept, IsLeftText, TakesFit, TakesFitting, WorkSeen}
@@ -28,7 +29,7 @@ use Rattle.pj_cold.proofs.Told.{all_told, told_both, told_so}
 -- ---- the work
 
 worked_none : (ready : Ready) (name : Option Bytes) (before after : Work) → WorkedBy name ready before after → name ≡ None
-    → after ≡ record { analysed = before.analysed ++ map (λ (file : Bytes × Bytes). file.0) ready.sources; reused = before.reused; skipped = ready.listing.skipped }
+    → after ≡ record { analysed = before.analysed ++ map (λ (file : Bytes × Bytes). file.0) ready.sources; reused = before.reused; ran = before.ran ++ evaluated_on ready.rules ready.sources; skipped = ready.listing.skipped }
 worked_none ready None before after worked is = worked
 worked_none ready (Some name) before after worked is = absurd (cc)
 
@@ -37,10 +38,10 @@ skipped_by ready None before after worked = ap (λ (w : Work). w.skipped) worked
 skipped_by ready (Some name) before after worked = worked.1
 
 with_paths : (ready : Ready) (before after : Work) → AreWithin ready.listing.paths ready.sources → WorkedBy ready.settings.cache ready before after → ready.settings.cache ≡ None
-    → after ≡ record { analysed = before.analysed ++ ready.listing.paths; reused = before.reused; skipped = ready.listing.skipped }
+    → after ≡ record { analysed = before.analysed ++ ready.listing.paths; reused = before.reused; ran = before.ran ++ evaluated_on ready.rules ready.sources; skipped = ready.listing.skipped }
 with_paths ready before after within worked is =
     worked_none ready ready.settings.cache before after worked is
-    ∙ ap (λ (paths : List Bytes). let w : Work = record { analysed = before.analysed ++ paths; reused = before.reused; skipped = ready.listing.skipped } in w) within.paths_are
+    ∙ ap (λ (paths : List Bytes). let w : Work = record { analysed = before.analysed ++ paths; reused = before.reused; ran = before.ran ++ evaluated_on ready.rules ready.sources; skipped = ready.listing.skipped } in w) within.paths_are
 
 parts_of : (ready : Ready) (name : Option Bytes) (before after : Work) → AreWithin ready.listing.paths ready.sources → WorkedBy name ready before after → IfSome name (λ n. ArePartedBy ready.listing.paths before after)
 parts_of ready None before after within worked = tt

@@ -6,12 +6,14 @@ use Rattle.pj_cache_store.specs.declared.loading.Loaded.{Loaded}
 use Rattle.pj_cache_store.specs.declared.loading.Unused.{Unused}
 use Rattle.pj_cache_store.specs.declared.loading.Unused.TheVariants as unused
 use Rattle.pj_cached_files.specs.LeftFiles.{ArePartedBy, paths_of, picked}
+use Rattle.pj_cached_files.specs.Ran.{ran_at_all}
 use Rattle.pj_fitting.specs.Fits.{IsFound, limit}
 use Rattle.pj_fitting.specs.Looked.{is_reusable}
 use Rattle.pj_outside.specs.Doors.{ClassFolders}
 use Rattle.pj_outside.specs.Files.{Bytes, Files, bytes_at, reading_of}
 use Rattle.pj_rule_sets.specs.Rules.{EffectiveRules}
 use Rattle.pj_workers.specs.Cold.{World}
+use Rattle.pj_workers.specs.Evaluated.{evaluated_on}
 use Rattle.pj_workers.specs.declared.work.Work.{Work}
 use Rattle.pj_cold.specs.Cold.{IsColdOf, world_of}
 use Rattle.pj_check.specs.Caching.{DoneOver, IsDoneOver, IsLeftOver, IsLeftText, TakesCache, TakesFit}
@@ -51,26 +53,27 @@ over_is_cold (Some found) world sources set analysed over = over.0
 -- ---- the cache
 
 -- what is noted of the work begins with what was there
-done_of_work : (found : Cache) (world : World) (sources : Files) (set : EffectiveRules) (work done after : Work) (old new : ℕ) → done.analysed ≡ work.analysed → done.reused ≡ work.reused
+done_of_work : (found : Cache) (world : World) (sources : Files) (set : EffectiveRules) (work done after : Work) (old new : ℕ) → done.analysed ≡ work.analysed → done.reused ≡ work.reused → done.ran ≡ work.ran
     → IsDoneOver found world sources set (record { work = done; finds = old }) (record { work = after; finds = new }) → IsDoneOver found world sources set (record { work = work; finds = old }) (record { work = after; finds = new })
-done_of_work found world sources set work done after old new analysed reused is = record {
+done_of_work found world sources set work done after old new analysed reused ran is = record {
   meant = is.meant;
   held = is.held;
   written = is.written;
   is_done = λ files are. let done_so = is.is_done files are in record {
     reused = done_so.reused ∙ ap (λ (names : List Bytes). names ++ paths_of (filter (is_reusable files found world is.held) sources)) reused;
     analysed = done_so.analysed ∙ ap (λ (names : List Bytes). names ++ paths_of (filter (λ file. not (is_reusable files found world is.held file)) sources)) analysed;
+    ran = done_so.ran ∙ ap (λ (rules : List (Bytes × ℕ)). rules ++ ran_at_all files found world is.held sources) ran;
   };
   looked = is.looked;
 }
 
 pub text_by : FoundLaw → (ready : Ready) (name : Option Bytes) (classes : Option ClassFolders) (kept : Option Files) (found : Option Cache) (why : Option Unused) (analysed : Analysed) (text : Option CacheText) (work done after : Work) (old new : ℕ)
-    → done.analysed ≡ work.analysed → done.reused ≡ work.reused
+    → done.analysed ≡ work.analysed → done.reused ≡ work.reused → done.ran ≡ work.ran
     → IsTakenBy name kept found why → IsLeftIfFound found analysed.left → IsTextOf name analysed.left text
     → IfSome classes (λ folders. FitsIfFound found → IsOver found (world_of folders ready.settings.classes) ready.sources ready.rules analysed)
     → IfSome classes (λ folders. DoneOver found (world_of folders ready.settings.classes) ready.sources ready.rules (record { work = done; finds = old }) (record { work = after; finds = new }))
     → IsTextBy name ready classes kept (record { work = work; finds = old }) (record { work = after; finds = new }) why text
-text_by law ready name classes kept found why analysed text work done after old new same_analysed same_reused taken left text_is over done_so =
+text_by law ready name classes kept found why analysed text work done after old new same_analysed same_reused same_ran taken left text_is over done_so =
     go name found analysed.left text taken left text_is
     (told_so classes (λ folders. FitsIfFound found → IsOver found (world_of folders ready.settings.classes) ready.sources ready.rules analysed) (λ folders. FitsIfFound found → LeftIs found folders analysed.left) (λ folders is fits. of_over found folders (is fits)) over)
     done_so
@@ -104,7 +107,7 @@ text_by law ready name classes kept found why analysed text work done after old 
       }) over;
       done = told_so classes (λ folders. DoneOver (Some found) (world_of folders ready.settings.classes) ready.sources ready.rules (record { work = done; finds = old }) (record { work = after; finds = new }))
           (λ folders. IsDoneOver found (world_of folders ready.settings.classes) ready.sources ready.rules (record { work = work; finds = old }) (record { work = after; finds = new }))
-          (λ folders is. done_of_work found (world_of folders ready.settings.classes) ready.sources ready.rules work done after old new same_analysed same_reused is) done_so;
+          (λ folders is. done_of_work found (world_of folders ready.settings.classes) ready.sources ready.rules work done after old new same_analysed same_reused same_ran is) done_so;
     }
 
 -- ---- the work
@@ -117,11 +120,12 @@ parts_of_work work done after analysed reused paths parts = record {
   analysed = parts.analysed ∙ ap (λ (names : List Bytes). names ++ picked (map not parts.flags) paths) analysed;
 }
 
-pub worked_by : (ready : Ready) (name : Option Bytes) (kept : Option Files) (found : Option Cache) (why : Option Unused) (work done after : Work) → done ≡ record { analysed = work.analysed; reused = work.reused; skipped = ready.listing.skipped }
-    → IsTakenBy name kept found why → WorkedOver found ready.sources done after → after.skipped ≡ done.skipped → WorkedBy name ready work after
+pub worked_by : (ready : Ready) (name : Option Bytes) (kept : Option Files) (found : Option Cache) (why : Option Unused) (work done after : Work) → done ≡ record { analysed = work.analysed; reused = work.reused; ran = work.ran; skipped = ready.listing.skipped }
+    → IsTakenBy name kept found why → WorkedOver found ready.rules ready.sources done after → after.skipped ≡ done.skipped → WorkedBy name ready work after
 worked_by ready None kept None why work done after begun taken worked skipped = λ i. record {
   analysed = (worked.0 ∙ ap (λ (w : Work). w.analysed ++ map (λ (file : Bytes × Bytes). file.0) ready.sources) begun) i;
   reused = (worked.1 ∙ ap (λ (w : Work). w.reused) begun) i;
+  ran = (worked.2 ∙ ap (λ (w : Work). w.ran ++ evaluated_on ready.rules ready.sources) begun) i;
   skipped = (skipped ∙ ap (λ (w : Work). w.skipped) begun) i;
 }
 worked_by ready None kept (Some found) why work done after begun taken worked skipped = absurd taken

@@ -97,8 +97,8 @@ pub record CountsLooked (files : right.Files WrittenRule) (world : World) (found
   pub looked : Looked files found world held sources names
   pub counts : CountsNames old new names
 
--- The files that can be used again as they are, over a world of classes and the cache that was found, were used again, and the others analysed; and just the classes that are asked for
--- then were looked for. The cache may be any, right or not.
+-- The files that can be used again as they are, over a world of classes and the cache that was found, were used again, and the others analysed; just the rules were evaluated that have to be
+-- (`ran_at` of `pj_cached_files`); and just the classes that are asked for then were looked for. The cache may be any, right or not.
 pub record IsDoneOver (found : Cache) (world : World) (sources : Files) (set : EffectiveRules) (before after : WorkSeen) : Type 0 where
   pub meant : List Rule
   pub held : List WrittenRule

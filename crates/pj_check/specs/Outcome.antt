@@ -12,6 +12,7 @@ use Rattle.pj_rule_sets.specs.Rules.{EffectiveRules}
 use Rattle.pj_sources.specs.Listing.{IsSourceOf}
 use Rattle.pj_sources.specs.Reading.{AreRead}
 use Rattle.pj_sources.specs.declared.listing.Listing.{Listing}
+use Rattle.pj_workers.specs.Evaluated.{evaluated_on}
 use Rattle.pj_workers.specs.declared.work.Work.{Work}
 use Rattle.pj_check.specs.Caching.{FindsFitting}
 use Rattle.pj_check.specs.Formats.{report_text}
@@ -23,11 +24,11 @@ use Rattle.pj_check.specs.Run.{HasRules, IsRun, Run, text_of}
 use Rattle.pj_check.specs.declared.outcome.Outcome.{Outcome}
 use Rattle.pj_check.specs.declared.outcome.Outcome.TheVariants.{Clean, Violations, Errors, Usage, Rules, TreeFault, ClassFault, SinkFault, Missing, Limit, Memory}
 
--- The sources of the run were analysed, and nothing was used again.
+-- The sources of the run were analysed, each rule that is active on a source with a tree was evaluated there, and nothing was used again.
 abbrev pub Worked : Run → Work → Work → Type 0
-Worked run old new = new ≡ record { analysed = old.analysed ++ run.listing.paths; reused = old.reused; skipped = run.listing.skipped }
+Worked run old new = new ≡ record { analysed = old.analysed ++ run.listing.paths; reused = old.reused; ran = old.ran ++ evaluated_on run.rules run.sources; skipped = run.listing.skipped }
 
--- So it is where no cache is asked for. Where one is, the report is the same, and `SaysOfCache` of Kept.antt says which sources were analysed.
+-- So it is where no cache is asked for. Where one is, the report is the same, and `SaysOfCache` of Kept.antt says which sources were analysed, and which rules were evaluated on them.
 
 -- The run came to this verdict, and the sink got the whole text of its report.
 pub record IsReported (verdict : Verdict) (words : List Bytes) (held : Files) (classes : ClassFolders) (old new : Option Bytes) (before after : Work) : Type 0 where
@@ -81,7 +82,7 @@ pub record IsAnalysed (words : List Bytes) (held : Files) (before after : Work) 
   pub sources : Files
   pub has_rules : HasRules words held settings listing rules
   pub read : AreRead held listing.paths sources
-  pub worked : settings.cache ≡ None → after ≡ record { analysed = before.analysed ++ listing.paths; reused = before.reused; skipped = listing.skipped }
+  pub worked : settings.cache ≡ None → after ≡ record { analysed = before.analysed ++ listing.paths; reused = before.reused; ran = before.ran ++ evaluated_on rules sources; skipped = listing.skipped }
   pub parts : IfSome settings.cache (λ name. ArePartedBy listing.paths before after)
   pub skipped : after.skipped ≡ listing.skipped
 

@@ -34,6 +34,7 @@ use Rattle.pj_sources.specs.declared.refused.ListRefused.TheVariants as unlisted
 use Rattle.pj_sources.specs.declared.refused.ReadRefused.{ReadRefused}
 use Rattle.pj_sources.specs.declared.refused.ReadRefused.TheVariants as unread
 use Rattle.pj_workers.specs.Cold.{World}
+use Rattle.pj_workers.specs.Evaluated.{evaluated_on}
 use Rattle.pj_workers.specs.JavaReplies.{java_replies}
 use Rattle.pj_workers.specs.Rules.{Rule}
 use Rattle.pj_workers.specs.declared.work.Work.{Work}
@@ -216,10 +217,11 @@ abbrev pub IsOver : Option Cache → World → Files → EffectiveRules → Anal
 IsOver None world sources set analysed = IsColdOf world sources set analysed.report
 IsOver (Some found) world sources set analysed = IsColdOf world sources set analysed.report × IfSome analysed.left (IsLeftOver found world sources set)
 
--- what is noted of the work: where there is no cache, all sources were analysed; over a cache each was analysed or used again
-abbrev pub WorkedOver : Option Cache → Files → Work → Work → Type 0
-WorkedOver None sources before after = (after.analysed ≡ before.analysed ++ map (λ (file : Bytes × Bytes). file.0) sources) × (after.reused ≡ before.reused)
-WorkedOver (Some found) sources before after = ArePartedBy (map (λ (file : Bytes × Bytes). file.0) sources) before after
+-- what is noted of the work: where there is no cache, all sources were analysed, each with the active rules; over a cache each was analysed or used again
+abbrev pub WorkedOver : Option Cache → EffectiveRules → Files → Work → Work → Type 0
+WorkedOver None set sources before after =
+    (after.analysed ≡ before.analysed ++ map (λ (file : Bytes × Bytes). file.0) sources) × (after.reused ≡ before.reused) × (after.ran ≡ before.ran ++ evaluated_on set sources)
+WorkedOver (Some found) set sources before after = ArePartedBy (map (λ (file : Bytes × Bytes). file.0) sources) before after
 
 -- a cache is left where one was found, with its answers in the order of their names
 abbrev pub IsLeftIfFound : Option Cache → Option Cache → Type 0
@@ -259,7 +261,8 @@ IsTextBy (Some name) ready classes kept before after unused (Some text) = IsText
 
 -- what is noted of the work by the name of the cache
 abbrev pub WorkedBy : Option Bytes → Ready → Work → Work → Type 0
-WorkedBy None ready before after = after ≡ record { analysed = before.analysed ++ map (λ (file : Bytes × Bytes). file.0) ready.sources; reused = before.reused; skipped = ready.listing.skipped }
+WorkedBy None ready before after =
+    after ≡ record { analysed = before.analysed ++ map (λ (file : Bytes × Bytes). file.0) ready.sources; reused = before.reused; ran = before.ran ++ evaluated_on ready.rules ready.sources; skipped = ready.listing.skipped }
 WorkedBy (Some name) ready before after = ArePartedBy (map (λ (file : Bytes × Bytes). file.0) ready.sources) before after × (after.skipped ≡ ready.listing.skipped)
 
 -- what is told of the cache at a refusal once the sources are read

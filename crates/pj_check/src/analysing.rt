@@ -137,7 +137,7 @@ pub fn analyse_over<D: ClassDoor>(
     ensures over { IfSome (D.holds door.old) (λ folders. FitsIfFound found.now → IfOk result (IsOver found.now (folders_world folders).answer sources.now rules.now)) }
     ensures done { IfSome (D.holds door.old) (λ folders. OnOk result (DoneOver found.now (folders_world folders).answer sources.now rules.now (record { work = work.old; finds = D.finds door.old }) (record { work = work.new; finds = D.finds door.new }))) }
     ensures left { IfOk result (λ analysed. IsLeftIfFound found.now analysed.left) }
-    ensures worked { OnOk result (WorkedOver found.now sources.now work.old work.new) }
+    ensures worked { OnOk result (WorkedOver found.now rules.now sources.now work.old work.new) }
     ensures faults { CountsDoorFaults (D.faults door.old) (D.faults door.new) result }
     ensures skipped { work.new.skipped ≡ work.old.skipped }
 {

@@ -59,7 +59,7 @@ fn report_over<D: ClassDoor>(
     ensures refused { IfErr result IsOfClasses }
     ensures faults { CountsOfClasses (D.faults door.old) (D.faults door.new) result }
     ensures left { IfOk result (λ analysed. IsLeftIfFound found.now analysed.left) }
-    ensures worked { OnOk result (WorkedOver found.now sources.now work.old work.new) }
+    ensures worked { OnOk result (WorkedOver found.now rules.now sources.now work.old work.new) }
     ensures skipped { work.new.skipped ≡ work.old.skipped }
 {
     match analyse_over(alloc, door, sources, rules, found, work) {
@@ -90,7 +90,7 @@ fn report_over_classes<C: ClassPath, V: Knowing + Send>(
     ensures steady { V.never_fails → C.never_fails classes.new × (result ≢ Err Refusal.ClassFault) }
     ensures doors { CountsDoor (record { given = C.given classes.old; taken = C.taken classes.old; finds = C.finds classes.old }) (record { given = C.given classes.new; taken = C.taken classes.new; finds = C.finds classes.new }) result }
     ensures left { IfOk result (λ analysed. IsLeftIfFound found.now analysed.left) }
-    ensures worked { OnOk result (WorkedOver found.now sources.now work.old work.new) }
+    ensures worked { OnOk result (WorkedOver found.now rules.now sources.now work.old work.new) }
     ensures skipped { work.new.skipped ≡ work.old.skipped }
 {
     let opened = open_door(classes, folders)?;
@@ -121,7 +121,7 @@ pub fn analyse_sources<C: ClassPath>(
     ensures steady { C.never_fails classes.old → C.never_fails classes.new × (result ≢ Err Refusal.ClassFault) }
     ensures doors { CountsDoor (record { given = C.given classes.old; taken = C.taken classes.old; finds = C.finds classes.old }) (record { given = C.given classes.new; taken = C.taken classes.new; finds = C.finds classes.new }) result }
     ensures left { IfOk result (λ analysed. IsLeftIfFound found.now analysed.left) }
-    ensures worked { OnOk result (WorkedOver found.now sources.now work.old work.new) }
+    ensures worked { OnOk result (WorkedOver found.now rules.now sources.now work.old work.new) }
     ensures skipped { work.new.skipped ≡ work.old.skipped }
 {
     report_over_classes::<C, Brand>(alloc, classes, folders, sources, rules, found, work)

@@ -52,7 +52,7 @@ fn begin<K: Keeper>(
     requires { told.old ≡ nothing_told }
     ensures taken { IfOk result (λ begun. IsTakenBy ready.now.settings.cache (K.holds keeper.old) begun.found told.new.unused) }
     ensures in_order { IfOk result (λ begun. IfSome begun.found IsInOrder) }
-    ensures done { IfOk result (λ begun. begun.done ≡ record { analysed = work.now.analysed; reused = work.now.reused; skipped = ready.now.listing.skipped }) }
+    ensures done { IfOk result (λ begun. begun.done ≡ record { analysed = work.now.analysed; reused = work.now.reused; ran = work.now.ran; skipped = ready.now.listing.skipped }) }
     ensures told { OnErr result (IsToldAt Refusal.Memory ready.now.settings.cache (K.holds keeper.old) told.new.unused) }
     ensures unwritten { told.new.is_unwritten ≡ false }
     ensures same_names { K.holds keeper.new ≡ K.holds keeper.old }

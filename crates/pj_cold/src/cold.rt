@@ -3,6 +3,7 @@ ghost use Rattle.std.specs.Prelude.{◌≡◌, ◌++◌, IfOk, IfSome, OnOk, map
 ghost use Rattle.std.specs.FinSet as name_sets;
 ghost use Rattle.pj_outside.specs.Doors.{count_and};
 ghost use Rattle.pj_table.specs.ClassWorld.{folders_world};
+ghost use Rattle.pj_workers.specs.Evaluated.{evaluated_on};
 ghost use Rattle.pj_cold.specs.Cold.{IsColdOf};
 ghost use Rattle.pj_cold.specs.Finds.{CountsAsked};
 ghost use Rattle.pj_cold.specs.Steps.{AreRows, CountsDoorFaults};
@@ -61,6 +62,7 @@ fn file_results<D: ClassDoor>(
     ensures finds { IfSome (D.holds door.old) (λ folders. OnOk result (CountsAsked (folders_world folders).answer files.now rules.now (D.finds door.old) (D.finds door.new))) }
     ensures faults { CountsDoorFaults (D.faults door.old) (D.faults door.new) result }
     ensures analysed { OnOk result (work.new.analysed ≡ work.old.analysed ++ map (λ file. file.0) files.now) }
+    ensures ran { OnOk result (work.new.ran ≡ work.old.ran ++ evaluated_on rules.now files.now) }
     ensures reused { work.new.reused ≡ work.old.reused }
     ensures skipped { work.new.skipped ≡ work.old.skipped }
 {
@@ -83,6 +85,7 @@ fn all_rows<D: ClassDoor>(
     ensures finds { IfSome (D.holds door.old) (λ folders. OnOk result (CountsAsked (folders_world folders).answer files.now rules.now (D.finds door.old) (D.finds door.new))) }
     ensures faults { CountsDoorFaults (D.faults door.old) (D.faults door.new) result }
     ensures analysed { OnOk result (work.new.analysed ≡ work.old.analysed ++ map (λ file. file.0) files.now) }
+    ensures ran { OnOk result (work.new.ran ≡ work.old.ran ++ evaluated_on rules.now files.now) }
     ensures reused { work.new.reused ≡ work.old.reused }
     ensures skipped { work.new.skipped ≡ work.old.skipped }
 {
@@ -120,6 +123,8 @@ pub fn cold_report<D: ClassDoor>(
     ensures finds { IfSome (D.holds door.old) (λ folders. OnOk result (CountsAsked (folders_world folders).answer sources.now rules.now (D.finds door.old) (D.finds door.new))) }
     ensures faults { CountsDoorFaults (D.faults door.old) (D.faults door.new) result }
     ensures analysed { OnOk result (work.new.analysed ≡ work.old.analysed ++ map (λ file. file.0) sources.now) }
+    // Each rule that is active on a source with a tree is evaluated there.
+    ensures ran { OnOk result (work.new.ran ≡ work.old.ran ++ evaluated_on rules.now sources.now) }
     ensures reused { work.new.reused ≡ work.old.reused }
     ensures skipped { work.new.skipped ≡ work.old.skipped }
 {

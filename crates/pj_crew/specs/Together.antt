@@ -49,13 +49,12 @@ abbrev pub AreNumbered : List SeatWork → Type 0
 AreNumbered [] = Unit {0}
 AreNumbered (seat ∷ seats) = (seat.number ≡ 1 + length seats) × AreNumbered seats
 
--- The history of a part has just these looks of the seat, and each of them stands at the place of its name.
+-- The history of a part has just these looks of the seat, each at the place where its name stands among the entries of the part.
 abbrev pub HasLooks : ℕ → Part → SeatWork → Type 0
 HasLooks p part seat = IsTold part.entries.items part.looks.items seat.number (filter (λ (look : Asked). look.part == p) seat.looks)
 
 -- What was done at the table: each file below the number of files was claimed once, at one seat, and no other; each seat looked just
--- for the names that were asked for its files, in their order; the history of each part has just these looks, at the places of their
--- names, and none of another seat.
+-- for the names that were asked for its files, in their order; the history of each part has just these looks, and none of another seat.
 pub record IsWorkOf (files : ℕ) (parts : List Part) (seats : List SeatWork) : Type 0 where
   pub numbered : AreNumbered seats
   pub once : (n : ℕ) → times n (map (λ (file : ℕ × List Name). file.0) (claimed_by seats)) ≡ once_below n files

@@ -105,8 +105,8 @@ fn put_together<M: Drop>(
 }
 
 /// Works at all files with a worker for each door, through one table. Each file is claimed by one worker, and each class that is asked
-/// for is found once, by the door of the worker that asks for it first. What comes of a file does not depend on who works at it. The doors
-/// are those that they were, in their order.
+/// for is found once, by the door of the worker that asks for it first. What comes of a file does not depend on who works at it. After a
+/// refusal how many finds the doors had is not said.
 ///
 /// A failed door goes before want of memory. It waits for the threads and for the turns of the table.
 #[tactic(auto, using(crate::proofs::Worked::unchanged))]

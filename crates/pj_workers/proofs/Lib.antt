@@ -25,3 +25,4 @@ pub mod Running
 pub mod Chosen
 pub mod Parsed
 pub mod Rows
+pub mod Ran

@@ -9,6 +9,7 @@ pub mod JavaReplies
 pub mod Calls
 pub mod Results
 pub mod Chosen
+pub mod Evaluated
 pub mod Cold
 pub mod RuleFacts
 pub mod Plain

@@ -1,5 +1,5 @@
 -- What the program has of a file that has a tree, and of a rule in it. This serves private clauses.
-use Rattle.std.specs.Prelude.{◌≡◌, ◌==◌, ℕ, Bool, List, [], Some, Result, flat_map, if◌then◌else◌}
+use Rattle.std.specs.Prelude.{◌≡◌, ◌==◌, ◌∷◌, ℕ, Bool, List, [], Some, Result, flat_map, if◌then◌else◌}
 use Rattle.std.specs.List.{AllZip, list_any}
 use Rattle.std.specs.List.Sorted.{IsNonDecreasing}
 use Rattle.std.specs.Option.{option_map}
@@ -31,6 +31,7 @@ use Rattle.pj_xsteps.specs.Means.{Means, give, ◌>>=◌}
 use Rattle.pj_parse.specs.Messages.{fault_message}
 use Rattle.pj_outside.specs.Files.{Bytes}
 use Rattle.pj_workers.specs.Chosen.{chosen, chosen_at}
+use Rattle.pj_workers.specs.Evaluated.{active_numbers}
 use Rattle.pj_workers.specs.FileMeaning.{head_of, nothing, rule_at}
 use Rattle.pj_workers.specs.Marked.{is_marked}
 use Rattle.pj_workers.specs.JavaReplies.{java_replies}
@@ -106,3 +107,10 @@ IsErrorOf Memory found = ⊥
 -- the names of rules, one rule after the other
 abbrev pub all_names : List RuleRun → List Name
 all_names runs = flat_map (λ (run : RuleRun). run.names) runs
+
+-- ---- what was evaluated
+
+-- the numbers of the rules that were evaluated on a file of a path in which the rules came to this: where there are no runs, there is no tree or no rule
+abbrev pub evaluated_by : EffectiveRules → Bytes → List RuleRun → List ℕ
+evaluated_by set path [] = []
+evaluated_by set path (run ∷ runs) = active_numbers set path

@@ -7,16 +7,19 @@ ghost use Rattle.pj_names.specs.Told.{Asks, seen};
 ghost use Rattle.pj_parse.specs.FileOutcome.{outcome_of};
 ghost use Rattle.pj_peg_grammar.specs.Form.{forms_of};
 ghost use Rattle.pj_workers.specs.Chosen.{chosen, chosen_meaning};
+ghost use Rattle.pj_workers.specs.Evaluated.{evaluated, evaluated_on, with_path};
 ghost use Rattle.pj_workers.specs.FileMeaning.{file_meaning, head_of, rule_meaning};
 ghost use Rattle.pj_workers.specs.JavaReplies.{java_replies};
 ghost use Rattle.pj_workers.specs.Results.{IsResultAt, IsResultOf, RestsOn, came_to, rules_in};
 ghost use Rattle.pj_workers.specs.Rules.{AreRulesOf, Rule as MeantRule};
 
+use crate::evaluated::{evaluated_on, put_evaluated};
 use crate::file::bytes_runs;
+use crate::laws::sets_have_rules;
 use crate::names::result_of;
 use crate::numbers::all_numbers;
 use crate::result::{FileResult, FileRuns, PathResults};
-use crate::work::Work;
+use crate::work::{Ran, Work, note_file, note_files};
 use pj_base::{Bytes, Copied, Names, NoMemory, Numbers, Text};
 use pj_grammar::java_17;
 use pj_names::{AskFault, Oracle};
@@ -71,8 +74,8 @@ fn analyse_by<O: Oracle>(
     Ok(result_of(alloc, runs)?)
 }
 
-/// What the rules of a set find in a file of this path and these bytes. The path is put behind those that were analysed. Memory is wanted
-/// for a file of more than 4,294,967,294 bytes, too. After a refusal `work` is as it was.
+/// What the rules of a set find in a file of this path and these bytes. The path is put behind those that were analysed, and behind the rules that were evaluated
+/// each one that is active for the path, if the file has a tree. Memory is wanted for a file of more than 4,294,967,294 bytes, too. After a refusal `work` is as it was.
 ///
 /// The classes of the file answer by their declarations. Each of them, and each type of a variable, is found once for all rules, and yet each rule asks the names of
 /// its own.
@@ -90,13 +93,17 @@ pub fn analyse_file<O: Oracle>(
     // The names of the file and of each rule are those on which its rows and the rule's rest.
     ensures found { IfOk result (λ found. (meant : List MeantRule) → AreRulesOf rules.now meant → IsResultOf (O.tells oracle.old) java_replies path.now bytes.now meant found) }
     ensures analysed { OnOk result (work.new.analysed ≡ work.old.analysed ++ path.now ∷ []) }
+    ensures ran { OnOk result (work.new.ran ≡ work.old.ran ++ with_path path.now (evaluated rules.now path.now (outcome_of bytes.now))) }
     ensures reused { work.new.reused ≡ work.old.reused }
     ensures skipped { work.new.skipped ≡ work.old.skipped }
     ensures err { OnErr result (work.new ≡ work.old) }
 {
+    sets_have_rules(rules);
     let grammar = java_17(alloc)?;
     let found = analyse_by(alloc, &grammar, oracle, path, bytes, rules)?;
-    work.analysed.push(path.copied()?)?;
+    let mut ran = Ran::new(alloc);
+    put_evaluated(alloc, &mut ran, rules, path, found.runs.as_slice())?;
+    note_file(work, path.copied()?, ran)?;
     Ok(found)
 }
 
@@ -150,7 +157,7 @@ fn paths_of(alloc: Global, files: &[(Text, Bytes)]) -> Result<Names, NoMemory>
 }
 
 /// What the rules of a set find in files, one after the other, in their order: one tree is held at a time. Their paths are put behind
-/// those that were analysed. After a refusal `work` is as it was.
+/// those that were analysed, and the rules that are active on each file with a tree behind those that were evaluated. After a refusal `work` is as it was.
 pub fn analyse_files<O: Oracle>(
     alloc: Global,
     oracle: &mut O,
@@ -162,12 +169,15 @@ pub fn analyse_files<O: Oracle>(
         → Asks (each (λ file. file_meaning java_replies file.0 file.1 meant) files.now) (O.tells oracle.old) (O.tells oracle.new) (seen (λ found. map (λ of_file. of_file.1.rows) found) result) }
     ensures found { IfOk result (λ found. (meant : List MeantRule) → AreRulesOf rules.now meant → AllZip (IsResultAt (O.tells oracle.old) java_replies meant) files.now found) }
     ensures analysed { OnOk result (work.new.analysed ≡ work.old.analysed ++ map (λ file. file.0) files.now) }
+    ensures ran { OnOk result (work.new.ran ≡ work.old.ran ++ evaluated_on rules.now files.now) }
     ensures reused { work.new.reused ≡ work.old.reused }
     ensures skipped { work.new.skipped ≡ work.old.skipped }
     ensures err { OnErr result (work.new ≡ work.old) }
 {
+    sets_have_rules(rules);
     let found = analyse_each(alloc, oracle, files, rules)?;
     let paths = paths_of(alloc, files)?;
-    work.analysed.append(paths)?;
+    let ran = evaluated_on(alloc, rules, found.as_slice())?;
+    note_files(work, paths, ran)?;
     Ok(found)
 }

@@ -5,6 +5,7 @@
 
 mod analyse;
 mod analysis;
+mod evaluated;
 mod file;
 mod file_rule;
 mod laws;
@@ -24,4 +25,4 @@ pub use laws::{
     settled_cold_report, some_cold_report, what_rules_mean_settles,
 };
 pub use result::{FileResult, FileRuns, PathResults};
-pub use work::Work;
+pub use work::{Ran, Work, put_ran};

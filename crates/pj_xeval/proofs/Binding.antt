@@ -1,10 +1,12 @@
 -- How the constructs that bind variables go on.
-use Rattle.std.proofs.Common.{◌≡◌, ℕ, ◌+◌, true, not, List, [], ◌∷◌, ◌++◌, reverse, drop, refl, sym, ◌∙◌, ap, subst, add-one}
+use Rattle.std.proofs.Common.{Box, Global, ◌≡◌, ℕ, ◌+◌, true, not, List, [], ◌∷◌, ◌++◌, reverse, drop, refl, sym, ◌∙◌, ap, subst, add-one}
 use Rattle.std.proofs.lemmas.List.{reverse-reverse, map-append}
 use Rattle.pj_xexpressions.specs.declared.expr.Expr.{Expr}
 use Rattle.pj_xvalue.specs.declared.item.Item.{Item}
 use Rattle.pj_xvalue.specs.Items.{ItemValue, value_of_item, values_of}
-use Rattle.pj_xsteps.specs.Means.{give, ◌>>=◌, chain, decided, decides, one_boolean}
+use Rattle.std.specs.Prelude.{if◌then◌else◌}
+use Rattle.pj_xvalue.specs.Boolean.{effective_boolean}
+use Rattle.pj_xsteps.specs.Means.{Means, give, judged, ◌>>=◌, chain, decided, decides, one_boolean}
 use Rattle.pj_xsteps.specs.Context.{Around, Context, Variables}
 use Rattle.pj_xsteps.specs.Turns.{with_all}
 use Rattle.pj_xsteps.specs.Bindings.{with_item, for_in, quantified, let_in}
@@ -35,14 +37,20 @@ module _ (a : Around) (reply : Replies) (c : Context) where
     scope = refl;
   }
 
-  -- its next item
-  pub for-taken : (turns : ForTurns) (left : List Item) (x : Item) (items : List Item) (s bound : Scoped) → turns.left ≡ left ++ x ∷ [] → values_of items ≡ value_of_item x ∷ [] → bound ≡ with_variable turns.name.now (values_of items) s
-      → Goes a reply (for_left a reply turns (values_of turns.found) c (variables_of s)) c bound c s (next.Within (task.For turns.rest turns.body) (frame.For (record turns { left = left })))
-  for-taken turns left x items s bound is one at =
-      subst (λ (t : Scoped). Goes a reply (for_left a reply turns (values_of turns.found) c (variables_of s)) c t c s (next.Within (task.For turns.rest turns.body) (frame.For (record turns { left = left }))))
+  -- its next item, where the turns in the box are those without it
+  pub for-taken : (turns : ForTurns) (left : List Item) (x : Item) (items : List Item) (s bound : Scoped) (second third : ForTurns) (b : Box ForTurns Global)
+      → second ≡ record turns { left = left } → third ≡ record turns { left = left } → b.value ≡ record turns { left = left }
+      → turns.left ≡ left ++ x ∷ [] → values_of items ≡ value_of_item x ∷ [] → bound ≡ with_variable turns.name.now (values_of items) s
+      → Goes a reply (for_left a reply turns (values_of turns.found) c (variables_of s)) c bound c s (next.Within (task.For second.rest third.body) (frame.For b))
+  for-taken turns left x items s bound second third b is_second is_third holds is one at =
+      let k = with_variable turns.name.now (value_of_item x ∷ []) s in
+      subst (λ (t : Scoped). Goes a reply (for_left a reply turns (values_of turns.found) c (variables_of s)) c t c s (next.Within (task.For second.rest third.body) (frame.For b)))
       (sym (at ∙ ap (λ (vs : List ItemValue). with_variable turns.name.now vs s) one))
       (record {
-        meaning = for-next turns.name.now (for_in (bindings_of (denotes a reply) turns.rest.now) (denotes a reply turns.body.now)) c (variables_of s) turns.left left x (values_of turns.found) is;
+        meaning = ap (λ (t : ForTurns). for_in (bindings_of (denotes a reply) t.rest.now) (denotes a reply third.body.now) c (variables_of k) >>= λ value. for_left a reply b.value (values_of b.value.found ++ value) c (variables_of (without 1 k))) is_second
+            ∙ ap (λ (t : ForTurns). for_in (bindings_of (denotes a reply) turns.rest.now) (denotes a reply t.body.now) c (variables_of k) >>= λ value. for_left a reply b.value (values_of b.value.found ++ value) c (variables_of (without 1 k))) is_third
+            ∙ ap (λ (t : ForTurns). for_in (bindings_of (denotes a reply) turns.rest.now) (denotes a reply turns.body.now) c (variables_of k) >>= λ value. for_left a reply t (values_of t.found ++ value) c (variables_of (without 1 k))) holds
+            ∙ for-next turns.name.now (for_in (bindings_of (denotes a reply) turns.rest.now) (denotes a reply turns.body.now)) c (variables_of s) turns.left left x (values_of turns.found) is;
         context = refl;
         scope = refl;
       })
@@ -64,13 +72,21 @@ module _ (a : Around) (reply : Replies) (c : Context) where
   quantified-ended turns v is =
       ap (λ (xs : List Item). decided turns.quantifier (with_item turns.name.now (quantified turns.quantifier (bindings_of (denotes a reply) turns.rest.now) (denotes a reply turns.test.now)) c v) (reverse (values_of xs))) (sym is)
 
-  pub quantified-taken : (turns : QuantifiedTurns) (left : List Item) (x : Item) (items : List Item) (s bound : Scoped) → turns.left ≡ left ++ x ∷ [] → values_of items ≡ value_of_item x ∷ [] → bound ≡ with_variable turns.name.now (values_of items) s
-      → Goes a reply (quantified_left a reply turns c (variables_of s)) c bound c s (next.Within (task.Quantified turns.quantifier turns.rest turns.test) (frame.Quantified (record turns { left = left })))
-  quantified-taken turns left x items s bound is one at =
-      subst (λ (t : Scoped). Goes a reply (quantified_left a reply turns c (variables_of s)) c t c s (next.Within (task.Quantified turns.quantifier turns.rest turns.test) (frame.Quantified (record turns { left = left }))))
+  pub quantified-taken : (turns : QuantifiedTurns) (left : List Item) (x : Item) (items : List Item) (s bound : Scoped) (first second third : QuantifiedTurns) (b : Box QuantifiedTurns Global)
+      → first ≡ record turns { left = left } → second ≡ record turns { left = left } → third ≡ record turns { left = left } → b.value ≡ record turns { left = left }
+      → turns.left ≡ left ++ x ∷ [] → values_of items ≡ value_of_item x ∷ [] → bound ≡ with_variable turns.name.now (values_of items) s
+      → Goes a reply (quantified_left a reply turns c (variables_of s)) c bound c s (next.Within (task.Quantified first.quantifier second.rest third.test) (frame.Quantified b))
+  quantified-taken turns left x items s bound first second third b is_first is_second is_third holds is one at =
+      let k = with_variable turns.name.now (value_of_item x ∷ []) s in
+      let rest : QuantifiedTurns → Variables → List ItemValue → Means (List ItemValue) = λ t v value. judged (effective_boolean value) >>= λ truth. if decides t.quantifier truth then give (one_boolean truth) else quantified_left a reply t c v in
+      subst (λ (t : Scoped). Goes a reply (quantified_left a reply turns c (variables_of s)) c t c s (next.Within (task.Quantified first.quantifier second.rest third.test) (frame.Quantified b)))
       (sym (at ∙ ap (λ (vs : List ItemValue). with_variable turns.name.now vs s) one))
       (record {
-        meaning = quantified-next turns.name.now (quantified turns.quantifier (bindings_of (denotes a reply) turns.rest.now) (denotes a reply turns.test.now)) c (variables_of s) turns.quantifier turns.left left x is;
+        meaning = ap (λ (t : QuantifiedTurns). quantified t.quantifier (bindings_of (denotes a reply) second.rest.now) (denotes a reply third.test.now) c (variables_of k) >>= rest b.value (variables_of (without 1 k))) is_first
+            ∙ ap (λ (t : QuantifiedTurns). quantified turns.quantifier (bindings_of (denotes a reply) t.rest.now) (denotes a reply third.test.now) c (variables_of k) >>= rest b.value (variables_of (without 1 k))) is_second
+            ∙ ap (λ (t : QuantifiedTurns). quantified turns.quantifier (bindings_of (denotes a reply) turns.rest.now) (denotes a reply t.test.now) c (variables_of k) >>= rest b.value (variables_of (without 1 k))) is_third
+            ∙ ap (λ (t : QuantifiedTurns). quantified turns.quantifier (bindings_of (denotes a reply) turns.rest.now) (denotes a reply turns.test.now) c (variables_of k) >>= rest t (variables_of (without 1 k))) holds
+            ∙ quantified-next turns.name.now (quantified turns.quantifier (bindings_of (denotes a reply) turns.rest.now) (denotes a reply turns.test.now)) c (variables_of s) turns.quantifier turns.left left x is;
         context = refl;
         scope = refl;
       })

@@ -1,7 +1,6 @@
 -- The parents of what is below some nodes: of all that is at or below these, what has a child that passes.
-use Rattle.std.proofs.Common.{◌≡◌, ℕ, zero, suc, ◌+◌, ◌-◌, ◌<◌, ◌≤◌, Bool, true, false, not, ◌&&◌, ◌||◌, cond, IsTrue, ◌↔◌, List, [], ◌∷◌, ◌++◌, length, map, filter, nat_eq, Option, None, Some, refl, sym, ◌∙◌, ap, subst, inl, inr, ◌⊎◌, append-nil, arith}
+use Rattle.std.proofs.Common.{◌≡◌, ℕ, zero, suc, ◌+◌, ◌-◌, ◌<◌, ◌≤◌, Bool, true, false, not, ◌&&◌, ◌||◌, cond, IsTrue, ◌↔◌, List, [], ◌∷◌, ◌++◌, length, map, filter, Option, None, Some, refl, sym, ◌∙◌, ap, subst, inl, inr, append-nil, arith}
 use Rattle.std.specs.List.{list_any, range_with_len, AllByRecursion}
-use Rattle.std.specs.List.Sorted.{IsStrictlySortedBy}
 use Rattle.std.specs.Option.{option_map_or, IsSomeAnd}
 use Rattle.std.specs.Cmp.{tied_itself}
 use Rattle.std.specs.Ordering.{nat_cmp, eq_by_cmp, is_eq, ordering_then}
@@ -21,7 +20,7 @@ use Rattle.pj_xaxes.specs.Order.{document_order, has_item, ordered}
 use Rattle.pj_xaxes.proofs.Ancestry.{below-parent}
 use Rattle.pj_xaxes.proofs.Ordered.{IsNode, one_place, places_from, places-ordered, sorted-ordered, has_item-ordered}
 use Rattle.pj_xaxes.proofs.Unique.{document_total, unique}
-use Rattle.pj_xsteps.specs.Steps.{elements, passes, stepped, root}
+use Rattle.pj_xsteps.specs.Steps.{elements, passes, root}
 use Rattle.pj_xeval.specs.Over.{stepped_at, stepped_at_each, has_some, may_go_down, above, above_some, items_above, AreParents}
 
 abbrev same : ItemValue → ItemValue → Bool

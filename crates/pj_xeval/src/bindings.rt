@@ -47,35 +47,29 @@ pub fn for_from<'e, 't>(bindings: &'e [(Text, Expr)], body: &'e Expr) -> Next<'e
 #[tactic(auto, using(crate::proofs::OfTree::of_tree))]
 pub fn for_turn<'e, 't>(
     alloc: Global,
-    turns: ForTurns<'e, 't>,
+    turns: Box<ForTurns<'e, 't>>,
     scope: &mut Scope<'e, 't>,
 ) -> Result<Next<'e, 't>, XFault>
-    ensures goes { (a : Around) (reply : Replies) (c : Context) → GoesIf a reply (for_left a reply turns.entry (values_of turns.entry.found) c (variables_of scope.old)) c scope.new c scope.old result }
-    ensures of_tree { (n : ℕ) → ForTurnsOfTree n turns.entry → IfOk result (λ next. NextOfTree n next) }
-    ensures scope { (n : ℕ) → OfTree n (values_of turns.entry.left) → VariablesOfTree n (variables_of scope.old) → OnOk result (VariablesOfTree n (variables_of scope.new)) }
+    ensures goes { (a : Around) (reply : Replies) (c : Context) → GoesIf a reply (for_left a reply turns.entry.value (values_of turns.entry.value.found) c (variables_of scope.old)) c scope.new c scope.old result }
+    ensures of_tree { (n : ℕ) → ForTurnsOfTree n turns.entry.value → IfOk result (λ next. NextOfTree n next) }
+    ensures scope { (n : ℕ) → OfTree n (values_of turns.entry.value.left) → VariablesOfTree n (variables_of scope.old) → OnOk result (VariablesOfTree n (variables_of scope.new)) }
 {
-    let ForTurns {
-        name,
-        left,
-        found,
-        rest,
-        body,
-    } = turns;
-    let mut left = left;
-    match left.pop() {
-        None => Ok(Next::Value(found)),
+    let mut turns = turns;
+    match turns.left.pop() {
+        None => {
+            let ForTurns {
+                name: _,
+                left: _,
+                found,
+                rest: _,
+                body: _,
+            } = Box::into_inner(turns);
+            Ok(Next::Value(found))
+        }
         Some(item) => {
-            scope.bind(name, one(alloc, item)?)?;
-            Ok(Next::Within(
-                Task::For(rest, body),
-                Frame::For(ForTurns {
-                    name,
-                    left,
-                    found,
-                    rest,
-                    body,
-                }),
-            ))
+            scope.bind(turns.name, one(alloc, item)?)?;
+            let task = Task::For(turns.rest, turns.body);
+            Ok(Next::Within(task, Frame::For(turns)))
         }
     }
 }
@@ -96,7 +90,7 @@ pub fn for_over<'e, 't>(
     let Binder { name, rest, body } = binder;
     let left = turned_back(value);
     let found = Sequence::new(alloc);
-    for_turn(
+    let turns = Box::new(
         alloc,
         ForTurns {
             name,
@@ -105,44 +99,27 @@ pub fn for_over<'e, 't>(
             rest,
             body,
         },
-        scope,
-    )
+    )?;
+    for_turn(alloc, turns, scope)
 }
 
 /// The value of one turn of a `for`.
 #[tactic(auto, using(crate::proofs::OfTree::of_tree))]
 pub fn for_after<'e, 't>(
     alloc: Global,
-    turns: ForTurns<'e, 't>,
+    turns: Box<ForTurns<'e, 't>>,
     value: Sequence<'t>,
     scope: &mut Scope<'e, 't>,
 ) -> Result<Next<'e, 't>, XFault>
     ensures goes { (a : Around) (reply : Replies) (c : Context) →
-        GoesIf a reply (for_left a reply turns.entry (values_of turns.entry.found ++ values_of value.entry) c (variables_of (without 1 scope.old))) c scope.new c (without 1 scope.old) result }
-    ensures of_tree { (n : ℕ) → ForTurnsOfTree n turns.entry → OfTree n (values_of value.entry) → IfOk result (λ next. NextOfTree n next) }
-    ensures scope { (n : ℕ) → ForTurnsOfTree n turns.entry → VariablesOfTree n (variables_of scope.old) → OnOk result (VariablesOfTree n (variables_of scope.new)) }
+        GoesIf a reply (for_left a reply turns.entry.value (values_of turns.entry.value.found ++ values_of value.entry) c (variables_of (without 1 scope.old))) c scope.new c (without 1 scope.old) result }
+    ensures of_tree { (n : ℕ) → ForTurnsOfTree n turns.entry.value → OfTree n (values_of value.entry) → IfOk result (λ next. NextOfTree n next) }
+    ensures scope { (n : ℕ) → ForTurnsOfTree n turns.entry.value → VariablesOfTree n (variables_of scope.old) → OnOk result (VariablesOfTree n (variables_of scope.new)) }
 {
     scope.unbind();
-    let ForTurns {
-        name,
-        left,
-        found,
-        rest,
-        body,
-    } = turns;
-    let mut found = found;
-    found.append(value)?;
-    for_turn(
-        alloc,
-        ForTurns {
-            name,
-            left,
-            found,
-            rest,
-            body,
-        },
-        scope,
-    )
+    let mut turns = turns;
+    turns.found.append(value)?;
+    for_turn(alloc, turns, scope)
 }
 
 /// Begins a `some` or `every`.
@@ -174,35 +151,20 @@ pub fn quantified_from<'e, 't>(
 #[tactic(auto, using(crate::proofs::OfTree::of_tree))]
 pub fn quantified_turn<'e, 't>(
     alloc: Global,
-    turns: QuantifiedTurns<'e, 't>,
+    turns: Box<QuantifiedTurns<'e, 't>>,
     scope: &mut Scope<'e, 't>,
 ) -> Result<Next<'e, 't>, XFault>
-    ensures goes { (a : Around) (reply : Replies) (c : Context) → GoesIf a reply (quantified_left a reply turns.entry c (variables_of scope.old)) c scope.new c scope.old result }
-    ensures of_tree { (n : ℕ) → OfTree n (values_of turns.entry.left) → IfOk result (λ next. NextOfTree n next) }
-    ensures scope { (n : ℕ) → OfTree n (values_of turns.entry.left) → VariablesOfTree n (variables_of scope.old) → OnOk result (VariablesOfTree n (variables_of scope.new)) }
+    ensures goes { (a : Around) (reply : Replies) (c : Context) → GoesIf a reply (quantified_left a reply turns.entry.value c (variables_of scope.old)) c scope.new c scope.old result }
+    ensures of_tree { (n : ℕ) → OfTree n (values_of turns.entry.value.left) → IfOk result (λ next. NextOfTree n next) }
+    ensures scope { (n : ℕ) → OfTree n (values_of turns.entry.value.left) → VariablesOfTree n (variables_of scope.old) → OnOk result (VariablesOfTree n (variables_of scope.new)) }
 {
-    let QuantifiedTurns {
-        quantifier,
-        name,
-        left,
-        rest,
-        test,
-    } = turns;
-    let mut left = left;
-    match left.pop() {
-        None => boolean(alloc, !decides(quantifier, true)),
+    let mut turns = turns;
+    match turns.left.pop() {
+        None => boolean(alloc, !decides(turns.quantifier, true)),
         Some(item) => {
-            scope.bind(name, one(alloc, item)?)?;
-            Ok(Next::Within(
-                Task::Quantified(quantifier, rest, test),
-                Frame::Quantified(QuantifiedTurns {
-                    quantifier,
-                    name,
-                    left,
-                    rest,
-                    test,
-                }),
-            ))
+            scope.bind(turns.name, one(alloc, item)?)?;
+            let task = Task::Quantified(turns.quantifier, turns.rest, turns.test);
+            Ok(Next::Within(task, Frame::Quantified(turns)))
         }
     }
 }
@@ -223,7 +185,7 @@ pub fn quantified_over<'e, 't>(
 {
     let Binder { name, rest, body } = binder;
     let left = turned_back(value);
-    quantified_turn(
+    let turns = Box::new(
         alloc,
         QuantifiedTurns {
             quantifier,
@@ -232,22 +194,22 @@ pub fn quantified_over<'e, 't>(
             rest,
             test: body,
         },
-        scope,
-    )
+    )?;
+    quantified_turn(alloc, turns, scope)
 }
 
 /// The value of one turn of a `some` or `every`.
 #[tactic(auto, using(crate::proofs::OfTree::of_tree))]
 pub fn quantified_after<'e, 't>(
     alloc: Global,
-    turns: QuantifiedTurns<'e, 't>,
+    turns: Box<QuantifiedTurns<'e, 't>>,
     value: &Sequence<'t>,
     scope: &mut Scope<'e, 't>,
 ) -> Result<Next<'e, 't>, XFault>
     ensures goes { (a : Around) (reply : Replies) (c : Context) →
-        GoesIf a reply (judged (effective_boolean (values_of value.now)) ▷ λ truth. if decides_meaning turns.entry.quantifier truth then give (one_boolean truth) else quantified_left a reply turns.entry c (variables_of (without 1 scope.old))) c scope.new c (without 1 scope.old) result }
-    ensures of_tree { (n : ℕ) → OfTree n (values_of turns.entry.left) → IfOk result (λ next. NextOfTree n next) }
-    ensures scope { (n : ℕ) → OfTree n (values_of turns.entry.left) → VariablesOfTree n (variables_of scope.old) → OnOk result (VariablesOfTree n (variables_of scope.new)) }
+        GoesIf a reply (judged (effective_boolean (values_of value.now)) ▷ λ truth. if decides_meaning turns.entry.value.quantifier truth then give (one_boolean truth) else quantified_left a reply turns.entry.value c (variables_of (without 1 scope.old))) c scope.new c (without 1 scope.old) result }
+    ensures of_tree { (n : ℕ) → OfTree n (values_of turns.entry.value.left) → IfOk result (λ next. NextOfTree n next) }
+    ensures scope { (n : ℕ) → OfTree n (values_of turns.entry.value.left) → VariablesOfTree n (variables_of scope.old) → OnOk result (VariablesOfTree n (variables_of scope.new)) }
 {
     scope.unbind();
     let truth = boolean_value(value)?;

@@ -160,9 +160,9 @@ module _ (a : Around) (reply : Replies) where
       decided q (with_item binder.name.now (quantified q (bindings_of (denotes a reply) binder.rest.now) (denotes a reply binder.body.now)) c (variables_of s)) value
   reacted (frame.Source (binding.Let bound) binder) c s value =
       let_in (bindings_of (denotes a reply) binder.rest.now) (denotes a reply binder.body.now) c ((binder.name.now, value) ∷ variables_of s)
-  reacted (frame.For turns) c s value = for_left turns (values_of turns.found ++ value) c (variables_of (without 1 s))
+  reacted (frame.For turns) c s value = for_left turns.value (values_of turns.value.found ++ value) c (variables_of (without 1 s))
   reacted (frame.Quantified turns) c s value =
-      judged (effective_boolean value) >>= λ truth. if decides turns.quantifier truth then give (one_boolean truth) else quantified_left turns c (variables_of (without 1 s))
+      judged (effective_boolean value) >>= λ truth. if decides turns.value.quantifier truth then give (one_boolean truth) else quantified_left turns.value c (variables_of (without 1 s))
   reacted (frame.LetBody count) c s value = give value
 
   -- what it comes to from here on

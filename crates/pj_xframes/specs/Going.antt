@@ -53,8 +53,8 @@ FrameOfTree nodes (frame.PmdArguments function arguments rest) = ArgumentsOfTree
 FrameOfTree nodes (frame.Set found operator rest) = OfTree nodes (values_of found)
 FrameOfTree nodes (frame.Right op left) = OfTree nodes (values_of left)
 FrameOfTree nodes (frame.Turns turns) = TurnsOfTree nodes turns.value
-FrameOfTree nodes (frame.For turns) = ForTurnsOfTree nodes turns
-FrameOfTree nodes (frame.Quantified turns) = OfTree nodes (values_of turns.left)
+FrameOfTree nodes (frame.For turns) = ForTurnsOfTree nodes turns.value
+FrameOfTree nodes (frame.Quantified turns) = OfTree nodes (values_of turns.value.left)
 FrameOfTree nodes _ = Unit {0}
 
 -- a call that may be made

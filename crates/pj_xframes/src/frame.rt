@@ -142,10 +142,10 @@ pub enum Frame<'e, 't> {
     Turns(Box<Turns<'e, 't>>),
     /// The sequence of a variable.
     Source(Binding, Binder<'e>),
-    /// One turn of a `for`.
-    For(ForTurns<'e, 't>),
-    /// One turn of a `some` or `every`.
-    Quantified(QuantifiedTurns<'e, 't>),
+    /// One turn of a `for`, which is changed in its place too.
+    For(Box<ForTurns<'e, 't>>),
+    /// One turn of a `some` or `every`, which is changed in its place too.
+    Quantified(Box<QuantifiedTurns<'e, 't>>),
     /// The body of a `let` with so many variables.
     LetBody(usize),
 }

@@ -51,7 +51,7 @@ pub fn read(alloc: Global, bytes: &[u8]) -> Result<Result<Cache, CacheFault>, Ro
 }
 
 /// What is wrong, in words.
-fn fault_text(alloc: Global, fault: CacheFault) -> Result<String, RowFault> {
+pub fn fault_text(alloc: Global, fault: CacheFault) -> Result<String, RowFault> {
     match fault {
         CacheFault::Short => Ok(String::from_str(alloc, "! short")?),
         CacheFault::Magic => Ok(String::from_str(alloc, "! magic")?),
@@ -96,13 +96,12 @@ fn written_text(alloc: Global, bytes: &[u8]) -> Result<String, RowFault> {
 }
 
 /// The word of what is wrong.
-fn word_of(read: &Result<Cache, CacheFault>) -> &'static str {
-    match read {
-        Ok(_) => "cache",
-        Err(CacheFault::Short) => "! short",
-        Err(CacheFault::Magic) => "! magic",
-        Err(CacheFault::Seal(_, _)) => "! seal",
-        Err(CacheFault::Form(_)) => "! form",
+pub fn fault_word(fault: CacheFault) -> &'static str {
+    match fault {
+        CacheFault::Short => "! short",
+        CacheFault::Magic => "! magic",
+        CacheFault::Seal(_, _) => "! seal",
+        CacheFault::Form(_) => "! form",
     }
 }
 
@@ -122,7 +121,10 @@ fn fault_at(
             None => return Err(RowFault::Unread("the cache is shorter")),
         }
     }
-    Ok(word_of(&read(alloc, &bytes)?))
+    match read(alloc, &bytes)? {
+        Ok(_) => Ok("cache"),
+        Err(fault) => Ok(fault_word(fault)),
+    }
 }
 
 /// What is wrong at each number of a range, which is to be the same.

@@ -1,8 +1,8 @@
 //! Caches as rows show them.
 use pj_base::NoMemory;
-use pj_cache::{Cache, CachedResult, Entry, KeyRows};
-use pj_names::{Answer, Broken, Member};
-use pj_reports::{Head, Reason, Ruled, Spot};
+use pj_cache::{Cache, CachedResult, Entry, KeyRows, OldCache, OldEntry};
+use pj_names::{Answer, Answers, Broken, Member};
+use pj_reports::{FileError, Finding, Head, Reason, Ruled, Spot};
 use std::alloc::Global;
 
 /// Puts fields or methods.
@@ -117,16 +117,77 @@ fn put_entry(text: &mut String, alloc: Global, entry: &Entry) -> Result<(), NoMe
     Ok(())
 }
 
+/// Puts answers, each with its name.
+fn put_answers(text: &mut String, alloc: Global, answers: &Answers) -> Result<(), NoMemory> {
+    for (name, answer) in answers.as_slice() {
+        text.push_str("; ")?;
+        text.push_str(name.as_str())?;
+        put_answer(text, alloc, answer)?;
+    }
+    Ok(())
+}
+
 /// A cache on one line.
 pub fn cache_text(alloc: Global, cache: &Cache) -> Result<String, NoMemory> {
     let mut text = String::from_str(alloc, "cache")?;
-    for (name, answer) in cache.answers.as_slice() {
-        text.push_str("; ")?;
-        text.push_str(name.as_str())?;
-        put_answer(&mut text, alloc, answer)?;
-    }
+    put_answers(&mut text, alloc, &cache.answers)?;
     for entry in cache.entries.as_slice() {
         put_entry(&mut text, alloc, entry)?;
+    }
+    Ok(text)
+}
+
+/// Puts a finding: the number of its rule, and its node.
+fn put_finding(text: &mut String, alloc: Global, finding: &Finding) -> Result<(), NoMemory> {
+    let rule = finding.rule;
+    let shown = format!(in alloc; " finding {rule}")?;
+    text.push_str(shown.as_str())?;
+    let (node, begin, end, reason) = (finding.node, finding.begin, finding.end, finding.reason);
+    let spot = Spot {
+        node,
+        begin,
+        end,
+        reason,
+    };
+    put_spot(text, alloc, &spot)
+}
+
+/// Puts an error: the number of its rule, if it has one, and its message.
+fn put_error(text: &mut String, alloc: Global, error: &FileError) -> Result<(), NoMemory> {
+    let message = &error.message;
+    let shown = match error.rule {
+        Some(rule) => format!(in alloc; " error {rule} {message}")?,
+        None => format!(in alloc; " error - {message}")?,
+    };
+    text.push_str(shown.as_str())?;
+    Ok(())
+}
+
+/// Puts an entry of format 1.
+fn put_old_entry(text: &mut String, alloc: Global, entry: &OldEntry) -> Result<(), NoMemory> {
+    let (path, len, package) = (&entry.path, entry.bytes.len(), &entry.rows.package);
+    let shown = format!(in alloc; "; file {path} of {len} bytes package '{package}'")?;
+    text.push_str(shown.as_str())?;
+    for name in entry.names.as_slice() {
+        text.push_str(" ")?;
+        text.push_str(name.as_name().as_str())?;
+    }
+    for finding in entry.rows.findings.as_slice() {
+        put_finding(text, alloc, finding)?;
+    }
+    for error in entry.rows.errors.as_slice() {
+        put_error(text, alloc, error)?;
+    }
+    Ok(())
+}
+
+/// A cache of format 1 on one line, with the number of bytes of its key.
+pub fn old_text(alloc: Global, old: &OldCache) -> Result<String, NoMemory> {
+    let len = old.rules.len();
+    let mut text = format!(in alloc; "old cache, key of {len} bytes")?;
+    put_answers(&mut text, alloc, &old.answers)?;
+    for entry in old.entries.as_slice() {
+        put_old_entry(&mut text, alloc, entry)?;
     }
     Ok(text)
 }

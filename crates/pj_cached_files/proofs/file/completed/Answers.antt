@@ -13,7 +13,7 @@ use Rattle.pj_workers.specs.JavaReplies.{java_replies}
 use Rattle.pj_workers.specs.Results.{RestsOn, rules_in}
 use Rattle.pj_workers.specs.Rules.{AreRulesOf, Rule}
 use Rattle.pj_cached_files.specs.Asked.{missing_numbers}
-use Rattle.pj_cached_files.specs.Completed.{AreTogether}
+use Rattle.pj_cached_files.specs.Completed.{AreTogether, where_tree}
 use Rattle.pj_cached_files.specs.Made.{new_results}
 use Rattle.pj_cached_files.proofs.NewResults.{numbers_of_keys, numbers_of_rules, runs_short}
 use Rattle.pj_cached_files.proofs.file.completed.Goals as goal
@@ -65,6 +65,7 @@ returns-clause-left g c =
       bytes = ap (λ (e : Entry). e.bytes) c.in_ok-entry.ensures;
       head_is = ap (λ (e : Entry). e.head) c.in_ok-entry.ensures ∙ c.in_ok-found.ensures.head;
       reused = refl;
+      ran = c.evaluated-ran.ensures ∙ (λ i. where_tree (c.in_ok-found.ensures.head i) (c.requires.missing i));
       made = made;
       are_made = record {
         runs = found.runs;

@@ -9,7 +9,7 @@ use Rattle.pj_reuse.specs.Serving.{kept_results}
 use Rattle.pj_cached_files.specs.Asked.{active_keys_of, looked_at, missing_numbers}
 use Rattle.pj_cached_files.specs.Completed.{IsUsedAgain}
 use Rattle.pj_cached_files.proofs.Asks.{completed_asks, completed_refused, is_none, is_some, refused_asks, served_asks, stopped_asks, treeless_asks}
-use Rattle.pj_cached_files.proofs.Leaving.{AsksReused, by_entry, left_completed, left_served, left_without_tree, looks_completed, looks_served, looks_without_tree, reused_here}
+use Rattle.pj_cached_files.proofs.Leaving.{AsksReused, by_entry, evaluates_completed, evaluates_none, left_completed, left_served, left_without_tree, looks_completed, looks_served, looks_without_tree, reused_here}
 use Rattle.pj_cached_files.proofs.Gathering.{stands_in}
 use Rattle.pj_cached_files.proofs.Naming.{named_again, named_completed, named_none}
 use Rattle.pj_cached_files.proofs.file.entry_again.Goals as goal
@@ -202,6 +202,19 @@ returns-then-says_no_tree-clause-reused g c =
     by_entry t set found file (Some e) t (Ok left.is_reused) c.requires.entry (λ meant are. treeless_asks found.answers set meant file (Some e) tree (ap (λ (b : Bool). Ok b) c.in_ok-used_again.ensures.reused)) in
     λ files world rules held run. reused_here t set found file files world rules held run t left.is_reused asks
 
+pub returns-then-says_no_tree-clause-ran : goal.returns-then-says_no_tree-clause-ran
+returns-then-says_no_tree-clause-ran g c =
+    let t = g.O.Oracle.tells c.args.oracle.now in
+    let set = c.args.run.now.rules.now in
+    let found = c.args.run.now.found.now in
+    let file : File = (c.args.path.now, c.args.bytes.now) in
+    let e = c.args.old.now in
+    let left = c.in_ok-used_again.field-0 in
+    let tree = sym c.says_no_tree.ensures ∙ c.if-says_no_tree.true in
+    let asks : AsksReused t set found file t (Ok left.is_reused) =
+    by_entry t set found file (Some e) t (Ok left.is_reused) c.requires.entry (λ meant are. treeless_asks found.answers set meant file (Some e) tree (ap (λ (b : Bool). Ok b) c.in_ok-used_again.ensures.reused)) in
+    λ files world rules held run. evaluates_none t set found file files world rules held run t left.is_reused left.ran c.in_ok-used_again.ensures.reused asks c.in_ok-used_again.ensures.ran
+
 pub returns-then-says_no_tree-clause-named : goal.returns-then-says_no_tree-clause-named
 returns-then-says_no_tree-clause-named g c =
     let t = g.O.Oracle.tells c.args.oracle.now in
@@ -233,6 +246,23 @@ returns-then-is_empty-clause-reused g c =
     let asks : AsksReused t set found file u (Ok left.is_reused) =
     by_entry t set found file (Some e) u (Ok left.is_reused) c.requires.entry (λ meant are. served_asks found.answers set meant file (Some e) tree refl part none (ap (λ (b : Bool). Ok b) c.in_ok-used_again-2.ensures.reused)) in
     λ files world rules held run. reused_here t set found file files world rules held run u left.is_reused asks
+
+pub returns-then-is_empty-clause-ran : goal.returns-then-is_empty-clause-ran
+returns-then-is_empty-clause-ran g c =
+    let t = g.O.Oracle.tells c.args.oracle.now in
+    let u = g.O.Oracle.tells c.part_of.new.oracle in
+    let set = c.args.run.now.rules.now in
+    let found = c.args.run.now.found.now in
+    let file : File = (c.args.path.now, c.args.bytes.now) in
+    let e = c.args.old.now in
+    let stay = c.in_ok-part.part.stay in
+    let left = c.in_ok-used_again-2.field-0 in
+    let tree = sym c.says_no_tree.ensures ∙ c.if-says_no_tree.false in
+    let part = subst (λ (os : List CachedResult). Asks (kept_results found.answers os (active_keys_of set file.0)) t u (Ok stay)) c.as_slice.ensures c.in_ok-part.ensures.asks in
+    let none : missing_numbers set file.0 stay ≡ [] = sym c.in_ok-part.ensures.missing ∙ is_none c.in_ok-part.part.missing (sym c.is_empty.ensures ∙ c.if-is_empty.true) in
+    let asks : AsksReused t set found file u (Ok left.is_reused) =
+    by_entry t set found file (Some e) u (Ok left.is_reused) c.requires.entry (λ meant are. served_asks found.answers set meant file (Some e) tree refl part none (ap (λ (b : Bool). Ok b) c.in_ok-used_again-2.ensures.reused)) in
+    λ files world rules held run. evaluates_none t set found file files world rules held run u left.is_reused left.ran c.in_ok-used_again-2.ensures.reused asks c.in_ok-used_again-2.ensures.ran
 
 pub returns-then-is_empty-clause-named : goal.returns-then-is_empty-clause-named
 returns-then-is_empty-clause-named g c =
@@ -271,6 +301,26 @@ returns-clause-reused g c =
     by_entry t set found file (Some e) v (Ok left.is_reused) c.requires.entry (λ meant are. completed_asks found.answers set meant file (Some e) tree part some
     (subst (λ (ns : List ℕ). Asks (looked_at meant file ns) u v (Ok left.is_reused)) c.in_ok-part.ensures.missing (c.in_ok-left.ensures.asks meant are))) in
     λ files world rules held run. reused_here t set found file files world rules held run v left.is_reused asks
+
+pub returns-clause-ran : goal.returns-clause-ran
+returns-clause-ran g c =
+    let t = g.O.Oracle.tells c.args.oracle.now in
+    let u = g.O.Oracle.tells c.part_of.new.oracle in
+    let v = g.O.Oracle.tells c.completed.new.oracle in
+    let set = c.args.run.now.rules.now in
+    let found = c.args.run.now.found.now in
+    let file : File = (c.args.path.now, c.args.bytes.now) in
+    let e = c.args.old.now in
+    let stay = c.in_ok-part.part.stay in
+    let left = c.in_ok-left.left in
+    let tree = sym c.says_no_tree.ensures ∙ c.if-says_no_tree.false in
+    let part = subst (λ (os : List CachedResult). Asks (kept_results found.answers os (active_keys_of set file.0)) t u (Ok stay)) c.as_slice.ensures c.in_ok-part.ensures.asks in
+    let some = subst (λ (ns : List ℕ). is_empty ns ≡ false) c.in_ok-part.ensures.missing (is_some c.in_ok-part.part.missing (sym c.is_empty.ensures ∙ c.if-is_empty.false)) in
+    let asks : AsksReused t set found file v (Ok left.is_reused) =
+    by_entry t set found file (Some e) v (Ok left.is_reused) c.requires.entry (λ meant are. completed_asks found.answers set meant file (Some e) tree part some
+    (subst (λ (ns : List ℕ). Asks (looked_at meant file ns) u v (Ok left.is_reused)) c.in_ok-part.ensures.missing (c.in_ok-left.ensures.asks meant are))) in
+    let part_there = subst (λ (o : Option Entry). Asks (kept_results found.answers (results_of o) (active_keys_of set file.0)) t u (Ok stay)) (sym c.requires.entry) part in
+    λ files world rules held run. evaluates_completed t set found file files world rules held run stay left u v part_there c.in_ok-left.ensures.left asks
 
 pub returns-clause-named : goal.returns-clause-named
 returns-clause-named g c =

@@ -8,7 +8,7 @@ use Rattle.pj_names.specs.Told.{Asks}
 use Rattle.pj_reuse.specs.Serving.{kept_results}
 use Rattle.pj_cached_files.specs.Asked.{active_keys_of, looked_at, missing_numbers}
 use Rattle.pj_cached_files.proofs.Asks.{completed_asks, completed_refused, refused_asks}
-use Rattle.pj_cached_files.proofs.Leaving.{AsksReused, by_entry, left_completed, looks_completed, reused_here}
+use Rattle.pj_cached_files.proofs.Leaving.{AsksReused, by_entry, evaluates_completed, left_completed, looks_completed, reused_here}
 use Rattle.pj_cached_files.proofs.Gathering.{stands_in}
 use Rattle.pj_cached_files.proofs.Naming.{named_completed}
 use Rattle.pj_cached_files.proofs.file.entry_anew.Goals as goal
@@ -113,6 +113,25 @@ returns-clause-reused g c =
     by_entry t set found file None v (Ok left.is_reused) c.requires.entry (λ meant are. completed_asks found.answers set meant file None tree part some
     (subst (λ (ns : List ℕ). Asks (looked_at meant file ns) u v (Ok left.is_reused)) c.in_ok-part.ensures.missing (c.in_ok-left.ensures.asks meant are))) in
     λ files world rules held run. reused_here t set found file files world rules held run v left.is_reused asks
+
+pub returns-clause-ran : goal.returns-clause-ran
+returns-clause-ran g c =
+    let t = g.O.Oracle.tells c.args.oracle.now in
+    let u = g.O.Oracle.tells c.part_of.new.oracle in
+    let v = g.O.Oracle.tells c.completed.new.oracle in
+    let set = c.args.run.now.rules.now in
+    let found = c.args.run.now.found.now in
+    let file : File = (c.args.path.now, c.args.bytes.now) in
+    let stay = c.in_ok-part.part.stay in
+    let left = c.in_ok-left.left in
+    let tree : has_no_tree None ≡ false = refl in
+    let part : Asks (kept_results found.answers [] (active_keys_of set file.0)) t u (Ok stay) = c.in_ok-part.ensures.asks in
+    let some : false ≡ false = refl in
+    let asks : AsksReused t set found file v (Ok left.is_reused) =
+    by_entry t set found file None v (Ok left.is_reused) c.requires.entry (λ meant are. completed_asks found.answers set meant file None tree part some
+    (subst (λ (ns : List ℕ). Asks (looked_at meant file ns) u v (Ok left.is_reused)) c.in_ok-part.ensures.missing (c.in_ok-left.ensures.asks meant are))) in
+    let part_there = subst (λ (o : Option Entry). Asks (kept_results found.answers (results_of o) (active_keys_of set file.0)) t u (Ok stay)) (sym c.requires.entry) part in
+    λ files world rules held run. evaluates_completed t set found file files world rules held run stay left u v part_there c.in_ok-left.ensures.left asks
 
 pub returns-clause-named : goal.returns-clause-named
 returns-clause-named g c =

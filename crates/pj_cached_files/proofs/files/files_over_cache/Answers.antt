@@ -54,14 +54,14 @@ returns-clause-looked g c =
 pub returns-clause-listed : goal.returns-clause-listed
 returns-clause-listed g c =
     let note = c.in_ok-note_done.ensures in
-    lists_all (g.O.Oracle.tells c.args.oracle.now) c.args.run.now.rules.now c.args.run.now.found.now c.args.files.now c.in_ok-all.all c.args.work.now c.note_done.new.work c.in_ok-all.ensures.listed note.reused note.analysed
+    lists_all (g.O.Oracle.tells c.args.oracle.now) c.args.run.now.rules.now c.args.run.now.found.now c.args.files.now c.in_ok-all.all c.args.work.now c.note_done.new.work c.in_ok-all.ensures.listed note.reused note.analysed note.ran
 
 pub returns-clause-done : goal.returns-clause-done
 returns-clause-done g c =
     let t = g.O.Oracle.tells c.args.oracle.now in
     let note = c.in_ok-note_done.ensures in
     does_all t c.args.run.now.rules.now c.args.run.now.found.now c.args.files.now c.args.work.now c.note_done.new.work
-    (lists_all t c.args.run.now.rules.now c.args.run.now.found.now c.args.files.now c.in_ok-all.all c.args.work.now c.note_done.new.work c.in_ok-all.ensures.listed note.reused note.analysed)
+    (lists_all t c.args.run.now.rules.now c.args.run.now.found.now c.args.files.now c.in_ok-all.all c.args.work.now c.note_done.new.work c.in_ok-all.ensures.listed note.reused note.analysed note.ran)
 
 pub returns-clause-parts : goal.returns-clause-parts
 returns-clause-parts g c =

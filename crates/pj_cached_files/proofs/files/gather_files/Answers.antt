@@ -26,7 +26,7 @@ loop-file-init g c =
     record {
       asks = λ meant are. ([], turn_begin (reused_at found set meant) c.args.files.now t [] refl);
       gathered = gathers_none t set found all (ap (λ (a : Gathered). a.entries) is);
-      listed = lists_none t set found all (ap (λ (a : Gathered). a.reused) is) (ap (λ (a : Gathered). a.analysed) is);
+      listed = lists_none t set found all (ap (λ (a : Gathered). a.reused) is) (ap (λ (a : Gathered). a.analysed) is) (ap (λ (a : Gathered). a.ran) is);
       parted = parted_none all (ap (λ (a : Gathered). a.reused) is) (ap (λ (a : Gathered). a.analysed) is);
       paths = ap (λ (a : Gathered). map (λ (e : Entry). e.path) a.entries) is;
       rows = ap (λ (a : Gathered). a.rows) is ∙ ap (λ (a : Gathered). map (path_rows set) a.entries) (sym is);
@@ -58,7 +58,7 @@ loop-file-preserved g c =
           let so_far = kept.asks meant are in
           (so_far.0 ++ left.is_reused ∷ [], turn_then (reused_at found set meant) files t so_far.0 (so_far.0 ++ left.is_reused ∷ []) i file left.is_reused u v at so_far.1 (step.asks meant are) refl);
       gathered = rw (add-one) (subst (λ (fs : List File). Gathers t set found fs more) (sym at.taken) (gathers_last t u set found (take i files) file all more left stays kept.gathered step.left put.entries));
-      listed = rw (add-one) (subst (λ (fs : List File). ListsGathered t set found fs more) (sym at.taken) (lists_last t u set found (take i files) file all more left stays kept.listed step.reused step.path put.reused put.analysed));
+      listed = rw (add-one) (subst (λ (fs : List File). ListsGathered t set found fs more) (sym at.taken) (lists_last t u set found (take i files) file all more left stays kept.listed step.reused step.ran step.path put.reused put.analysed put.ran));
       parted = rw (add-one) (subst (λ (fs : List File). AreParted (map (λ (f : File). f.0) fs) more) (sym at.taken) (parted_last (take i files) file all more left.entry.path left.is_reused kept.parted step.path put.reused put.analysed));
       paths = rw (add-one) (subst (λ (fs : List File). map (λ (e : Entry). e.path) more.entries ≡ map (λ (f : File). f.0) fs) (sym at.taken) (paths_last (take i files) file all.entries more.entries left.entry kept.paths put.entries step.path));
       rows = rows_last set all.entries more.entries all.rows more.rows left.entry kept.rows put.entries put.rows;

@@ -12,6 +12,9 @@ returns-clause-looked g c = c.file_entry.ensures.looked
 pub returns-clause-reused : goal.returns-clause-reused
 returns-clause-reused g c = c.file_entry.ensures.reused
 
+pub returns-clause-ran : goal.returns-clause-ran
+returns-clause-ran g c = c.file_entry.ensures.ran
+
 pub returns-clause-named : goal.returns-clause-named
 returns-clause-named g c = c.file_entry.ensures.named
 

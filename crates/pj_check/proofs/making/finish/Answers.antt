@@ -158,7 +158,7 @@ returns-clause-left g c =
     let ready = c.args.ready.now in
     text_by c.what_is_loaded_is_found.ensures.read ready ready.settings.cache (g.C.ClassPath.holds c.args.classes.now) (g.K.Keeper.holds c.args.keeper.now) c.in_ok-begun.begun.found c.begin.new.told.unused
     c.in_ok-analysed.analysed c.in_ok-made.made.left c.args.work.now c.in_ok-begun.begun.done c.analyse_sources.new.work (g.C.ClassPath.finds c.args.classes.now) (g.C.ClassPath.finds c.analyse_sources.new.classes)
-    (λ i. (c.in_ok-begun.ensures.done i).analysed) (λ i. (c.in_ok-begun.ensures.done i).reused)
+    (λ i. (c.in_ok-begun.ensures.done i).analysed) (λ i. (c.in_ok-begun.ensures.done i).reused) (λ i. (c.in_ok-begun.ensures.done i).ran)
     c.in_ok-begun.ensures.taken c.in_ok-analysed.ensures.left c.in_ok-made.ensures.left c.in_ok-analysed.ensures.over c.in_ok-analysed.ensures.done
 
 pub returns-clause-worked : goal.returns-clause-worked

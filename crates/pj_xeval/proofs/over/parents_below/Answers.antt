@@ -1,9 +1,9 @@
-use Rattle.std.proofs.Common.{◌≡◌, filter, length, take, sym, subst, ap, ◌∙◌, arith, List}
+use Rattle.std.proofs.Common.{◌≡◌, filter, length, take, sym, subst, ◌∙◌, arith, List}
 use Rattle.std.proofs.lemmas.List.{take_all}
 use Rattle.pj_xexpressions.specs.declared.axis.Axis.TheVariants.{DescendantOrSelf}
 use Rattle.pj_xexpressions.specs.declared.expr.NodeTest.TheVariants.{AnyNode}
 use Rattle.pj_xvalue.specs.declared.item.Item.{Item}
-use Rattle.pj_xvalue.specs.Items.{ItemValue, value_of_item, values_of}
+use Rattle.pj_xvalue.specs.Items.{ItemValue, values_of}
 use Rattle.pj_xvalue.specs.OfTree.{OfTree}
 use Rattle.pj_xvalue.proofs.OfTreeLaws.{of_tree-at}
 use Rattle.pj_xaxes.specs.Order.{ordered}

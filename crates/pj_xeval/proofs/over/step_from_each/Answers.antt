@@ -4,7 +4,7 @@ use Rattle.pj_xvalue.specs.declared.item.Item.{Item}
 use Rattle.pj_xvalue.specs.Items.{ItemValue, value_of_item, values_of}
 use Rattle.pj_xvalue.specs.OfTree.{OfTree}
 use Rattle.pj_xvalue.proofs.OfTreeLaws.{of_tree-at}
-use Rattle.pj_xeval.specs.Over.{stepped_at, stepped_at_each}
+use Rattle.pj_xeval.specs.Over.{stepped_at_each}
 use Rattle.pj_xeval.proofs.ManySteps.{each_more, each-step-of_tree}
 use Rattle.pj_xeval.proofs.over.step_from_each.Goals as goal
 

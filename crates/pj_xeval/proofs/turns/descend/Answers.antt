@@ -1,4 +1,4 @@
-use Rattle.std.proofs.Common.{List, map, refl, sym, ◌∙◌}
+use Rattle.std.proofs.Common.{map, refl, sym, ◌∙◌}
 use Rattle.pj_xexpressions.specs.declared.axis.Axis.TheVariants.{DescendantOrSelf}
 use Rattle.pj_xexpressions.specs.declared.expr.NodeTest.TheVariants.{AnyNode}
 use Rattle.pj_xvalue.specs.Items.{values_of}

@@ -1,4 +1,4 @@
-use Rattle.std.proofs.Common.{◌∷◌, ◌-◌, List, length, map, take, drop, subst, sym, ap, ◌∙◌}
+use Rattle.std.proofs.Common.{◌∷◌, ◌-◌, length, map, take, drop, subst, sym, ap, ◌∙◌}
 use Rattle.pj_xexpressions.specs.declared.axis.Axis.{Axis}
 use Rattle.pj_xexpressions.specs.declared.axis.Axis.TheVariants.{DescendantOrSelf}
 use Rattle.pj_xexpressions.specs.declared.expr.Expr.{Expr}

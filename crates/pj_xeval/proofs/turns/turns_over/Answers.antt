@@ -1,4 +1,4 @@
-use Rattle.std.proofs.Common.{◌∷◌, length, List, map, subst, sym, ap, ◌∙◌}
+use Rattle.std.proofs.Common.{length, List, map, subst, sym, ap, ◌∙◌}
 use Rattle.pj_xexpressions.specs.declared.expr.Expr.{Expr}
 use Rattle.pj_xvalue.specs.Items.{ItemValue, values_of}
 use Rattle.pj_xsteps.specs.Means.{Means}

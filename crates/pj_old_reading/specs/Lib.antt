@@ -1,0 +1,4 @@
+-- for private clauses
+pub mod Copied
+pub mod Spelled
+pub mod Unsealed

@@ -1,0 +1,4 @@
+mod Keeping
+mod Running
+mod Going
+mod Told
