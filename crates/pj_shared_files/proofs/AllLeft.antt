@@ -1,14 +1,15 @@
 -- What is left of all files, by what is left of each.
-use Rattle.std.proofs.Common.{◌≡◌, ◌∙◌, ℕ, zero, suc, ◌+◌, ◌<◌, Bool, true, false, not, cond, List, [], ◌∷◌, ◌++◌, length, map, filter, Some, IsTrue, refl, ap, arith, get_or, subst}
+use Rattle.std.proofs.Common.{◌≡◌, ◌∙◌, ℕ, zero, suc, ◌+◌, ◌<◌, Bool, true, false, not, cond, List, [], ◌∷◌, ◌++◌, length, map, filter, Some, IsTrue, refl, ap, arith, get_or, subst, sym}
 use Rattle.std.specs.Prelude.{if◌then◌else◌, is_some, slice_get}
 use Rattle.std.specs.List.{AllByRecursion, AllZip}
-use Rattle.std.proofs.lemmas.List.{length-map}
+use Rattle.std.proofs.lemmas.List.{append-nil, append_assoc}
 use Rattle.pj_cache.specs.declared.cache.Cache.{Cache}
 use Rattle.pj_cache.specs.declared.cache.Entry.{Entry}
 use Rattle.pj_cache_laws.specs.Written.{WrittenRule}
 use Rattle.pj_cached_files.specs.Gathered.{put_if}
 use Rattle.pj_cached_files.specs.LeftFile.{IsLeftFile}
 use Rattle.pj_cached_files.specs.LeftFiles.{paths_of, picked}
+use Rattle.pj_cached_files.specs.Ran.{ran_at, ran_at_all}
 use Rattle.pj_cached_files.specs.declared.entry.LeftFile.{LeftFile}
 use Rattle.pj_crew.specs.Together.{IsMadeByAll}
 use Rattle.pj_fitting.specs.Left.{File, IsLeftEntry}
@@ -22,7 +23,8 @@ use Rattle.pj_table.specs.ClassWorld.{worlds_of}
 use Rattle.pj_table.specs.Worlds as table
 use Rattle.pj_table.specs.declared.part.Part.{Part}
 use Rattle.pj_workers.specs.Cold.{World}
-use Rattle.pj_shared_files.specs.Gathering.{entries_of, entry_of, flags_of}
+use Rattle.pj_workers.specs.Evaluated.{with_path}
+use Rattle.pj_shared_files.specs.Gathering.{entries_of, entry_of, flags_of, ran_of}
 use Rattle.pj_shared_files.specs.InWorlds.{LeavesIn}
 
 -- ---- in a run
@@ -44,6 +46,13 @@ module _ (files : Files WrittenRule) (world : World) (found : Cache) (held : Lis
   bytes_left [] (left ∷ made) all = absurd all
   bytes_left (file ∷ list) [] all = absurd all
   bytes_left (file ∷ list) (left ∷ made) all = (all.0.by_bytes, bytes_left list made all.1)
+
+  -- the rules that were evaluated are those that had to be
+  pub ran_is : (list : List File) (made : List LeftFile) → AllZip (λ file (left : LeftFile). left.ran ≡ ran_at files found world held file) list made → ran_of list made ≡ ran_at_all files found world held list
+  ran_is [] [] all = refl
+  ran_is [] (left ∷ made) all = absurd all
+  ran_is (file ∷ list) [] all = absurd all
+  ran_is (file ∷ list) (left ∷ made) all = λ i. with_path file.0 (all.0 i) ++ ran_is list made all.1 i
 
 -- paths at whose places `true` stands are those that pass a test
 pub picked_is : (q : File → Bool) (list : List File) (flags : List Bool) → AllZip (λ file flag. flag ≡ q file) list flags → picked flags (map (λ (f : File). f.0) list) ≡ paths_of (filter q list)
@@ -108,6 +117,17 @@ pub entries_last : (list : List File) (made : List LeftFile) (left : LeftFile) (
 entries_last [] made left file below is = absurd (omega (arith, below))
 entries_last (f ∷ list) [] left file below is = λ i. entry_of (is i) left ∷ none_left list i
 entries_last (f ∷ list) (m ∷ made) left file below is = ap (λ (es : List Entry). entry_of f m ∷ es) (entries_last list made left file (omega (arith, below)) is)
+
+-- no rules of nothing
+pub none_ran : (list : List File) → ran_of list [] ≡ []
+none_ran [] = refl
+none_ran (file ∷ list) = refl
+
+pub ran_last : (list : List File) (made : List LeftFile) (left : LeftFile) (file : File) → length made < length list → get_or list (length made) file ≡ file → ran_of list (made ++ left ∷ []) ≡ ran_of list made ++ with_path file.0 left.ran
+ran_last [] made left file below is = absurd (omega (arith, below))
+ran_last (f ∷ list) [] left file below is = (λ i. with_path (is i).0 left.ran ++ none_ran list i) ∙ append-nil (with_path file.0 left.ran)
+ran_last (f ∷ list) (m ∷ made) left file below is =
+    ap (λ (l : List (Bytes × ℕ)). with_path f.0 m.ran ++ l) (ran_last list made left file (omega (arith, below)) is) ∙ sym (append_assoc (with_path f.0 m.ran) (ran_of list made) (with_path file.0 left.ran))
 
 next_put : (flag b : Bool) (y x : List ℕ) (more those : List (List ℕ)) → more ≡ put_if b those x → (if flag then y ∷ more else more) ≡ put_if b (if flag then y ∷ those else those) x
 next_put true true y x more those is = ap (λ (l : List (List ℕ)). y ∷ l) is

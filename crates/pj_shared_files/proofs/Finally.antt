@@ -1,5 +1,5 @@
 -- What several workers leave is what a run has to leave.
-use Rattle.std.proofs.Common.{◌≡◌, ◌∙◌, ◌++◌, Bool, List, IsTrue, length, map, not, refl, sym, subst, ap}
+use Rattle.std.proofs.Common.{◌≡◌, ◌∙◌, ◌++◌, ℕ, Bool, List, IsTrue, length, map, not, refl, sym, subst, ap}
 use Rattle.std.proofs.lemmas.List.{length-map}
 use Rattle.std.specs.Prelude.{Ok, is_some}
 use Rattle.std.specs.FinSet as set
@@ -14,6 +14,7 @@ use Rattle.pj_cached_files.proofs.Gathering.{all_said}
 use Rattle.pj_cached_files.specs.Gathered.{HasText}
 use Rattle.pj_cached_files.specs.LeftFile.{IsLeftFile}
 use Rattle.pj_cached_files.specs.LeftFiles.{ArePartedBy, path_rows, picked}
+use Rattle.pj_cached_files.specs.Ran.{ran_at}
 use Rattle.pj_cached_files.specs.declared.entry.LeftFile.{LeftFile}
 use Rattle.pj_fitting.specs.Left.{File, IsLeftCache, IsLeftEntry}
 use Rattle.pj_fitting.specs.Looked.{is_reusable}
@@ -28,8 +29,8 @@ use Rattle.pj_table.specs.ClassWorld.{worlds_of}
 use Rattle.pj_table.specs.Telling.{tells_of}
 use Rattle.pj_table.specs.Worlds.{World}
 use Rattle.pj_workers.specs.declared.work.Work.{Work}
-use Rattle.pj_shared_files.proofs.AllLeft.{CameIn, bytes_left, entries_left, flags_are, flags_are_not, picked_is, weaken}
-use Rattle.pj_shared_files.specs.Gathering.{entries_of, flags_of}
+use Rattle.pj_shared_files.proofs.AllLeft.{CameIn, bytes_left, entries_left, flags_are, flags_are_not, picked_is, ran_is, weaken}
+use Rattle.pj_shared_files.specs.Gathering.{entries_of, flags_of, ran_of}
 use Rattle.pj_shared_files.specs.InWorlds.{LeavesAllIn, ListsIn}
 
 -- ---- an oracle that never fails
@@ -53,14 +54,16 @@ module _ (world : World) (rules : EffectiveRules) (found : Cache) (list : List F
       }
 
   pub lists : (before after : Work) → after.reused ≡ before.reused ++ picked (flags_of made) (map (λ (file : File). file.0) list) → after.analysed ≡ before.analysed ++ picked (map not (flags_of made)) (map (λ (file : File). file.0) list)
-      → ListsIn world rules found list before after
-  lists before after reused analysed = λ files classes meant held run.
+      → after.ran ≡ before.ran ++ ran_of list made → ListsIn world rules found list before after
+  lists before after reused analysed ran = λ files classes meant held run.
       let can : File → Bool = is_reusable files found classes held in
       let each = weaken (CameIn world rules found) (λ (file : File) (left : LeftFile). left.is_reused ≡ can file) list made (λ file left one. one.1.reuses files classes meant held run) came in
+      let evaluated = weaken (CameIn world rules found) (λ (file : File) (left : LeftFile). left.ran ≡ ran_at files found classes held file) list made (λ file left one. one.1.evaluates files classes meant held run) came in
       let flags = flags_are can list made each in
       record {
         reused = reused ∙ ap (λ (l : List Bytes). before.reused ++ l) (picked_is can list (flags_of made) flags);
         analysed = analysed ∙ ap (λ (l : List Bytes). before.analysed ++ l) (picked_is (λ (file : File). not (can file)) list (map not (flags_of made)) (flags_are_not can list (flags_of made) flags));
+        ran = ran ∙ ap (λ (l : List (Bytes × ℕ)). before.ran ++ l) (ran_is files classes found held list made evaluated);
       }
 
 -- ---- in any world

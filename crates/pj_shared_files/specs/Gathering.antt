@@ -1,8 +1,10 @@
 -- What is left of files, put together, for private clauses.
-use Rattle.std.specs.Prelude.{List, [], ◌∷◌, Bool, map}
+use Rattle.std.specs.Prelude.{ℕ, List, [], ◌∷◌, ◌++◌, Bool, map}
 use Rattle.pj_cache.specs.declared.cache.Entry.{Entry}
 use Rattle.pj_cached_files.specs.declared.entry.LeftFile.{LeftFile}
 use Rattle.pj_fitting.specs.Left.{File}
+use Rattle.pj_outside.specs.Files.{Bytes}
+use Rattle.pj_workers.specs.Evaluated.{with_path}
 
 -- the entry that is left of a file, under the path of the file
 abbrev pub entry_of : File → LeftFile → Entry
@@ -17,3 +19,9 @@ entries_of (file ∷ list) (left ∷ made) = entry_of file left ∷ entries_of l
 -- for each of them whether it is used again as it is
 abbrev pub flags_of : List LeftFile → List Bool
 flags_of made = map (λ (left : LeftFile). left.is_reused) made
+
+-- the rules that were evaluated on them, each with the path of its file
+abbrev pub ran_of : List File → List LeftFile → List (Bytes × ℕ)
+ran_of [] made = []
+ran_of (file ∷ list) [] = []
+ran_of (file ∷ list) (left ∷ made) = with_path file.0 left.ran ++ ran_of list made

@@ -3,7 +3,7 @@ use Rattle.std.specs.Prelude.{◌≡◌, ℕ, List, true}
 use Rattle.std.specs.FinSet as set
 use Rattle.pj_cache.specs.declared.cache.Cache.{Cache}
 use Rattle.pj_cache_laws.specs.Written.{WrittenRule}
-use Rattle.pj_cached_files.specs.LeftFile.{Leaves, Looks, Reuses, StandsIn}
+use Rattle.pj_cached_files.specs.LeftFile.{Evaluates, Leaves, Looks, Reuses, StandsIn}
 use Rattle.pj_cached_files.specs.LeftFiles.{LeavesAll, Lists}
 use Rattle.pj_cached_files.specs.declared.entry.LeftFile.{LeftFile}
 use Rattle.pj_cached_files.specs.declared.files.LeftFiles.{LeftFiles}
@@ -29,6 +29,7 @@ told_in worlds = record { is_told = true; world = worlds; kept = tt; asked = set
 pub record LeavesIn (rules : EffectiveRules) (found : Cache) (file : File) (worlds : Worlds) (names : NameSet) (left : LeftFile) : Type 0 where
   pub leaves : Leaves (told_in worlds) rules found file left
   pub reuses : Reuses (told_in worlds) rules found file left
+  pub evaluates : Evaluates (told_in worlds) rules found file left
   pub looks : Looks (told_in worlds) names rules found file
 
 -- What is left of all files in the world of a table, where it is told and the cache is right.

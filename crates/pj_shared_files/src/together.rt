@@ -97,15 +97,16 @@ fn files_known<R: Threads + Wait + Sync, D: ClassDoor, G: Gate + Sync, W: Knowin
         rows,
         reused,
         analysed,
+        ran,
     } = left;
     let cache = cache_of::<W>(alloc, &closed, entries)?;
-    note_done(work, reused, analysed)?;
+    note_done(work, reused, analysed, ran)?;
     Ok(LeftFiles { cache, rows })
 }
 
 /// What a run leaves of files, by a worker for each door: the cache, and the rows of each, as `files_over_cache` gives them. Each file is
 /// claimed by one worker, and each class is found once. The paths of the files that are used again as they are, and of those that are
-/// analysed, are put behind those of `work`; after a refusal `work` is as it was.
+/// analysed, and the rules that are evaluated, are put behind those of `work`; after a refusal `work` is as it was.
 ///
 /// A failed door goes before want of memory. It waits for the threads and for the turns of the table.
 ///

@@ -33,7 +33,7 @@ returns-clause-listed g c = λ told.
     let made = c.in_ok-crew.crew.made.items in let done = c.in_ok-left.ensures in let note = c.in_ok-note_done.ensures in
     let came = came_of_each g.D.ClassDoor.finds c.args.doors.now.items c.work_together.new.doors.items world set_of found list (length list) made c.in_ok-crew.crew.closed.parts.items told refl c.in_ok-crew.ensures.together in
     let before = c.args.work.now in
-    lists world set_of found list made told came before c.note_done.new.work (note.reused ∙ ap (λ (l : List Bytes). before.reused ++ l) done.reused) (note.analysed ∙ ap (λ (l : List Bytes). before.analysed ++ l) done.analysed)
+    lists world set_of found list made told came before c.note_done.new.work (note.reused ∙ ap (λ (l : List Bytes). before.reused ++ l) done.reused) (note.analysed ∙ ap (λ (l : List Bytes). before.analysed ++ l) done.analysed) (note.ran ∙ ap (λ (l : List (Bytes × ℕ)). before.ran ++ l) done.ran)
 
 pub returns-clause-finds : goal.returns-clause-finds
 returns-clause-finds g c = λ told.

@@ -7,9 +7,9 @@ use Rattle.pj_shared_files.proofs.InWorlds.{item_is, leaves_in}
 use Rattle.pj_shared_files.specs.InWorlds.{LeavesIn}
 use Rattle.pj_shared_files.proofs.files_work.FilesWorkFileWork.work.Goals as goal
 
-all_three : {A E : Type 0} {P Q R S : A → Type 0} (r : Result A E) → ((x : A) → P x → Q x → R x → S x) → IfOk r P → IfOk r Q → IfOk r R → IfOk r S
-all_three (Ok x) f p q s = f x p q s
-all_three (Err e) f p q s = tt
+all_four : {A E : Type 0} {P Q R S T : A → Type 0} (r : Result A E) → ((x : A) → P x → Q x → R x → S x → T x) → IfOk r P → IfOk r Q → IfOk r R → IfOk r S → IfOk r T
+all_four (Ok x) f p q s t = f x p q s t
+all_four (Err e) f p q s t = tt
 
 pub returns-clause-stays : goal.returns-clause-stays
 returns-clause-stays g c = asks_stay (λ (left : LeftFile). left.is_reused) c.file_entry.result (c.file_entry.ensures.asks c.sets_have_rules.ensures.0 c.sets_have_rules.ensures.1)
@@ -18,6 +18,6 @@ pub returns-clause-comes : goal.returns-clause-comes
 returns-clause-comes g c = λ told.
     let t = g.O.Oracle.tells c.args.oracle.now in let asked = (g.O.Oracle.tells c.file_entry.new.oracle).asked in
     let rules = c.args.self.now.run.now.rules.now in let found = c.args.self.now.run.now.found.now in let files = c.args.self.now.files.now in let item = c.index-self-file.result in
-    all_three c.file_entry.result (λ left leaves reuses looks one is.
-    subst (λ (f : File). LeavesIn rules found f t.world asked left) (c.index-self-file.is ∙ item_is files c.args.file one item is) (leaves_in t rules found item asked left told c.requires.fresh leaves reuses looks))
-    c.file_entry.ensures.left c.file_entry.ensures.reused c.file_entry.ensures.looked
+    all_four c.file_entry.result (λ left leaves reuses evaluates looks one is.
+    subst (λ (f : File). LeavesIn rules found f t.world asked left) (c.index-self-file.is ∙ item_is files c.args.file one item is) (leaves_in t rules found item asked left told c.requires.fresh leaves reuses evaluates looks))
+    c.file_entry.ensures.left c.file_entry.ensures.reused c.file_entry.ensures.ran c.file_entry.ensures.looked
