@@ -19,7 +19,7 @@ use Rattle.pj_table.specs.declared.part.Part.{Part}
 use Rattle.pj_table.specs.declared.view.Entry.{Entry}
 use Rattle.pj_shared_files.specs.Answering.{HasRightEntries, HaveRightEntries, IsRightEntry}
 
-all_of : {A : Type 0} (P : A → Type 0) (xs : List A) → ((k : ℕ) (x : A) → get_elem? xs k ≡ some x → P x) → AllByRecursion P xs
+pub all_of : {A : Type 0} (P : A → Type 0) (xs : List A) → ((k : ℕ) (x : A) → get_elem? xs k ≡ some x → P x) → AllByRecursion P xs
 all_of P [] f = tt
 all_of P (x ∷ xs) f = (f 0 x refl, all_of P xs (λ k y at. f (suc k) y at))
 

@@ -3,7 +3,7 @@ use Rattle.std.proofs.Common.{◌≡◌, ◌∙◌, ℕ, ◌+◌, ◌-◌, ◌^�
 use Rattle.std.specs.Bool.{MatchBool}
 use Rattle.std.specs.List.{AllByRecursion}
 use Rattle.std.specs.Option.{option_map}
-use Rattle.std.specs.Prelude.{Result, Ok, Err, is_some}
+use Rattle.std.specs.Prelude.{Result, Ok, Err, OnOk, is_some}
 use Rattle.std.specs.FinSet as set
 use Rattle.pj_cache.specs.declared.cache.Cache.{Cache}
 use Rattle.pj_crew.specs.Opening.{IsNewDoor, with_finds}
@@ -21,6 +21,10 @@ use Rattle.pj_shared_files.specs.InWorlds.{FindInWorld, FoundInWorld}
 pub some_mapped : {A B : Type 0} (f : A → B) (o : Option A) → IsTrue (is_some o) → IsTrue (is_some (option_map f o))
 some_mapped f None is = absurd (cc)
 some_mapped f (Some x) is = refl
+
+pub on_ok : {A E P Q : Type 0} (r : Result A E) → (P → Q) → OnOk r P → OnOk r Q
+on_ok (Ok x) f p = f p
+on_ok (Err e) f p = tt
 
 -- a door without faults leaves the count
 pub none_taken : (begun after of_door : ℕ) → of_door ≡ 0 → TakesFaults begun after of_door → after ≡ begun

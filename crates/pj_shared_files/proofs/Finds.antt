@@ -163,12 +163,15 @@ looks_in own (n ∷ names) (a ∷ looks) is all =
 abbrev IsPlaced : List Entry → ℕ → Asked → Type 0
 IsPlaced es p a = a.part ≡ p → Stands es a.place a.name
 
+placed_on : (es : List Entry) (p : ℕ) (a : Asked) (looks : List Asked) (b : Bool) → (a.part == p) ≡ b
+    → ((k : ℕ) (x : Asked) → get_elem? (cond b (a ∷ filter (λ (y : Asked). y.part == p) looks) (filter (λ (y : Asked). y.part == p) looks)) k ≡ some x → Stands es x.place x.name)
+    → (((k : ℕ) (x : Asked) → get_elem? (filter (λ (y : Asked). y.part == p) looks) k ≡ some x → Stands es x.place x.name) → AllByRecursion (IsPlaced es p) looks) → AllByRecursion (IsPlaced es p) (a ∷ looks)
+placed_on es p a looks true is at on = ((λ same. at 0 a refl), on (λ k x there. at (suc k) x there))
+placed_on es p a looks false is at on = ((λ same. let yes = eq-eqb a.part p same in absurd (cc)), on at)
+
 placed : (es : List Entry) (p : ℕ) (looks : List Asked) → ((k : ℕ) (a : Asked) → get_elem? (filter (λ (b : Asked). b.part == p) looks) k ≡ some a → Stands es a.place a.name) → AllByRecursion (IsPlaced es p) looks
 placed es p [] named = tt
-placed es p (a ∷ looks) named = go (a.part == p) refl named where
-  go : (b : Bool) → (a.part == p) ≡ b → ((k : ℕ) (x : Asked) → get_elem? (cond b (a ∷ filter (λ (y : Asked). y.part == p) looks) (filter (λ (y : Asked). y.part == p) looks)) k ≡ some x → Stands es x.place x.name) → AllByRecursion (IsPlaced es p) (a ∷ looks)
-  go true is at = ((λ same. at 0 a refl), placed es p looks (λ k x there. at (suc k) x there))
-  go false is at = ((λ same. let yes = eq-eqb a.part p same in absurd (cc)), placed es p looks at)
+placed es p (a ∷ looks) named = placed_on es p a looks (a.part == p) refl named (λ later. placed es p looks later)
 
 -- a fill for this name
 abbrev fills_name : Name → Asked → Bool
@@ -183,7 +186,7 @@ fills_alike : (es : List Entry) (x : Name) (k : ℕ) (e : Entry) → get_elem? e
     → (a : Asked) → a.part ≡ part_of a.name → IsPlaced es (part_of x) a → fills_name x a ≡ cond (a.part == part_of x) (cond a.fill (a.place == k) false) false
 fills_alike es x k e at is apart a part stands = go (is_same x a.name) refl where
   when_other : is_same x a.name ≡ false → cond (a.part == part_of x) (cond a.fill (a.place == k) false) false ≡ false
-  when_other no =
+  when_other unlike =
       dite (ℕ_discrete a.part (part_of x))
       (λ same.
         let there = stands same in
@@ -194,13 +197,13 @@ fills_alike es x k e at is apart a part stands = go (is_same x a.name) refl wher
         (λ i. cond (a.part == part_of x) (cond a.fill (other i) false) false) ∙ (λ i. cond (a.part == part_of x) (not_filled a.fill i) false) ∙ not_filled (a.part == part_of x))
       (λ other. ap (λ (b : Bool). cond b (cond a.fill (a.place == k) false) false) (ne_eqb a.part (part_of x) other))
   go : (b : Bool) → is_same x a.name ≡ b → fills_name x a ≡ cond (a.part == part_of x) (cond a.fill (a.place == k) false) false
-  go true yes =
-      let name : x ≡ a.name = same_name x a.name yes in
+  go true alike =
+      let name : x ≡ a.name = same_name x a.name alike in
       let same : a.part ≡ part_of x = part ∙ ap part_of (sym name) in
       let there = stands same in
       let here : (a.place == k) ≡ true = eq-eqb a.place k (apart a.place k there.0 e there.1 at (there.2 ∙ sym name ∙ sym is)) in
-      ap (λ (b : Bool). cond a.fill b false) (yes ∙ sym here) ∙ sym (ap (λ (b : Bool). cond b (cond a.fill (a.place == k) false) false) (eq-eqb a.part (part_of x) same))
-  go false no = ap (λ (b : Bool). cond a.fill b false) no ∙ not_filled a.fill ∙ sym (when_other no)
+      ap (λ (b : Bool). cond a.fill b false) (alike ∙ sym here) ∙ sym (ap (λ (b : Bool). cond b (cond a.fill (a.place == k) false) false) (eq-eqb a.part (part_of x) same))
+  go false unlike = ap (λ (b : Bool). cond a.fill b false) unlike ∙ not_filled a.fill ∙ sym (when_other unlike)
 
 -- ---- all seats
 
@@ -267,14 +270,14 @@ module _ (files : ℕ) (world : table.World) (parts : List Part) (seats : List S
         (λ seat looks again. count_none (fills_name x) seat.looks
           (all_two (IsLookIn own) (IsLookIn own) (λ a. fills_name x a ≡ false) seat.looks (λ a look once_more. go a look.1 (is_same x a.name) refl) looks looks)) looks_are looks_are) where
     go : (a : Asked) → IsTrue (set.contains own a.name) → (b : Bool) → is_same x a.name ≡ b → fills_name x a ≡ false
-    go a there true yes = let is = subst (λ (n : Name). IsTrue (set.contains own n)) (sym (same_name x a.name yes)) there in absurd (cc)
-    go a there false no = ap (λ (b : Bool). cond a.fill b false) no ∙ not_filled a.fill
+    go a there true alike = let is = subst (λ (n : Name). IsTrue (set.contains own n)) (sym (same_name x a.name alike)) there in absurd (cc)
+    go a there false unlike = ap (λ (b : Bool). cond a.fill b false) unlike ∙ not_filled a.fill
 
   pub fills_are : all_fills seats ≡ set.len own
   fills_are = sym (many_fills seats) ∙ as_many (fill_names seats) own (λ x. count_fill_names x seats ∙ go x (set.contains own x) refl) where
     go : (x : Name) (b : Bool) → set.contains own x ≡ b → total (λ (seat : SeatWork). count (fills_name x) seat.looks) seats ≡ cond (set.contains own x) 1 0
-    go x true yes = one_fill x (filled x yes) ∙ sym (ap (λ (b : Bool). cond b 1 0) yes)
-    go x false no = no_fill x no ∙ sym (ap (λ (b : Bool). cond b 1 0) no)
+    go x true there = one_fill x (filled x there) ∙ sym (ap (λ (b : Bool). cond b 1 0) there)
+    go x false absent = no_fill x absent ∙ sym (ap (λ (b : Bool). cond b 1 0) absent)
 
 -- ---- the names of all files
 
@@ -294,7 +297,7 @@ module _ (files : Files WrittenRule) (found : Cache) (classes : World) (held : L
 
   pub asked_together : (k : ℕ) (list : List File) (made : List LeftFile) → length made ≡ length list → ((n : ℕ) (d : LeftFile) (one : File) → n < length list → slice_get list n ≡ Some one → IsAsked (k + n) one)
       → (own : NameSet) × AreAsked k (length list) list own
-  asked_together k [] [] long each = (set.empty, refl, (λ x there. let none = contains-empty (slice_cmp nat_cmp) x in absurd (cc)), (λ n from to. absurd (omega (arith, from, to))))
+  asked_together k [] [] long each = (set.empty, (refl, (λ x there. let none = contains-empty (slice_cmp nat_cmp) x in absurd (cc)), (λ n from to. absurd (omega (arith, from, to)))))
   asked_together k [] (left ∷ made) long each = absurd (omega (arith, long))
   asked_together k (file ∷ list) [] long each = absurd (omega (arith, long))
   asked_together k (file ∷ list) (left ∷ made) long each =
@@ -302,18 +305,18 @@ module _ (files : Files WrittenRule) (found : Cache) (classes : World) (held : L
       let later = asked_together (k + 1) list made (omega (arith, long)) (λ n d one below is. subst (λ (m : ℕ). IsAsked m one) (omega arith) (each (suc n) d one (omega (arith, below)) is)) in
       let mine = name_set first.0 in let others = later.0 in let own = set.union mine others in
       let either = λ (x : Name). contains-union nat_list_cmp_total mine others x in
-      (own,
-        record { own = mine; others = others; first = first.3; rest = later.1; all = refl },
+      (own, (
+        record { own = mine; others = others; first = first.3; rest = later.1.0; all = refl },
         (λ x there.
-          from_or (set.contains mine x) (set.contains others x) (λ here. one_of_all (IsFilled parts) first.0 x first.2 (subst (λ (b : Bool). IsTrue b) (contains-from_list nat_list_cmp_total first.0 x) here)) (λ rest. later.2 x rest)
+          from_or (set.contains mine x) (set.contains others x) (λ here. one_of_all (IsFilled parts) first.0 x first.2 (subst (λ (b : Bool). IsTrue b) (contains-from_list nat_list_cmp_total first.0 x) here)) (λ rest. later.1.1 x rest)
           (subst (λ (b : Bool). IsTrue b) (either x) there)),
         (λ n from to.
           dite (ℕ_discrete n k)
           (λ same. (first.0, subst (λ (m : ℕ). Contains claims (m, first.0)) (sym same) first.1,
             (λ x there. subst (λ (b : Bool). IsTrue b) (sym (either x)) (or_left (set.contains mine x) (set.contains others x) (subst (λ (b : Bool). IsTrue b) (sym (contains-from_list nat_list_cmp_total first.0 x)) there)))))
           (λ other.
-            let one = later.3 n (not_more (k + 1) n (λ below. other (omega (arith, below, from)))) (omega (arith, to)) in
-            (one.0, one.1, (λ x there. subst (λ (b : Bool). IsTrue b) (sym (either x)) (or_right (set.contains mine x) (set.contains others x) (one.2 x there)))))))
+            let one = later.1.2 n (not_more (k + 1) n (λ below. other (omega (arith, below, from)))) (omega (arith, to)) in
+            (one.0, one.1, (λ x there. subst (λ (b : Bool). IsTrue b) (sym (either x)) (or_right (set.contains mine x) (set.contains others x) (one.2 x there))))))))
 
 -- ---- counts of doors
 
@@ -365,7 +368,7 @@ module _ {D : Type 0} (finds : D → ℕ) (before after : List D) (world : table
       let asked = asked_together sources found classes held parts (claimed_by together.seats) 0 list made (together.many ∙ many) (λ n d one below is.
         let over = together.each n d (omega (arith, below, many)) in
         let looked = (over.made_so.comes_so told one is).looks sources classes meant held stands (own_needs world) in
-        (over.names, over.claimed, over.filled, subst (λ (s : NameSet). LookedFile sources found classes held one s) (sym (looked.2 ∙ none_union looked.0)) looked.1)) in
+        (over.names, subst (λ (m : ℕ). Contains (claimed_by together.seats) (m, over.names)) (let e : n ≡ 0 + n = omega arith in e) over.claimed, over.filled, subst (λ (s : NameSet). LookedFile sources found classes held one s) (sym (looked.2 ∙ none_union looked.0)) looked.1)) in
       let own = asked.0 in
-      (own, asked.1, count_together finds before after together.seats own any together.found
-        (fills_are files world parts together.seats together.right together.work own asked.2 (seats_in (λ n. IsTrue (set.contains own n)) together.seats (in_set own asked.3))))
+      (own, asked.1.0, count_together finds before after together.seats own any together.found
+        (fills_are files world parts together.seats together.right together.work own asked.1.1 (seats_in (λ n. IsTrue (set.contains own n)) together.seats (in_set own asked.1.2))))

@@ -47,5 +47,3 @@ returns-clause-paths g c =
     let many : length c.in_ok-crew.crew.made.items ≡ length c.args.files.now = search rules in
     ap (λ (es : List Entry). map (λ (e : Entry). e.path) es) (c.in_ok-cache.ensures.entries ∙ c.in_ok-left.ensures.entries) ∙ paths_left c.args.files.now c.in_ok-crew.crew.made.items many
 
-pub work_together-requires-sync-W : goal.work_together-requires-sync-W
-work_together-requires-sync-W g c κs within = search rules depth 60

@@ -1,4 +1,4 @@
-use Rattle.std.proofs.Common.{◌≡◌, ◌∙◌, subst}
+use Rattle.std.proofs.Common.{◌≡◌, get_or, subst}
 use Rattle.std.specs.Prelude.{Result, Ok, Err, IfOk}
 use Rattle.pj_cached_files.specs.declared.entry.LeftFile.{LeftFile}
 use Rattle.pj_fitting.specs.Left.{File}
@@ -17,7 +17,7 @@ returns-clause-stays g c = asks_stay (λ (left : LeftFile). left.is_reused) c.fi
 pub returns-clause-comes : goal.returns-clause-comes
 returns-clause-comes g c = λ told.
     let t = g.O.Oracle.tells c.args.oracle.now in let asked = (g.O.Oracle.tells c.file_entry.new.oracle).asked in
-    let rules = c.args.self.now.run.now.rules.now in let found = c.args.self.now.run.now.found.now in let files = c.args.self.now.files.now in let item = c.index-self-file.result in
+    let rules = c.args.self.now.run.now.rules.now in let found = c.args.self.now.run.now.found.now in let files = c.args.self.now.files.now in let item : File = get_or files c.args.file c.index-self-file.result in
     all_four c.file_entry.result (λ left leaves reuses evaluates looks one is.
-    subst (λ (f : File). LeavesIn rules found f t.world asked left) (c.index-self-file.is ∙ item_is files c.args.file one item is) (leaves_in t rules found item asked left told c.requires.fresh leaves reuses evaluates looks))
+    subst (λ (f : File). LeavesIn rules found f t.world asked left) (item_is files c.args.file one c.index-self-file.result is) (leaves_in t rules found item asked left told c.requires.fresh leaves reuses evaluates looks))
     c.file_entry.ensures.left c.file_entry.ensures.reused c.file_entry.ensures.ran c.file_entry.ensures.looked
