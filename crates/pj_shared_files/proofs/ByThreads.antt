@@ -12,7 +12,10 @@ use Rattle.pj_fitting.specs.Left.{File}
 use Rattle.pj_names.specs.declared.oracle.AskFault.{AskFault}
 use Rattle.pj_names.specs.declared.oracle.AskFault.TheVariants.{Failed, Memory}
 use Rattle.pj_outside.specs.Doors.{TakesFaults, count_and}
+use Rattle.pj_outside.specs.Faults as outside
 use Rattle.pj_outside.specs.Faults.{Rises}
+use Rattle.pj_outside.specs.declared.refused.Refused.{Refused}
+use Rattle.pj_outside.specs.declared.refused.Refused.TheVariants as refused
 use Rattle.pj_rule_sets.specs.Rules.{EffectiveRules}
 use Rattle.pj_table.specs.Rule.{total}
 use Rattle.pj_table.specs.Worlds.{CountsFaults, World}
@@ -25,6 +28,18 @@ some_mapped f (Some x) is = refl
 pub on_ok : {A E P Q : Type 0} (r : Result A E) → (P → Q) → OnOk r P → OnOk r Q
 on_ok (Ok x) f p = f p
 on_ok (Err e) f p = tt
+
+-- a door that could not be opened
+
+pub open_failed : {A : Type 0} (old new : ℕ) (r : Result A Refused) → r ≡ Err refused.Failed → outside.CountsFaults old new r → Rises old new
+open_failed old new (Ok value) is counts = absurd (cc)
+open_failed old new (Err refused.Failed) is counts = counts
+open_failed old new (Err refused.Memory) is counts = absurd (cc)
+
+pub open_wanting : {A : Type 0} (old new : ℕ) (r : Result A Refused) → r ≡ Err refused.Memory → outside.CountsFaults old new r → new ≡ old
+open_wanting old new (Ok value) is counts = counts
+open_wanting old new (Err refused.Failed) is counts = absurd (cc)
+open_wanting old new (Err refused.Memory) is counts = counts
 
 -- a door without faults leaves the count
 pub none_taken : (begun after of_door : ℕ) → of_door ≡ 0 → TakesFaults begun after of_door → after ≡ begun

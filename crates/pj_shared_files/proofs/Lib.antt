@@ -6,3 +6,5 @@ pub mod Finally
 pub mod Counting
 pub mod Finds
 pub mod ByThreads
+-- threads
+pub mod Sharing

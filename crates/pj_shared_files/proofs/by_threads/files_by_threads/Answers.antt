@@ -10,7 +10,7 @@ use Rattle.pj_outside.specs.Faults.{Rises}
 use Rattle.pj_table.specs.Rule.{total}
 use Rattle.pj_table.specs.Worlds.{CountsFaults, World}
 use Rattle.pj_workers.specs.declared.work.Work.{Work}
-use Rattle.pj_shared_files.proofs.ByThreads.{faults_taken, found_by_new, no_faults, none_taken, on_ok, some_mapped, world_of_first}
+use Rattle.pj_shared_files.proofs.ByThreads.{faults_taken, found_by_new, no_faults, none_taken, on_ok, open_failed, open_wanting, some_mapped, world_of_first}
 use Rattle.pj_shared_files.specs.InWorlds.{FindInWorld, FoundInWorld, ListsIn}
 use Rattle.pj_shared_files.proofs.by_threads.files_by_threads.Goals as goal
 use Rattle.pj_shared_files.proofs.by_threads.files_by_threads.Goals.{in-Ok, in-Err-Failed, in-Err-Memory}
@@ -27,10 +27,11 @@ returns-clause-faults g c =
             (subst (λ ds. TakesFaults mid new (total counts ds.items)) w.doors-is c.shut_doors.ensures.faults))
       | in-Err-Failed w ↦
           subst (λ (r : Result LeftFiles AskFault). CountsFaults old new r) (sym w.left-is)
-          (subst (λ (n : ℕ). Rises old n) (sym (none_taken mid new (total counts c.open_doors-opened.new.doors.items) none (subst (λ ds. TakesFaults mid new (total counts ds.items)) w.doors-is c.shut_doors.ensures.faults))) w.in-Err-Failed.ensures.faults)
+          (subst (λ (n : ℕ). Rises old n) (sym (none_taken mid new (total counts c.open_doors-opened.new.doors.items) none (subst (λ ds. TakesFaults mid new (total counts ds.items)) w.doors-is c.shut_doors.ensures.faults)))
+            (open_failed old mid c.open_doors-opened.result (search rules) c.open_doors-opened.ensures.faults))
       | in-Err-Memory w ↦
           subst (λ (r : Result LeftFiles AskFault). CountsFaults old new r) (sym w.left-is)
-          (none_taken mid new (total counts c.open_doors-opened.new.doors.items) none (subst (λ ds. TakesFaults mid new (total counts ds.items)) w.doors-is c.shut_doors.ensures.faults) ∙ w.in-Err-Memory.ensures.faults)
+          (none_taken mid new (total counts c.open_doors-opened.new.doors.items) none (subst (λ ds. TakesFaults mid new (total counts ds.items)) w.doors-is c.shut_doors.ensures.faults) ∙ open_wanting old mid c.open_doors-opened.result (search rules) c.open_doors-opened.ensures.faults)
     ]
 
 pub returns-clause-listed : goal.returns-clause-listed

@@ -14,6 +14,7 @@ use Rattle.pj_table.specs.Worlds.{World}
 use Rattle.pj_shared_files.proofs.AllLeft.{came_of_each, paths_left}
 use Rattle.pj_shared_files.proofs.Finally.{leaves, lists}
 use Rattle.pj_shared_files.proofs.Finds.{find_in_world}
+use Rattle.pj_shared_files.proofs.Sharing.{run_crosses}
 use Rattle.pj_shared_files.specs.Gathering.{entries_of, flags_of}
 use Rattle.pj_shared_files.proofs.together.files_known.Goals as goal
 
@@ -47,3 +48,5 @@ returns-clause-paths g c =
     let many : length c.in_ok-crew.crew.made.items ≡ length c.args.files.now = search rules in
     ap (λ (es : List Entry). map (λ (e : Entry). e.path) es) (c.in_ok-cache.ensures.entries ∙ c.in_ok-left.ensures.entries) ∙ paths_left c.args.files.now c.in_ok-crew.crew.made.items many
 
+pub work_together-requires-sync-W : goal.work_together-requires-sync-W
+work_together-requires-sync-W g c κs within = search run_crosses depth 60 fits 20000
