@@ -1,5 +1,5 @@
 -- What is left of all files, by what is left of each.
-use Rattle.std.proofs.Common.{◌≡◌, ◌∙◌, ℕ, zero, suc, ◌+◌, ◌<◌, Bool, true, false, not, cond, List, [], ◌∷◌, ◌++◌, length, map, filter, Some, IsTrue, refl, ap, arith, get_or, subst, sym}
+use Rattle.std.proofs.Common.{◌≡◌, ◌∙◌, ℕ, suc, ◌<◌, Bool, true, false, not, cond, List, [], ◌∷◌, ◌++◌, length, map, filter, Some, IsTrue, refl, ap, arith, get_or, subst, sym}
 use Rattle.std.specs.Prelude.{if◌then◌else◌, is_some, slice_get}
 use Rattle.std.specs.List.{AllByRecursion, AllZip}
 use Rattle.std.proofs.lemmas.List.{append-nil, append_assoc}

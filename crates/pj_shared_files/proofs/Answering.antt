@@ -13,10 +13,8 @@ use Rattle.pj_names.specs.declared.answer.Answer.{Answer}
 use Rattle.pj_table.proofs.OracleLaws.{told_answer}
 use Rattle.pj_table.specs.Answered.{HasAnswer}
 use Rattle.pj_table.specs.ClassWorld.{worlds_of}
-use Rattle.pj_table.specs.Names.{part_of}
 use Rattle.pj_table.specs.Worlds.{World}
 use Rattle.pj_table.specs.declared.part.Part.{Part}
-use Rattle.pj_table.specs.declared.view.Entry.{Entry}
 use Rattle.pj_shared_files.specs.Answering.{HasRightEntries, HaveRightEntries, IsRightEntry}
 
 pub all_of : {A : Type 0} (P : A → Type 0) (xs : List A) → ((k : ℕ) (x : A) → get_elem? xs k ≡ some x → P x) → AllByRecursion P xs

@@ -1,5 +1,5 @@
 -- Counts of members of lists, and of looks in the history of a part.
-use Rattle.std.proofs.Common.{◌≡◌, ◌≢◌, ◌∙◌, ℕ, zero, suc, ◌+◌, ◌<◌, ◌≤◌, ◌==◌, List, [], ◌∷◌, ◌++◌, map, length, filter, Bool, true, false, cond, refl, sym, ap, subst, arith, eq-eqb, ne_eqb}
+use Rattle.std.proofs.Common.{◌≡◌, ◌∙◌, ℕ, zero, suc, ◌+◌, ◌<◌, ◌≤◌, ◌==◌, List, [], ◌∷◌, ◌++◌, map, length, filter, Bool, true, false, cond, refl, sym, ap, arith, eq-eqb, ne_eqb}
 use Rattle.std.specs.Prelude.{◌||◌, nat_lt}
 use Rattle.std.specs.Bool.{MatchBool}
 use Rattle.std.specs.List.{AllByRecursion, list_any}
@@ -7,7 +7,7 @@ use Rattle.std.proofs.lemmas.Bool.{lt-ltb, ltb-false, ltb-true}
 use mathlib.Core.Logic.{dite}
 use native.Mathlib.Decide.{ℕ_discrete}
 use Rattle.pj_crew.specs.Together.{AreNumbered, SeatWork}
-use Rattle.pj_table.specs.Book.{Fits, IsLegal, fills, looks_of, next}
+use Rattle.pj_table.specs.Book.{IsLegal, fills, looks_of, next}
 use Rattle.pj_table.specs.Rule.{total}
 use Rattle.pj_table.specs.declared.view.Look.{Look}
 
@@ -126,8 +126,8 @@ one_step true place k n rest fits from later before =
     dite (ℕ_discrete place k)
     (λ same. let yes : ◌≡◌ {A = ℕ} (cond (place == k) 1 0) 1 = ap (λ (b : Bool). cond b 1 0) (eq-eqb place k same) in let none = before (omega (arith, same, fits)) in omega (arith, yes, none))
     (λ other.
-      let no : ◌≡◌ {A = ℕ} (cond (place == k) 1 0) 0 = ap (λ (b : Bool). cond b 1 0) (ne_eqb place k other) in
-      let one = later (not_more (n + 1) k (λ below. other (omega (arith, below, fits, from)))) in omega (arith, no, one))
+    let no : ◌≡◌ {A = ℕ} (cond (place == k) 1 0) 0 = ap (λ (b : Bool). cond b 1 0) (ne_eqb place k other) in
+    let one = later (not_more (n + 1) k (λ below. other (omega (arith, below, fits, from)))) in omega (arith, no, one))
 
 -- each place below the number of fills is filled once
 pub legal_one : (k n : ℕ) (ls : List Look) → IsLegal n ls → n ≤ k → k < fills n ls → count (fills_at k) ls ≡ 1
@@ -150,11 +150,11 @@ one_seat m w (seat ∷ seats) numbered from to =
     let number = numbered.0 in
     dite (ℕ_discrete m seat.number)
     (λ same.
-      let yes : ◌≡◌ {A = ℕ} (cond (m == seat.number) w 0) w = ap (λ (b : Bool). cond b w 0) (eq-eqb m seat.number same) in
-      let rest = no_seat m w seats numbered.1 (omega (arith, same, number)) in omega (arith, yes, rest))
+    let yes : ◌≡◌ {A = ℕ} (cond (m == seat.number) w 0) w = ap (λ (b : Bool). cond b w 0) (eq-eqb m seat.number same) in
+    let rest = no_seat m w seats numbered.1 (omega (arith, same, number)) in omega (arith, yes, rest))
     (λ other.
-      let no : ◌≡◌ {A = ℕ} (cond (m == seat.number) w 0) 0 = ap (λ (b : Bool). cond b w 0) (ne_eqb m seat.number other) in
-      let rest = one_seat m w seats numbered.1 from (not_more m (length seats) (λ above. other (omega (arith, above, to, number)))) in omega (arith, no, rest))
+    let no : ◌≡◌ {A = ℕ} (cond (m == seat.number) w 0) 0 = ap (λ (b : Bool). cond b w 0) (ne_eqb m seat.number other) in
+    let rest = one_seat m w seats numbered.1 from (not_more m (length seats) (λ above. other (omega (arith, above, to, number)))) in omega (arith, no, rest))
 
 -- the number of a seat that there is
 abbrev pub IsSeated : List SeatWork → Look → Type 0
@@ -180,6 +180,6 @@ by_seat q seats (l ∷ ls) numbered seated =
     total_alike (λ (seat : SeatWork). count q (looks_of seat.number (l ∷ ls))) (λ (seat : SeatWork). here seat + rest seat) seats (each seats)
     ∙ total_add here rest seats
     ∙ (λ i. one_seat l.seat one seats numbered seated.0.0 seated.0.1 i + by_seat q seats ls numbered seated.1 i) where
-  each : (some_seats : List SeatWork) → AllByRecursion (λ (seat : SeatWork). count q (looks_of seat.number (l ∷ ls)) ≡ cond (l.seat == seat.number) (cond (q l) 1 0) 0 + count q (looks_of seat.number ls)) some_seats
-  each [] = tt
-  each (seat ∷ more) = (first_of q seat.number l ls, each more)
+      each : (some_seats : List SeatWork) → AllByRecursion (λ (seat : SeatWork). count q (looks_of seat.number (l ∷ ls)) ≡ cond (l.seat == seat.number) (cond (q l) 1 0) 0 + count q (looks_of seat.number ls)) some_seats
+      each [] = tt
+      each (seat ∷ more) = (first_of q seat.number l ls, each more)

@@ -1,5 +1,5 @@
 -- What several workers leave is what a run has to leave.
-use Rattle.std.proofs.Common.{◌≡◌, ◌∙◌, ◌++◌, ℕ, Bool, List, IsTrue, length, map, not, refl, sym, subst, ap}
+use Rattle.std.proofs.Common.{◌≡◌, ◌∙◌, ◌++◌, ℕ, Bool, List, IsTrue, length, map, not, sym, subst, ap}
 use Rattle.std.proofs.lemmas.List.{length-map}
 use Rattle.std.specs.Prelude.{Ok, is_some}
 use Rattle.std.specs.FinSet as set
@@ -25,7 +25,6 @@ use Rattle.pj_names.specs.Told.{Asks, Told}
 use Rattle.pj_outside.specs.Files.{Bytes}
 use Rattle.pj_reports.specs.declared.rows.FileRows.{FileRows}
 use Rattle.pj_rule_sets.specs.Rules.{EffectiveRules}
-use Rattle.pj_table.specs.ClassWorld.{worlds_of}
 use Rattle.pj_table.specs.Telling.{tells_of}
 use Rattle.pj_table.specs.Worlds.{World}
 use Rattle.pj_workers.specs.declared.work.Work.{Work}

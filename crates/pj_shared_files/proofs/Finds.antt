@@ -1,6 +1,6 @@
 -- Each class is found once, whoever asks for it: the fills at all seats are as many as the names that were asked.
-use Rattle.std.proofs.Common.{◌≡◌, ◌≢◌, ◌∙◌, ℕ, zero, suc, ◌+◌, ◌-◌, ◌*◌, ◌^◌, ◌<◌, ◌≤◌, ◌==◌, min, List, [], ◌∷◌, ◌++◌, map, length, drop, filter, Some, None, Bool, true, false, cond, IsTrue, refl, sym, ap, subst, arith, get_or, eq-eqb, ne_eqb, inl, inr}
-use Rattle.std.specs.Prelude.{◌⊎◌, ◌||◌, is_some, nat_lt, slice_get}
+use Rattle.std.proofs.Common.{◌≡◌, ◌∙◌, ℕ, zero, suc, ◌+◌, ◌-◌, ◌^◌, ◌<◌, ◌≤◌, ◌==◌, min, List, [], ◌∷◌, map, length, drop, filter, Some, None, Bool, true, false, cond, IsTrue, refl, sym, ap, subst, arith, get_or, eq-eqb, ne_eqb, inl, inr}
+use Rattle.std.specs.Prelude.{◌||◌, is_some, nat_lt, slice_get}
 use Rattle.std.specs.Cmp.Lexicographic.{nat_list_cmp_total, slice_cmp}
 use Rattle.std.specs.FinSet as set
 use Rattle.std.specs.FinSet.{contains-empty, contains-from_list, contains-union, len-empty, len-insert}
@@ -14,7 +14,6 @@ use native.Mathlib.Decide.{ℕ_discrete}
 use lib.ListN.{get_elem?}
 use Rattle.pj_cache.specs.declared.cache.Cache.{Cache}
 use Rattle.pj_cache_laws.specs.Written.{WrittenRule}
-use Rattle.pj_cached_files.specs.LeftFile.{StandsIn}
 use Rattle.pj_cached_files.specs.declared.entry.LeftFile.{LeftFile}
 use Rattle.pj_crew.specs.Opening.{with_finds}
 use Rattle.pj_crew.specs.Together.{HasLooks, HaveFound, IsFilled, IsMadeByAll, IsWorkOf, AreRightParts, SeatWork, claimed_by, names_of}
@@ -27,7 +26,7 @@ use Rattle.pj_names.specs.Held.{NeedThemselves}
 use Rattle.pj_outside.specs.Doors.{count_and}
 use Rattle.pj_rule_sets.specs.Rules.{EffectiveRules}
 use Rattle.pj_seats.specs.Looks.{AreLooksOf, count_fills, lies_at, made_at}
-use Rattle.pj_table.specs.Book.{IsTold, Stands, look_of, looks_of}
+use Rattle.pj_table.specs.Book.{Stands, look_of, looks_of}
 use Rattle.pj_table.proofs.Books.{at_there}
 use Rattle.pj_table.specs.ClassWorld.{worlds_of}
 use Rattle.pj_table.specs.Names.{part_of}
@@ -38,7 +37,6 @@ use Rattle.pj_table.specs.declared.view.Asked.{Asked}
 use Rattle.pj_table.specs.declared.view.Entry.{Entry}
 use Rattle.pj_table.specs.declared.view.Look.{Look}
 use Rattle.pj_workers.specs.Cold.{World}
-use Rattle.pj_workers.specs.Rules.{Rule}
 use Rattle.pj_shared_files.proofs.AllLeft.{comes_of}
 use Rattle.pj_shared_files.proofs.Answering.{all_of}
 use Rattle.pj_shared_files.proofs.Counting.{IsSeated, all_append, all_parts, all_two, any_is, by_seat, count, count_alike, count_append, count_filter, count_map, count_none, fills_at, legal_one, not_more, not_none, total_alike, total_none}
@@ -189,13 +187,14 @@ fills_alike es x k e at is apart a part stands = go (is_same x a.name) refl wher
   when_other unlike =
       dite (ℕ_discrete a.part (part_of x))
       (λ same.
-        let there = stands same in
-        let other : (a.place == k) ≡ false = ne_eqb a.place k (λ is_k.
-          let d : there.0 ≡ e = some-injective there.0 e (sym there.1 ∙ ap (λ (n : ℕ). get_elem? es n) is_k ∙ at) in
-          let name : x ≡ a.name = sym is ∙ ap (λ (f : Entry). f.name) (sym d) ∙ there.2 in
-          let yes : is_same x a.name ≡ true = subst (λ (n : Name). is_same x n ≡ true) name (itself x) in absurd (cc)) in
-        (λ i. cond (a.part == part_of x) (cond a.fill (other i) false) false) ∙ (λ i. cond (a.part == part_of x) (not_filled a.fill i) false) ∙ not_filled (a.part == part_of x))
+      let there = stands same in
+      let other : (a.place == k) ≡ false = ne_eqb a.place k (λ is_k.
+      let d : there.0 ≡ e = some-injective there.0 e (sym there.1 ∙ ap (λ (n : ℕ). get_elem? es n) is_k ∙ at) in
+      let name : x ≡ a.name = sym is ∙ ap (λ (f : Entry). f.name) (sym d) ∙ there.2 in
+      let yes : is_same x a.name ≡ true = subst (λ (n : Name). is_same x n ≡ true) name (itself x) in absurd (cc)) in
+      (λ i. cond (a.part == part_of x) (cond a.fill (other i) false) false) ∙ (λ i. cond (a.part == part_of x) (not_filled a.fill i) false) ∙ not_filled (a.part == part_of x))
       (λ other. ap (λ (b : Bool). cond b (cond a.fill (a.place == k) false) false) (ne_eqb a.part (part_of x) other))
+
   go : (b : Bool) → is_same x a.name ≡ b → fills_name x a ≡ cond (a.part == part_of x) (cond a.fill (a.place == k) false) false
   go true alike =
       let name : x ≡ a.name = same_name x a.name alike in
@@ -249,12 +248,12 @@ module _ (files : ℕ) (world : table.World) (parts : List Part) (seats : List S
       let each : AllByRecursion (λ (seat : SeatWork). count (fills_name x) seat.looks ≡ count (fills_at k) (looks_of seat.number ls)) seats =
       all_two (λ (seat : SeatWork). AllByRecursion (IsLookIn own) seat.looks) (HasLooks p part) (λ (seat : SeatWork). count (fills_name x) seat.looks ≡ count (fills_at k) (looks_of seat.number ls)) seats
       (λ seat looks told.
-        count_alike (fills_name x) (λ (a : Asked). cond (a.part == p) (cond a.fill (a.place == k) false) false) seat.looks
-        (all_two (IsLookIn own) (IsPlaced es p) (λ a. fills_name x a ≡ cond (a.part == p) (cond a.fill (a.place == k) false) false) seat.looks
-          (λ a look place. fills_alike es x k stands.0 stands.1 stands.2 good.apart a look.0 place) looks (placed es p seat.looks told.named))
-        ∙ sym (count_filter (λ (a : Asked). a.part == p) (λ (a : Asked). cond a.fill (a.place == k) false) seat.looks)
-        ∙ sym (count_map (look_of seat.number) (fills_at k) (filter (λ (a : Asked). a.part == p) seat.looks))
-        ∙ ap (count (fills_at k)) (sym told.same))
+      count_alike (fills_name x) (λ (a : Asked). cond (a.part == p) (cond a.fill (a.place == k) false) false) seat.looks
+      (all_two (IsLookIn own) (IsPlaced es p) (λ a. fills_name x a ≡ cond (a.part == p) (cond a.fill (a.place == k) false) false) seat.looks
+      (λ a look place. fills_alike es x k stands.0 stands.1 stands.2 good.apart a look.0 place) looks (placed es p seat.looks told.named))
+      ∙ sym (count_filter (λ (a : Asked). a.part == p) (λ (a : Asked). cond a.fill (a.place == k) false) seat.looks)
+      ∙ sym (count_map (look_of seat.number) (fills_at k) (filter (λ (a : Asked). a.part == p) seat.looks))
+      ∙ ap (count (fills_at k)) (sym told.same))
       looks_are (work.told p part at) in
       let below : k < length es = at_there es k stands.0 stands.1 in
       let full = good.filled in
@@ -267,11 +266,11 @@ module _ (files : ℕ) (world : table.World) (parts : List Part) (seats : List S
   no_fill x absent =
       total_none (λ (seat : SeatWork). count (fills_name x) seat.looks) seats
       (all_two (λ (seat : SeatWork). AllByRecursion (IsLookIn own) seat.looks) (λ (seat : SeatWork). AllByRecursion (IsLookIn own) seat.looks) (λ (seat : SeatWork). count (fills_name x) seat.looks ≡ 0) seats
-        (λ seat looks again. count_none (fills_name x) seat.looks
-          (all_two (IsLookIn own) (IsLookIn own) (λ a. fills_name x a ≡ false) seat.looks (λ a look once_more. go a look.1 (is_same x a.name) refl) looks looks)) looks_are looks_are) where
-    go : (a : Asked) → IsTrue (set.contains own a.name) → (b : Bool) → is_same x a.name ≡ b → fills_name x a ≡ false
-    go a there true alike = let is = subst (λ (n : Name). IsTrue (set.contains own n)) (sym (same_name x a.name alike)) there in absurd (cc)
-    go a there false unlike = ap (λ (b : Bool). cond a.fill b false) unlike ∙ not_filled a.fill
+      (λ seat looks again. count_none (fills_name x) seat.looks
+      (all_two (IsLookIn own) (IsLookIn own) (λ a. fills_name x a ≡ false) seat.looks (λ a look once_more. go a look.1 (is_same x a.name) refl) looks looks)) looks_are looks_are) where
+        go : (a : Asked) → IsTrue (set.contains own a.name) → (b : Bool) → is_same x a.name ≡ b → fills_name x a ≡ false
+        go a there true alike = let is = subst (λ (n : Name). IsTrue (set.contains own n)) (sym (same_name x a.name alike)) there in absurd (cc)
+        go a there false unlike = ap (λ (b : Bool). cond a.fill b false) unlike ∙ not_filled a.fill
 
   pub fills_are : all_fills seats ≡ set.len own
   fills_are = sym (many_fills seats) ∙ as_many (fill_names seats) own (λ x. count_fill_names x seats ∙ go x (set.contains own x) refl) where
@@ -304,19 +303,25 @@ module _ (files : Files WrittenRule) (found : Cache) (classes : World) (held : L
       let first : IsAsked k file = subst (λ (n : ℕ). IsAsked n file) (omega arith) (each 0 left file (omega arith) refl) in
       let later = asked_together (k + 1) list made (omega (arith, long)) (λ n d one below is. subst (λ (m : ℕ). IsAsked m one) (omega arith) (each (suc n) d one (omega (arith, below)) is)) in
       let mine = name_set first.0 in let others = later.0 in let own = set.union mine others in
-      let either = λ (x : Name). contains-union nat_list_cmp_total mine others x in
-      (own, (
-        record { own = mine; others = others; first = first.3; rest = later.1.0; all = refl },
-        (λ x there.
-          from_or (set.contains mine x) (set.contains others x) (λ here. one_of_all (IsFilled parts) first.0 x first.2 (subst (λ (b : Bool). IsTrue b) (contains-from_list nat_list_cmp_total first.0 x) here)) (λ rest. later.1.1 x rest)
-          (subst (λ (b : Bool). IsTrue b) (either x) there)),
-        (λ n from to.
-          dite (ℕ_discrete n k)
-          (λ same. (first.0, subst (λ (m : ℕ). Contains claims (m, first.0)) (sym same) first.1,
-            (λ x there. subst (λ (b : Bool). IsTrue b) (sym (either x)) (or_left (set.contains mine x) (set.contains others x) (subst (λ (b : Bool). IsTrue b) (sym (contains-from_list nat_list_cmp_total first.0 x)) there)))))
-          (λ other.
-            let one = later.1.2 n (not_more (k + 1) n (λ below. other (omega (arith, below, from)))) (omega (arith, to)) in
-            (one.0, one.1, (λ x there. subst (λ (b : Bool). IsTrue b) (sym (either x)) (or_right (set.contains mine x) (set.contains others x) (one.2 x there))))))))
+      let either = λ (x : Name). contains-union nat_list_cmp_total mine others x in (
+        own,
+        (
+          record { own = mine; others = others; first = first.3; rest = later.1.0; all = refl },
+          (λ x there.
+              from_or (set.contains mine x) (set.contains others x) (λ here. one_of_all (IsFilled parts) first.0 x first.2 (subst (λ (b : Bool). IsTrue b) (contains-from_list nat_list_cmp_total first.0 x) here)) (λ rest. later.1.1 x rest)
+              (subst (λ (b : Bool). IsTrue b) (either x) there)),
+          (λ n from to.
+              dite (ℕ_discrete n k)
+              (λ same. (
+                first.0,
+                subst (λ (m : ℕ). Contains claims (m, first.0)) (sym same) first.1,
+                (λ x there. subst (λ (b : Bool). IsTrue b) (sym (either x)) (or_left (set.contains mine x) (set.contains others x) (subst (λ (b : Bool). IsTrue b) (sym (contains-from_list nat_list_cmp_total first.0 x)) there))),
+              ))
+              (λ other.
+              let one = later.1.2 n (not_more (k + 1) n (λ below. other (omega (arith, below, from)))) (omega (arith, to)) in
+              (one.0, one.1, (λ x there. subst (λ (b : Bool). IsTrue b) (sym (either x)) (or_right (set.contains mine x) (set.contains others x) (one.2 x there)))))),
+        ),
+      )
 
 -- ---- counts of doors
 
@@ -366,9 +371,12 @@ module _ {D : Type 0} (finds : D → ℕ) (before after : List D) (world : table
   pub find_in_world : FindInWorld finds world rules found list before after
   find_in_world sources classes meant held stands =
       let asked = asked_together sources found classes held parts (claimed_by together.seats) 0 list made (together.many ∙ many) (λ n d one below is.
-        let over = together.each n d (omega (arith, below, many)) in
-        let looked = (over.made_so.comes_so told one is).looks sources classes meant held stands (own_needs world) in
-        (over.names, subst (λ (m : ℕ). Contains (claimed_by together.seats) (m, over.names)) (let e : n ≡ 0 + n = omega arith in e) over.claimed, over.filled, subst (λ (s : NameSet). LookedFile sources found classes held one s) (sym (looked.2 ∙ none_union looked.0)) looked.1)) in
-      let own = asked.0 in
-      (own, asked.1.0, count_together finds before after together.seats own any together.found
-        (fills_are files world parts together.seats together.right together.work own asked.1.1 (seats_in (λ n. IsTrue (set.contains own n)) together.seats (in_set own asked.1.2))))
+      let over = together.each n d (omega (arith, below, many)) in
+      let looked = (over.made_so.comes_so told one is).looks sources classes meant held stands (own_needs world) in
+      (over.names, subst (λ (m : ℕ). Contains (claimed_by together.seats) (m, over.names)) (let e : n ≡ 0 + n = omega arith in e) over.claimed, over.filled, subst (λ (s : NameSet). LookedFile sources found classes held one s) (sym (looked.2 ∙ none_union looked.0)) looked.1)) in
+      let own = asked.0 in (
+        own,
+        asked.1.0,
+        count_together finds before after together.seats own any together.found
+            (fills_are files world parts together.seats together.right together.work own asked.1.1 (seats_in (λ n. IsTrue (set.contains own n)) together.seats (in_set own asked.1.2))),
+      )

@@ -134,12 +134,7 @@ pub fn gather(
 }
 
 /// Notes what was done with the files. After a refusal nothing is noted.
-pub fn note_done(
-    work: &mut Work,
-    reused: Names,
-    analysed: Names,
-    ran: Ran,
-) -> Result<(), NoMemory>
+pub fn note_done(work: &mut Work, reused: Names, analysed: Names, ran: Ran) -> Result<(), NoMemory>
     ensures reused { OnOk result (work.new.reused ≡ work.old.reused ++ reused) }
     ensures analysed { OnOk result (work.new.analysed ≡ work.old.analysed ++ analysed) }
     ensures ran { OnOk result (work.new.ran ≡ work.old.ran ++ ran) }

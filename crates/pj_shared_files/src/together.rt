@@ -36,11 +36,7 @@ use std::sync::Wait;
 use std::thread::Threads;
 
 /// The cache that is left of entries, by the answers of a table at its end. An oracle over the table never fails: only memory may be wanting.
-fn cache_of<W: Knowing>(
-    alloc: Global,
-    closed: &Closed,
-    entries: Entries,
-) -> Result<Cache, NoMemory>
+fn cache_of<W: Knowing>(alloc: Global, closed: &Closed, entries: Entries) -> Result<Cache, NoMemory>
     requires { AreRightParts W.world closed.now.parts.items }
     ensures asks { IfOk result (λ cache. (new : Told (Unit {0})) × Asks (left_cache entries) (tells_of tt W.world set.empty 0) new (Ok cache)) }
     ensures entries { IfOk result (λ cache. cache.entries ≡ entries) }

@@ -1,4 +1,4 @@
-use Rattle.std.proofs.Common.{◌≡◌, ◌∙◌, ◌++◌, ◌∷◌, ◌<◌, [], ℕ, List, add-one, ap, arith, get_or, length, map, not, refl, rules, subst, sym}
+use Rattle.std.proofs.Common.{◌≡◌, ◌∙◌, ◌++◌, ◌∷◌, ◌<◌, [], ℕ, List, ap, arith, get_or, length, map, not, refl, rules, subst, sym}
 use Rattle.std.proofs.lemmas.List.{length-append, length-map, map-append}
 use Rattle.std.specs.List.{AllByRecursion}
 use Rattle.std.specs.Prelude.{Bool}
@@ -11,7 +11,7 @@ use Rattle.pj_cached_files.specs.declared.entry.LeftFile.{LeftFile}
 use Rattle.pj_fitting.specs.Left.{File}
 use Rattle.pj_outside.specs.Files.{Bytes}
 use Rattle.pj_shared_files.proofs.AllLeft.{entries_last, none_left, none_ran, picked_last, ran_last}
-use Rattle.pj_shared_files.specs.Gathering.{entries_of, entry_of, flags_of}
+use Rattle.pj_shared_files.specs.Gathering.{entry_of, flags_of}
 use Rattle.pj_workers.specs.Evaluated.{with_path}
 use Rattle.pj_shared_files.proofs.gathering.gather.Goals as goal
 
@@ -52,10 +52,10 @@ loop-left-preserved c =
       rows = rows_last c.args.run.now.rules.now all.entries more.entries all.rows more.rows (entry_of file left) kept.rows put.entries put.rows;
       reused = put.reused ∙ ap (λ (l : List Bytes). put_if left.is_reused l file.0) kept.reused
           ∙ sym (ap (λ (l : List Bool). picked l paths) (map-append (λ (f : LeftFile). f.is_reused) so_far (left ∷ []))
-              ∙ picked_last flags list left.is_reused file (omega (arith, below, long)) (ap (λ n. get_or list n file) long ∙ at));
+          ∙ picked_last flags list left.is_reused file (omega (arith, below, long)) (ap (λ n. get_or list n file) long ∙ at));
       analysed = put.analysed ∙ ap (λ (l : List Bytes). put_if (not left.is_reused) l file.0) kept.analysed
           ∙ sym (ap (λ (l : List Bool). picked (map not l) paths) (map-append (λ (f : LeftFile). f.is_reused) so_far (left ∷ [])) ∙ ap (λ (l : List Bool). picked l paths) (map-append not flags (left.is_reused ∷ []))
-              ∙ picked_last nots list (not left.is_reused) file (omega (arith, below, long_nots)) (ap (λ n. get_or list n file) long_nots ∙ at));
+          ∙ picked_last nots list (not left.is_reused) file (omega (arith, below, long_nots)) (ap (λ n. get_or list n file) long_nots ∙ at));
       ran = put.ran ∙ ap (λ (l : List (Bytes × ℕ)). l ++ with_path file.0 left.ran) kept.ran ∙ sym (ran_last list so_far left file below at);
       texts = subst (λ (es : List Entry). AllByRecursion HasText es) (sym put.entries) (all_last HasText all.entries (entry_of file left) kept.texts put.text);
     }

@@ -1,11 +1,7 @@
-use Rattle.std.proofs.Common.{rules, ◌≡◌, ◌∙◌, ◌<◌, ◌++◌, ℕ, List, Ok, ap, length, map, not, refl, subst, sym}
+use Rattle.std.proofs.Common.{rules, ◌≡◌, ◌∙◌, ◌<◌, ◌++◌, ℕ, List, Ok, ap, length, map, refl, subst}
 use Rattle.std.specs.FinSet as set
-use Rattle.std.specs.List.{AllByRecursion}
 use Rattle.pj_cache.specs.declared.cache.Entry.{Entry}
-use Rattle.pj_cached_files.specs.Gathered.{HasText}
-use Rattle.pj_cached_files.specs.LeftFiles.{path_rows, picked}
 use Rattle.pj_crew.specs.Together.{first_world}
-use Rattle.pj_fitting.specs.Left.{File}
 use Rattle.pj_left_cache.specs.Leaving.{left_cache}
 use Rattle.pj_names.specs.Told.{Asks, Told}
 use Rattle.pj_outside.specs.Files.{Bytes}
@@ -15,7 +11,6 @@ use Rattle.pj_shared_files.proofs.AllLeft.{came_of_each, paths_left}
 use Rattle.pj_shared_files.proofs.Finally.{leaves, lists}
 use Rattle.pj_shared_files.proofs.Finds.{find_in_world}
 use Rattle.pj_shared_files.proofs.Sharing.{run_crosses}
-use Rattle.pj_shared_files.specs.Gathering.{entries_of, flags_of}
 use Rattle.pj_shared_files.proofs.together.files_known.Goals as goal
 
 pub returns-clause-left : goal.returns-clause-left

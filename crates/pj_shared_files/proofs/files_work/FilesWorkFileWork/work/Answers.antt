@@ -1,4 +1,4 @@
-use Rattle.std.proofs.Common.{◌≡◌, get_or, subst}
+use Rattle.std.proofs.Common.{get_or, subst}
 use Rattle.std.specs.Prelude.{Result, Ok, Err, IfOk}
 use Rattle.pj_cached_files.specs.declared.entry.LeftFile.{LeftFile}
 use Rattle.pj_fitting.specs.Left.{File}
