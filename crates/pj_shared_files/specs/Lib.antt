@@ -1,0 +1,5 @@
+-- definitions
+pub mod InWorlds
+-- for private clauses
+pub mod Gathering
+pub mod Answering
