@@ -1,5 +1,6 @@
 //! Work that asks for one class a file, over a class path in memory.
-ghost use Rattle.std.specs.Prelude.{vec_len};
+ghost use Rattle.std.specs.Prelude.{◌≡◌, ◌≤◌, ℕ, [], get_or, vec_len};
+ghost use Rattle.pj_names.specs.Told.{longest};
 
 use pj_base::{Bytes, Names, NoMemory, Numbers, Text};
 use pj_names::{Answer, AskFault, ClassName, Oracle};
@@ -9,10 +10,11 @@ use std::alloc::Global;
 use std::sync::Arc;
 use std::test::Fail;
 
-/// What comes of a file is the answer for its class.
+/// What comes of a file is the answer for its class. The first files, so many, want memory.
 #[derive(Drop)]
 pub struct OneClass {
     pub names: Vec<ClassName>,
+    pub wanting: u32,
 }
 
 impl FileWork for OneClass {
@@ -22,8 +24,7 @@ impl FileWork for OneClass {
 
     ghost is_ready = { λ work. Unit {0} };
 
-    // (the tests compare the answers themselves)
-    ghost comes = { λ work file worlds names answer. Unit {0} };
+    ghost comes = { λ work file worlds names answer. (depth : ℕ) → longest ≤ depth → answer.value ≡ (worlds depth).answer (get_or work.names.items file []) };
 
     #[tactic(auto, using(pj_seats::proofs::Working::asks_stay))]
     fn work<O: Oracle>(
@@ -32,6 +33,9 @@ impl FileWork for OneClass {
         oracle: &mut O,
         file: u32,
     ) -> Result<Arc<Answer>, AskFault> {
+        if file < self.wanting {
+            return Err(AskFault::Memory);
+        }
         oracle.ask(&self.names[file as usize])
     }
 }
@@ -55,10 +59,12 @@ fn folders(alloc: Global) -> Result<Folders, NoMemory> {
     Ok(folders)
 }
 
-/// A class path with the folder, of which the find of this number is to fail at the first door, from 1; with 0 none is.
+/// A class path with the folder, of which the find of this number is to fail at each of 64 doors, from 1; with 0 none is.
 pub fn class_path(alloc: Global, fails: u32) -> Result<MemClassPath, NoMemory> {
     let mut pairs = Pairs::new(alloc);
-    pairs.push((0, fails))?;
+    for door in 0..64 {
+        pairs.push((door, fails))?;
+    }
     Ok(MemClassPath::new(alloc, folders(alloc)?, Numbers::new(alloc), pairs))
 }
 
@@ -67,4 +73,14 @@ pub fn folder_names(alloc: Global) -> Result<Names, NoMemory> {
     let mut names = Names::new(alloc);
     names.push(Text::from_str(alloc, "one")?)?;
     Ok(names)
+}
+
+/// Whether each file has its turn, and its class is absent where this says so.
+pub fn are(answers: &[Arc<Answer>], absent: &[bool]) -> bool {
+    for (answer, absent) in answers.iter().zip(absent) {
+        if (**answer == Answer::Absent) != *absent {
+            return false;
+        }
+    }
+    answers.len() == absent.len()
 }

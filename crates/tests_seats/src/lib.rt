@@ -1,7 +1,9 @@
-//! Tests of a worker over a class path in memory: what it makes of files, and how often its door finds.
+//! Tests of workers over a class path in memory: what they make of files, and how often their doors find.
 #![tactic(auto)]
 
 #[cfg(test)]
 mod classes;
+#[cfg(test)]
+mod crews;
 #[cfg(test)]
 mod workers;

@@ -93,6 +93,7 @@ fn is_row<R: Wait>(rt: &R, alloc: Global, row: &Row) -> Result<bool, Fail> {
     let (_, classes, fails, wanted, finds) = *row;
     let work = OneClass {
         names: names(alloc, classes)?,
+        wanting: 0,
     };
     let files = u32::try_from(work.names.len()).map_err(|_| "too many files")?;
     let door = door(alloc, fails)?.ok_or("no door")?;
