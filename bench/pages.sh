@@ -57,9 +57,9 @@ for page in PAGES:
 
 # Files of libraries in which texts stand that a program prints beside findings. Of the programs, each file is looked at.
 PRINTING = """
-crates/pj_check/src/note.rt
-crates/pj_check/src/note_putting.rt
 crates/pj_findings/src/message.rt
+crates/pj_outcomes/src/note.rt
+crates/pj_outcomes/src/note_putting.rt
 crates/pj_parse/src/file_fault.rt
 crates/pj_rule_sets/src/entry.rt
 crates/pj_xparse/src/fault.rt

@@ -13,7 +13,7 @@
 set -euo pipefail
 folder=$(cd "$1" && pwd)
 . "$(dirname "$0")/scratch.sh"
-libraries='anyhow pj_base pj_grammar pj_outside pj_parse pj_peg pj_peg_grammar pj_reports pj_names pj_rule_sets pj_rules pj_settings pj_workers pj_check'
+libraries='anyhow pj_base pj_grammar pj_outside pj_parse pj_peg pj_peg_grammar pj_reports pj_names pj_rule_sets pj_rules pj_settings pj_workers pj_outcomes'
 scratch_repository run_bench "$libraries" $(with_lower_crates ${libraries#anyhow })
 cat > "$bench/src/main.rt" <<'PROGRAM'
 // The steps of a run over many files.
@@ -34,7 +34,7 @@ use pj_rule_sets::RuleSet;
 use pj_rules::load;
 use pj_settings::Format;
 use pj_workers::{Work, analyse_file};
-use pj_check::written_report;
+use pj_outcomes::written_report;
 use std::alloc::Global;
 use std::time::CpuClock;
 use std::{env, fs};

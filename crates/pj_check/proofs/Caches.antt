@@ -13,16 +13,18 @@ use Rattle.pj_cold.specs.Cold.{world_of}
 use Rattle.pj_check.specs.Caching.{DoneOver, FindsFitting, FitsUnder, IsKept, IsLeftText, TakesFit, TakesFitting, WorkSeen}
 use Rattle.pj_check.specs.Kept.{DoesBy, IsBeforeLoading, IsDoneAt, IsDoneBy, IsLeft, IsLeftBy, IsToldOf, IsUntouched, LeavesCache, SaysOfCache}
 use Rattle.pj_check.specs.Outcome.{IsAnalysed}
-use Rattle.pj_check.specs.Run.{Run}
-use Rattle.pj_check.specs.Steps.{Explains, HasCacheText, IsKeptIf, IsLeaving, IsMade, IsOfClasses, IsOfSome, IsPrepared, IsReportOf, IsSomeReport, IsTextBy, IsToldAt, IsToldBefore, SaysNotPut, WorkedBy, judged, outcome_of, refused}
-use Rattle.pj_check.specs.declared.cache.CacheNotes.{CacheNotes}
+use Rattle.pj_runs.specs.Run.{Run}
+use Rattle.pj_runs.specs.Refusals.{Explains, judged, outcome_of, refused}
+use Rattle.pj_runs.specs.Prepared.{IsPrepared}
+use Rattle.pj_check.specs.Steps.{HasCacheText, IsKeptIf, IsLeaving, IsMade, IsOfClasses, IsOfSome, IsReportOf, IsSomeReport, IsTextBy, IsToldAt, IsToldBefore, SaysNotPut, WorkedBy}
+use Rattle.pj_outcomes.specs.declared.cache_notes.CacheNotes.{CacheNotes}
 use Rattle.pj_check.specs.declared.cache.CacheText.{CacheText}
 use Rattle.pj_check.specs.declared.making.Made.{Made}
-use Rattle.pj_check.specs.declared.preparing.Ready.{Ready}
-use Rattle.pj_check.specs.declared.refusal.Refusal.{Refusal}
-use Rattle.pj_check.specs.declared.refusal.Refusal.TheVariants.{Usage, Rules, TreeFault, ClassFault, SinkFault, Missing, Limit, Memory}
-use Rattle.pj_check.specs.declared.verdict.Verdict.{Verdict}
-use Rattle.pj_check.specs.declared.verdict.Verdict.TheVariants as verdict
+use Rattle.pj_runs.specs.declared.preparing.Ready.{Ready}
+use Rattle.pj_runs.specs.declared.refusal.Refusal.{Refusal}
+use Rattle.pj_runs.specs.declared.refusal.Refusal.TheVariants.{Usage, Rules, TreeFault, ClassFault, SinkFault, Missing, Limit, Memory}
+use Rattle.pj_outcomes.specs.declared.verdict.Verdict.{Verdict}
+use Rattle.pj_outcomes.specs.declared.verdict.Verdict.TheVariants as verdict
 use Rattle.pj_cold.proofs.Told.{all_told, told_both, told_so}
 
 -- ---- the work

@@ -23,9 +23,10 @@ use Rattle.pj_cold.proofs.Told.{told_so}
 use Rattle.pj_cold.specs.Finds.{CountsNames}
 use Rattle.pj_cold.specs.Steps.{CountsAskFault}
 use Rattle.pj_check.specs.Caching.{DoneOver}
-use Rattle.pj_check.specs.Steps.{CountsDoor, CountsOfClasses, IsOfClasses, after_asking, after_opening, refused}
-use Rattle.pj_check.specs.declared.refusal.Refusal.{Refusal}
-use Rattle.pj_check.specs.declared.refusal.Refusal.TheVariants.{ClassFault, Memory}
+use Rattle.pj_runs.specs.Refusals.{after_asking, after_opening, refused}
+use Rattle.pj_check.specs.Steps.{CountsDoor, CountsOfClasses, IsOfClasses}
+use Rattle.pj_runs.specs.declared.refusal.Refusal.{Refusal}
+use Rattle.pj_runs.specs.declared.refusal.Refusal.TheVariants.{ClassFault, Memory}
 
 -- ---- the door is not opened
 

@@ -11,26 +11,24 @@ use Rattle.pj_settings.specs.declared.settings.Settings.{Settings}
 use Rattle.pj_sources.specs.Reading.{AreRead}
 use Rattle.pj_sources.specs.declared.listing.Listing.{Listing}
 use Rattle.pj_workers.specs.declared.work.Work.{Work}
-use Rattle.pj_check.specs.declared.verdict.Verdict.{Verdict}
-use Rattle.pj_check.specs.declared.verdict.Verdict.TheVariants as verdict
-use Rattle.pj_check.specs.declared.report_rendering.Written.{Written}
-use Rattle.pj_check.specs.Outcome.{CountsClassFaults, CountsDoors, CountsSinkFaults, CountsTreeFaults, DoorCounts, GetsSome, IsAnalysed, IsCut, IsReported, KeepsWork, OneDoor, SaysIf, SaysOfFiles, SaysOfSink, SaysOfWords}
-use Rattle.pj_check.specs.Run.{HasRules}
-use Rattle.pj_check.specs.Steps.{CountsFaults, Explains, HasNoReport, IsMade, IsOfClasses, IsOfSome, SaysNoReport, SaysNotPut, SaysRefusal, outcome_of, refused}
-use Rattle.pj_check.specs.declared.outcome.Outcome.{Outcome}
-use Rattle.pj_check.specs.declared.outcome.Outcome.TheVariants as outcome
-use Rattle.pj_check.specs.declared.refusal.Refusal.{Refusal}
-use Rattle.pj_check.specs.declared.refusal.Refusal.TheVariants.{Usage, Rules, TreeFault, ClassFault, SinkFault, Missing, Limit, Memory}
+use Rattle.pj_outcomes.specs.declared.verdict.Verdict.{Verdict}
+use Rattle.pj_outcomes.specs.declared.verdict.Verdict.TheVariants as verdict
+use Rattle.pj_outcomes.specs.declared.report_rendering.Written.{Written}
+use Rattle.pj_runs.specs.Words.{SaysOfWords}
+use Rattle.pj_check.specs.Outcome.{CountsClassFaults, CountsDoors, CountsSinkFaults, CountsTreeFaults, DoorCounts, GetsSome, IsAnalysed, IsCut, IsReported, KeepsWork, OneDoor, SaysIf, SaysOfFiles, SaysOfSink}
+use Rattle.pj_runs.specs.Run.{HasRules}
+use Rattle.pj_runs.specs.Refusals.{CountsFaults, Explains, SaysRefusal, outcome_of, refused}
+use Rattle.pj_check.specs.Steps.{HasNoReport, IsMade, IsOfClasses, IsOfSome, SaysNoReport, SaysNotPut}
+use Rattle.pj_outcomes.specs.declared.outcome.Outcome.{Outcome}
+use Rattle.pj_outcomes.specs.declared.outcome.Outcome.TheVariants as outcome
+use Rattle.pj_runs.specs.declared.refusal.Refusal.{Refusal}
+use Rattle.pj_runs.specs.declared.refusal.Refusal.TheVariants.{Usage, Rules, TreeFault, ClassFault, SinkFault, Missing, Limit, Memory}
 use Rattle.pj_cold.proofs.Told.{all_told, told_both, told_so}
 
 -- ---- the report is made
 
 pub no_memory : (words : List Bytes) (told : Option Files) → Explains words told Memory
 no_memory words told = record { cause = all_told told (λ held. SaysRefusal words held Memory) (λ held. tt); of_words = tt }
-
--- what is said of the same files at another moment
-pub told_later : {A : Type 0} (o p : Option A) (P : A → Type 0) → p ≡ o → IfSome o P → IfSome p P
-told_later o p P e h = subst (λ (w : Option _). IfSome w P) (sym e) h
 
 -- ---- the report is not made
 
@@ -311,15 +309,6 @@ put_steady (Err r) fault e = let f : outcome.SinkFault ≡ outcome.TreeFault = s
 pub ends_before : (P : Outcome → Type 0) (r : Result Verdict Refusal) (e x : Refusal) → r ≡ Err e → e ≡ x → P (refused x) → P (outcome_of r)
 ends_before P r e x is same h = subst (λ (w : Result Verdict Refusal). P (outcome_of w)) (sym is) (subst (λ (y : Refusal). P (refused y)) (sym same) h)
 
-module _ {A : Type 0} where
-  pub refused_on : (P : Refusal → Type 0) (r : Result A Refusal) (e x : Refusal) → r ≡ Err e → e ≡ x → P x → IfErr r P
-  refused_on P r e x is same h = subst (λ (w : Result A Refusal). IfErr w P) (sym is) (subst P (sym same) h)
-
-module _ {A X : Type 0} where
-  -- nothing is made where there is a refusal
-  pub nothing_on : (P : A → X → Type 0) (told : Option A) (r : Result X Refusal) (e : Refusal) → r ≡ Err e → IfSome told (λ held. IfOk r (P held))
-  nothing_on P told r e is = subst (λ (w : Result X Refusal). IfSome told (λ held. IfOk w (P held))) (sym is) (all_told told (λ held. ⊤) (λ held. tt))
-
 -- the tree's count is the same where the class path refuses
 pub tree_idle : (A : Type 0) (r : Refusal) (old new : ℕ) → IsOfClasses r → new ≡ old → CountsFaults {A = A} old new (Err r)
 tree_idle A r old new (inl is) same = subst (λ (x : Refusal). CountsFaults {A = A} old new (Err x)) (sym is) same
@@ -339,9 +328,6 @@ memory_end A e = absurd (cc)
 -- the same refusal of another result
 pub other_end : (A B : Type 0) (r : Refusal) → (let w : Result A Refusal = Err r in w) ≢ Err ClassFault → (let w : Result B Refusal = Err r in w) ≢ Err ClassFault
 other_end A B r never e = let same : r ≡ ClassFault = cc in never (ap (λ (x : Refusal). Err x) same)
-
-pub explains_later : (words : List Bytes) (o p : Option Files) (r : Refusal) → p ≡ o → Explains words p r → Explains words o r
-explains_later words o p r e h = subst (λ (w : Option Files). Explains words w r) e h
 
 -- ---- the report is made, or not
 

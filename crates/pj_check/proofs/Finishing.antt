@@ -15,13 +15,12 @@ use Rattle.pj_workers.specs.Cold.{World}
 use Rattle.pj_workers.specs.declared.work.Work.{Work}
 use Rattle.pj_cold.specs.Cold.{IsColdOf, world_of}
 use Rattle.pj_check.specs.Caching.{DoneOver, IsDoneOver, IsLeftOver, IsLeftText, TakesCache, TakesFit}
-use Rattle.pj_check.specs.Steps.{FitsIfFound, IsLeftIfFound, IsOver, IsTakenBy, IsTextBy, IsTextOf, IsToldAt, WorkedBy, WorkedOver}
+use Rattle.pj_check.specs.Steps.{FitsIfFound, IsLeftIfFound, IsOfClasses, IsOver, IsTakenBy, IsTextBy, IsTextOf, IsToldAt, WorkedBy, WorkedOver}
 use Rattle.pj_check.specs.declared.analysing.Analysed.{Analysed}
 use Rattle.pj_check.specs.declared.cache.CacheText.{CacheText}
-use Rattle.pj_check.specs.declared.preparing.Ready.{Ready}
-use Rattle.pj_check.specs.declared.refusal.Refusal.{Refusal}
+use Rattle.pj_runs.specs.declared.preparing.Ready.{Ready}
+use Rattle.pj_runs.specs.declared.refusal.Refusal.{Refusal}
 use Rattle.pj_check.specs.Kept.{IsToldOf}
-use Rattle.pj_check.specs.Steps as steps
 use Rattle.pj_cold.proofs.Told.{told_so}
 
 -- ---- what was loaded is what is found
@@ -139,6 +138,6 @@ told_of None kept (Some found) why taken = absurd taken
 told_of (Some name) kept None why taken = absurd taken
 told_of (Some name) kept (Some found) why taken = (found, taken)
 
-pub told_at : (refusal : Refusal) (name : Option Bytes) (kept : Option Files) (why : Option Unused) → steps.IsOfClasses refusal → IsToldOf name kept why → IsToldAt refusal name kept why
+pub told_at : (refusal : Refusal) (name : Option Bytes) (kept : Option Files) (why : Option Unused) → IsOfClasses refusal → IsToldOf name kept why → IsToldAt refusal name kept why
 told_at refusal name kept why (inl is) told = subst (λ (r : Refusal). IsToldAt r name kept why) (sym is) told
 told_at refusal name kept why (inr is) told = subst (λ (r : Refusal). IsToldAt r name kept why) (sym is) (inr told)

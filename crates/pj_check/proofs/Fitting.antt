@@ -17,10 +17,10 @@ use Rattle.pj_workers.specs.Cold.{World}
 use Rattle.pj_check.specs.Caching.{ContentFits, FitsUnder, IsKept, IsLeftText, TakesCache, TakesFit, TakesFitting, WorkSeen}
 use Rattle.pj_check.specs.Kept.{IsLeft, IsLeftUnder, LeavesCache}
 use Rattle.pj_check.specs.Laws.{FitKeepersServe, KeepersMend, KeepersStayFit, KeepersStayFitForever}
-use Rattle.pj_check.specs.declared.cache.CacheNotes.{CacheNotes}
-use Rattle.pj_check.specs.declared.outcome.Outcome.TheVariants.{Clean, Violations, Errors, Usage, Rules, TreeFault, ClassFault, SinkFault, Missing, Limit, Memory}
+use Rattle.pj_outcomes.specs.declared.cache_notes.CacheNotes.{CacheNotes}
+use Rattle.pj_outcomes.specs.declared.outcome.Outcome.TheVariants.{Clean, Violations, Errors, Usage, Rules, TreeFault, ClassFault, SinkFault, Missing, Limit, Memory}
 use Rattle.pj_check.proofs.Caches.{taken_fits, unused_fits}
-use Rattle.pj_check.proofs.Excluding.{same_settings}
+use Rattle.pj_runs.proofs.Excluding.{same_settings}
 use Rattle.pj_check.proofs.Finishing.{FoundLaw, fits_loaded}
 
 abbrev pub NewLaw : Type 0

@@ -23,7 +23,7 @@ use Rattle.pj_workers.specs.Cold.{World}
 use Rattle.pj_workers.specs.JavaReplies.{java_replies}
 use Rattle.pj_workers.specs.Rules.{Rule}
 use Rattle.pj_workers.specs.declared.work.Work.{Work}
-use Rattle.pj_check.specs.declared.cache.CacheNotes.{CacheNotes}
+use Rattle.pj_outcomes.specs.declared.cache_notes.CacheNotes.{CacheNotes}
 
 -- ---- what is found
 
@@ -112,9 +112,6 @@ DoneOver None world sources set before after = CountsAsked world sources set bef
 DoneOver (Some found) world sources set before after = IsDoneOver found world sources set before after
 
 -- ---- what is counted and told
-
-abbrev pub nothing_told : CacheNotes
-nothing_told = record { unused = None; is_unwritten = false }
 
 -- the faults of a keeper, where a cache was to be put in its place
 abbrev pub CountsWrite : Bool → ℕ → ℕ → Type 0

@@ -10,13 +10,13 @@ use Rattle.pj_settings.specs.declared.settings.Settings.{Settings}
 use Rattle.pj_sources.specs.Reading.{AreRead}
 use Rattle.pj_sources.specs.declared.listing.Listing.{Listing}
 use Rattle.pj_cold.specs.Cold.{world_of}
-use Rattle.pj_check.specs.Caching.{CountsKeeper, DoneOver, IsKept, IsLeftText, TakesCache, TakesFitting, WorkSeen, nothing_told}
-use Rattle.pj_check.specs.Notes.{GetNotes, notes_with}
+use Rattle.pj_outcomes.specs.Notes.{nothing_told, GetNotes, notes_with}
+use Rattle.pj_check.specs.Caching.{CountsKeeper, DoneOver, IsKept, IsLeftText, TakesCache, TakesFitting, WorkSeen}
 use Rattle.pj_check.specs.Outcome.{SaysIf}
-use Rattle.pj_check.specs.Run.{HasRules, IsRun, Run}
-use Rattle.pj_check.specs.declared.cache.CacheNotes.{CacheNotes}
-use Rattle.pj_check.specs.declared.outcome.Outcome.{Outcome}
-use Rattle.pj_check.specs.declared.outcome.Outcome.TheVariants.{Clean, Violations, Errors, Usage, Rules, TreeFault, ClassFault, SinkFault, Missing, Limit, Memory}
+use Rattle.pj_runs.specs.Run.{HasRules, IsRun, Run}
+use Rattle.pj_outcomes.specs.declared.cache_notes.CacheNotes.{CacheNotes}
+use Rattle.pj_outcomes.specs.declared.outcome.Outcome.{Outcome}
+use Rattle.pj_outcomes.specs.declared.outcome.Outcome.TheVariants.{Clean, Violations, Errors, Usage, Rules, TreeFault, ClassFault, SinkFault, Missing, Limit, Memory}
 
 -- ---- what was loaded
 

@@ -1,5 +1,5 @@
 -- What each outcome of a run says.
-use Rattle.std.specs.Prelude.{⊤, ◌≡◌, ◌⊎◌, ◌++◌, ℕ, List, Contains, Option, None, IfSome, Ok, Err}
+use Rattle.std.specs.Prelude.{⊤, ◌≡◌, ◌⊎◌, ◌++◌, ℕ, List, Option, None, IfSome, Ok}
 use Rattle.pj_cached_files.specs.LeftFiles.{ArePartedBy}
 use Rattle.pj_outside.specs.Doors.{ClassFolders, count_and}
 use Rattle.pj_outside.specs.Faults.{Rises, next_count}
@@ -9,19 +9,18 @@ use Rattle.pj_reports.specs.declared.report.Report.{Report}
 use Rattle.pj_settings.specs.Job.{job}
 use Rattle.pj_settings.specs.declared.settings.Settings.{Settings}
 use Rattle.pj_rule_sets.specs.Rules.{EffectiveRules}
-use Rattle.pj_sources.specs.Listing.{IsSourceOf}
 use Rattle.pj_sources.specs.Reading.{AreRead}
 use Rattle.pj_sources.specs.declared.listing.Listing.{Listing}
 use Rattle.pj_workers.specs.declared.work.Work.{Work}
 use Rattle.pj_check.specs.Caching.{FindsFitting}
-use Rattle.pj_check.specs.Formats.{report_text}
-use Rattle.pj_check.specs.Verdicts.{verdict_of}
-use Rattle.pj_check.specs.declared.verdict.Verdict.{Verdict}
-use Rattle.pj_check.specs.declared.verdict.Verdict.TheVariants as verdict
-use Rattle.pj_check.specs.Refused.{IsRefused}
-use Rattle.pj_check.specs.Run.{HasRules, IsRun, Run, text_of}
-use Rattle.pj_check.specs.declared.outcome.Outcome.{Outcome}
-use Rattle.pj_check.specs.declared.outcome.Outcome.TheVariants.{Clean, Violations, Errors, Usage, Rules, TreeFault, ClassFault, SinkFault, Missing, Limit, Memory}
+use Rattle.pj_outcomes.specs.Formats.{report_text}
+use Rattle.pj_outcomes.specs.Verdicts.{verdict_of}
+use Rattle.pj_outcomes.specs.declared.verdict.Verdict.{Verdict}
+use Rattle.pj_outcomes.specs.declared.verdict.Verdict.TheVariants as verdict
+use Rattle.pj_runs.specs.Refused.{IsRefused}
+use Rattle.pj_runs.specs.Run.{HasRules, IsRun, Run, text_of}
+use Rattle.pj_outcomes.specs.declared.outcome.Outcome.{Outcome}
+use Rattle.pj_outcomes.specs.declared.outcome.Outcome.TheVariants.{Clean, Violations, Errors, Usage, Rules, TreeFault, ClassFault, SinkFault, Missing, Limit, Memory}
 
 -- The sources of the run were analysed, and nothing was used again.
 abbrev pub Worked : Run → Work → Work → Type 0
@@ -94,25 +93,6 @@ SaysOfFiles Errors words held before after = IsAnalysed words held before after
 SaysOfFiles SinkFault words held before after = IsAnalysed words held before after
 SaysOfFiles other words held before after = ⊤
 
--- the words ask for something
-abbrev pub AsksFor : (Settings → Type 0) → List Bytes → Type 0
-AsksFor fact words = (settings : Settings) × (job words ≡ Ok settings) × fact settings
-
--- What an outcome says of the words where nothing is known of the files. A path that is missing is one that the words name, or that of
--- a source there or below it.
-abbrev pub SaysOfWords : Outcome → List Bytes → Type 0
-SaysOfWords Clean words = AsksFor (λ settings. ⊤) words
-SaysOfWords Violations words = AsksFor (λ settings. ⊤) words
-SaysOfWords Errors words = AsksFor (λ settings. ⊤) words
-SaysOfWords (Usage fault) words = job words ≡ Err fault
-SaysOfWords (Rules fault) words = AsksFor (λ settings. ⊤) words
-SaysOfWords TreeFault words = AsksFor (λ settings. ⊤) words
-SaysOfWords ClassFault words = AsksFor (λ settings. ⊤) words
-SaysOfWords SinkFault words = AsksFor (λ settings. ⊤) words
-SaysOfWords (Missing path) words = AsksFor (λ settings. Contains settings.dirs path ⊎ IsSourceOf settings.dirs path) words
-SaysOfWords (Limit kind) words = AsksFor (λ settings. ⊤) words
-SaysOfWords Memory words = ⊤
-
 -- The tree's faults rise exactly with `TreeFault`.
 abbrev pub CountsTreeFaults : Outcome → ℕ → ℕ → Type 0
 CountsTreeFaults TreeFault old new = Rises old new
@@ -181,11 +161,3 @@ KeepsWork Violations old new = ⊤
 KeepsWork Errors old new = ⊤
 KeepsWork SinkFault old new = ⊤
 KeepsWork other old new = new ≡ old
-
--- the exit status of a program that ends so
-abbrev pub status_of : Outcome → ℕ
-status_of Clean = 0
-status_of Violations = 4
-status_of Errors = 5
-status_of (Usage fault) = 2
-status_of other = 1

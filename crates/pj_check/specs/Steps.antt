@@ -12,124 +12,31 @@ use Rattle.pj_cached_files.specs.declared.files.LeftFiles.{LeftFiles}
 use Rattle.pj_fitting.specs.Right as right
 use Rattle.pj_names.specs.ClassName.{Name}
 use Rattle.pj_names.specs.declared.answer.Answer.{Answer}
-use Rattle.pj_names.specs.declared.oracle.AskFault.{AskFault}
-use Rattle.pj_names.specs.declared.oracle.AskFault.TheVariants as unanswered
 use Rattle.pj_outside.specs.Doors.{ClassFolders}
-use Rattle.pj_outside.specs.Faults.{Rises}
 use Rattle.pj_outside.specs.Files.{Files, Bytes}
-use Rattle.pj_outside.specs.declared.refused.Refused.{Refused}
-use Rattle.pj_outside.specs.declared.refused.Refused.TheVariants as unopened
 use Rattle.pj_reports.specs.declared.report.Report.{Report}
 use Rattle.pj_rule_sets.specs.Rules.{EffectiveRules}
-use Rattle.pj_rules.specs.declared.fault.RuleRefused.{RuleRefused}
-use Rattle.pj_rules.specs.declared.fault.RuleRefused.TheVariants as unloaded
 use Rattle.pj_settings.specs.Job.{job}
 use Rattle.pj_settings.specs.declared.settings.Settings.{Settings}
-use Rattle.pj_settings.specs.declared.usage.UsageRefused.{UsageRefused}
-use Rattle.pj_settings.specs.declared.usage.UsageRefused.TheVariants as unasked
-use Rattle.pj_check.specs.declared.limit.LimitKind.TheVariants as limit
-use Rattle.pj_sources.specs.Reading.{AreRead}
-use Rattle.pj_sources.specs.declared.refused.ListRefused.{ListRefused}
-use Rattle.pj_sources.specs.declared.refused.ListRefused.TheVariants as unlisted
-use Rattle.pj_sources.specs.declared.refused.ReadRefused.{ReadRefused}
-use Rattle.pj_sources.specs.declared.refused.ReadRefused.TheVariants as unread
 use Rattle.pj_workers.specs.Cold.{World}
 use Rattle.pj_workers.specs.JavaReplies.{java_replies}
 use Rattle.pj_workers.specs.Rules.{Rule}
 use Rattle.pj_workers.specs.declared.work.Work.{Work}
 use Rattle.pj_cold.specs.Cold.{IsColdOf, world_of}
 use Rattle.pj_check.specs.Caching.{CountsLooked, DoneOver, IsDoneOver, IsFitting, IsKept, IsLeftOver, IsLeftText, TakesCache, TakesFit, TakesFitting, WorkSeen}
-use Rattle.pj_check.specs.Formats.{report_text}
+use Rattle.pj_outcomes.specs.Formats.{report_text}
 use Rattle.pj_check.specs.Kept.{DoesBy, HasLoaded, IsLeftBy, IsToldOf}
-use Rattle.pj_check.specs.Verdicts.{verdict_of}
-use Rattle.pj_check.specs.declared.verdict.Verdict.{Verdict}
-use Rattle.pj_check.specs.declared.verdict.Verdict.TheVariants as verdict
-use Rattle.pj_check.specs.declared.report_rendering.Written.{Written}
-use Rattle.pj_check.specs.Limits.{limit_of}
-use Rattle.pj_check.specs.Outcome.{CountsClassFaults, CountsDoors, DoorCounts, IsReady, OneDoor, SaysOfWords, Worked}
-use Rattle.pj_check.specs.Refused.{IsRefused}
-use Rattle.pj_check.specs.Run.{HasRules, IsRun, Run, text_of}
+use Rattle.pj_outcomes.specs.Verdicts.{verdict_of}
+use Rattle.pj_outcomes.specs.declared.report_rendering.Written.{Written}
+use Rattle.pj_runs.specs.Words.{SaysOfWords}
+use Rattle.pj_check.specs.Outcome.{CountsClassFaults, CountsDoors, DoorCounts, IsReady, OneDoor, Worked}
+use Rattle.pj_runs.specs.Run.{IsRun, Run, text_of}
 use Rattle.pj_check.specs.declared.analysing.Analysed.{Analysed}
 use Rattle.pj_check.specs.declared.cache.CacheText.{CacheText}
-use Rattle.pj_check.specs.declared.preparing.Ready.{Ready}
-use Rattle.pj_check.specs.declared.outcome.Outcome.{Outcome}
-use Rattle.pj_check.specs.declared.outcome.Outcome.TheVariants as outcome
-use Rattle.pj_check.specs.declared.refusal.Refusal.{Refusal}
-use Rattle.pj_check.specs.declared.refusal.Refusal.TheVariants.{Usage, Rules, TreeFault, ClassFault, SinkFault, Missing, Limit, Memory}
-
--- ---- what refusals of the layers become
-
-abbrev pub after_words : UsageRefused → Refusal
-after_words (unasked.Fault fault) = Usage fault
-after_words unasked.Memory = Memory
-
-abbrev pub after_listing : ListRefused → Refusal
-after_listing unlisted.Failed = TreeFault
-after_listing (unlisted.Missing item) = Missing item
-after_listing unlisted.Memory = Memory
-
-abbrev pub after_loading : RuleRefused → Refusal
-after_loading (unloaded.Rule fault) = Rules fault
-after_loading (unloaded.TooManyRules count) = Limit limit.Rules
-after_loading unloaded.Failed = TreeFault
-after_loading unloaded.Memory = Memory
-
-abbrev pub after_reading : ReadRefused → Refusal
-after_reading unread.Failed = TreeFault
-after_reading (unread.Missing path) = Missing path
-after_reading (unread.Limit kind) = Limit (limit_of kind)
-after_reading unread.Memory = Memory
-
-abbrev pub after_opening : Refused → Refusal
-after_opening unopened.Failed = ClassFault
-after_opening unopened.Memory = Memory
-
-abbrev pub after_asking : AskFault → Refusal
-after_asking unanswered.Failed = ClassFault
-after_asking unanswered.Memory = Memory
-
-abbrev pub refused : Refusal → Outcome
-refused (Usage fault) = outcome.Usage fault
-refused (Rules fault) = outcome.Rules fault
-refused TreeFault = outcome.TreeFault
-refused ClassFault = outcome.ClassFault
-refused SinkFault = outcome.SinkFault
-refused (Missing path) = outcome.Missing path
-refused (Limit kind) = outcome.Limit kind
-refused Memory = outcome.Memory
-
-abbrev pub judged : Verdict → Outcome
-judged verdict.Clean = outcome.Clean
-judged verdict.Violations = outcome.Violations
-judged verdict.Errors = outcome.Errors
-
-abbrev pub outcome_of : Result Verdict Refusal → Outcome
-outcome_of (Ok verdict) = judged verdict
-outcome_of (Err refusal) = refused refusal
-
--- ---- what they say
-
--- what a refusal before the sources are analysed says of the words and the files
-abbrev pub SaysRefusal : List Bytes → Files → Refusal → Type 0
-SaysRefusal words held (Usage fault) = IsRefused words held (outcome.Usage fault)
-SaysRefusal words held (Rules fault) = IsRefused words held (outcome.Rules fault)
-SaysRefusal words held TreeFault = ⊤
-SaysRefusal words held ClassFault = ⊥
-SaysRefusal words held SinkFault = ⊥
-SaysRefusal words held (Missing path) = IsRefused words held (outcome.Missing path)
-SaysRefusal words held (Limit kind) = IsRefused words held (outcome.Limit kind)
-SaysRefusal words held Memory = ⊤
-
--- what it says of the words where nothing is known of the files
-abbrev pub SaysBefore : Refusal → List Bytes → Type 0
-SaysBefore ClassFault words = ⊥
-SaysBefore SinkFault words = ⊥
-SaysBefore other words = SaysOfWords (refused other) words
-
--- a refusal before the sources are analysed, where the files are told and where they are not
-pub record Explains (words : List Bytes) (told : Option Files) (refusal : Refusal) : Type 0 where
-  pub cause : IfSome told (λ held. SaysRefusal words held refusal)
-  pub of_words : SaysBefore refusal words
+use Rattle.pj_runs.specs.declared.preparing.Ready.{Ready}
+use Rattle.pj_outcomes.specs.declared.outcome.Outcome.TheVariants as outcome
+use Rattle.pj_runs.specs.declared.refusal.Refusal.{Refusal}
+use Rattle.pj_runs.specs.declared.refusal.Refusal.TheVariants.{ClassFault, Memory}
 
 -- what a refusal before the report is put says of the words and the files: also that of the class path
 abbrev pub SaysNoReport : List Bytes → Files → Refusal → Type 0
@@ -151,12 +58,6 @@ abbrev pub IsOfClasses : Refusal → Type 0
 IsOfClasses refusal = (refusal ≡ ClassFault) ⊎ (refusal ≡ Memory)
 
 module _ {A : Type 0} where
-  -- The tree's faults rise exactly with `TreeFault`.
-  abbrev pub CountsFaults : ℕ → ℕ → Result A Refusal → Type 0
-  CountsFaults old new (Ok a) = new ≡ old
-  CountsFaults old new (Err TreeFault) = Rises old new
-  CountsFaults old new (Err other) = new ≡ old
-
   -- The class path's faults rise exactly with `ClassFault`.
   abbrev pub CountsOfClasses : ℕ → ℕ → Result A Refusal → Type 0
   CountsOfClasses old new (Ok a) = new ≡ old
@@ -184,13 +85,6 @@ pub record IsOfSome (words : List Bytes) (written : Written) : Type 0 where
   pub report : Report
   pub text : written.text ≡ report_text settings.format report
   pub comes_to : written.verdict ≡ verdict_of report
-
--- ---- before the sources are analysed
-
--- what a run has at hand is what words and files come to
-pub record IsPrepared (words : List Bytes) (held : Files) (ready : Ready) : Type 0 where
-  pub has_rules : HasRules words held ready.settings ready.listing ready.rules
-  pub read : AreRead held ready.listing.paths ready.sources
 
 -- ---- over the cache that was found
 

@@ -1,36 +1,17 @@
 //! The cache of a run: what is taken for it, and what is left in its place.
-ghost use Rattle.std.specs.Prelude.{◌≡◌, ◌⊎◌, None, IfOk, IfSome, OnErr};
+ghost use Rattle.std.specs.Prelude.{◌≡◌, None, IfOk, IfSome, OnErr};
 ghost use Rattle.pj_cache_format.specs.Ordered.{IsInOrder};
 ghost use Rattle.pj_cache_store.specs.Loading.{CountsLoad};
-ghost use Rattle.pj_check.specs.Caching.{CountsWrite, nothing_told};
+ghost use Rattle.pj_outcomes.specs.Notes.{nothing_told};
+ghost use Rattle.pj_check.specs.Caching.{CountsWrite};
 ghost use Rattle.pj_check.specs.Steps.{IsKeptIf, IsLeftIfFound, IsTakenBy, IsTextOf};
 
 use pj_base::{Bytes, Copied, NoMemory, Text};
 use pj_cache::Cache;
-use pj_cache_store::{Loaded, Unused, load_cache, text_to_leave};
+use pj_cache_store::{Loaded, load_cache, text_to_leave};
+use pj_outcomes::CacheNotes;
 use pj_outside::Keeper;
 use std::alloc::Global;
-
-/// What a run tells of its cache.
-#[derive(Clone, Copy, Debug)]
-pub struct CacheNotes {
-    /// Why what stands under the name of the cache is not used.
-    pub unused: Option<Unused>,
-    /// Whether the new cache could not be put in its place.
-    pub is_unwritten: bool,
-}
-
-impl CacheNotes {
-    /// Of a run that has nothing to tell.
-    pub fn none() -> CacheNotes
-        ensures { result ≡ nothing_told }
-    {
-        CacheNotes {
-            unused: None,
-            is_unwritten: false,
-        }
-    }
-}
 
 /// The text of a cache that is to be left under its name.
 #[derive(Drop)]

@@ -3,20 +3,20 @@ ghost use Rattle.std.specs.Prelude.{◌≡◌, ◌≢◌, Err, IfOk, IfErr, IfSo
 ghost use Rattle.pj_cache_store.specs.Loading.{CountsLoad};
 ghost use Rattle.pj_outside.specs.Faults.{Rises};
 ghost use Rattle.pj_outside.specs.Putting.{Gets, GetsPrefix};
-ghost use Rattle.pj_check.specs.Caching.{CountsKeeper, CountsWrite, TakesFitting, nothing_told};
+ghost use Rattle.pj_outcomes.specs.Notes.{nothing_told};
+ghost use Rattle.pj_check.specs.Caching.{CountsKeeper, CountsWrite, TakesFitting};
 ghost use Rattle.pj_check.specs.Kept.{AsksForNoCache, IsBeforeLoading, KeepsCache, SaysOfCache};
-ghost use Rattle.pj_check.specs.Outcome.{CountsClassFaults, CountsDoors, CountsSinkFaults, CountsTreeFaults, IsAnalysed, KeepsWork, Says, SaysIf, SaysOfFiles, SaysOfSink, SaysOfWords};
-ghost use Rattle.pj_check.specs.Steps.{CountsDoor, CountsFaults, CountsOfClasses, HasCacheText, HasNoReport, IsKeptIf, IsMade, IsOfSome, IsToldBefore, outcome_of, refused};
+ghost use Rattle.pj_runs.specs.Words.{SaysOfWords};
+ghost use Rattle.pj_check.specs.Outcome.{CountsClassFaults, CountsDoors, CountsSinkFaults, CountsTreeFaults, IsAnalysed, KeepsWork, Says, SaysIf, SaysOfFiles, SaysOfSink};
+ghost use Rattle.pj_runs.specs.Refusals.{CountsFaults, outcome_of, refused};
+ghost use Rattle.pj_check.specs.Steps.{CountsDoor, CountsOfClasses, HasCacheText, HasNoReport, IsKeptIf, IsMade, IsOfSome, IsToldBefore};
 
-use crate::cache::{CacheNotes, leave_cache};
+use crate::cache::leave_cache;
 use crate::making::{Made, finish};
-use crate::note::put_run;
-use crate::outcome::Outcome;
-use crate::preparing::prepare;
-use crate::refusal::{Refusal, outcome_of};
-use crate::{Verdict, Written, put_report};
 use pj_base::Words;
+use pj_outcomes::{CacheNotes, Outcome, Verdict, Written, put_report, put_run};
 use pj_outside::{ClassPath, Keeper, Sink, Tree};
+use pj_runs::{Refusal, outcome_of, prepare};
 use pj_workers::Work;
 use std::alloc::Global;
 

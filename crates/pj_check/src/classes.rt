@@ -12,12 +12,12 @@ ghost use Rattle.pj_check.specs.Caching.{DoneOver};
 ghost use Rattle.pj_check.specs.Steps.{CountsDoor, CountsOfClasses, FitsIfFound, IsLeftIfFound, IsOfClasses, IsOver, WorkedOver};
 
 use crate::analysing::{Analysed, analyse_over};
-use crate::refusal::{Refusal, after_asking, after_opening};
 use pj_base::Names;
 use pj_cache::Cache;
 use pj_cold::{Knowing, SteadyDoor};
 use pj_outside::{ClassDoor, ClassPath, Files};
 use pj_rules::RuleSet;
+use pj_runs::{Refusal, after_asking, after_opening};
 use pj_workers::Work;
 use std::alloc::Global;
 use std::marker::Brand;

@@ -5,21 +5,21 @@ ghost use Rattle.pj_cache.specs.Places.{byte_order};
 ghost use Rattle.pj_cache_format.specs.Ordered.{IsInOrder};
 ghost use Rattle.pj_cache_store.specs.Loading.{CountsLoad};
 ghost use Rattle.pj_cold.specs.Cold.{world_of};
-ghost use Rattle.pj_check.specs.Caching.{TakesFit, nothing_told};
-ghost use Rattle.pj_check.specs.Formats.{report_text};
+ghost use Rattle.pj_outcomes.specs.Notes.{nothing_told};
+ghost use Rattle.pj_check.specs.Caching.{TakesFit};
+ghost use Rattle.pj_outcomes.specs.Formats.{report_text};
 ghost use Rattle.pj_check.specs.Steps.{CountsDoor, CountsOfClasses, IsLeftIfFound, IsOfClasses, IsReportOf, IsSomeReport, IsTakenBy, IsTextBy, IsTextOf, IsToldAt, WorkedBy};
-ghost use Rattle.pj_check.specs.Verdicts.{verdict_of};
+ghost use Rattle.pj_outcomes.specs.Verdicts.{verdict_of};
 
 use crate::analysing::Analysed;
-use crate::cache::{CacheNotes, CacheText, find_cache, text_of_cache};
+use crate::cache::{CacheText, find_cache, text_of_cache};
 use crate::classes::analyse_sources;
-use crate::preparing::Ready;
-use crate::refusal::Refusal;
-use crate::{Written, written_report};
 use pj_base::{Copied, NoMemory};
 use pj_cache::Cache;
 use pj_cache_store::what_is_loaded_is_found;
+use pj_outcomes::{CacheNotes, Written, written_report};
 use pj_outside::{ClassPath, Keeper};
+use pj_runs::{Ready, Refusal};
 use pj_workers::Work;
 use std::alloc::Global;
 

@@ -2,7 +2,7 @@
 use Rattle.pj_workers.specs.JavaReplies.{java_replies}
 use Rattle.pj_workers.specs.Laws.{ColdIsInOrder}
 use Rattle.pj_cold.specs.Cold.{world_of}
-use Rattle.pj_check.specs.Laws.{ReportIsInOrder}
+use Rattle.pj_runs.specs.Laws.{ReportIsInOrder}
 use Rattle.pj_report_laws.specs.FileSays.{ColdSaysWhatRulesMean}
 use Rattle.pj_report_laws.specs.ReportSays.{ReportSaysWhatRulesMean}
 

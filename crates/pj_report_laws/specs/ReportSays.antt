@@ -12,7 +12,7 @@ use Rattle.pj_workers.specs.Cold.{World}
 use Rattle.pj_workers.specs.JavaReplies.{java_replies}
 use Rattle.pj_workers.specs.Rules.{AreRulesOf, Rule}
 use Rattle.pj_cold.specs.Cold.{world_of}
-use Rattle.pj_check.specs.Run.{IsRun, Run}
+use Rattle.pj_runs.specs.Run.{IsRun, Run}
 use Rattle.pj_report_laws.specs.FileSays.{SaysOfSource}
 
 -- What a report says of a set of rules and of sources, over a world of classes.

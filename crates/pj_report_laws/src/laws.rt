@@ -2,7 +2,7 @@
 ghost use Rattle.pj_report_laws.specs.FileSays.{ColdSaysWhatRulesMean};
 ghost use Rattle.pj_report_laws.specs.ReportSays.{ReportSaysWhatRulesMean};
 
-use pj_check::reports_are_in_order;
+use pj_runs::reports_are_in_order;
 use pj_workers::{
     cold_reports_are_in_order, files_are_their_rules, files_without_tree_have_one_error,
     findings_are_denoted, inactive_rules_mean_nothing, rules_find_nodes,

@@ -16,7 +16,7 @@ use Rattle.pj_workers.specs.Laws.{SettleByReplies}
 use Rattle.pj_workers.specs.Rules.{Rule}
 use Rattle.pj_cold.specs.Cold.{world_of}
 use Rattle.pj_cold.specs.Laws.{SetSettlesByReplies}
-use Rattle.pj_check.specs.Laws.{RunOrRefusal}
+use Rattle.pj_runs.specs.Laws.{RunOrRefusal}
 use Rattle.pj_settling.specs.Settling.{FindsFinitely, Settles, World}
 use Rattle.pj_settled_names.proofs.FileWorld.{in_file}
 use Rattle.pj_settled_types.proofs.Replies.{reply_settles}

@@ -7,10 +7,10 @@ use Rattle.pj_workers.specs.JavaReplies.{java_replies}
 use Rattle.pj_workers.specs.Rules.{Rule}
 use Rattle.pj_parse.specs.JavaFile.{JavaFile}
 use Rattle.pj_xexpressions.specs.declared.pmd_function.PmdFunction.{PmdFunction}
-use Rattle.pj_check.specs.Laws.{RunSettles}
-use Rattle.pj_check.specs.Refused.{IsRefused}
-use Rattle.pj_check.specs.Run.{IsRun, Run}
-use Rattle.pj_check.specs.declared.outcome.Outcome.{Outcome}
+use Rattle.pj_runs.specs.Laws.{RunSettles}
+use Rattle.pj_runs.specs.Refused.{IsRefused}
+use Rattle.pj_runs.specs.Run.{IsRun, Run}
+use Rattle.pj_outcomes.specs.declared.outcome.Outcome.{Outcome}
 use Rattle.pj_table.specs.ClassWorld.{folders_world}
 use Rattle.pj_settling.specs.Settling.{FindsFinitely, World}
 

@@ -1,8 +1,8 @@
 //! Laws of the definitions, each the contract of a call that does nothing.
 ghost use Rattle.pj_settled_runs.specs.Laws.{AllFilesSettle, AllRepliesSettle, AllRunsSettle, FoldersFindFinitely, SomeRunOrRefusal};
 
-use pj_check::some_run_or_refusal;
 use pj_cold::what_sets_mean_settles;
+use pj_runs::some_run_or_refusal;
 use pj_workers::what_rules_mean_settles;
 
 /// Class folders have finitely many classes: each that is found is that of one of their files.

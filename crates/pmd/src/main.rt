@@ -3,13 +3,15 @@
 
 ghost use Rattle.std.specs.Prelude.{◌≡◌, ◌≢◌, IfSome};
 ghost use Rattle.pj_check.specs.Kept.{AsksForNoCache, IsBeforeLoading, KeepsCache};
-ghost use Rattle.pj_check.specs.Outcome.{CountsClassFaults, CountsDoors, CountsSinkFaults, CountsTreeFaults, KeepsWork, Says, SaysOfFiles, SaysOfSink, SaysOfWords};
+ghost use Rattle.pj_runs.specs.Words.{SaysOfWords};
+ghost use Rattle.pj_check.specs.Outcome.{CountsClassFaults, CountsDoors, CountsSinkFaults, CountsTreeFaults, KeepsWork, Says, SaysOfFiles, SaysOfSink};
 
 #[cfg(test)]
 mod tests;
 
 use pj_base::{Text, Words};
-use pj_check::{Outcome, check_alone, put_outcome};
+use pj_check::check_alone;
+use pj_outcomes::{Outcome, put_outcome};
 use pj_outside::{ClassPath, Keeper, Sink, Tree};
 use pj_real::{RealClassPath, RealKeeper, RealSink, RealTree};
 use pj_settings::UsageFault;

@@ -1,8 +1,8 @@
 //! Each object over the real system once, and the top call over the real tree.
 use crate::run;
 use pj_base::{Names, NoMemory, Numbers, Text, Words};
-use pj_check::Outcome;
 use pj_names::ClassName;
+use pj_outcomes::Outcome;
 use pj_outside::{
     ClassDoor, ClassPath, Failed, Folders, Keeper, MemClassPath, MemKeeper, MemSink, Pairs,
     Reading, Refused, Sink, Tree,

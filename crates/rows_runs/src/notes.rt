@@ -1,7 +1,7 @@
 //! The notes of outcomes.
 use crate::put::{put_lines, text_in};
 use pj_base::{NoMemory, Numbers, Text};
-use pj_check::{LimitKind, Outcome, put_outcome};
+use pj_outcomes::{LimitKind, Outcome, put_outcome};
 use pj_outside::MemSink;
 use pj_rows::{Row, Section, Table};
 use pj_rules::{RuleFault, RuleWhat};

@@ -1,6 +1,6 @@
 //! Outcomes in words. Those without a report begin with `! `.
 use pj_base::NoMemory;
-use pj_check::{LimitKind, Outcome};
+use pj_outcomes::{LimitKind, Outcome};
 use pj_rows::put;
 use pj_rules::{RuleFault, RuleWhat};
 use pj_settings::UsageFault;

@@ -2,7 +2,8 @@
 use crate::calls::Failing;
 use crate::classes::{CountedClasses, classes_of};
 use pj_base::{NoMemory, Numbers, Words};
-use pj_check::{Outcome, check_alone};
+use pj_check::check_alone;
+use pj_outcomes::Outcome;
 use pj_outside::{Files, Keeper, MemKeeper, MemSink};
 use pj_row_folders::tree_of;
 use pj_workers::Work;

@@ -2,8 +2,8 @@ use Rattle.std.proofs.Common.{IfSome, subst, sym}
 use Rattle.pj_check.specs.Caching.{FindsFitting, TakesFitting, WorkSeen}
 use Rattle.pj_check.specs.Kept.{SaysOfCache}
 use Rattle.pj_check.specs.Outcome.{Says, SaysIf, SaysOfFiles}
-use Rattle.pj_check.specs.Steps.{outcome_of}
-use Rattle.pj_check.specs.declared.outcome.Outcome.{Outcome}
+use Rattle.pj_runs.specs.Refusals.{outcome_of}
+use Rattle.pj_outcomes.specs.declared.outcome.Outcome.{Outcome}
 use Rattle.pj_check.proofs.Caches.{taken_fits}
 use Rattle.pj_check.proofs.Ending.{all_say_sooner}
 use Rattle.pj_check.proofs.check.check_alone.Goals as goal

@@ -3,13 +3,15 @@ use Rattle.std.proofs.lemmas.Result.{err_from_is_err_and}
 use Rattle.pj_sources.specs.Reading.{AreRead}
 use Rattle.pj_check.specs.Caching.{TakesFitting, WorkSeen}
 use Rattle.pj_check.specs.Outcome.{DoorCounts, IsAnalysed}
-use Rattle.pj_check.specs.Run.{HasRules}
-use Rattle.pj_check.specs.Steps.{CountsDoor, CountsOfClasses, HasNoReport, IsMade, IsPrepared, IsToldBefore}
+use Rattle.pj_runs.specs.Run.{HasRules}
+use Rattle.pj_runs.specs.Prepared.{IsPrepared}
+use Rattle.pj_check.specs.Steps.{CountsDoor, CountsOfClasses, HasNoReport, IsMade, IsToldBefore}
 use Rattle.pj_check.specs.declared.making.Made.{Made}
-use Rattle.pj_check.specs.declared.refusal.Refusal.{Refusal}
-use Rattle.pj_check.specs.declared.refusal.Refusal.TheVariants.{ClassFault}
+use Rattle.pj_runs.specs.declared.refusal.Refusal.{Refusal}
+use Rattle.pj_runs.specs.declared.refusal.Refusal.TheVariants.{ClassFault}
 use Rattle.pj_check.proofs.Caches.{has_cache_text, is_analysed_by, is_made_by, is_of_some, of_classes_after, reused_on, told_before, told_nothing}
-use Rattle.pj_check.proofs.Ending.{classes_idle, classes_steady, doors_idle, no_report, no_report_on, no_tree_on, nothing_done, nothing_over, refused_on, tree_on}
+use Rattle.pj_runs.proofs.Ends.{refused_on}
+use Rattle.pj_check.proofs.Ending.{classes_idle, classes_steady, doors_idle, no_report, no_report_on, no_tree_on, nothing_done, nothing_over, tree_on}
 use Rattle.pj_cold.proofs.Told.{result_on, told_so}
 use Rattle.pj_check.proofs.check.make_report.Goals as goal
 

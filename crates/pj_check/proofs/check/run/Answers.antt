@@ -4,11 +4,12 @@ use Rattle.pj_cache_store.specs.Loading.{CountsLoad}
 use Rattle.pj_cache_store.specs.declared.loading.Unused.{Unused}
 use Rattle.pj_check.specs.Caching.{CountsWrite, TakesFitting, WorkSeen}
 use Rattle.pj_check.specs.Kept.{IsBeforeLoading, SaysOfCache}
-use Rattle.pj_check.specs.Outcome.{CountsClassFaults, CountsDoors, CountsSinkFaults, CountsTreeFaults, DoorCounts, KeepsWork, SaysIf, SaysOfFiles, SaysOfSink, SaysOfWords}
+use Rattle.pj_runs.specs.Words.{SaysOfWords}
+use Rattle.pj_check.specs.Outcome.{CountsClassFaults, CountsDoors, CountsSinkFaults, CountsTreeFaults, DoorCounts, KeepsWork, SaysIf, SaysOfFiles, SaysOfSink}
 use Rattle.pj_check.specs.Steps.{IsMade}
-use Rattle.pj_check.specs.declared.outcome.Outcome.{Outcome}
-use Rattle.pj_check.specs.declared.outcome.Outcome.TheVariants.{ClassFault, TreeFault}
-use Rattle.pj_check.specs.declared.refusal.Refusal.{Refusal}
+use Rattle.pj_outcomes.specs.declared.outcome.Outcome.{Outcome}
+use Rattle.pj_outcomes.specs.declared.outcome.Outcome.TheVariants.{ClassFault, TreeFault}
+use Rattle.pj_runs.specs.declared.refusal.Refusal.{Refusal}
 use Rattle.pj_check.specs.declared.making.Made.{Made}
 use Rattle.pj_check.proofs.Ending.{all_say_before, counts_before, ends_before, files_before, no_class_before, no_fault_before, put_classes, put_classes_steady, put_counts, put_doors, put_files, put_says, put_sink, put_steady, put_tree, put_words, put_work, sink_before, tree_counts_before, words_before, work_before}
 use Rattle.pj_check.proofs.Caches.{cache_before, cache_put, no_cache_text, put_after}

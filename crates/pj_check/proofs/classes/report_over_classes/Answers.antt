@@ -4,11 +4,12 @@ use Rattle.pj_workers.specs.Cold.{World}
 use Rattle.pj_check.specs.Outcome.{DoorCounts}
 use Rattle.pj_check.specs.Steps.{CountsDoor, CountsOfClasses, FitsIfFound, IsOfClasses, IsOver}
 use Rattle.pj_check.specs.declared.analysing.Analysed.{Analysed}
-use Rattle.pj_check.specs.declared.refusal.Refusal.{Refusal}
-use Rattle.pj_check.specs.declared.refusal.Refusal.TheVariants.{ClassFault}
+use Rattle.pj_runs.specs.declared.refusal.Refusal.{Refusal}
+use Rattle.pj_runs.specs.declared.refusal.Refusal.TheVariants.{ClassFault}
 use Rattle.pj_check.proofs.DoorCounting.{cold_of_classes, done_over_classes, no_class_fault, no_door, one_door, shut_door, shut_faults}
 use Rattle.pj_cold.proofs.Told.{result_on}
-use Rattle.pj_check.proofs.Ending.{other_end, refused_on}
+use Rattle.pj_runs.proofs.Ends.{refused_on}
+use Rattle.pj_check.proofs.Ending.{other_end}
 use Rattle.pj_check.proofs.classes.report_over_classes.Goals as goal
 
 -- ---- no door is opened

@@ -7,9 +7,10 @@ use Rattle.pj_check.specs.Outcome.{DoorCounts}
 use Rattle.pj_check.specs.Steps.{CountsDoor, CountsOfClasses, FitsIfFound, IsOfClasses, IsOver, IsReportOf, IsToldAt}
 use Rattle.pj_check.specs.declared.analysing.Analysed.{Analysed}
 use Rattle.pj_check.specs.declared.making.Made.{Made}
-use Rattle.pj_check.specs.declared.refusal.Refusal.{Refusal}
-use Rattle.pj_check.specs.declared.refusal.Refusal.TheVariants.{ClassFault, Memory}
-use Rattle.pj_check.proofs.Ending.{memory_end, nothing_under, other_end, refused_on}
+use Rattle.pj_runs.specs.declared.refusal.Refusal.{Refusal}
+use Rattle.pj_runs.specs.declared.refusal.Refusal.TheVariants.{ClassFault, Memory}
+use Rattle.pj_runs.proofs.Ends.{refused_on}
+use Rattle.pj_check.proofs.Ending.{memory_end, nothing_under, other_end}
 use Rattle.pj_check.proofs.Finishing.{fits_found, over_is_cold, text_by, told_at, told_of, worked_by}
 use Rattle.pj_cold.proofs.Told.{result_on, told_so}
 use Rattle.pj_check.proofs.making.finish.Goals as goal

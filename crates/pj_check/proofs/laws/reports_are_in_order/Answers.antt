@@ -1,5 +1,0 @@
-use Rattle.pj_check.proofs.InOrder.{report_in_order}
-use Rattle.pj_check.proofs.laws.reports_are_in_order.Goals as goal
-
-pub returns : goal.returns
-returns c = report_in_order c.cold_reports_are_in_order.ensures

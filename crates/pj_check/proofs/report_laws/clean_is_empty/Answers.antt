@@ -1,5 +1,0 @@
-use Rattle.pj_check.proofs.Emptiness.{clean_is_empty}
-use Rattle.pj_check.proofs.report_laws.clean_is_empty.Goals as goal
-
-pub returns : goal.returns
-returns c = clean_is_empty

@@ -1,7 +1,0 @@
-//! Laws of the definitions, each the contract of a call that does nothing.
-ghost use Rattle.pj_check.specs.ReportLaws.{CleanIsEmpty};
-
-/// A report is clean exactly where its text has no line.
-pub fn clean_is_empty()
-    ensures { CleanIsEmpty }
-{}

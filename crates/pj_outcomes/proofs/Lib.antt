@@ -1,0 +1,3 @@
+pub mod Pieces
+mod Lines
+pub mod Emptiness

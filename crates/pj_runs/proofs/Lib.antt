@@ -1,0 +1,7 @@
+mod Explaining
+pub mod Ends
+pub mod Excluding
+mod OneRefusal
+mod Once
+mod SomeRun
+pub mod InOrder
