@@ -18,13 +18,13 @@ use Rattle.pj_rule_sets.specs.Rules.{EffectiveRules}
 use Rattle.pj_workers.specs.Cold.{World}
 use Rattle.pj_workers.specs.declared.work.Work.{Work}
 use Rattle.pj_cold.specs.Cold.{world_of}
-use Rattle.pj_check.specs.Outcome.{CountsClassFaults, CountsDoors, DoorCounts, OneDoor}
+use Rattle.pj_check.specs.Outcome.{CountsClassFaults, CountsDoorsAt, DoorCounts, HasDoors}
 use Rattle.pj_cold.proofs.Told.{told_so}
 use Rattle.pj_cold.specs.Finds.{CountsNames}
 use Rattle.pj_cold.specs.Steps.{CountsAskFault}
 use Rattle.pj_check.specs.Caching.{DoneOver}
 use Rattle.pj_runs.specs.Refusals.{after_asking, after_opening, refused}
-use Rattle.pj_check.specs.Steps.{CountsDoor, CountsOfClasses, IsOfClasses}
+use Rattle.pj_check.specs.Steps.{CountsDoorsOver, CountsOfClasses, IsOfClasses}
 use Rattle.pj_runs.specs.declared.refusal.Refusal.{Refusal}
 use Rattle.pj_runs.specs.declared.refusal.Refusal.TheVariants.{ClassFault, Memory}
 
@@ -44,11 +44,11 @@ unopened_steady {A} unopened.Memory r is never e =
     let f : (let w : Result A Refusal = Err Memory in w) ≡ Err ClassFault = ap (λ (x : Refusal). Err x) (sym is) ∙ e in absurd (cc)
 
 -- no door was opened where no count rose
-pub no_door : (r : Refusal) (old new : DoorCounts) → IsOfClasses r → new.given ≡ old.given → new.taken ≡ old.taken → new.finds ≡ old.finds → CountsDoors (refused r) old new
-no_door r old new (inl is) given taken finds =
-    let same : new ≡ old = λ i. record { given = given i; taken = taken i; finds = finds i } in subst (λ (x : Refusal). CountsDoors (refused x) old new) (sym is) (inl same)
-no_door r old new (inr is) given taken finds =
-    let same : new ≡ old = λ i. record { given = given i; taken = taken i; finds = finds i } in subst (λ (x : Refusal). CountsDoors (refused x) old new) (sym is) (inl same)
+pub no_door : (count : ℕ) (r : Refusal) (old new : DoorCounts) → IsOfClasses r → new.given ≡ old.given → new.taken ≡ old.taken → new.finds ≡ old.finds → CountsDoorsAt count (refused r) old new
+no_door count r old new (inl is) given taken finds =
+    let same : new ≡ old = λ i. record { given = given i; taken = taken i; finds = finds i } in subst (λ (x : Refusal). CountsDoorsAt count (refused x) old new) (sym is) (inl same)
+no_door count r old new (inr is) given taken finds =
+    let same : new ≡ old = λ i. record { given = given i; taken = taken i; finds = finds i } in subst (λ (x : Refusal). CountsDoorsAt count (refused x) old new) (sym is) (inl same)
 
 -- ---- what comes over a door
 
@@ -95,14 +95,15 @@ module _ {A : Type 0} where
       let rises : Rises begun ended = subst (λ (x : Refusal). CountsClassFaults (refused x) begun ended) same counts in
       absurd (omega (arith, none, rises.rose))
 
-  pub shut_door : (r : Result A Refusal) (old new : DoorCounts) → IfErr r IsOfClasses → OneDoor old new → CountsDoor old new r
-  shut_door (Ok a) old new of one = one
-  shut_door (Err r) old new (inl is) one = subst (λ (x : Refusal). CountsDoors (refused x) old new) (sym is) (inr one)
-  shut_door (Err r) old new (inr is) one = subst (λ (x : Refusal). CountsDoors (refused x) old new) (sym is) (inr one)
+  pub shut_doors : (count : ℕ) (r : Result A Refusal) (old new : DoorCounts) → IfErr r IsOfClasses → HasDoors count old new → CountsDoorsOver count old new r
+  shut_doors count (Ok a) old new of doors = doors
+  shut_doors count (Err r) old new (inl is) doors = subst (λ (x : Refusal). CountsDoorsAt count (refused x) old new) (sym is) (inr (record { count = count; few = omega arith; doors = doors }))
+  shut_doors count (Err r) old new (inr is) doors = subst (λ (x : Refusal). CountsDoorsAt count (refused x) old new) (sym is) (inr (record { count = count; few = omega arith; doors = doors }))
 
-pub one_door : (before opened after : DoorCounts) (of_door : ℕ) → opened.given ≡ next_count before.given → opened.taken ≡ before.taken → opened.finds ≡ before.finds
-    → after.given ≡ opened.given → after.taken ≡ next_count opened.taken → after.finds ≡ count_and opened.finds of_door → OneDoor before after
-one_door before opened after of_door given same_taken same_finds same_given taken finds = record {
+-- one door was opened and shut
+pub door_shut : (before opened after : DoorCounts) (of_door : ℕ) → opened.given ≡ next_count before.given → opened.taken ≡ before.taken → opened.finds ≡ before.finds
+    → after.given ≡ opened.given → after.taken ≡ next_count opened.taken → after.finds ≡ count_and opened.finds of_door → HasDoors 1 before after
+door_shut before opened after of_door given same_taken same_finds same_given taken finds = record {
   given = same_given ∙ given;
   taken = taken ∙ ap next_count same_taken;
   finds = (of_door, finds ∙ ap (λ n. count_and n of_door) same_finds);

@@ -1,6 +1,6 @@
 -- From the steps of a run to what its outcome says.
 use Rattle.std.specs.Prelude.{⊤}
-use Rattle.std.proofs.Common.{◌≡◌, ◌≢◌, ◌∙◌, ℕ, List, Option, IfSome, Result, Ok, Err, OnOk, OnErr, IfOk, IfErr, inl, inr, ap, sym, subst, refl}
+use Rattle.std.proofs.Common.{◌≡◌, ◌≢◌, ◌∙◌, ◌⊎◌, ℕ, List, Option, IfSome, Result, Ok, Err, OnOk, OnErr, IfOk, IfErr, inl, inr, ap, sym, subst, refl, arith}
 use Rattle.pj_outside.specs.Doors.{ClassFolders}
 use Rattle.pj_outside.specs.Faults.{Rises}
 use Rattle.pj_outside.specs.Files.{Bytes, Files}
@@ -14,11 +14,11 @@ use Rattle.pj_workers.specs.declared.work.Work.{Work}
 use Rattle.pj_outcomes.specs.declared.verdict.Verdict.{Verdict}
 use Rattle.pj_outcomes.specs.declared.verdict.Verdict.TheVariants as verdict
 use Rattle.pj_outcomes.specs.declared.report_rendering.Written.{Written}
-use Rattle.pj_runs.specs.Words.{SaysOfWords}
-use Rattle.pj_check.specs.Outcome.{CountsClassFaults, CountsDoors, CountsSinkFaults, CountsTreeFaults, DoorCounts, GetsSome, IsAnalysed, IsCut, IsReported, KeepsWork, OneDoor, SaysIf, SaysOfFiles, SaysOfSink}
+use Rattle.pj_runs.specs.Words.{AsksFor, SaysOfWords}
+use Rattle.pj_check.specs.Outcome.{CountsClassFaults, CountsDoors, CountsDoorsAt, HasSomeDoors, CountsSinkFaults, CountsTreeFaults, DoorCounts, GetsSome, IsAnalysed, IsCut, IsReported, HasDoors, KeepsWork, SaysIf, SaysOfFiles, SaysOfSink}
 use Rattle.pj_runs.specs.Run.{HasRules}
 use Rattle.pj_runs.specs.Refusals.{CountsFaults, Explains, SaysRefusal, outcome_of, refused}
-use Rattle.pj_check.specs.Steps.{HasNoReport, IsMade, IsOfClasses, IsOfSome, SaysNoReport, SaysNotPut}
+use Rattle.pj_check.specs.Steps.{CountsDoorsOf, CountsDoorsOver, HasNoReport, IsMade, IsOfClasses, IsOfSome, SaysNoReport, SaysNotPut}
 use Rattle.pj_outcomes.specs.declared.outcome.Outcome.{Outcome}
 use Rattle.pj_outcomes.specs.declared.outcome.Outcome.TheVariants as outcome
 use Rattle.pj_runs.specs.declared.refusal.Refusal.{Refusal}
@@ -74,15 +74,36 @@ classes_idle words told (Missing path) faults h = refl
 classes_idle words told (Limit kind) faults h = refl
 classes_idle words told Memory faults h = refl
 
-pub doors_idle : (words : List Bytes) (told : Option Files) (r : Refusal) (doors : DoorCounts) → Explains words told r → CountsDoors (refused r) doors doors
-doors_idle words told (Usage fault) doors h = refl
-doors_idle words told (Rules fault) doors h = refl
-doors_idle words told TreeFault doors h = refl
-doors_idle words told ClassFault doors h = inl refl
-doors_idle words told SinkFault doors h = absurd (h.of_words)
-doors_idle words told (Missing path) doors h = refl
-doors_idle words told (Limit kind) doors h = refl
-doors_idle words told Memory doors h = inl refl
+pub doors_idle : (of : Settings → ℕ) (words : List Bytes) (told : Option Files) (r : Refusal) (doors : DoorCounts) → Explains words told r → CountsDoors of (refused r) words doors doors
+doors_idle of words told (Usage fault) doors h = refl
+doors_idle of words told (Rules fault) doors h = refl
+doors_idle of words told TreeFault doors h = refl
+doors_idle of words told ClassFault doors h = inl refl
+doors_idle of words told SinkFault doors h = absurd (h.of_words)
+doors_idle of words told (Missing path) doors h = refl
+doors_idle of words told (Limit kind) doors h = refl
+doors_idle of words told Memory doors h = inl refl
+
+-- a run may have opened all its doors, and end for want of memory then
+pub refused_doors : (count : ℕ) (old new : DoorCounts) → HasDoors count old new → CountsDoorsAt count outcome.Memory old new
+refused_doors count old new doors = inr (record { count = count; few = omega arith; doors = doors })
+
+-- what is counted of the doors of a run is so by what its words ask for
+module _ {A : Type 0} where
+  pub doors_by : (doors : Settings → ℕ) (words : List Bytes) (settings : Settings) (r : Result A Refusal) (old new : DoorCounts) → job words ≡ Ok settings → IfErr r IsOfClasses → CountsDoorsOver (doors settings) old new r → CountsDoorsOf doors words old new r
+  doors_by doors words settings (Ok a) old new asked of counts = (settings, asked, counts)
+  doors_by doors words settings (Err r) old new asked (inl is) counts =
+      subst (λ (x : Refusal). CountsDoors doors (refused x) words old new) (sym is) (few (subst (λ (x : Refusal). CountsDoorsAt (doors settings) (refused x) old new) is counts))
+    where
+      few : (new ≡ old) ⊎ HasSomeDoors (doors settings) old new → (new ≡ old) ⊎ AsksFor (λ s. HasSomeDoors (doors s) old new) words
+      few (inl same) = inl same
+      few (inr some) = inr (settings, asked, some)
+  doors_by doors words settings (Err r) old new asked (inr is) counts =
+      subst (λ (x : Refusal). CountsDoors doors (refused x) words old new) (sym is) (few (subst (λ (x : Refusal). CountsDoorsAt (doors settings) (refused x) old new) is counts))
+    where
+      few : (new ≡ old) ⊎ HasSomeDoors (doors settings) old new → (new ≡ old) ⊎ AsksFor (λ s. HasSomeDoors (doors s) old new) words
+      few (inl same) = inl same
+      few (inr some) = inr (settings, asked, some)
 
 -- ---- the run ends before the report is put
 
@@ -279,11 +300,11 @@ put_classes (Ok verdict.Violations) old new fault same = same
 put_classes (Ok verdict.Errors) old new fault same = same
 put_classes (Err r) old new fault same = subst (λ (e : Refusal). CountsClassFaults (refused e) old new) (sym fault) same
 
-pub put_doors : (r : Result Verdict Refusal) (old new : DoorCounts) → IfErr r (λ e. e ≡ SinkFault) → OneDoor old new → CountsDoors (outcome_of r) old new
-put_doors (Ok verdict.Clean) old new fault one = one
-put_doors (Ok verdict.Violations) old new fault one = one
-put_doors (Ok verdict.Errors) old new fault one = one
-put_doors (Err r) old new fault one = subst (λ (e : Refusal). CountsDoors (refused e) old new) (sym fault) one
+pub put_doors : (doors : Settings → ℕ) (words : List Bytes) (r : Result Verdict Refusal) (old new : DoorCounts) → IfErr r (λ e. e ≡ SinkFault) → AsksFor (λ settings. HasDoors (doors settings) old new) words → CountsDoors doors (outcome_of r) words old new
+put_doors doors words (Ok verdict.Clean) old new fault all = all
+put_doors doors words (Ok verdict.Violations) old new fault all = all
+put_doors doors words (Ok verdict.Errors) old new fault all = all
+put_doors doors words (Err r) old new fault all = subst (λ (e : Refusal). CountsDoors doors (refused e) words old new) (sym fault) all
 
 pub put_classes_steady : (r : Result Verdict Refusal) → IfErr r (λ e. e ≡ SinkFault) → outcome_of r ≢ outcome.ClassFault
 put_classes_steady (Ok verdict.Clean) fault e = absurd (cc)

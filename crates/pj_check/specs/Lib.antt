@@ -4,5 +4,6 @@ pub mod Outcome
 pub mod Kept
 -- laws
 pub mod Laws
--- for private clauses
+-- for clauses of the steps
 pub mod Steps
+pub mod Analysis

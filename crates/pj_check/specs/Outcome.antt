@@ -1,8 +1,8 @@
 -- What each outcome of a run says.
-use Rattle.std.specs.Prelude.{⊤, ◌≡◌, ◌⊎◌, ◌++◌, ℕ, List, Option, None, IfSome, Ok}
+use Rattle.std.specs.Prelude.{⊤, ◌≡◌, ◌⊎◌, ◌++◌, ◌≤◌, ℕ, List, Option, None, IfSome, Ok}
 use Rattle.pj_cached_files.specs.LeftFiles.{ArePartedBy}
 use Rattle.pj_outside.specs.Doors.{ClassFolders, count_and}
-use Rattle.pj_outside.specs.Faults.{Rises, next_count}
+use Rattle.pj_outside.specs.Faults.{Rises}
 use Rattle.pj_outside.specs.Files.{Files, Bytes}
 use Rattle.pj_outside.specs.Putting.{Gets, GetsPrefix}
 use Rattle.pj_reports.specs.declared.report.Report.{Report}
@@ -19,6 +19,7 @@ use Rattle.pj_outcomes.specs.declared.verdict.Verdict.{Verdict}
 use Rattle.pj_outcomes.specs.declared.verdict.Verdict.TheVariants as verdict
 use Rattle.pj_runs.specs.Refused.{IsRefused}
 use Rattle.pj_runs.specs.Run.{HasRules, IsRun, Run, text_of}
+use Rattle.pj_runs.specs.Words.{AsksFor}
 use Rattle.pj_outcomes.specs.declared.outcome.Outcome.{Outcome}
 use Rattle.pj_outcomes.specs.declared.outcome.Outcome.TheVariants.{Clean, Violations, Errors, Usage, Rules, TreeFault, ClassFault, SinkFault, Missing, Limit, Memory}
 
@@ -109,22 +110,42 @@ pub record DoorCounts : Type 0 where
   pub taken : ℕ
   pub finds : ℕ
 
--- One door was opened and shut, and its finds were added.
-pub record OneDoor (old new : DoorCounts) : Type 0 where
-  pub given : new.given ≡ next_count old.given
-  pub taken : new.taken ≡ next_count old.taken
-  pub finds : (of_door : ℕ) × (new.finds ≡ count_and old.finds of_door)
+-- So many doors were opened and shut, and their finds were added.
+pub record HasDoors (count : ℕ) (old new : DoorCounts) : Type 0 where
+  pub given : new.given ≡ count_and old.given count
+  pub taken : new.taken ≡ count_and old.taken count
+  pub finds : (of_doors : ℕ) × (new.finds ≡ count_and old.finds of_doors)
 
--- Each door that was opened is shut. There is none where a run ends before its sources are analysed, and one where it comes to its
--- report; where the class path failed or memory was wanting, there is one or none.
-abbrev pub CountsDoors : Outcome → DoorCounts → DoorCounts → Type 0
-CountsDoors Clean old new = OneDoor old new
-CountsDoors Violations old new = OneDoor old new
-CountsDoors Errors old new = OneDoor old new
-CountsDoors SinkFault old new = OneDoor old new
-CountsDoors ClassFault old new = (new ≡ old) ⊎ OneDoor old new
-CountsDoors Memory old new = (new ≡ old) ⊎ OneDoor old new
-CountsDoors other old new = new ≡ old
+-- Doors were opened and shut, no more than so many.
+pub record HasSomeDoors (most : ℕ) (old new : DoorCounts) : Type 0 where
+  pub count : ℕ
+  pub few : count ≤ most
+  pub doors : HasDoors count old new
+
+-- Each door that was opened is shut, where a run that opens so many ends so. There is none where it ends before its sources are analysed, and there are all where it comes to its
+-- report; where the class path failed or memory was wanting, there may be fewer, or none.
+abbrev pub CountsDoorsAt : ℕ → Outcome → DoorCounts → DoorCounts → Type 0
+CountsDoorsAt count Clean old new = HasDoors count old new
+CountsDoorsAt count Violations old new = HasDoors count old new
+CountsDoorsAt count Errors old new = HasDoors count old new
+CountsDoorsAt count SinkFault old new = HasDoors count old new
+CountsDoorsAt count ClassFault old new = (new ≡ old) ⊎ HasSomeDoors count old new
+CountsDoorsAt count Memory old new = (new ≡ old) ⊎ HasSomeDoors count old new
+CountsDoorsAt count other old new = new ≡ old
+
+-- So it is by what the words ask for: how many doors a run opens follows from that.
+abbrev pub CountsDoors : (Settings → ℕ) → Outcome → List Bytes → DoorCounts → DoorCounts → Type 0
+CountsDoors doors Clean words old new = AsksFor (λ settings. HasDoors (doors settings) old new) words
+CountsDoors doors Violations words old new = AsksFor (λ settings. HasDoors (doors settings) old new) words
+CountsDoors doors Errors words old new = AsksFor (λ settings. HasDoors (doors settings) old new) words
+CountsDoors doors SinkFault words old new = AsksFor (λ settings. HasDoors (doors settings) old new) words
+CountsDoors doors ClassFault words old new = (new ≡ old) ⊎ AsksFor (λ settings. HasSomeDoors (doors settings) old new) words
+CountsDoors doors Memory words old new = (new ≡ old) ⊎ AsksFor (λ settings. HasSomeDoors (doors settings) old new) words
+CountsDoors doors other words old new = new ≡ old
+
+-- how many doors a run opens on the caller's own thread
+abbrev pub one_door : Settings → ℕ
+one_door settings = 1
 
 -- The sink's faults rise exactly with `SinkFault`.
 abbrev pub CountsSinkFaults : Outcome → ℕ → ℕ → Type 0

@@ -28,8 +28,8 @@ use Rattle.pj_outcomes.specs.Formats.{report_text}
 use Rattle.pj_check.specs.Kept.{DoesBy, HasLoaded, IsLeftBy, IsToldOf}
 use Rattle.pj_outcomes.specs.Verdicts.{verdict_of}
 use Rattle.pj_outcomes.specs.declared.report_rendering.Written.{Written}
-use Rattle.pj_runs.specs.Words.{SaysOfWords}
-use Rattle.pj_check.specs.Outcome.{CountsClassFaults, CountsDoors, DoorCounts, IsReady, OneDoor, Worked}
+use Rattle.pj_runs.specs.Words.{AsksFor, SaysOfWords}
+use Rattle.pj_check.specs.Outcome.{CountsClassFaults, CountsDoors, CountsDoorsAt, DoorCounts, HasDoors, IsReady, Worked}
 use Rattle.pj_runs.specs.Run.{IsRun, Run, text_of}
 use Rattle.pj_check.specs.declared.analysing.Analysed.{Analysed}
 use Rattle.pj_check.specs.declared.cache.CacheText.{CacheText}
@@ -63,10 +63,15 @@ module _ {A : Type 0} where
   CountsOfClasses old new (Ok a) = new ≡ old
   CountsOfClasses old new (Err refusal) = CountsClassFaults (refused refusal) old new
 
-  -- Each door that was opened is shut, and there is one at most.
-  abbrev pub CountsDoor : DoorCounts → DoorCounts → Result A Refusal → Type 0
-  CountsDoor old new (Ok a) = OneDoor old new
-  CountsDoor old new (Err refusal) = CountsDoors (refused refusal) old new
+  -- Each door that was opened is shut, of a run that opens so many.
+  abbrev pub CountsDoorsOver : ℕ → DoorCounts → DoorCounts → Result A Refusal → Type 0
+  CountsDoorsOver count old new (Ok a) = HasDoors count old new
+  CountsDoorsOver count old new (Err refusal) = CountsDoorsAt count (refused refusal) old new
+
+  -- So it is by what the words ask for.
+  abbrev pub CountsDoorsOf : (Settings → ℕ) → List Bytes → DoorCounts → DoorCounts → Result A Refusal → Type 0
+  CountsDoorsOf doors words old new (Ok a) = AsksFor (λ settings. HasDoors (doors settings) old new) words
+  CountsDoorsOf doors words old new (Err refusal) = CountsDoors doors (refused refusal) words old new
 
 -- ---- what they give
 

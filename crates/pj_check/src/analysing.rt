@@ -42,7 +42,7 @@ pub struct Analysed {
 }
 
 /// The keys of the rules of a set, in their order.
-fn rule_keys(alloc: Global, rules: &RuleSet) -> Result<Keys, NoMemory>
+pub fn rule_keys(alloc: Global, rules: &RuleSet) -> Result<Keys, NoMemory>
     ensures keys { IfOk result (λ keys. keys ≡ keys_of_set rules.now) }
     ensures room { IfOk result (λ _. All (λ rule. HasRoom rules.now.marker × FitsKey rule) rules.now.rules) }
 {

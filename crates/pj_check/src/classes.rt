@@ -9,7 +9,7 @@ ghost use Rattle.pj_outside.specs.Faults.{next_count};
 ghost use Rattle.pj_table.specs.ClassWorld.{folders_world};
 ghost use Rattle.pj_cold.specs.Cold.{world_of};
 ghost use Rattle.pj_check.specs.Caching.{DoneOver};
-ghost use Rattle.pj_check.specs.Steps.{CountsDoor, CountsOfClasses, FitsIfFound, IsLeftIfFound, IsOfClasses, IsOver, WorkedOver};
+ghost use Rattle.pj_check.specs.Steps.{CountsDoorsOver, CountsOfClasses, FitsIfFound, IsLeftIfFound, IsOfClasses, IsOver, WorkedOver};
 
 use crate::analysing::{Analysed, analyse_over};
 use pj_base::Names;
@@ -88,7 +88,7 @@ fn report_over_classes<C: ClassPath, V: Knowing + Send>(
     ensures same_folders { C.holds classes.new ≡ C.holds classes.old }
     ensures class_faults { CountsOfClasses (C.faults classes.old) (C.faults classes.new) result }
     ensures steady { V.never_fails → C.never_fails classes.new × (result ≢ Err Refusal.ClassFault) }
-    ensures doors { CountsDoor (record { given = C.given classes.old; taken = C.taken classes.old; finds = C.finds classes.old }) (record { given = C.given classes.new; taken = C.taken classes.new; finds = C.finds classes.new }) result }
+    ensures doors { CountsDoorsOver 1 (record { given = C.given classes.old; taken = C.taken classes.old; finds = C.finds classes.old }) (record { given = C.given classes.new; taken = C.taken classes.new; finds = C.finds classes.new }) result }
     ensures left { IfOk result (λ analysed. IsLeftIfFound found.now analysed.left) }
     ensures worked { OnOk result (WorkedOver found.now sources.now work.old work.new) }
     ensures skipped { work.new.skipped ≡ work.old.skipped }
@@ -119,7 +119,7 @@ pub fn analyse_sources<C: ClassPath>(
     ensures same_folders { C.holds classes.new ≡ C.holds classes.old }
     ensures class_faults { CountsOfClasses (C.faults classes.old) (C.faults classes.new) result }
     ensures steady { C.never_fails classes.old → C.never_fails classes.new × (result ≢ Err Refusal.ClassFault) }
-    ensures doors { CountsDoor (record { given = C.given classes.old; taken = C.taken classes.old; finds = C.finds classes.old }) (record { given = C.given classes.new; taken = C.taken classes.new; finds = C.finds classes.new }) result }
+    ensures doors { CountsDoorsOver 1 (record { given = C.given classes.old; taken = C.taken classes.old; finds = C.finds classes.old }) (record { given = C.given classes.new; taken = C.taken classes.new; finds = C.finds classes.new }) result }
     ensures left { IfOk result (λ analysed. IsLeftIfFound found.now analysed.left) }
     ensures worked { OnOk result (WorkedOver found.now sources.now work.old work.new) }
     ensures skipped { work.new.skipped ≡ work.old.skipped }

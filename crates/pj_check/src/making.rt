@@ -1,19 +1,21 @@
 //! What a run makes before it puts anything: its report, and the text of its cache.
-ghost use Rattle.std.specs.Prelude.{◌≡◌, ◌≢◌, Err, IfErr, IfOk, IfSome, None, OnErr, OnOk, false, map};
+ghost use Rattle.std.specs.Prelude.{◌≡◌, ◌≢◌, ◌≤◌, Err, IfErr, IfOk, IfSome, None, OnErr, OnOk, false, length, map};
 ghost use Rattle.std.specs.List.Sorted.{IsStrictlySortedBy};
 ghost use Rattle.pj_cache.specs.Places.{byte_order};
 ghost use Rattle.pj_cache_format.specs.Ordered.{IsInOrder};
 ghost use Rattle.pj_cache_store.specs.Loading.{CountsLoad};
 ghost use Rattle.pj_cold.specs.Cold.{world_of};
+ghost use Rattle.pj_sources.specs.Limits.{most_files};
 ghost use Rattle.pj_outcomes.specs.Notes.{nothing_told};
+ghost use Rattle.pj_check.specs.Analysis.{IsAnalysis, MayBeAnalysed};
 ghost use Rattle.pj_check.specs.Caching.{TakesFit};
 ghost use Rattle.pj_outcomes.specs.Formats.{report_text};
-ghost use Rattle.pj_check.specs.Steps.{CountsDoor, CountsOfClasses, IsLeftIfFound, IsOfClasses, IsReportOf, IsSomeReport, IsTakenBy, IsTextBy, IsTextOf, IsToldAt, WorkedBy};
+ghost use Rattle.pj_check.specs.Steps.{CountsDoorsOver, CountsOfClasses, IsLeftIfFound, IsOfClasses, IsReportOf, IsSomeReport, IsTakenBy, IsTextBy, IsTextOf, IsToldAt, WorkedBy};
 ghost use Rattle.pj_outcomes.specs.Verdicts.{verdict_of};
 
 use crate::analysing::Analysed;
+use crate::analysis::DoorCount;
 use crate::cache::{CacheText, find_cache, text_of_cache};
-use crate::classes::analyse_sources;
 use pj_base::{Copied, NoMemory};
 use pj_cache::Cache;
 use pj_cache_store::what_is_loaded_is_found;
@@ -82,9 +84,16 @@ fn write_made(
     Ok(Made { report, left })
 }
 
-/// Loads the cache, if the words ask for one, analyses the sources, and writes the report and the text of the cache that is left.
-pub fn finish<C: ClassPath, K: Keeper>(
+/// Loads the cache, if the words ask for one, analyses the sources by what is handed in for that, and writes the report and the text of the cache that is left.
+pub fn finish<
+    V: DoorCount + Copy,
+    C: ClassPath,
+    K: Keeper,
+    F: Fn(&mut C, &Ready, &Option<Cache>, &mut Work) -> Result<Analysed, Refusal>,
+>(
     alloc: Global,
+    _count: V,
+    analyse: &F,
     ready: &Ready,
     classes: &mut C,
     keeper: &mut K,
@@ -93,6 +102,11 @@ pub fn finish<C: ClassPath, K: Keeper>(
 ) -> Result<Made, Refusal>
     requires nothing_told { told.old ≡ nothing_told }
     requires paths { IsStrictlySortedBy byte_order (map (λ file. file.0) ready.now.sources) }
+    requires few { length ready.now.sources ≤ most_files }
+    requires threads { ready.now.settings.threads ≤ 64 }
+    requires callable { (path : _) (ready : _) (found : _) (done : _) → MayBeAnalysed ready.now found.now → F.pre analyse.now path ready found done }
+    requires analyses { (path : _) (ready : _) (found : _) (done : _) (analysed : _) (path_after : _) (done_after : _) → F.post analyse.now path ready found done analysed path_after done_after
+        → IsAnalysis C.holds C.given C.taken C.finds C.faults C.never_fails V.doors ready.now found.now path.now path_after.now done.now done_after.now analysed }
     ensures made { IfSome (C.holds classes.old) (λ folders. TakesFit ready.now.settings.cache (K.holds keeper.old) told.new.unused → IfOk result (λ made. IsReportOf ready.now (world_of folders ready.now.settings.classes) made.report)) }
     ensures some { IfOk result (λ made. IsSomeReport ready.now made.report) }
     ensures left { IfOk result (λ made. IsTextBy ready.now.settings.cache ready.now (C.holds classes.old) (K.holds keeper.old) (record { work = work.old; finds = C.finds classes.old }) (record { work = work.new; finds = C.finds classes.new }) told.new.unused made.left) }
@@ -106,21 +120,13 @@ pub fn finish<C: ClassPath, K: Keeper>(
     ensures same_folders { C.holds classes.new ≡ C.holds classes.old }
     ensures class_faults { CountsOfClasses (C.faults classes.old) (C.faults classes.new) result }
     ensures steady_classes { C.never_fails classes.old → C.never_fails classes.new × (result ≢ Err Refusal.ClassFault) }
-    ensures doors { CountsDoor (record { given = C.given classes.old; taken = C.taken classes.old; finds = C.finds classes.old }) (record { given = C.given classes.new; taken = C.taken classes.new; finds = C.finds classes.new }) result }
+    ensures doors { CountsDoorsOver (V.doors ready.now.settings) (record { given = C.given classes.old; taken = C.taken classes.old; finds = C.finds classes.old }) (record { given = C.given classes.new; taken = C.taken classes.new; finds = C.finds classes.new }) result }
     ensures keeps_work { OnErr result (work.new ≡ work.old) }
 {
     what_is_loaded_is_found();
     let begun = begin(alloc, ready, keeper, told, work)?;
     let Begun { found, mut done } = begun;
-    let analysed = analyse_sources(
-        alloc,
-        classes,
-        &ready.settings.classes,
-        &ready.sources,
-        &ready.rules,
-        &found,
-        &mut done,
-    )?;
+    let analysed = analyse(classes, ready, &found, &mut done)?;
     let made = write_made(alloc, ready, &found, &analysed)?;
     *work = done;
     Ok(made)

@@ -1,4 +1,5 @@
 mod Explaining
+mod Asked
 pub mod Ends
 pub mod Excluding
 mod OneRefusal

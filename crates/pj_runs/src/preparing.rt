@@ -1,7 +1,8 @@
 //! What a run has at hand before it analyses its sources.
-ghost use Rattle.std.specs.Prelude.{◌≡◌, ◌≢◌, Ok, Err, IfErr, IfOk, IfSome, map};
+ghost use Rattle.std.specs.Prelude.{◌≡◌, ◌≢◌, ◌≤◌, Ok, Err, IfErr, IfOk, IfSome, length, map};
 ghost use Rattle.std.specs.List.Sorted.{IsStrictlySortedBy};
 ghost use Rattle.pj_settings.specs.Job.{job};
+ghost use Rattle.pj_sources.specs.Limits.{most_files};
 ghost use Rattle.pj_sources.specs.Paths.{byte_order};
 ghost use Rattle.pj_sources.specs.Reading.{AreWithin};
 ghost use Rattle.pj_runs.specs.Refusals.{CountsFaults, Explains};
@@ -35,6 +36,8 @@ pub fn prepare<T: Tree>(alloc: Global, words: &Words, tree: &mut T) -> Result<Re
     ensures prepared { IfSome (T.holds tree.old) (λ held. IfOk result (IsPrepared words.now held)) }
     ensures within { IfOk result (λ ready. AreWithin ready.listing.paths ready.sources) }
     ensures ascending { IfOk result (λ ready. IsStrictlySortedBy byte_order (map (λ file. file.0) ready.sources)) }
+    ensures few { IfOk result (λ ready. length ready.sources ≤ most_files) }
+    ensures threads { IfOk result (λ ready. ready.settings.threads ≤ 64) }
     ensures refused { IfErr result (Explains words.now (T.holds tree.old)) }
     ensures same_files { T.holds tree.new ≡ T.holds tree.old }
     ensures counts_faults { CountsFaults (T.faults tree.old) (T.faults tree.new) result }

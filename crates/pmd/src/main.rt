@@ -4,25 +4,38 @@
 ghost use Rattle.std.specs.Prelude.{◌≡◌, ◌≢◌, IfSome};
 ghost use Rattle.pj_check.specs.Kept.{AsksForNoCache, IsBeforeLoading, KeepsCache};
 ghost use Rattle.pj_runs.specs.Words.{SaysOfWords};
+ghost use Rattle.pj_threads.specs.Workers.{doors_of};
 ghost use Rattle.pj_check.specs.Outcome.{CountsClassFaults, CountsDoors, CountsSinkFaults, CountsTreeFaults, KeepsWork, Says, SaysOfFiles, SaysOfSink};
 
 #[cfg(test)]
 mod tests;
 
 use pj_base::{Text, Words};
-use pj_check::check_alone;
 use pj_outcomes::{Outcome, put_outcome};
 use pj_outside::{ClassPath, Keeper, Sink, Tree};
 use pj_real::{RealClassPath, RealKeeper, RealSink, RealTree};
+use pj_seats::{Gate, OpenGate};
 use pj_settings::UsageFault;
+use pj_threads::check;
 use pj_workers::Work;
 use std::alloc::Global;
 use std::env::Env;
 use std::process::ExitCode;
+use std::sync::Wait;
+use std::thread::Threads;
 use std::{env, io, process};
 
-/// The top call: the run on one thread.
-fn run<T: Tree, C: ClassPath, K: Keeper, S: Sink, N: Sink>(
+/// The top call: the run by as many workers as the words ask for.
+fn run<
+    R: Threads + Wait + Sync,
+    T: Tree,
+    C: ClassPath,
+    K: Keeper,
+    S: Sink,
+    N: Sink,
+    G: Gate + Sync,
+>(
+    rt: &R,
     alloc: Global,
     words: &Words,
     tree: &mut T,
@@ -30,6 +43,7 @@ fn run<T: Tree, C: ClassPath, K: Keeper, S: Sink, N: Sink>(
     keeper: &mut K,
     out: &mut S,
     notes: &mut N,
+    gate: &G,
     work: &mut Work,
 ) -> Outcome
     ensures says { IfSome (T.holds tree.old) (λ held. Says result words.now held (C.holds classes.old) (K.holds keeper.old) (S.held out.old) (S.held out.new) work.old work.new) }
@@ -46,11 +60,13 @@ fn run<T: Tree, C: ClassPath, K: Keeper, S: Sink, N: Sink>(
     ensures same_folders { C.holds classes.new ≡ C.holds classes.old }
     ensures steady_classes { C.never_fails classes.old → C.never_fails classes.new × (result ≢ Outcome.ClassFault) }
     ensures class_faults { CountsClassFaults result (C.faults classes.old) (C.faults classes.new) }
-    ensures doors { CountsDoors result (record { given = C.given classes.old; taken = C.taken classes.old; finds = C.finds classes.old }) (record { given = C.given classes.new; taken = C.taken classes.new; finds = C.finds classes.new }) }
+    ensures doors { CountsDoors doors_of result words.now (record { given = C.given classes.old; taken = C.taken classes.old; finds = C.finds classes.old }) (record { given = C.given classes.new; taken = C.taken classes.new; finds = C.finds classes.new }) }
     ensures reused { AsksForNoCache words.now → work.new.reused ≡ work.old.reused }
     ensures keeps_work { KeepsWork result work.old work.new }
 {
-    check_alone(alloc, words, tree, classes, keeper, out, notes, work)
+    check(
+        rt, alloc, words, tree, classes, keeper, out, notes, gate, work,
+    )
 }
 
 /// The words behind the program's name. One that is not UTF-8 makes them no line.
@@ -84,6 +100,7 @@ fn main(rt: HostRuntime) -> ExitCode {
     let mut out = RealSink::new(io::writer(&rt));
     let mut work = Work::new(alloc);
     let outcome = run(
+        &rt,
         alloc,
         &words,
         &mut tree,
@@ -91,6 +108,7 @@ fn main(rt: HostRuntime) -> ExitCode {
         &mut keeper,
         &mut out,
         &mut notes,
+        &OpenGate,
         &mut work,
     );
     ExitCode::from(outcome.status())

@@ -8,6 +8,7 @@ use pj_outside::{
     Reading, Refused, Sink, Tree,
 };
 use pj_real::{RealClassPath, RealDoor, RealKeeper, RealSink, RealTree};
+use pj_seats::OpenGate;
 use pj_workers::Work;
 use std::alloc::Global;
 use std::os::unix;
@@ -320,6 +321,7 @@ fn run_really(rt: HostRuntime, words: &Words, notes: &mut MemSink) -> Outcome {
     let mut out = MemSink::new(alloc, Numbers::new(alloc));
     let mut work = Work::new(alloc);
     run(
+        &rt,
         alloc,
         words,
         &mut tree,
@@ -327,6 +329,7 @@ fn run_really(rt: HostRuntime, words: &Words, notes: &mut MemSink) -> Outcome {
         &mut keeper,
         &mut out,
         notes,
+        &OpenGate,
         &mut work,
     )
 }

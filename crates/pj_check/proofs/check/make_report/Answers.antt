@@ -5,13 +5,13 @@ use Rattle.pj_check.specs.Caching.{TakesFitting, WorkSeen}
 use Rattle.pj_check.specs.Outcome.{DoorCounts, IsAnalysed}
 use Rattle.pj_runs.specs.Run.{HasRules}
 use Rattle.pj_runs.specs.Prepared.{IsPrepared}
-use Rattle.pj_check.specs.Steps.{CountsDoor, CountsOfClasses, HasNoReport, IsMade, IsToldBefore}
+use Rattle.pj_check.specs.Steps.{CountsDoorsOf, CountsOfClasses, HasNoReport, IsMade, IsToldBefore}
 use Rattle.pj_check.specs.declared.making.Made.{Made}
 use Rattle.pj_runs.specs.declared.refusal.Refusal.{Refusal}
 use Rattle.pj_runs.specs.declared.refusal.Refusal.TheVariants.{ClassFault}
 use Rattle.pj_check.proofs.Caches.{has_cache_text, is_analysed_by, is_made_by, is_of_some, of_classes_after, reused_on, told_before, told_nothing}
 use Rattle.pj_runs.proofs.Ends.{refused_on}
-use Rattle.pj_check.proofs.Ending.{classes_idle, classes_steady, doors_idle, no_report, no_report_on, no_tree_on, nothing_done, nothing_over, tree_on}
+use Rattle.pj_check.proofs.Ending.{classes_idle, classes_steady, doors_by, doors_idle, no_report, no_report_on, no_tree_on, nothing_done, nothing_over, tree_on}
 use Rattle.pj_cold.proofs.Told.{result_on, told_so}
 use Rattle.pj_check.proofs.check.make_report.Goals as goal
 
@@ -58,7 +58,7 @@ returns-in_err-ready-clause-doors g c =
     let told = g.T.Tree.holds c.args.tree.now in
     let doors : DoorCounts = record { given = g.C.ClassPath.given c.args.classes.now; taken = g.C.ClassPath.taken c.args.classes.now; finds = g.C.ClassPath.finds c.args.classes.now } in
     let exit = err_from_is_err_and c.from_residual.result c.from_residual.ensures.1 in
-    result_on (λ (w : Result Made Refusal). CountsDoor doors doors w) c.from_residual.result exit.0 c.in_err-ready.field-0.0 exit.1 exit.2 (doors_idle words told c.in_err-ready.field-0.0 doors c.in_err-ready.ensures.refused)
+    result_on (λ (w : Result Made Refusal). CountsDoorsOf (g.V.DoorCount.doors) words doors doors w) c.from_residual.result exit.0 c.in_err-ready.field-0.0 exit.1 exit.2 (doors_idle (g.V.DoorCount.doors) words told c.in_err-ready.field-0.0 doors c.in_err-ready.ensures.refused)
 
 pub returns-in_err-ready-clause-steady_classes : goal.returns-in_err-ready-clause-steady_classes
 returns-in_err-ready-clause-steady_classes g c = λ never.
@@ -118,3 +118,9 @@ returns-clause-same_keeper g c = λ none. c.finish.ensures.same_keeper (none c.i
 pub returns-clause-reused : goal.returns-clause-reused
 returns-clause-reused g c = λ none.
     reused_on c.in_ok-ready.ready c.args.work.now c.finish.new.work c.finish.result c.finish.ensures.worked c.finish.ensures.keeps_work (none c.in_ok-ready.ready.settings c.in_ok-ready.ensures.asked)
+
+pub returns-clause-doors : goal.returns-clause-doors
+returns-clause-doors g c =
+    let old : DoorCounts = record { given = g.C.ClassPath.given c.args.classes.now; taken = g.C.ClassPath.taken c.args.classes.now; finds = g.C.ClassPath.finds c.args.classes.now } in
+    let new : DoorCounts = record { given = g.C.ClassPath.given c.finish.new.classes; taken = g.C.ClassPath.taken c.finish.new.classes; finds = g.C.ClassPath.finds c.finish.new.classes } in
+    doors_by (g.V.DoorCount.doors) c.args.words.now c.in_ok-ready.ready.settings c.finish.result old new c.in_ok-ready.ensures.asked c.finish.ensures.refused c.finish.ensures.doors

@@ -103,7 +103,7 @@ returns-in_err-made-clause-doors g c =
     let old : DoorCounts = record { given = g.C.ClassPath.given c.args.classes.now; taken = g.C.ClassPath.taken c.args.classes.now; finds = g.C.ClassPath.finds c.args.classes.now } in
     let new : DoorCounts = record { given = g.C.ClassPath.given c.make_report.new.classes; taken = g.C.ClassPath.taken c.make_report.new.classes; finds = g.C.ClassPath.finds c.make_report.new.classes } in
     let exit = err_from_is_err_and c.from_residual.result c.from_residual.ensures.1 in
-    ends_before (λ (o : Outcome). CountsDoors o old new) c.from_residual.result exit.0 c.in_err-made.field-0.0 exit.1 exit.2 c.in_err-made.ensures.doors
+    ends_before (λ (o : Outcome). CountsDoors (g.V.DoorCount.doors) o c.args.words.now old new) c.from_residual.result exit.0 c.in_err-made.field-0.0 exit.1 exit.2 c.in_err-made.ensures.doors
 
 pub returns-in_err-made-clause-of_cache : goal.returns-in_err-made-clause-of_cache
 returns-in_err-made-clause-of_cache g c =
@@ -174,7 +174,7 @@ pub returns-clause-doors : goal.returns-clause-doors
 returns-clause-doors g c =
     let old : DoorCounts = record { given = g.C.ClassPath.given c.args.classes.now; taken = g.C.ClassPath.taken c.args.classes.now; finds = g.C.ClassPath.finds c.args.classes.now } in
     let new : DoorCounts = record { given = g.C.ClassPath.given c.make_report.new.classes; taken = g.C.ClassPath.taken c.make_report.new.classes; finds = g.C.ClassPath.finds c.make_report.new.classes } in
-    put_doors c.put_made.result old new c.put_made.ensures.refused c.in_ok-made.ensures.doors
+    put_doors (g.V.DoorCount.doors) c.args.words.now c.put_made.result old new c.put_made.ensures.refused c.in_ok-made.ensures.doors
 
 pub returns-clause-steady_classes : goal.returns-clause-steady_classes
 returns-clause-steady_classes g c = λ never. ((c.in_ok-made.ensures.steady_classes never).0, put_classes_steady c.put_made.result c.put_made.ensures.refused)

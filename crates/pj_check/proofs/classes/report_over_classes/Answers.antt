@@ -2,11 +2,11 @@ use Rattle.std.proofs.Common.{◌≢◌, ◌∙◌, Err, IfOk, Result}
 use Rattle.std.proofs.lemmas.Result.{err_from_is_err_and}
 use Rattle.pj_workers.specs.Cold.{World}
 use Rattle.pj_check.specs.Outcome.{DoorCounts}
-use Rattle.pj_check.specs.Steps.{CountsDoor, CountsOfClasses, FitsIfFound, IsOfClasses, IsOver}
+use Rattle.pj_check.specs.Steps.{CountsDoorsOver, CountsOfClasses, FitsIfFound, IsOfClasses, IsOver}
 use Rattle.pj_check.specs.declared.analysing.Analysed.{Analysed}
 use Rattle.pj_runs.specs.declared.refusal.Refusal.{Refusal}
 use Rattle.pj_runs.specs.declared.refusal.Refusal.TheVariants.{ClassFault}
-use Rattle.pj_check.proofs.DoorCounting.{cold_of_classes, done_over_classes, no_class_fault, no_door, one_door, shut_door, shut_faults}
+use Rattle.pj_check.proofs.DoorCounting.{cold_of_classes, done_over_classes, no_class_fault, door_shut, no_door, shut_doors, shut_faults}
 use Rattle.pj_cold.proofs.Told.{result_on}
 use Rattle.pj_runs.proofs.Ends.{refused_on}
 use Rattle.pj_check.proofs.Ending.{other_end}
@@ -31,8 +31,8 @@ returns-in_err-opened-clause-doors g c =
     let old : DoorCounts = record { given = g.C.ClassPath.given c.args.classes.now; taken = g.C.ClassPath.taken c.args.classes.now; finds = g.C.ClassPath.finds c.args.classes.now } in
     let new : DoorCounts = record { given = g.C.ClassPath.given c.open_door.new.classes; taken = g.C.ClassPath.taken c.open_door.new.classes; finds = g.C.ClassPath.finds c.open_door.new.classes } in
     let exit = err_from_is_err_and c.from_residual.result c.from_residual.ensures.1 in
-    result_on (λ (w : Result Analysed Refusal). CountsDoor old new w) c.from_residual.result exit.0 c.in_err-opened.field-0.0 exit.1 exit.2
-    (no_door c.in_err-opened.field-0.0 old new c.in_err-opened.ensures.refused c.in_err-opened.ensures.same_given c.in_err-opened.ensures.same_taken c.in_err-opened.ensures.same_finds)
+    result_on (λ (w : Result Analysed Refusal). CountsDoorsOver 1 old new w) c.from_residual.result exit.0 c.in_err-opened.field-0.0 exit.1 exit.2
+    (no_door 1 c.in_err-opened.field-0.0 old new c.in_err-opened.ensures.refused c.in_err-opened.ensures.same_given c.in_err-opened.ensures.same_taken c.in_err-opened.ensures.same_finds)
 
 pub returns-in_err-opened-clause-steady : goal.returns-in_err-opened-clause-steady
 returns-in_err-opened-clause-steady g c = λ known.
@@ -75,5 +75,5 @@ returns-clause-doors g c =
     let new : DoorCounts = record { given = g.C.ClassPath.given c.shut.new.self; taken = g.C.ClassPath.taken c.shut.new.self; finds = g.C.ClassPath.finds c.shut.new.self } in
     let begun = c.in_ok-opened.ensures in
     let shut = c.shut.ensures in
-    shut_door c.report_over-analysed.result old new c.report_over-analysed.ensures.refused
-    (one_door old opened new _ begun.counts_given begun.same_taken begun.same_finds shut.same_given shut.counts_taken shut.counts_finds)
+    shut_doors 1 c.report_over-analysed.result old new c.report_over-analysed.ensures.refused
+    (door_shut old opened new _ begun.counts_given begun.same_taken begun.same_finds shut.same_given shut.counts_taken shut.counts_finds)

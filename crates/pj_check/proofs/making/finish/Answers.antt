@@ -4,16 +4,28 @@ use Rattle.pj_outside.specs.Doors.{ClassFolders}
 use Rattle.pj_cold.specs.Cold.{world_of}
 use Rattle.pj_check.specs.Caching.{TakesFit}
 use Rattle.pj_check.specs.Outcome.{DoorCounts}
-use Rattle.pj_check.specs.Steps.{CountsDoor, CountsOfClasses, FitsIfFound, IsOfClasses, IsOver, IsReportOf, IsToldAt}
+use Rattle.pj_check.specs.Steps.{CountsDoorsOver, CountsOfClasses, FitsIfFound, IsOfClasses, IsOver, IsReportOf, IsToldAt}
 use Rattle.pj_check.specs.declared.analysing.Analysed.{Analysed}
 use Rattle.pj_check.specs.declared.making.Made.{Made}
 use Rattle.pj_runs.specs.declared.refusal.Refusal.{Refusal}
 use Rattle.pj_runs.specs.declared.refusal.Refusal.TheVariants.{ClassFault, Memory}
 use Rattle.pj_runs.proofs.Ends.{refused_on}
-use Rattle.pj_check.proofs.Ending.{memory_end, nothing_under, other_end}
+use Rattle.pj_check.proofs.Ending.{memory_end, nothing_under, other_end, refused_doors}
 use Rattle.pj_check.proofs.Finishing.{fits_found, over_is_cold, text_by, told_at, told_of, worked_by}
 use Rattle.pj_cold.proofs.Told.{result_on, told_so}
 use Rattle.pj_check.proofs.making.finish.Goals as goal
+
+-- ---- the sources are analysed by what is handed in for it
+
+pub analyse-requires : goal.analyse-requires
+analyse-requires g c = c.requires.callable _ _ _ _ (record { in_order = c.in_ok-begun.ensures.in_order; paths = c.requires.paths; few = c.requires.few; threads = c.requires.threads })
+
+-- what is known where something came of it, and where it was refused
+analysed_ok : _
+analysed_ok g c = c.requires.analyses _ _ _ _ _ _ _ c.in_ok-analysed.ensures
+
+analysed_err : _
+analysed_err g c = c.requires.analyses _ _ _ _ _ _ _ c.in_err-analysed.ensures
 
 -- ---- memory is wanting before the sources are analysed
 
@@ -51,7 +63,7 @@ returns-in_err-begun-clause-doors g c =
     let old : DoorCounts = record { given = g.C.ClassPath.given c.args.classes.now; taken = g.C.ClassPath.taken c.args.classes.now; finds = g.C.ClassPath.finds c.args.classes.now } in
     let new : DoorCounts = record { given = g.C.ClassPath.given c.args.classes.now; taken = g.C.ClassPath.taken c.args.classes.now; finds = g.C.ClassPath.finds c.args.classes.now } in
     let exit = err_from_is_err_and c.from_residual.result c.from_residual.ensures.1 in
-    result_on (λ (w : Result Made Refusal). CountsDoor old new w) c.from_residual.result exit.0 Memory exit.1 exit.2 (inl refl)
+    result_on (λ (w : Result Made Refusal). CountsDoorsOver (g.V.DoorCount.doors c.args.ready.now.settings) old new w) c.from_residual.result exit.0 Memory exit.1 exit.2 (inl refl)
 
 -- ---- the sources are not analysed
 
@@ -64,7 +76,7 @@ returns-in_err-analysed-clause-made g c =
 pub returns-in_err-analysed-clause-refused : goal.returns-in_err-analysed-clause-refused
 returns-in_err-analysed-clause-refused g c =
     let exit = err_from_is_err_and c.from_residual-in_err-analysed.result c.from_residual-in_err-analysed.ensures.1 in
-    refused_on IsOfClasses c.from_residual-in_err-analysed.result exit.0 c.in_err-analysed.field-0.0 exit.1 exit.2 c.in_err-analysed.ensures.refused
+    refused_on IsOfClasses c.from_residual-in_err-analysed.result exit.0 c.in_err-analysed.field-0.0 exit.1 exit.2 (analysed_err g c).refused
 
 pub returns-in_err-analysed-clause-told : goal.returns-in_err-analysed-clause-told
 returns-in_err-analysed-clause-told g c =
@@ -72,25 +84,25 @@ returns-in_err-analysed-clause-told g c =
     let kept = g.K.Keeper.holds c.args.keeper.now in
     let why = c.begin.new.told.unused in
     let exit = err_from_is_err_and c.from_residual-in_err-analysed.result c.from_residual-in_err-analysed.ensures.1 in
-    refused_on (λ (refusal : Refusal). IsToldAt refusal name kept why) c.from_residual-in_err-analysed.result exit.0 c.in_err-analysed.field-0.0 exit.1 exit.2 (told_at c.in_err-analysed.field-0.0 name kept why c.in_err-analysed.ensures.refused (told_of name kept c.in_ok-begun.begun.found why c.in_ok-begun.ensures.taken))
+    refused_on (λ (refusal : Refusal). IsToldAt refusal name kept why) c.from_residual-in_err-analysed.result exit.0 c.in_err-analysed.field-0.0 exit.1 exit.2 (told_at c.in_err-analysed.field-0.0 name kept why (analysed_err g c).refused (told_of name kept c.in_ok-begun.begun.found why c.in_ok-begun.ensures.taken))
 
 pub returns-in_err-analysed-clause-class_faults : goal.returns-in_err-analysed-clause-class_faults
 returns-in_err-analysed-clause-class_faults g c =
     let exit = err_from_is_err_and c.from_residual-in_err-analysed.result c.from_residual-in_err-analysed.ensures.1 in
-    result_on (λ (w : Result Made Refusal). CountsOfClasses (g.C.ClassPath.faults c.args.classes.now) (g.C.ClassPath.faults c.analyse_sources.new.classes) w) c.from_residual-in_err-analysed.result exit.0 c.in_err-analysed.field-0.0 exit.1 exit.2 c.in_err-analysed.ensures.class_faults
+    result_on (λ (w : Result Made Refusal). CountsOfClasses (g.C.ClassPath.faults c.args.classes.now) (g.C.ClassPath.faults c.analyse.new.classes) w) c.from_residual-in_err-analysed.result exit.0 c.in_err-analysed.field-0.0 exit.1 exit.2 (analysed_err g c).class_faults
 
 pub returns-in_err-analysed-clause-steady_classes : goal.returns-in_err-analysed-clause-steady_classes
 returns-in_err-analysed-clause-steady_classes g c = λ never.
     let exit = err_from_is_err_and c.from_residual-in_err-analysed.result c.from_residual-in_err-analysed.ensures.1 in
-    let steady = c.in_err-analysed.ensures.steady never in
+    let steady = (analysed_err g c).steady never in
     (steady.0, result_on (λ (w : Result Made Refusal). w ≢ Err ClassFault) c.from_residual-in_err-analysed.result exit.0 c.in_err-analysed.field-0.0 exit.1 exit.2 (other_end Analysed Made c.in_err-analysed.field-0.0 steady.1))
 
 pub returns-in_err-analysed-clause-doors : goal.returns-in_err-analysed-clause-doors
 returns-in_err-analysed-clause-doors g c =
     let old : DoorCounts = record { given = g.C.ClassPath.given c.args.classes.now; taken = g.C.ClassPath.taken c.args.classes.now; finds = g.C.ClassPath.finds c.args.classes.now } in
-    let new : DoorCounts = record { given = g.C.ClassPath.given c.analyse_sources.new.classes; taken = g.C.ClassPath.taken c.analyse_sources.new.classes; finds = g.C.ClassPath.finds c.analyse_sources.new.classes } in
+    let new : DoorCounts = record { given = g.C.ClassPath.given c.analyse.new.classes; taken = g.C.ClassPath.taken c.analyse.new.classes; finds = g.C.ClassPath.finds c.analyse.new.classes } in
     let exit = err_from_is_err_and c.from_residual-in_err-analysed.result c.from_residual-in_err-analysed.ensures.1 in
-    result_on (λ (w : Result Made Refusal). CountsDoor old new w) c.from_residual-in_err-analysed.result exit.0 c.in_err-analysed.field-0.0 exit.1 exit.2 c.in_err-analysed.ensures.doors
+    result_on (λ (w : Result Made Refusal). CountsDoorsOver (g.V.DoorCount.doors c.args.ready.now.settings) old new w) c.from_residual-in_err-analysed.result exit.0 c.in_err-analysed.field-0.0 exit.1 exit.2 (analysed_err g c).doors
 
 -- ---- memory is wanting for the report
 
@@ -116,19 +128,20 @@ returns-in_err-made-clause-told g c =
 pub returns-in_err-made-clause-class_faults : goal.returns-in_err-made-clause-class_faults
 returns-in_err-made-clause-class_faults g c =
     let exit = err_from_is_err_and c.from_residual-in_err-made.result c.from_residual-in_err-made.ensures.1 in
-    result_on (λ (w : Result Made Refusal). CountsOfClasses (g.C.ClassPath.faults c.args.classes.now) (g.C.ClassPath.faults c.analyse_sources.new.classes) w) c.from_residual-in_err-made.result exit.0 Memory exit.1 exit.2 c.in_ok-analysed.ensures.class_faults
+    result_on (λ (w : Result Made Refusal). CountsOfClasses (g.C.ClassPath.faults c.args.classes.now) (g.C.ClassPath.faults c.analyse.new.classes) w) c.from_residual-in_err-made.result exit.0 Memory exit.1 exit.2 (analysed_ok g c).class_faults
 
 pub returns-in_err-made-clause-steady_classes : goal.returns-in_err-made-clause-steady_classes
 returns-in_err-made-clause-steady_classes g c = λ never.
     let exit = err_from_is_err_and c.from_residual-in_err-made.result c.from_residual-in_err-made.ensures.1 in
-    ((c.in_ok-analysed.ensures.steady never).0, result_on (λ (w : Result Made Refusal). w ≢ Err ClassFault) c.from_residual-in_err-made.result exit.0 Memory exit.1 exit.2 (memory_end Made))
+    (((analysed_ok g c).steady never).0, result_on (λ (w : Result Made Refusal). w ≢ Err ClassFault) c.from_residual-in_err-made.result exit.0 Memory exit.1 exit.2 (memory_end Made))
 
 pub returns-in_err-made-clause-doors : goal.returns-in_err-made-clause-doors
 returns-in_err-made-clause-doors g c =
     let old : DoorCounts = record { given = g.C.ClassPath.given c.args.classes.now; taken = g.C.ClassPath.taken c.args.classes.now; finds = g.C.ClassPath.finds c.args.classes.now } in
-    let new : DoorCounts = record { given = g.C.ClassPath.given c.analyse_sources.new.classes; taken = g.C.ClassPath.taken c.analyse_sources.new.classes; finds = g.C.ClassPath.finds c.analyse_sources.new.classes } in
+    let new : DoorCounts = record { given = g.C.ClassPath.given c.analyse.new.classes; taken = g.C.ClassPath.taken c.analyse.new.classes; finds = g.C.ClassPath.finds c.analyse.new.classes } in
     let exit = err_from_is_err_and c.from_residual-in_err-made.result c.from_residual-in_err-made.ensures.1 in
-    result_on (λ (w : Result Made Refusal). CountsDoor old new w) c.from_residual-in_err-made.result exit.0 Memory exit.1 exit.2 (inr c.in_ok-analysed.ensures.doors)
+    result_on (λ (w : Result Made Refusal). CountsDoorsOver (g.V.DoorCount.doors c.args.ready.now.settings) old new w) c.from_residual-in_err-made.result exit.0 Memory exit.1 exit.2
+    (refused_doors (g.V.DoorCount.doors c.args.ready.now.settings) old new (analysed_ok g c).doors)
 
 -- ---- all is made
 
@@ -149,7 +162,7 @@ returns-clause-made g c =
       text = c.in_ok-made.ensures.text;
       comes_to = c.in_ok-made.ensures.verdict;
     })
-    c.in_ok-analysed.ensures.over
+    (analysed_ok g c).over
 
 pub returns-clause-some : goal.returns-clause-some
 returns-clause-some g c = record { report = c.in_ok-analysed.analysed.report; text = c.in_ok-made.ensures.text; comes_to = c.in_ok-made.ensures.verdict }
@@ -158,12 +171,12 @@ pub returns-clause-left : goal.returns-clause-left
 returns-clause-left g c =
     let ready = c.args.ready.now in
     text_by c.what_is_loaded_is_found.ensures.read ready ready.settings.cache (g.C.ClassPath.holds c.args.classes.now) (g.K.Keeper.holds c.args.keeper.now) c.in_ok-begun.begun.found c.begin.new.told.unused
-    c.in_ok-analysed.analysed c.in_ok-made.made.left c.args.work.now c.in_ok-begun.begun.done c.analyse_sources.new.work (g.C.ClassPath.finds c.args.classes.now) (g.C.ClassPath.finds c.analyse_sources.new.classes)
+    c.in_ok-analysed.analysed c.in_ok-made.made.left c.args.work.now c.in_ok-begun.begun.done c.analyse.new.work (g.C.ClassPath.finds c.args.classes.now) (g.C.ClassPath.finds c.analyse.new.classes)
     (λ i. (c.in_ok-begun.ensures.done i).analysed) (λ i. (c.in_ok-begun.ensures.done i).reused)
-    c.in_ok-begun.ensures.taken c.in_ok-analysed.ensures.left c.in_ok-made.ensures.left c.in_ok-analysed.ensures.over c.in_ok-analysed.ensures.done
+    c.in_ok-begun.ensures.taken (analysed_ok g c).left c.in_ok-made.ensures.left (analysed_ok g c).over (analysed_ok g c).done
 
 pub returns-clause-worked : goal.returns-clause-worked
 returns-clause-worked g c =
     let ready = c.args.ready.now in
-    worked_by ready ready.settings.cache (g.K.Keeper.holds c.args.keeper.now) c.in_ok-begun.begun.found c.begin.new.told.unused c.args.work.now c.in_ok-begun.begun.done c.analyse_sources.new.work
-    c.in_ok-begun.ensures.done c.in_ok-begun.ensures.taken c.in_ok-analysed.ensures.worked c.in_ok-analysed.ensures.skipped
+    worked_by ready ready.settings.cache (g.K.Keeper.holds c.args.keeper.now) c.in_ok-begun.begun.found c.begin.new.told.unused c.args.work.now c.in_ok-begun.begun.done c.analyse.new.work
+    c.in_ok-begun.ensures.done c.in_ok-begun.ensures.taken (analysed_ok g c).worked (analysed_ok g c).skipped

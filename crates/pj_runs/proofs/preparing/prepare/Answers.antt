@@ -8,6 +8,7 @@ use Rattle.pj_runs.specs.Run.{HasRules, HasSources}
 use Rattle.pj_runs.specs.Refusals.{Explains}
 use Rattle.pj_runs.specs.Prepared.{IsPrepared}
 use Rattle.pj_runs.specs.declared.preparing.Ready.{Ready}
+use Rattle.pj_runs.proofs.Asked.{as_many_within, threads_of}
 use Rattle.pj_runs.proofs.Ends.{explains_later, nothing_on, refused_on, told_later}
 use Rattle.pj_cold.proofs.Told.{told_both}
 use Rattle.pj_runs.proofs.preparing.prepare.Goals as goal
@@ -109,3 +110,9 @@ returns-clause-prepared g c =
 
 pub returns-clause-ascending : goal.returns-clause-ascending
 returns-clause-ascending g c = subst (λ (paths : List Bytes). IsStrictlySortedBy byte_order paths) (sym c.in_ok-sources.ensures.within.paths_are) c.in_ok-listing.ensures.ascending
+
+pub returns-clause-few : goal.returns-clause-few
+returns-clause-few g c = as_many_within _ _ c.in_ok-sources.ensures.within c.in_ok-listing.ensures.few
+
+pub returns-clause-threads : goal.returns-clause-threads
+returns-clause-threads g c = threads_of c.args.words.now c.in_ok-settings.settings c.in_ok-settings.ensures.asked

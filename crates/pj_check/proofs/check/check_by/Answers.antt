@@ -6,7 +6,7 @@ use Rattle.pj_runs.specs.Refusals.{outcome_of}
 use Rattle.pj_outcomes.specs.declared.outcome.Outcome.{Outcome}
 use Rattle.pj_check.proofs.Caches.{taken_fits}
 use Rattle.pj_check.proofs.Ending.{all_say_sooner}
-use Rattle.pj_check.proofs.check.check_alone.Goals as goal
+use Rattle.pj_check.proofs.check.check_by.Goals as goal
 
 pub returns-clause-says : goal.returns-clause-says
 returns-clause-says g c =
